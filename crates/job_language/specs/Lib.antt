@@ -1,0 +1,11 @@
+pub mod Instruction
+pub mod Job
+pub mod Json
+pub mod Name
+pub mod Operation
+pub mod Outline
+pub mod PaddedName
+pub mod Program
+pub mod Reads
+pub mod Refused
+pub mod Tenant

@@ -1,0 +1,134 @@
+// What a request may be refused with, and what may end a job.
+ghost use Rattle.job_language.specs.Refused.{IsMemory};
+
+use std::alloc::{AllocError, AllocFailed};
+use thiserror::Error as DeriveError;
+
+/// Why a request was refused. A code and its name always go together.
+#[derive(Clone, Copy, Debug, PartialEq, Eq)]
+pub enum Error {
+    /// The line is longer than 65,536 bytes.
+    LineTooLong,
+    /// The line is no JSON.
+    BadJson,
+    /// The line is JSON and no request, or a second hello.
+    BadRequest,
+    /// The job is not valid.
+    BadProgram,
+    /// No tenant has that name.
+    UnknownTenant,
+    /// The number names no job, or a retired one.
+    UnknownJob,
+    /// There are 256 jobs that are not retired.
+    JobLimit,
+    /// The tenant's history is at its limit.
+    HistoryFull,
+    /// A growth was refused for memory.
+    NoMemory,
+    /// No open row is left for a root.
+    TaskLimit,
+    /// The connection has not said hello.
+    NoTenant,
+    /// A job still runs, so nothing can be retired.
+    Busy,
+}
+
+impl Error {
+    /// Its number in a reply, from 1 to 12.
+    pub fn code(self) -> u8 {
+        match self {
+            Error::LineTooLong => 1,
+            Error::BadJson => 2,
+            Error::BadRequest => 3,
+            Error::BadProgram => 4,
+            Error::UnknownTenant => 5,
+            Error::UnknownJob => 6,
+            Error::JobLimit => 7,
+            Error::HistoryFull => 8,
+            Error::NoMemory => 9,
+            Error::TaskLimit => 10,
+            Error::NoTenant => 11,
+            Error::Busy => 12,
+        }
+    }
+
+    /// Its name in a reply.
+    pub fn name(self) -> &'static str {
+        match self {
+            Error::LineTooLong => "line_too_long",
+            Error::BadJson => "bad_json",
+            Error::BadRequest => "bad_request",
+            Error::BadProgram => "bad_program",
+            Error::UnknownTenant => "unknown_tenant",
+            Error::UnknownJob => "unknown_job",
+            Error::JobLimit => "job_limit",
+            Error::HistoryFull => "history_full",
+            Error::NoMemory => "no_memory",
+            Error::TaskLimit => "task_limit",
+            Error::NoTenant => "no_tenant",
+            Error::Busy => "busy",
+        }
+    }
+}
+
+/// What ended a job before its root did.
+#[derive(Clone, Copy, Debug, PartialEq, Eq)]
+pub enum JobFault {
+    /// A division by zero.
+    Division,
+    /// The job's fuel did not pay for what was executed.
+    Fuel,
+    /// A slot's stack was at height 128.
+    TooDeep,
+    /// The tenant's open rows were at their limit.
+    TaskLimit,
+    /// A frame ended with a group that has members.
+    MissingWait,
+}
+
+impl JobFault {
+    /// Its number in a reply, from 1 to 5.
+    pub fn code(self) -> u8 {
+        match self {
+            JobFault::Division => 1,
+            JobFault::Fuel => 2,
+            JobFault::TooDeep => 3,
+            JobFault::TaskLimit => 4,
+            JobFault::MissingWait => 5,
+        }
+    }
+}
+
+/// Where a value first breaks the rules of its format.
+#[derive(Clone, Copy, Debug, PartialEq, Eq)]
+pub enum Place {
+    /// Before any instruction: the shape of the whole, its numbers, or the lengths of its lists.
+    Head,
+    /// At an instruction of a procedure, both numbered from 0.
+    At(usize, usize),
+}
+
+/// Why a value was not read.
+#[derive(Debug, Drop, DeriveError)]
+pub enum Refused {
+    #[error("not valid at {place:?}")]
+    Bad { place: Place },
+    #[error("out of memory")]
+    Memory(AllocError),
+}
+
+impl From<AllocError> for Refused {
+    ghost from_gives = { λ _ e. IsMemory e };
+
+    fn from(error: AllocError) -> Refused {
+        Refused::Memory(error)
+    }
+}
+
+impl<T: Drop> From<AllocFailed<T>> for Refused {
+    ghost from_gives = { λ _ e. IsMemory e };
+
+    fn from(error: AllocFailed<T>) -> Refused {
+        Refused::Memory(AllocError::from(error))
+    }
+}

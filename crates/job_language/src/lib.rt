@@ -1,0 +1,23 @@
+//! The language of jobs: instructions, programs, tenants, and what is asked and answered.
+#![tactic(auto)]
+
+mod errors;
+mod instructions;
+mod jobs;
+mod names;
+mod operations;
+mod programs;
+mod reading;
+mod requests;
+mod steps;
+mod tenants;
+
+pub use errors::{Error, JobFault, Place, Refused};
+pub use instructions::{GROUPS, Group, Instr, KEYS, Key, REGISTERS, Register};
+pub use jobs::{Fuel, Job, MAX_FUEL};
+pub use names::{MAX_NAME, TenantName};
+pub use programs::{MAX_INSTRS, MAX_PROCS, Proc, Program};
+pub use reading::read_job;
+pub use requests::{Asked, Reply, Request, Status};
+pub use steps::{Answer, Came, Entry, Moved, Step};
+pub use tenants::{Isolation, Level, MAX_ROWS, MAX_SLOTS, MAX_STEPS, Tenant, TenantConfig};

@@ -1,0 +1,97 @@
+// Tenants: what each is given.
+ghost use Rattle.std.specs.Prelude.{◌≡◌, if◌then◌else◌, Some, None};
+
+use crate::names::TenantName;
+use std::marker::Model;
+
+/// How many slots an arena may have; it has at least one.
+pub const MAX_SLOTS: usize = 16;
+
+/// How many open rows a tenant may be allowed; it is allowed at least one.
+pub const MAX_ROWS: usize = 4_096;
+
+/// How many entries a tenant's history may be allowed; it is allowed at least one.
+pub const MAX_STEPS: usize = 1_048_576;
+
+/// The priority of an arena: calls of a higher level are handed to workers first.
+#[derive(Clone, Copy, Debug, PartialEq, Eq)]
+pub enum Level {
+    High,
+    Normal,
+    Low,
+}
+
+/// Which rows a slot may take while its topmost row is in a region.
+#[derive(Clone, Copy, Debug, PartialEq, Eq)]
+pub enum Isolation {
+    /// Rows of exactly that region.
+    Exact,
+    /// Rows of that region and of the regions inside it.
+    Within,
+}
+
+/// What a tenant is given.
+#[derive(Clone, Copy, Debug, PartialEq, Eq)]
+pub struct Tenant {
+    pub name: TenantName,
+    pub priority: Level,
+    pub isolation: Isolation,
+    /// The arena's concurrency level, from 1 to 16.
+    pub slots: usize,
+    /// How many of the slots are for masters, from 0 to all of them.
+    pub reserved: usize,
+    /// How many rows may be open at once, from 1 to 4,096.
+    pub rows: usize,
+    /// How many entries the history may have, from 1 to 1,048,576.
+    pub steps: usize,
+}
+
+/// What a tenant is given, in range by its type.
+#[derive(Clone, Copy, Debug)]
+pub struct TenantConfig {
+    tenant: Tenant,
+}
+
+impl Model for TenantConfig {
+    ghost use Rattle.job_language.specs.declared.tenants.Tenant.{Tenant};
+
+    ghost Value = { Tenant };
+
+    ghost use Rattle.job_language.specs.Tenant.{IsValidTenant};
+
+    ghost view = { λ c. c.tenant };
+
+    ghost invariant = { λ c. IsValidTenant c.tenant };
+
+    ghost inverse = { λ t. record { tenant = t } };
+}
+
+impl TenantConfig {
+    ghost use Rattle.job_language.specs.Tenant.{is_valid_tenant, IsValidTenant};
+
+    /// The configuration, where each number is in its range.
+    pub fn new(tenant: Tenant) -> Option<TenantConfig>
+        ensures { result ≡ (if is_valid_tenant tenant then Some tenant else None) }
+    {
+        let valid = 1 <= tenant.slots
+            && tenant.slots <= MAX_SLOTS
+            && tenant.reserved <= tenant.slots
+            && 1 <= tenant.rows
+            && tenant.rows <= MAX_ROWS
+            && 1 <= tenant.steps
+            && tenant.steps <= MAX_STEPS;
+        if valid {
+            Some(TenantConfig { tenant })
+        } else {
+            None
+        }
+    }
+
+    /// What is configured.
+    pub fn tenant(&self) -> &Tenant
+        ensures value { result.now ≡ self.now }
+        ensures valid { IsValidTenant self.now }
+    {
+        &self.tenant
+    }
+}
