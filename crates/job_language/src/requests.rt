@@ -55,7 +55,7 @@ pub enum Reply {
     /// The job is made; its root is not started.
     Made(u64),
     /// The job is made, and its root runs on the slot.
-    Placed(u64, usize),
+    Placed(u64, u8),
     /// How far the job is.
     Job(u64, Status),
     /// Whether this was the first cancel of a job that had no outcome.
@@ -63,7 +63,7 @@ pub enum Reply {
     /// The number of the key's cells, and their sum.
     Cells(Key, u64, i64),
     /// The priority, the number of reserved slots and the number of slots.
-    Arena(Level, usize, usize),
+    Arena(Level, u8, u8),
     /// The number of times that the tenant's jobs were retired.
     Epoch(u64),
     Refused(Error),

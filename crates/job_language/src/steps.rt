@@ -5,8 +5,8 @@ use crate::requests::{Reply, Request};
 #[derive(Drop)]
 pub enum Step {
     Ask(Request),
-    Arrive(usize),
-    Advance(usize),
+    Arrive(u8),
+    Advance(u8),
 }
 
 /// What an advance of a slot did.

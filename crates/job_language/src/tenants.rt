@@ -5,7 +5,7 @@ use crate::names::TenantName;
 use std::marker::Model;
 
 /// How many slots an arena may have; it has at least one.
-pub const MAX_SLOTS: usize = 16;
+pub const MAX_SLOTS: u8 = 16;
 
 /// How many open rows a tenant may be allowed; it is allowed at least one.
 pub const MAX_ROWS: usize = 4_096;
@@ -37,9 +37,9 @@ pub struct Tenant {
     pub priority: Level,
     pub isolation: Isolation,
     /// The arena's concurrency level, from 1 to 16.
-    pub slots: usize,
+    pub slots: u8,
     /// How many of the slots are for masters, from 0 to all of them.
-    pub reserved: usize,
+    pub reserved: u8,
     /// How many rows may be open at once, from 1 to 4,096.
     pub rows: usize,
     /// How many entries the history may have, from 1 to 1,048,576.

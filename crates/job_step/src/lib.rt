@@ -1,0 +1,8 @@
+//! Frames, and what a frame does between two shared instructions.
+#![tactic(auto)]
+
+mod frames;
+mod runs;
+
+pub use frames::Frame;
+pub use runs::{RUN_LIMIT, Run, Stop, run_private};

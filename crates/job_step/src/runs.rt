@@ -1,0 +1,180 @@
+// Private runs.
+ghost use Rattle.std.specs.Prelude.{◌≡◌, ◌+◌, ◌<◌, [], ℕ, List, length, false, slice_index_or};
+ghost use Rattle.job_language.specs.declared.instructions.Instr.{Instr};
+ghost use Rattle.job_language.specs.Program.{IsValidProc, IsInRange, is_last};
+ghost use Rattle.job_step.specs.Frame.{effect};
+ghost use Rattle.job_step.specs.Run.{run_of};
+ghost use Rattle.job_step.specs.Execution.{framed, outcome, GoesWithin};
+
+use crate::frames::Frame;
+use job_language::{Instr, Program, REGISTERS};
+
+/// How many instructions a run executes at most.
+pub const RUN_LIMIT: u32 = 1_000;
+
+/// Why a private run ended.
+#[derive(Clone, Copy, Debug, PartialEq, Eq)]
+pub enum Stop {
+    /// The next instruction is shared.
+    Shared(Instr),
+    /// It executed 1,000 instructions.
+    Yield,
+    /// Its last instruction divided by zero.
+    Fault,
+}
+
+/// What a frame does by itself: `count` instructions lead from `start` to `end`. At a fault, which
+/// counts, `end` is the frame before it.
+#[derive(Clone, Copy, Debug, PartialEq, Eq)]
+pub struct Run {
+    pub start: Frame,
+    pub end: Frame,
+    pub count: u32,
+    pub stop: Stop,
+}
+
+/// What an instruction does by itself.
+#[derive(Clone, Copy)]
+enum Effect {
+    /// The frame goes on at a place.
+    Goes(u8),
+    DividesByZero,
+    IsShared,
+}
+
+/// The private run of a frame on a slot, in an arena of so many slots. A frame that names no
+/// instruction of the program has the run of no instruction that ends in a yield.
+pub fn run_private(program: &Program, start: Frame, slot: u8, width: u8) -> Run
+    ensures { result ≡ run_of program.now slot width start }
+{
+    let procs = program.procs();
+    let procedure = usize::from(start.procedure);
+    if procedure >= procs.len() {
+        return Run::none(start);
+    }
+    let instrs = procs[procedure].instrs();
+    if usize::from(start.place) >= instrs.len() {
+        return Run::none(start);
+    }
+    run_in(instrs, start, slot, width)
+}
+
+impl Run {
+    /// The run of no instruction.
+    fn none(start: Frame) -> Run
+        ensures { result ≡ record { start = start; end = start; count = 0; stop = Stop.Yield } }
+    {
+        Run {
+            start,
+            end: start,
+            count: 0,
+            stop: Stop::Yield,
+        }
+    }
+}
+
+fn run_in(instrs: &[Instr], start: Frame, slot: u8, width: u8) -> Run
+    requires valid { IsValidProc instrs.now }
+    requires place { start.place < length instrs.now }
+    ensures { (procs : List (List Instr)) → slice_index_or procs start.procedure [] ≡ instrs.now
+        → result ≡ run_of procs slot width start }
+{
+    let procedure = start.procedure;
+    let mut place = start.place;
+    let mut registers = start.registers;
+    for count in 0..RUN_LIMIT {
+        let instr = &instrs[usize::from(place)];
+        match execute(instr, slot, width, procedure, place, &mut registers) {
+            Effect::Goes(next) => place = next,
+            Effect::DividesByZero => {
+                let end = Frame {
+                    procedure,
+                    place,
+                    registers,
+                };
+                return Run {
+                    start,
+                    end,
+                    count: count + 1,
+                    stop: Stop::Fault,
+                };
+            }
+            Effect::IsShared => {
+                let end = Frame {
+                    procedure,
+                    place,
+                    registers,
+                };
+                return Run {
+                    start,
+                    end,
+                    count,
+                    stop: Stop::Shared(*instr),
+                };
+            }
+        }
+    }
+    let end = Frame {
+        procedure,
+        place,
+        registers,
+    };
+    Run {
+        start,
+        end,
+        count: RUN_LIMIT,
+        stop: Stop::Yield,
+    }
+}
+
+#[inline(always)]
+fn execute(
+    instr: &Instr,
+    slot: u8,
+    width: u8,
+    procedure: u8,
+    place: u8,
+    registers: &mut [i64; REGISTERS],
+) -> Effect
+    requires { is_last instr.now ≡ false → place + 1 < 256 }
+    ensures effect { effect instr.now slot width (framed procedure place registers.old)
+        ≡ outcome procedure result registers.new }
+    ensures shared { result ≡ Effect.IsShared → registers.new ≡ registers.old }
+    ensures divides { result ≡ Effect.DividesByZero → registers.new ≡ registers.old }
+    ensures within { (instrs : ℕ) → IsInRange instrs instr.now → (is_last instr.now ≡ false → place + 1 < instrs)
+        → GoesWithin instrs result }
+{
+    match *instr {
+        Instr::Set(d, n) => registers[d.index()] = n,
+        Instr::Add(d, a, b) => {
+            registers[d.index()] = registers[a.index()].wrapping_add(registers[b.index()]);
+        }
+        Instr::Sub(d, a, b) => {
+            registers[d.index()] = registers[a.index()].wrapping_sub(registers[b.index()]);
+        }
+        Instr::Mul(d, a, b) => {
+            registers[d.index()] = registers[a.index()].wrapping_mul(registers[b.index()]);
+        }
+        Instr::Div(d, a, b) => {
+            if registers[b.index()] == 0 {
+                return Effect::DividesByZero;
+            }
+            registers[d.index()] = registers[a.index()].wrapping_div(registers[b.index()]);
+        }
+        Instr::Lt(d, a, b) => {
+            registers[d.index()] = i64::from(registers[a.index()] < registers[b.index()]);
+        }
+        Instr::Jz(a, t) => {
+            return Effect::Goes(if registers[a.index()] == 0 {
+                t
+            } else {
+                place + 1
+            });
+        }
+        Instr::Jmp(t) => return Effect::Goes(t),
+        Instr::Slot(d) => registers[d.index()] = i64::from(slot),
+        Instr::Width(d) => registers[d.index()] = i64::from(width),
+        _ => return Effect::IsShared,
+    }
+    Effect::Goes(place + 1)
+}
