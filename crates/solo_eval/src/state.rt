@@ -1,0 +1,229 @@
+// The state of a tenant as the evaluator holds it, and changes of one part of it.
+ghost use Rattle.std.specs.Prelude.{◌≡◌, ◌+◌, ◌<◌, ◌≤◌, ◌++◌, ◌∷◌, [], length, OnOk, OnErr, IfSome};
+
+use crate::chains::{has_cancelled_group, row};
+use crate::stacks::{fault_rows, height, open_rows};
+use job_language::{GROUPS, JobFault, KEYS, TenantConfig};
+use job_step::Frame;
+use std::alloc::AllocError;
+use std::marker::Model;
+use tenant_model::{Kind, Mark, Phase, Row, Work};
+
+/// All rows that a tenant ever made, its jobs, and its cells by key and by slot.
+#[derive(Drop)]
+pub(crate) struct TenantState {
+    config: TenantConfig,
+    rows: Vec<Row>,
+    jobs: Vec<Work>,
+    cells: [[Option<i64>; 16]; KEYS],
+    entries: usize,
+    epoch: u64,
+}
+
+impl Model for TenantState {
+    ghost use Rattle.tenant_model.specs.State.{State};
+
+    ghost Value = { State };
+
+    ghost use Rattle.tenant_model.specs.Rows.{IsLinked};
+    ghost use Rattle.solo_eval.specs.TenantState.{shown};
+
+    ghost view = { shown };
+
+    ghost invariant = { λ s. IsLinked (shown s) };
+}
+
+impl TenantState {
+    ghost use Rattle.std.specs.Prelude.{true, false, map};
+    ghost use Rattle.tenant_model.specs.State.{row, with_numbered};
+    ghost use Rattle.tenant_model.specs.Walks.{maker_of, height, is_context_cancelled, settled, settle};
+    ghost use Rattle.tenant_model.specs.Rows.{MakersPrecede};
+    ghost use Rattle.tenant_model.specs.Advance.{job_of};
+    ghost use Rattle.tenant_model.specs.Changes.{entry, faulted, first_fault, on_job, add_row, new_row, with_frame, nest, is_row_limit_met, is_full};
+
+    /// All rows, in order of their numbers.
+    pub(crate) fn rows(&self) -> &[Row]
+        ensures value { result.now ≡ self.now.rows }
+        ensures makers { MakersPrecede self.now.rows }
+    {
+        self.rows.as_slice()
+    }
+
+    /// The row of a number.
+    pub(crate) fn row(&self, number: u64) -> Row
+        requires from { 1 ≤ number }
+        requires to { number ≤ length self.now.rows }
+        ensures value { result ≡ row self.now.rows number }
+        ensures maker { IfSome (maker_of result.kind) (λ m. (1 ≤ m) × (m < number)) }
+        ensures job { (1 ≤ result.job) × (result.job ≤ length self.now.jobs) }
+    {
+        *row(self.rows.as_slice(), number)
+    }
+
+    /// The job of a row.
+    pub(crate) fn job_of(&self, number: u64) -> &Work
+        requires from { 1 ≤ number }
+        requires to { number ≤ length self.now.rows }
+        ensures { result.now ≡ job_of self.now number }
+    {
+        &self.jobs[row(self.rows.as_slice(), number).job as usize - 1]
+    }
+
+    /// Puts another row in the place of one, with the same maker and job.
+    fn set_row(&mut self, number: u64, changed: Row)
+        requires from { 1 ≤ number }
+        requires to { number ≤ length self.old.rows }
+        requires kind { changed.kind ≡ (row self.old.rows number).kind }
+        requires job { changed.job ≡ (row self.old.rows number).job }
+        ensures { self.new ≡ record self.old { rows = with_numbered self.old.rows number changed } }
+    {
+        self.rows[number as usize - 1] = changed;
+    }
+
+    /// Adds a row.
+    pub(crate) fn add_row(
+        &mut self,
+        kind: Kind,
+        job: u64,
+        made_on: Option<u8>,
+        frame: Frame,
+        phase: Phase,
+    ) -> Result<(), AllocError>
+        requires maker { IfSome (maker_of kind) (λ m. (1 ≤ m) × (m ≤ length self.old.rows)) }
+        requires job { (1 ≤ job) × (job ≤ length self.old.jobs) }
+        ensures ok { OnOk result (self.new ≡ add_row self.old (new_row kind job made_on frame phase)) }
+        ensures err { OnErr result (self.new ≡ self.old) }
+    {
+        let marks = [Mark {
+            rows: 0,
+            cancelled: false,
+        }; GROUPS];
+        self.rows.push(Row {
+            kind,
+            job,
+            made_on,
+            frame,
+            phase,
+            marks,
+        })?;
+        Ok(())
+    }
+
+    /// Moves the frame of a row on.
+    pub(crate) fn set_frame(&mut self, number: u64, frame: Frame)
+        requires from { 1 ≤ number }
+        requires to { number ≤ length self.old.rows }
+        ensures { self.new ≡ with_frame self.old number frame }
+    {
+        let row = self.row(number);
+        self.set_row(number, Row { frame, ..row });
+    }
+
+    /// Makes a row live on top of a slot.
+    pub(crate) fn nest(&mut self, slot: u8, number: u64)
+        requires from { 1 ≤ number }
+        requires to { number ≤ length self.old.rows }
+        ensures { self.new ≡ nest self.old slot number }
+    {
+        let row = self.row(number);
+        let height = height(self.rows(), slot) + 1;
+        let phase = Phase::Live(slot, height);
+        self.set_row(number, Row { phase, ..row });
+    }
+
+    /// Drops a row that is not started where its context is cancelled.
+    fn settle_row(&mut self, number: u64)
+        requires from { 1 ≤ number }
+        requires to { number ≤ length self.old.rows }
+        ensures { self.new ≡ record self.old {
+          rows = with_numbered self.old.rows number
+              (settled (row self.old.rows number) (is_context_cancelled self.old number));
+        } }
+    {
+        let row = self.row(number);
+        if row.phase.is_unstarted() && self.is_context_cancelled(number) {
+            let phase = Phase::Dropped;
+            self.set_row(number, Row { phase, ..row });
+        } else {
+            self.set_row(number, row);
+        }
+    }
+
+    /// Drops the rows that are not started and whose context is cancelled.
+    fn settle(&mut self)
+        ensures { self.new ≡ settle self.old }
+    {
+        for place in 0..self.rows().len() {
+            self.settle_row(place as u64 + 1);
+        }
+    }
+
+    /// Counts an entry, and settles.
+    pub(crate) fn enter(&mut self)
+        requires { is_full self.old ≡ false }
+        ensures { self.new ≡ entry self.old }
+    {
+        self.entries += 1;
+        self.settle();
+    }
+
+    /// Ends the rows on a slot from a height on.
+    fn fault_rows(&mut self, slot: u8, from: u64)
+        ensures { self.new ≡ record self.old { rows = map (faulted slot from) self.old.rows } }
+    {
+        fault_rows(self.rows.as_mut_slice(), slot, from);
+    }
+
+    /// Sets the fuel of a job.
+    pub(crate) fn set_fuel(&mut self, job: u64, fuel: u64)
+        requires from { 1 ≤ job }
+        requires to { job ≤ length self.old.jobs }
+        ensures { self.new ≡ on_job self.old job (λ w. record w { fuel = fuel }) }
+    {
+        self.jobs[job as usize - 1].fuel = fuel;
+    }
+
+    /// Gives a job a fault, unless it has one.
+    fn set_fault(&mut self, job: u64, fault: JobFault)
+        requires from { 1 ≤ job }
+        requires to { job ≤ length self.old.jobs }
+        ensures { self.new ≡ on_job self.old job (λ w. record w { fault = first_fault w.fault fault }) }
+    {
+        let work = &mut self.jobs[job as usize - 1];
+        if work.fault.is_none() {
+            work.fault = Some(fault);
+        }
+    }
+
+    /// Cancels a job by request.
+    pub(crate) fn cancel_job(&mut self, job: u64)
+        requires from { 1 ≤ job }
+        requires to { job ≤ length self.old.jobs }
+        ensures { self.new ≡ on_job self.old job (λ w. record w { cancelled = true }) }
+    {
+        self.jobs[job as usize - 1].cancelled = true;
+    }
+
+    /// Whether no step may be an entry any more.
+    pub(crate) fn is_full(&self) -> bool
+        ensures { result ≡ is_full self.now }
+    {
+        self.config.tenant().steps <= self.entries
+    }
+
+    /// Whether no row may be made.
+    pub(crate) fn is_row_limit_met(&self) -> bool
+        ensures { result ≡ is_row_limit_met self.now }
+    {
+        self.config.tenant().rows <= open_rows(self.rows())
+    }
+
+    /// Whether the context of a row is cancelled.
+    pub(crate) fn is_context_cancelled(&self, number: u64) -> bool
+        requires from { 1 ≤ number }
+        requires to { number ≤ length self.now.rows }
+        ensures { result ≡ is_context_cancelled self.now number }
+    {
+        self.job_of(number).is_cancelled() || has_cancelled_group(self.rows(), number)
+    }
+}

@@ -1,0 +1,6 @@
+pub mod Changed
+pub mod Chains
+pub mod Contexts
+pub mod Linked
+pub mod Settling
+mod WorkedProofs

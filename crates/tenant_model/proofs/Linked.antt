@@ -1,0 +1,84 @@
+-- Changes that leave a state linked.
+use Rattle.std.proofs.Common.{◌≡◌, ◌≢◌, ℕ, zero, suc, ◌+◌, ◌-◌, ◌<◌, ◌≤◌, List, [], ◌∷◌, ◌++◌, length, Some, None, refl, sym, ap, subst, ◌∙◌, arith, inl, inr, length-append, length-set, map}
+use Rattle.std.specs.Prelude.{IfSome, slice_set}
+use Rattle.std.proofs.lemmas.Bool.{cases_eq, cases_lt}
+use Rattle.std.proofs.lemmas.Option.{IfSome_then}
+use Rattle.std.proofs.lemmas.List.{length_push, length-map}
+use Rattle.std.specs.List.{enumerate_from}
+use Rattle.tenant_model.specs.declared.rows.Kind.{Kind}
+use Rattle.tenant_model.specs.declared.rows.Row.{Row}
+use Rattle.tenant_model.specs.State.{State, row, with_numbered}
+use Rattle.tenant_model.specs.Walks.{Numbered, maker_of, numbered_rows}
+use Rattle.tenant_model.specs.Rows.{MakersPrecede, JobsAreThere, IsLinked}
+use Rattle.tenant_model.proofs.Changed.{row-with_same, row-with_other, row-push_old, row-push_new, row-past, row-map}
+
+-- the rows of two lists have the same makers and jobs
+pub record SameSources (a b : List Row) : Type 0 where
+  pub long : length b ≡ length a
+  pub kinds : (n : ℕ) → (row b n).kind ≡ (row a n).kind
+  pub jobs : (n : ℕ) → (row b n).job ≡ (row a n).job
+
+pub IsLinked-same : (s t : State) → SameSources s.rows t.rows → length t.jobs ≡ length s.jobs → t.epoch ≤ t.entries → IsLinked s → IsLinked t
+IsLinked-same s t same jobs epoch linked = record {
+  makers = λ n from to. rw same.kinds (linked.makers n from (omega (arith, same.long)));
+  jobs = λ n from to. rw (same.jobs, jobs) (linked.jobs n from (omega (arith, same.long)));
+  epoch = epoch;
+}
+
+-- a row changed, with the same maker and job
+pub SameSources-set : (rows : List Row) (n : ℕ) (r : Row) → 1 ≤ n → n ≤ length rows → r.kind ≡ (row rows n).kind → r.job ≡ (row rows n).job → SameSources rows (with_numbered rows n r)
+SameSources-set rows n r from to kind job = record {
+  long = length-set rows (n - 1) r;
+  kinds = λ m. elim (cases_eq m n) [
+    | inl same ↦ rw same (ap (λ (q : Row). q.kind) (row-with_same rows n r from to) ∙ kind)
+    | inr other ↦ ap (λ (q : Row). q.kind) (row-with_other rows n m r from other)
+  ];
+  jobs = λ m. elim (cases_eq m n) [
+    | inl same ↦ rw same (ap (λ (q : Row). q.job) (row-with_same rows n r from to) ∙ job)
+    | inr other ↦ ap (λ (q : Row). q.job) (row-with_other rows n m r from other)
+  ];
+}
+
+-- a new row, whose maker and job are there
+pub IsLinked-push : (s : State) (r : Row) → IsLinked s → IfSome (maker_of r.kind) (λ m. (1 ≤ m) × (m ≤ length s.rows)) → (1 ≤ r.job) × (r.job ≤ length s.jobs) → IsLinked (record s { rows = s.rows ++ r ∷ [] })
+IsLinked-push s r linked maker job =
+    let long = length_push s.rows r in
+    record {
+      makers = λ n from to. elim (cases_lt (length s.rows) n) [
+        | inl after ↦
+            let new : row (s.rows ++ r ∷ []) n ≡ r = row-push_new s.rows n r (omega arith) in
+            rw new (IfSome_then (maker_of r.kind) maker (λ m there. (there.0, omega arith)))
+        | inr before ↦ rw (row-push_old s.rows n r before) (linked.makers n from before)
+      ];
+      jobs = λ n from to. elim (cases_lt (length s.rows) n) [
+        | inl after ↦
+            let new : row (s.rows ++ r ∷ []) n ≡ r = row-push_new s.rows n r (omega arith) in
+            rw new job
+        | inr before ↦ rw (row-push_old s.rows n r before) (linked.jobs n from before)
+      ];
+      epoch = linked.epoch;
+    }
+
+-- a row changed, with the same maker and job
+pub IsLinked-set : (s : State) (n : ℕ) (r : Row) → 1 ≤ n → n ≤ length s.rows → r.kind ≡ (row s.rows n).kind → r.job ≡ (row s.rows n).job → IsLinked s → IsLinked (record s { rows = with_numbered s.rows n r })
+IsLinked-set s n r from to kind job linked = IsLinked-same s _ (SameSources-set s.rows n r from to kind job) refl linked.epoch linked
+
+-- all rows changed, with the same makers and jobs
+pub SameSources-map : (f : Row → Row) (rows : List Row) → ((r : Row) → (f r).kind ≡ r.kind) → ((r : Row) → (f r).job ≡ r.job) → SameSources rows (map f rows)
+SameSources-map f rows kind job = record {
+  long = length-map rows f;
+  kinds = λ n. elim (cases_lt 0 n) [
+    | inl from ↦ elim (cases_lt (length rows) n) [
+      | inl past ↦ ap (λ (r : Row). r.kind) (row-past (map f rows) n (rw length-map past) ∙ sym (row-past rows n past))
+      | inr to ↦ ap (λ (r : Row). r.kind) (row-map f rows n (omega arith) to) ∙ kind (row rows n)
+    ]
+    | inr none ↦ let e : n ≡ 0 = omega arith in rw e refl
+  ];
+  jobs = λ n. elim (cases_lt 0 n) [
+    | inl from ↦ elim (cases_lt (length rows) n) [
+      | inl past ↦ ap (λ (r : Row). r.job) (row-past (map f rows) n (rw length-map past) ∙ sym (row-past rows n past))
+      | inr to ↦ ap (λ (r : Row). r.job) (row-map f rows n (omega arith) to) ∙ job (row rows n)
+    ]
+    | inr none ↦ let e : n ≡ 0 = omega arith in rw e refl
+  ];
+}

@@ -1,0 +1,96 @@
+-- Advances and arrivals.
+use Rattle.std.specs.Prelude.{ℕ, ◌+◌, ◌-◌, ◌==◌, nat_lt, nat_le, Bool, true, false, ◌&&◌, if◌then◌else◌, Option, Some, None}
+use Rattle.job_language.specs.declared.errors.JobFault.TheVariants as fault
+use Rattle.job_language.specs.declared.instructions.Instr.{Instr}
+use Rattle.job_language.specs.declared.instructions.Instr.TheVariants.{Wait}
+use Rattle.job_language.specs.declared.steps.Moved.{Moved}
+use Rattle.job_language.specs.declared.steps.Moved.TheVariants.{Nested, Left, Idle, Full}
+use Rattle.job_language.specs.declared.steps.Came.{Came}
+use Rattle.job_language.specs.declared.steps.Came.TheVariants as came
+use Rattle.job_step.specs.declared.frames.Frame.{Frame}
+use Rattle.job_step.specs.declared.runs.Run.{Run}
+use Rattle.job_step.specs.declared.runs.Stop.{Stop}
+use Rattle.job_step.specs.declared.runs.Stop.TheVariants.{Shared, Yield, Fault}
+use Rattle.job_step.specs.Run.{run_of}
+use Rattle.tenant_model.specs.declared.rows.TheConstants.{MAX_HEIGHT}
+use Rattle.tenant_model.specs.declared.works.Work.{Work}
+use Rattle.tenant_model.specs.State.{State, row, job}
+use Rattle.tenant_model.specs.Walks.{is_pending, height, top, pick}
+use Rattle.tenant_model.specs.Changes.{on_job, with_frame, nest, entry, is_full, ran, faults}
+use Rattle.tenant_model.specs.Shared.{execute}
+
+-- on an empty stack: a worker's slot takes the pick
+abbrev pub begin : State → ℕ → Option ℕ → Moved × State
+begin s slot None = (if nat_lt slot s.config.reserved then Idle else Left, s)
+begin s slot (Some n) = if nat_lt slot s.config.reserved then (Idle, s) else (Nested n, entry (nest s slot n))
+
+-- a wait for pending members, before which nothing was run
+abbrev pub blocked : State → (slot n : ℕ) → Option ℕ → Moved × State
+blocked s slot n None = (Idle, s)
+blocked s slot n (Some m) = if height s.rows slot == MAX_HEIGHT then faults slot (row s.rows n).job fault.TooDeep s else (Nested m, entry (nest s slot m))
+
+abbrev pub job_of : State → ℕ → Work
+job_of s n = job s.jobs (row s.rows n).job
+
+-- Does the fuel of row n's job not suffice?
+abbrev pub is_poor : State → (n cost : ℕ) → Bool
+is_poor s n cost = nat_lt (job_of s n).fuel cost
+
+abbrev pub with_fuel : State → (n fuel : ℕ) → State
+with_fuel s n fuel = on_job s (row s.rows n).job (λ w. record w { fuel = fuel })
+
+-- its job after it paid
+abbrev pub paid : State → (n cost : ℕ) → State
+paid s n cost = with_fuel s n ((job_of s n).fuel - cost)
+
+-- The job pays for what row n executed. Where its fuel does not suffice, that is the fault.
+abbrev pub pay : State → (slot n cost : ℕ) → (State → Moved × State) → Moved × State
+pay s slot n cost next =
+    if is_poor s n cost then faults slot (row s.rows n).job fault.Fuel (with_fuel s n 0)
+    else next (paid s n cost)
+
+abbrev pub is_blocked : State → ℕ → Instr → Bool
+is_blocked s n (Wait d e g) = is_pending s.rows n g
+is_blocked s n i = false
+
+-- after a private run of row n that leads to frame f
+abbrev pub after_run : State → (slot n count : ℕ) → Frame → Stop → Moved × State
+after_run s slot n count f Yield = pay s slot n count (λ t. ran slot (with_frame t n f))
+after_run s slot n count f Fault = pay s slot n count (λ t. faults slot (row t.rows n).job fault.Division t)
+after_run s slot n count f (Shared i) =
+    if is_blocked s n i
+    then (if count == 0 then blocked s slot n (pick s slot) else pay s slot n count (λ t. ran slot (with_frame t n f)))
+    else pay s slot n (count + 1) (λ t. execute t slot n f i)
+
+abbrev pub run_on : State → (slot n : ℕ) → Run
+run_on s slot n = run_of (job s.jobs (row s.rows n).job).program slot s.config.slots (row s.rows n).frame
+
+abbrev pub advance_run : State → (slot n : ℕ) → Run → Moved × State
+advance_run s slot n r = after_run s slot n r.count r.end r.stop
+
+abbrev pub advance_top : State → ℕ → Option ℕ → Moved × State
+advance_top s slot None = begin s slot (pick s slot)
+advance_top s slot (Some n) = advance_run s slot n (run_on s slot n)
+
+abbrev pub is_entry : Moved → Bool
+is_entry Left = false
+is_entry Idle = false
+is_entry m = true
+
+-- A step that would be an entry of a full history changes nothing.
+abbrev pub unless_full : State → Moved × State → Moved × State
+unless_full s r = if is_entry r.0 && is_full s then (Full, s) else r
+
+abbrev pub advance : State → ℕ → Moved × State
+advance s slot = if nat_lt slot s.config.slots then unless_full s (advance_top s slot (top s.rows slot)) else (Idle, s)
+
+abbrev pub arrive_at : State → ℕ → Option ℕ → Came × State
+arrive_at s slot None = (came.Nothing, s)
+arrive_at s slot (Some n) = if is_full s then (came.Full, s) else (came.At n, entry (nest s slot n))
+
+-- may a worker arrive there?
+abbrev pub is_open_to_workers : State → ℕ → Bool
+is_open_to_workers s slot = nat_le s.config.reserved slot && nat_lt slot s.config.slots && (height s.rows slot == 0)
+
+abbrev pub arrive : State → ℕ → Came × State
+arrive s slot = if is_open_to_workers s slot then arrive_at s slot (pick s slot) else (came.Nothing, s)

@@ -1,0 +1,105 @@
+-- What a tenant asks: the reply, and the state after it.
+use Rattle.std.specs.Prelude.{ℕ, ◌+◌, ◌==◌, nat_le, pos, Bool, true, false, not, ◌&&◌, ◌||◌, if◌then◌else◌, List, [], ◌∷◌, ◌++◌, Option, Some, None, is_some, option_and_then, slice_index_or, length, map, find, count_by}
+use Rattle.std.specs.List.{list_any, list_all, range_with_len}
+use Rattle.std.specs.Option.{option_map_or}
+use Rattle.job_language.specs.declared.errors.Error.TheVariants.{BadRequest, UnknownJob, JobLimit, HistoryFull, TaskLimit, Busy}
+use Rattle.job_language.specs.declared.jobs.Job.{Job}
+use Rattle.job_language.specs.declared.requests.Request.{Request}
+use Rattle.job_language.specs.declared.requests.Request.TheVariants.{Hello, Submit, Execute, Poll, Collect, Cancel, Cells, Arena, Retire}
+use Rattle.job_language.specs.declared.requests.Reply.{Reply}
+use Rattle.job_language.specs.declared.requests.Reply.TheVariants as reply
+use Rattle.job_language.specs.declared.requests.Status.{Status}
+use Rattle.job_language.specs.declared.requests.Status.TheVariants.{Running, Canceled, Complete, Fault}
+use Rattle.job_step.specs.Frame.{new_frame}
+use Rattle.tenant_model.specs.declared.rows.Kind.TheVariants.{Root}
+use Rattle.tenant_model.specs.declared.rows.Phase.{Phase}
+use Rattle.tenant_model.specs.declared.rows.Phase.TheVariants.{Unstarted, Live}
+use Rattle.tenant_model.specs.declared.rows.Row.{Row}
+use Rattle.tenant_model.specs.declared.works.TheConstants.{MAX_JOBS}
+use Rattle.tenant_model.specs.declared.works.Work.{Work}
+use Rattle.tenant_model.specs.State.{State, no_cells, numbered, row}
+use Rattle.tenant_model.specs.Walks.{is_open, is_job_cancelled, value_in, height}
+use Rattle.tenant_model.specs.Changes.{on_job, new_row, add_row, is_row_limit_met, is_full, entry, cell_sum, cell_count}
+
+-- A job has an outcome where none of its rows is open.
+abbrev pub has_outcome : List Row → ℕ → Bool
+has_outcome rows j = not (list_any (λ (r : Row). (r.job == j) && is_open r.phase) rows)
+
+abbrev pub outcome : List Row → Work → Status
+outcome rows w = option_map_or (λ f. Fault f) w.fault (if w.cancelled then Canceled else Complete (value_in (row rows w.root).phase))
+
+abbrev pub status : List Row → ℕ → Work → Status
+status rows j w = if has_outcome rows j then outcome rows w else Running
+
+-- the job of a number, unless it is retired
+abbrev pub known_job : State → ℕ → Option Work
+known_job s j = option_and_then (λ (w : Work). if w.retired then None else Some w) (numbered s.jobs j)
+
+-- how many jobs are not retired
+abbrev pub current_jobs : State → ℕ
+current_jobs s = count_by (λ (w : Work). not w.retired) s.jobs
+
+-- the least reserved slot with nothing on it
+abbrev pub free_slot : State → Option ℕ
+free_slot s = find (λ slot. height s.rows slot == 0) (range_with_len 0 s.config.reserved)
+
+abbrev pub new_job : State → Job → Work
+new_job s j = record { program = j.program; fuel = j.fuel; root = length s.rows + 1; cancelled = false; fault = None; retired = false }
+
+-- a job made, with its root in this phase
+abbrev pub add_job : State → Job → Phase → State
+add_job s j phase =
+    add_row (record s { jobs = s.jobs ++ new_job s j ∷ [] })
+    (new_row Root (length s.jobs + 1) None (new_frame 0 (slice_index_or j.args 0 (pos 0)) (slice_index_or j.args 1 (pos 0))) phase)
+
+-- A job is made unless there are too many, or too many open rows.
+abbrev pub unless_limit : State → Reply × State → Reply × State
+unless_limit s made =
+    if nat_le MAX_JOBS (current_jobs s) then (reply.Refused JobLimit, entry s)
+    else if is_row_limit_met s then (reply.Refused TaskLimit, entry s) else made
+
+abbrev pub submitted : State → Job → Reply × State
+submitted s j = (reply.Made (length s.jobs + 1), entry (add_job s j Unstarted))
+
+-- placed on a free slot, where there is one
+abbrev pub executed : State → Job → Option ℕ → Reply × State
+executed s j None = submitted s j
+executed s j (Some slot) = (reply.Placed (length s.jobs + 1) slot, entry (add_job s j (Live slot 1)))
+
+abbrev pub of_job : State → ℕ → (Work → Reply × State) → Reply × State
+of_job s j next = option_map_or next (known_job s j) (reply.Refused UnknownJob, entry s)
+
+abbrev pub collected : State → ℕ → Status → Reply × State
+collected s j Running = (reply.Pending, s)
+collected s j status = (reply.Job j status, entry s)
+
+-- A cancel is the first where the job's context was not cancelled and it has no outcome.
+abbrev pub cancelled : State → ℕ → Work → Reply × State
+cancelled s j w =
+    if is_job_cancelled w || has_outcome s.rows j then (reply.Canceled j false, entry s)
+    else (reply.Canceled j true, entry (on_job s j (λ v. record v { cancelled = true })))
+
+-- Nothing is retired while a row is open, which is while a job has no outcome.
+abbrev pub retired : State → Reply × State
+retired s =
+    if list_any (λ (r : Row). is_open r.phase) s.rows then (reply.Refused Busy, entry s)
+    else (reply.Epoch (s.epoch + 1), entry (record s { jobs = map (λ (w : Work). record w { retired = true }) s.jobs; cells = no_cells; epoch = s.epoch + 1 }))
+
+-- an ask while the history has room
+abbrev pub reply_to : State → Request → Reply × State
+reply_to s (Hello name) = (reply.Refused BadRequest, s)
+reply_to s (Submit j) = unless_limit s (submitted s j)
+reply_to s (Execute j) = unless_limit s (executed s j (free_slot s))
+reply_to s (Poll j) = of_job s j (λ w. (reply.Job j (status s.rows j w), entry s))
+reply_to s (Collect j) = of_job s j (λ w. collected s j (status s.rows j w))
+reply_to s (Cancel j) = of_job s j (cancelled s j)
+reply_to s (Cells k) = (reply.Cells k (cell_count s k) (cell_sum s k), entry s)
+reply_to s Arena = (reply.Arena s.config.priority s.config.reserved s.config.slots, entry s)
+reply_to s Retire = retired s
+
+abbrev pub is_hello : Request → Bool
+is_hello (Hello name) = true
+is_hello r = false
+
+abbrev pub ask : State → Request → Reply × State
+ask s r = if is_full s && not (is_hello r) then (reply.Refused HistoryFull, s) else reply_to s r

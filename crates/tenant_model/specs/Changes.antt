@@ -1,0 +1,98 @@
+-- Changes of a tenant's state, one part at a time.
+use Rattle.std.specs.Prelude.{ℕ, ◌+◌, ◌-◌, ◌==◌, nat_lt, nat_le, max, ℤ, pos, Bool, true, false, not, ◌&&◌, if◌then◌else◌, List, [], ◌∷◌, ◌++◌, Option, Some, None, is_some, unwrap_or, length, map, fold, count_by, slice_index_or, slice_set}
+use Rattle.std.specs.Int.{int_wrapping_add, w64}
+use Rattle.job_language.specs.declared.errors.JobFault.{JobFault}
+use Rattle.job_language.specs.declared.steps.Moved.{Moved}
+use Rattle.job_language.specs.declared.steps.Moved.TheVariants.{Ran, Freed}
+use Rattle.job_step.specs.declared.frames.Frame.{Frame}
+use Rattle.tenant_model.specs.declared.rows.Kind.{Kind}
+use Rattle.tenant_model.specs.declared.rows.Phase.{Phase}
+use Rattle.tenant_model.specs.declared.rows.Phase.TheVariants.{Unstarted, Live, Faulted}
+use Rattle.tenant_model.specs.declared.rows.Mark.{Mark}
+use Rattle.tenant_model.specs.declared.rows.Row.{Row}
+use Rattle.tenant_model.specs.declared.works.Work.{Work}
+use Rattle.tenant_model.specs.State.{State, no_marks, with_numbered, row, job}
+use Rattle.tenant_model.specs.Walks.{is_region, is_open, is_live_on, height, settle}
+
+-- a row changed
+abbrev pub on_row : State → ℕ → (Row → Row) → State
+on_row s n f = record s { rows = with_numbered s.rows n (f (row s.rows n)) }
+
+-- a job changed
+abbrev pub on_job : State → ℕ → (Work → Work) → State
+on_job s n f = record s { jobs = with_numbered s.jobs n (f (job s.jobs n)) }
+
+abbrev pub new_row : Kind → (job : ℕ) → (made_on : Option ℕ) → Frame → Phase → Row
+new_row kind job made_on frame phase = record { kind = kind; job = job; made_on = made_on; frame = frame; phase = phase; marks = no_marks }
+
+abbrev pub add_row : State → Row → State
+add_row s r = record s { rows = s.rows ++ r ∷ [] }
+
+-- how many rows are open
+abbrev pub open_rows : List Row → ℕ
+open_rows rows = count_by (λ (r : Row). is_open r.phase) rows
+
+abbrev pub is_row_limit_met : State → Bool
+is_row_limit_met s = nat_le s.config.rows (open_rows s.rows)
+
+abbrev pub is_full : State → Bool
+is_full s = nat_le s.config.steps s.entries
+
+-- A step that is an entry is counted, and the state settles.
+abbrev pub entry : State → State
+entry s = settle (record s { entries = s.entries + 1 })
+
+-- the frame of a row moved on
+abbrev pub with_frame : State → ℕ → Frame → State
+with_frame s n f = on_row s n (λ r. record r { frame = f })
+
+-- a row live on top of a slot
+abbrev pub nest : State → ℕ → ℕ → State
+nest s slot n = on_row s n (λ r. record r { phase = Live slot (height s.rows slot + 1) })
+
+-- the cell of a key on a slot
+abbrev pub cell : State → ℕ → ℕ → Option ℤ
+cell s k slot = slice_index_or (slice_index_or s.cells k []) slot None
+
+abbrev pub with_cell : State → ℕ → ℕ → ℤ → State
+with_cell s k slot v = record s { cells = slice_set s.cells k (slice_set (slice_index_or s.cells k []) slot (Some v)) }
+
+-- the sum and the number of a key's cells
+abbrev pub cell_sum : State → ℕ → ℤ
+cell_sum s k = fold (λ sum c. int_wrapping_add w64 sum (unwrap_or c (pos 0))) (pos 0) (slice_index_or s.cells k [])
+
+abbrev pub cell_count : State → ℕ → ℕ
+cell_count s k = count_by (λ (c : Option ℤ). is_some c) (slice_index_or s.cells k [])
+
+-- a step that ran: a reserved slot is freed where nothing is left on it
+abbrev pub ran : ℕ → State → Moved × State
+ran slot s = (if nat_lt slot s.config.reserved && (height s.rows slot == 0) then Freed else Ran, entry s)
+
+abbrev pub height_of : Phase → ℕ
+height_of (Live t h) = h
+height_of p = 0
+
+-- the height of a row that is on the slot and no region
+abbrev pub task_height_of : ℕ → Row → ℕ
+task_height_of slot r = if is_live_on slot r.phase && not (is_region r.kind) then height_of r.phase else 0
+
+-- the height of the highest row on a slot that is no region
+abbrev pub task_height : List Row → ℕ → ℕ
+task_height rows slot = fold (λ most r. max most (task_height_of slot r)) 0 rows
+
+abbrev pub faulted_phase : (slot from : ℕ) → Phase → Phase
+faulted_phase slot from (Live t h) = if (t == slot) && nat_le from h then Faulted else Live t h
+faulted_phase slot from p = p
+
+abbrev pub faulted : (slot from : ℕ) → Row → Row
+faulted slot from r = record r { phase = faulted_phase slot from r.phase }
+
+-- the first fault of a job stays
+abbrev pub first_fault : Option JobFault → JobFault → Option JobFault
+first_fault None fault = Some fault
+first_fault (Some f) fault = Some f
+
+-- A fault ends the topmost row and those below it, down to and with the first that is no region.
+abbrev pub faults : (slot job : ℕ) → JobFault → State → Moved × State
+faults slot j fault s =
+    ran slot (on_job (record s { rows = map (faulted slot (task_height s.rows slot)) s.rows }) j (λ w. record w { fault = first_fault w.fault fault }))

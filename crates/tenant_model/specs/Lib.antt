@@ -1,0 +1,9 @@
+pub mod State
+pub mod Walks
+pub mod Changes
+pub mod Rows
+pub mod Shared
+pub mod Advance
+pub mod Asks
+pub mod Solo
+pub mod Worked

@@ -1,0 +1,108 @@
+-- Shared instructions: what the topmost row n of a slot does, whose frame f stands at one.
+use Rattle.std.specs.Prelude.{ℕ, ◌+◌, ◌==◌, nat_lt, ℤ, pos, Bool, true, false, ◌&&◌, ◌||◌, if◌then◌else◌, List, [], Option, Some, None, unwrap_or, length, slice_set}
+use Rattle.job_language.specs.declared.errors.JobFault.TheVariants.{TooDeep, TaskLimit, MissingWait}
+use Rattle.job_language.specs.declared.instructions.Instr.{Instr}
+use Rattle.job_language.specs.declared.instructions.Instr.TheVariants.{Spawn, Post, Wait, Cancel, Ask, Isolate, Load, Store, Sum, Count, Ret}
+use Rattle.job_language.specs.declared.steps.Moved.{Moved}
+use Rattle.job_language.specs.declared.steps.Moved.TheVariants.{Idle}
+use Rattle.job_step.specs.declared.frames.Frame.{Frame}
+use Rattle.job_step.specs.Frame.{new_frame, register, at_place, with_register, instr_at}
+use Rattle.tenant_model.specs.declared.rows.Kind.{Kind}
+use Rattle.tenant_model.specs.declared.rows.Kind.TheVariants.{Root, Posted, Spawned, Region}
+use Rattle.tenant_model.specs.declared.rows.Phase.TheVariants.{Unstarted, Live, Done}
+use Rattle.tenant_model.specs.declared.rows.Mark.{Mark}
+use Rattle.tenant_model.specs.declared.rows.TheConstants.{MAX_HEIGHT}
+use Rattle.tenant_model.specs.State.{State, row, job}
+use Rattle.tenant_model.specs.Walks.{mark, total, is_used, is_context_cancelled, height}
+use Rattle.tenant_model.specs.Changes.{on_row, with_frame, new_row, add_row, is_row_limit_met, cell, with_cell, cell_sum, cell_count, ran, faults}
+
+-- the frame at the next place
+abbrev pub next_place : Frame → Frame
+next_place f = at_place f (f.place + 1)
+
+-- a new frame at a procedure, with the values of two registers
+abbrev pub called : Frame → (p a b : ℕ) → Frame
+called f p a b = new_frame p (register f a) (register f b)
+
+-- (`task_group::run`)
+abbrev pub spawn : State → (slot n : ℕ) → Frame → (g p a b : ℕ) → Moved × State
+spawn s slot n f g p a b =
+    if is_row_limit_met s then faults slot (row s.rows n).job TaskLimit s
+    else ran slot (add_row (with_frame s n (next_place f)) (new_row (Spawned n g) (row s.rows n).job (Some slot) (called f p a b) Unstarted))
+
+-- (`enqueue`)
+abbrev pub post : State → (slot n : ℕ) → Frame → (p a b : ℕ) → Moved × State
+post s slot n f p a b =
+    if is_row_limit_met s then faults slot (row s.rows n).job TaskLimit s
+    else ran slot (add_row (with_frame s n (next_place f)) (new_row Posted (row s.rows n).job None (called f p a b) Unstarted))
+
+-- While the region runs, its maker stands at the isolate (`this_task_arena::isolate`).
+abbrev pub isolate : State → (slot n : ℕ) → Frame → (p a b : ℕ) → Moved × State
+isolate s slot n f p a b =
+    if height s.rows slot == MAX_HEIGHT then faults slot (row s.rows n).job TooDeep s
+    else if is_row_limit_met s then faults slot (row s.rows n).job TaskLimit s
+    else ran slot (add_row (with_frame s n f) (new_row (Region n) (row s.rows n).job (Some slot) (called f p a b) (Live slot (height s.rows slot + 1))))
+
+-- what the members of a group learn of a cancel: 2 where their context is cancelled, else 1
+abbrev pub group_status : State → (n g : ℕ) → ℤ
+group_status s n g = if (mark s.rows n g).cancelled || is_context_cancelled s n then pos 2 else pos 1
+
+-- A passed wait: the total, then the status, and the group begins anew (`task_group::wait`).
+abbrev pub wait : State → (slot n : ℕ) → Frame → (d e g : ℕ) → Moved × State
+wait s slot n f d e g = ran slot (on_row s n (λ r. record r {
+  frame = with_register (record f { registers = slice_set f.registers d (total s.rows n g) }) e (group_status s n g);
+  marks = slice_set r.marks g (record { rows = length s.rows; cancelled = false });
+}))
+
+-- (`task_group::cancel`)
+abbrev pub cancel : State → (slot n : ℕ) → Frame → (g : ℕ) → Moved × State
+cancel s slot n f g = ran slot (on_row s n (λ r. record r {
+  frame = next_place f;
+  marks = slice_set r.marks g (record (mark s.rows n g) { cancelled = true });
+}))
+
+-- a register changed, and nothing else
+abbrev pub learns : State → (slot n : ℕ) → Frame → (d : ℕ) → ℤ → Moved × State
+learns s slot n f d v = ran slot (with_frame s n (with_register f d v))
+
+-- The cell is made where it is absent (`enumerable_thread_specific::local`).
+abbrev pub load : State → (slot n : ℕ) → Frame → (d k : ℕ) → Moved × State
+load s slot n f d k = let v = unwrap_or (cell s k slot) (pos 0) in ran slot (with_cell (with_frame s n (with_register f d v)) k slot v)
+
+abbrev pub store : State → (slot n : ℕ) → Frame → (k a : ℕ) → Moved × State
+store s slot n f k a = ran slot (with_cell (with_frame s n (next_place f)) k slot (register f a))
+
+abbrev pub has_used_group : State → ℕ → Bool
+has_used_group s n = is_used s.rows n 0 || is_used s.rows n 1 || is_used s.rows n 2 || is_used s.rows n 3
+
+-- the register that an isolate names
+abbrev pub isolate_register : Option Instr → ℕ
+isolate_register (Some (Isolate d p a b)) = d
+isolate_register i = 0
+
+-- the value of a region goes to the register that its maker's isolate names, and the maker goes on
+abbrev pub hand_to : State → (maker : ℕ) → ℤ → State
+hand_to s m v = on_row s m (λ r. record r { frame = with_register r.frame (isolate_register (instr_at (job s.jobs r.job).program r.frame)) v })
+
+abbrev pub hand_back : State → Kind → ℤ → State
+hand_back s (Region m) v = hand_to s m v
+hand_back s k v = s
+
+abbrev pub ret : State → (slot n : ℕ) → Frame → (a : ℕ) → Moved × State
+ret s slot n f a =
+    if has_used_group s n then faults slot (row s.rows n).job MissingWait s
+    else ran slot (hand_back (on_row s n (λ r. record r { frame = f; phase = Done (register f a) })) (row s.rows n).kind (register f a))
+
+abbrev pub execute : State → (slot n : ℕ) → Frame → Instr → Moved × State
+execute s slot n f (Spawn g p a b) = spawn s slot n f g p a b
+execute s slot n f (Post p a b) = post s slot n f p a b
+execute s slot n f (Isolate d p a b) = isolate s slot n f p a b
+execute s slot n f (Wait d e g) = wait s slot n f d e g
+execute s slot n f (Cancel g) = cancel s slot n f g
+execute s slot n f (Ask d) = learns s slot n f d (if is_context_cancelled s n then pos 1 else pos 0)
+execute s slot n f (Load d k) = load s slot n f d k
+execute s slot n f (Store k a) = store s slot n f k a
+execute s slot n f (Sum d k) = learns s slot n f d (cell_sum s k)
+execute s slot n f (Count d k) = learns s slot n f d (pos (cell_count s k))
+execute s slot n f (Ret a) = ret s slot n f a
+execute s slot n f i = (Idle, s)
