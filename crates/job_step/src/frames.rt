@@ -1,8 +1,9 @@
 // Frames of work.
-ghost use Rattle.std.specs.Prelude.{◌≡◌};
-ghost use Rattle.job_step.specs.Frame.{new_frame};
+ghost use Rattle.std.specs.Prelude.{◌≡◌, ◌+◌, ◌<◌, false, IfSome};
+ghost use Rattle.job_language.specs.Program.{is_last};
+ghost use Rattle.job_step.specs.Frame.{at_place, instr_at, new_frame, with_register};
 
-use job_language::REGISTERS;
+use job_language::{Instr, Program, REGISTERS, Register};
 
 /// Where the work of a row stands: a procedure of its job, the place of the next instruction there,
 /// and the registers.
@@ -24,5 +25,51 @@ impl Frame {
             place: 0,
             registers: [first, second, 0, 0, 0, 0, 0, 0],
         }
+    }
+
+    /// The frame at the next place of its procedure.
+    pub fn next(&self) -> Frame
+        requires { self.now.place < 255 }
+        ensures { result ≡ at_place self.now (self.now.place + 1) }
+    {
+        let registers = self.registers;
+        Frame {
+            procedure: self.procedure,
+            place: self.place + 1,
+            registers,
+        }
+    }
+
+    /// The frame at the next place of its procedure, with one register changed.
+    pub fn with_register(&self, register: Register, value: i64) -> Frame
+        requires { self.now.place < 255 }
+        ensures { result ≡ with_register self.now register value }
+    {
+        let mut registers = self.registers;
+        registers[register.index()] = value;
+        Frame {
+            procedure: self.procedure,
+            place: self.place + 1,
+            registers,
+        }
+    }
+
+    /// The instruction of a program that comes next.
+    pub fn instr_in(&self, program: &Program) -> Option<Instr>
+        ensures value { result ≡ instr_at program.now self.now }
+        // Only a `ret` or a `jmp` ends a procedure, so another instruction has one behind it.
+        ensures next { IfSome result (λ i. is_last i ≡ false → self.now.place < 255) }
+    {
+        let procs = program.procs();
+        let procedure = usize::from(self.procedure);
+        if procedure >= procs.len() {
+            return None;
+        }
+        let instrs = procs[procedure].instrs();
+        let place = usize::from(self.place);
+        if place >= instrs.len() {
+            return None;
+        }
+        Some(instrs[place])
     }
 }

@@ -45,7 +45,9 @@ enum Effect {
 /// The private run of a frame on a slot, in an arena of so many slots. A frame that names no
 /// instruction of the program has the run of no instruction that ends in a yield.
 pub fn run_private(program: &Program, start: Frame, slot: u8, width: u8) -> Run
-    ensures { result ≡ run_of program.now slot width start }
+    ensures run { result ≡ run_of program.now slot width start }
+    // Only a `ret` or a `jmp` ends a procedure, so another shared instruction has one behind it.
+    ensures next { (i : Instr) → result.stop ≡ Stop.Shared i → is_last i ≡ false → result.end.place < 255 }
 {
     let procs = program.procs();
     let procedure = usize::from(start.procedure);
@@ -76,8 +78,9 @@ impl Run {
 fn run_in(instrs: &[Instr], start: Frame, slot: u8, width: u8) -> Run
     requires valid { IsValidProc instrs.now }
     requires place { start.place < length instrs.now }
-    ensures { (procs : List (List Instr)) → slice_index_or procs start.procedure [] ≡ instrs.now
+    ensures run { (procs : List (List Instr)) → slice_index_or procs start.procedure [] ≡ instrs.now
         → result ≡ run_of procs slot width start }
+    ensures next { (i : Instr) → result.stop ≡ Stop.Shared i → is_last i ≡ false → result.end.place < 255 }
 {
     let procedure = start.procedure;
     let mut place = start.place;

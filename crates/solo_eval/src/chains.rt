@@ -5,7 +5,6 @@ ghost use Rattle.tenant_model.specs.State.{row};
 ghost use Rattle.tenant_model.specs.Walks.{maker_of, is_region, is_within, region_of, is_group_cancelled, mark, chain};
 ghost use Rattle.tenant_model.specs.Rows.{MakersPrecede};
 
-use job_language::Group;
 use tenant_model::{Kind, Mark, Row};
 
 /// The row of a number.
@@ -59,12 +58,13 @@ pub(crate) fn is_within(rows: &[Row], number: u64, region: u64) -> bool
 }
 
 /// What a group of a row is remembered by.
-pub(crate) fn mark(rows: &[Row], number: u64, group: Group) -> Mark
+pub(crate) fn mark(rows: &[Row], number: u64, group: usize) -> Mark
     requires from { 1 ≤ number }
     requires to { number ≤ length rows.now }
+    requires group { group < 4 }
     ensures { result ≡ mark rows.now number group }
 {
-    row(rows, number).marks[group.index()]
+    row(rows, number).marks[group]
 }
 
 /// Whether a row was spawned into a group that was cancelled since its last passed wait.
@@ -73,7 +73,7 @@ fn is_group_cancelled(rows: &[Row], kind: &Kind) -> bool
     ensures { result ≡ is_group_cancelled rows.now kind.now }
 {
     match *kind {
-        Kind::Spawned(maker, group) => mark(rows, maker, group).cancelled,
+        Kind::Spawned(maker, group) => mark(rows, maker, group.index()).cancelled,
         Kind::Root | Kind::Posted | Kind::Region(_) => false,
     }
 }

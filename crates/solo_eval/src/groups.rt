@@ -1,15 +1,15 @@
 // Task groups: the members of a group of a row.
-ghost use Rattle.std.specs.Prelude.{◌≡◌, ◌≤◌, ◌&&◌, nat_lt, length};
+ghost use Rattle.std.specs.Prelude.{◌≡◌, ◌<◌, ◌≤◌, ◌&&◌, nat_lt, length};
 ghost use Rattle.tenant_model.specs.Walks.{is_spawned_by, is_pending, total, is_used};
 
 use crate::chains::mark;
-use job_language::Group;
 use tenant_model::{Kind, Phase, Row};
 
 /// Whether a member of the group is open.
-pub(crate) fn is_pending(rows: &[Row], maker: u64, group: Group) -> bool
+pub(crate) fn is_pending(rows: &[Row], maker: u64, group: usize) -> bool
     requires from { 1 ≤ maker }
     requires to { maker ≤ length rows.now }
+    requires group { group < 4 }
     ensures { result ≡ is_pending rows.now maker group }
 {
     let since = mark(rows, maker, group).rows;
@@ -22,9 +22,10 @@ pub(crate) fn is_pending(rows: &[Row], maker: u64, group: Group) -> bool
 }
 
 /// The wrapping sum of the values of the members that are done.
-pub(crate) fn total(rows: &[Row], maker: u64, group: Group) -> i64
+pub(crate) fn total(rows: &[Row], maker: u64, group: usize) -> i64
     requires from { 1 ≤ maker }
     requires to { maker ≤ length rows.now }
+    requires group { group < 4 }
     ensures { result ≡ total rows.now maker group }
 {
     let since = mark(rows, maker, group).rows;
@@ -38,9 +39,10 @@ pub(crate) fn total(rows: &[Row], maker: u64, group: Group) -> i64
 }
 
 /// Whether the group has a member.
-pub(crate) fn is_used(rows: &[Row], maker: u64, group: Group) -> bool
+pub(crate) fn is_used(rows: &[Row], maker: u64, group: usize) -> bool
     requires from { 1 ≤ maker }
     requires to { maker ≤ length rows.now }
+    requires group { group < 4 }
     ensures { result ≡ is_used rows.now maker group }
 {
     let since = mark(rows, maker, group).rows;
@@ -53,11 +55,11 @@ pub(crate) fn is_used(rows: &[Row], maker: u64, group: Group) -> bool
 }
 
 /// Whether a row was spawned into the group after so many rows.
-fn is_member(row: &Row, number: u64, maker: u64, group: Group, since: u64) -> bool
+fn is_member(row: &Row, number: u64, maker: u64, group: usize, since: u64) -> bool
     ensures { result ≡ (is_spawned_by maker group row.now.kind && nat_lt since number) }
 {
     match row.kind {
-        Kind::Spawned(by, into) => by == maker && into == group && since < number,
+        Kind::Spawned(by, into) => by == maker && into.index() == group && since < number,
         _ => false,
     }
 }

@@ -2,6 +2,8 @@
 #![tactic(auto)]
 
 mod chains;
+mod execution;
 mod groups;
+mod shared;
 mod stacks;
 mod state;

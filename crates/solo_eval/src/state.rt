@@ -1,9 +1,10 @@
 // The state of a tenant as the evaluator holds it, and changes of one part of it.
-ghost use Rattle.std.specs.Prelude.{◌≡◌, ◌+◌, ◌<◌, ◌≤◌, ◌++◌, ◌∷◌, [], length, OnOk, OnErr, IfSome};
+ghost use Rattle.std.specs.Prelude.{◌≡◌, ◌+◌, ◌<◌, ◌≤◌, ◌++◌, ◌∷◌, [], length, OnOk, OnErr, IfSome, fold, unwrap_or, pos, count_by, is_some};
+ghost use Rattle.std.specs.Int.{int_wrapping_add, w64};
 
 use crate::chains::{has_cancelled_group, row};
-use crate::stacks::{fault_rows, height, open_rows};
-use job_language::{GROUPS, JobFault, KEYS, TenantConfig};
+use crate::stacks::{fault_rows, height, open_rows, task_height};
+use job_language::{GROUPS, Group, JobFault, KEYS, Key, Moved, Tenant, TenantConfig};
 use job_step::Frame;
 use std::alloc::AllocError;
 use std::marker::Model;
@@ -34,12 +35,21 @@ impl Model for TenantState {
 }
 
 impl TenantState {
-    ghost use Rattle.std.specs.Prelude.{true, false, map};
+    ghost use Rattle.std.specs.Prelude.{true, false, map, slice_set};
     ghost use Rattle.tenant_model.specs.State.{row, with_numbered};
     ghost use Rattle.tenant_model.specs.Walks.{maker_of, height, is_context_cancelled, settled, settle};
     ghost use Rattle.tenant_model.specs.Rows.{MakersPrecede};
+    ghost use Rattle.job_language.specs.Tenant.{IsValidTenant};
     ghost use Rattle.tenant_model.specs.Advance.{job_of};
-    ghost use Rattle.tenant_model.specs.Changes.{entry, faulted, first_fault, on_job, add_row, new_row, with_frame, nest, is_row_limit_met, is_full};
+    ghost use Rattle.tenant_model.specs.Changes.{ran, faults, cell, with_cell, cell_sum, cell_count, on_row, entry, faulted, first_fault, on_job, add_row, new_row, with_frame, nest, is_row_limit_met, is_full};
+
+    /// What the tenant is given.
+    pub(crate) fn config(&self) -> &Tenant
+        ensures value { result.now ≡ self.now.config }
+        ensures valid { IsValidTenant self.now.config }
+    {
+        self.config.tenant()
+    }
 
     /// All rows, in order of their numbers.
     pub(crate) fn rows(&self) -> &[Row]
@@ -174,6 +184,30 @@ impl TenantState {
         fault_rows(self.rows.as_mut_slice(), slot, from);
     }
 
+    /// Counts an entry after a step that ran. A reserved slot is freed where nothing is left on it.
+    pub(crate) fn ran(&mut self, slot: u8) -> Moved
+        requires { is_full self.old ≡ false }
+        ensures { ran slot self.old ≡ (result, self.new) }
+    {
+        let freed = slot < self.config().reserved && height(self.rows(), slot) == 0;
+        self.enter();
+        if freed { Moved::Freed } else { Moved::Ran }
+    }
+
+    /// Ends the topmost row of a slot and those below it, down to and with the first that is no
+    /// region, for a fault of a job.
+    pub(crate) fn fault(&mut self, slot: u8, job: u64, fault: JobFault) -> Moved
+        requires full { is_full self.old ≡ false }
+        requires from { 1 ≤ job }
+        requires to { job ≤ length self.old.jobs }
+        ensures { faults slot job fault self.old ≡ (result, self.new) }
+    {
+        let from = task_height(self.rows(), slot);
+        self.fault_rows(slot, from);
+        self.set_fault(job, fault);
+        self.ran(slot)
+    }
+
     /// Sets the fuel of a job.
     pub(crate) fn set_fuel(&mut self, job: u64, fuel: u64)
         requires from { 1 ≤ job }
@@ -204,6 +238,78 @@ impl TenantState {
         self.jobs[job as usize - 1].cancelled = true;
     }
 
+    /// Puts another mark and another frame into a row.
+    pub(crate) fn set_mark(&mut self, number: u64, group: Group, mark: Mark, frame: Frame)
+        requires from { 1 ≤ number }
+        requires to { number ≤ length self.old.rows }
+        ensures { self.new ≡ on_row self.old number
+            (λ r. record r { frame = frame; marks = slice_set r.marks group mark }) }
+    {
+        let row = self.row(number);
+        let mut marks = row.marks;
+        marks[group.index()] = mark;
+        self.set_row(
+            number,
+            Row {
+                frame,
+                marks,
+                ..row
+            },
+        );
+    }
+
+    /// Ends a row with a value.
+    pub(crate) fn end_row(&mut self, number: u64, frame: Frame, value: i64)
+        requires from { 1 ≤ number }
+        requires to { number ≤ length self.old.rows }
+        ensures { self.new ≡ on_row self.old number
+            (λ r. record r { frame = frame; phase = Phase.Done value }) }
+    {
+        let row = self.row(number);
+        let phase = Phase::Done(value);
+        self.set_row(
+            number,
+            Row {
+                frame,
+                phase,
+                ..row
+            },
+        );
+    }
+
+    /// The cell of a key on a slot.
+    pub(crate) fn cell(&self, key: Key, slot: u8) -> Option<i64>
+        requires { slot < 16 }
+        ensures { result ≡ cell self.now key slot }
+    {
+        self.cells[key.index()][usize::from(slot)]
+    }
+
+    /// Sets the cell of a key on a slot.
+    pub(crate) fn set_cell(&mut self, key: Key, slot: u8, value: i64)
+        requires { slot < 16 }
+        ensures { self.new ≡ with_cell self.old key slot value }
+    {
+        self.cells[key.index()][usize::from(slot)] = Some(value);
+    }
+
+    /// The wrapping sum of a key's cells.
+    pub(crate) fn cell_sum(&self, key: Key) -> i64
+        ensures { result ≡ cell_sum self.now key }
+    {
+        let cells = &self.cells[key.index()];
+        sum_of(cells)
+    }
+
+    /// The number of a key's cells.
+    pub(crate) fn cell_count(&self, key: Key) -> u64
+        ensures value { result ≡ cell_count self.now key }
+        ensures few { result ≤ 16 }
+    {
+        let cells = &self.cells[key.index()];
+        count_of(cells)
+    }
+
     /// Whether no step may be an entry any more.
     pub(crate) fn is_full(&self) -> bool
         ensures { result ≡ is_full self.now }
@@ -226,4 +332,23 @@ impl TenantState {
     {
         self.job_of(number).is_cancelled() || has_cancelled_group(self.rows(), number)
     }
+}
+
+/// The wrapping sum of the cells that are there.
+fn sum_of(cells: &[Option<i64>]) -> i64
+    ensures { result ≡ fold (λ sum c. int_wrapping_add w64 sum (unwrap_or c (pos 0))) (pos 0) cells.now }
+{
+    let mut sum = 0i64;
+    for cell in cells {
+        sum = sum.wrapping_add(cell.unwrap_or(0));
+    }
+    sum
+}
+
+/// The number of cells that are there.
+fn count_of(cells: &[Option<i64>]) -> u64
+    ensures value { result ≡ count_by (λ c. is_some c) cells.now }
+    ensures few { result ≤ length cells.now }
+{
+    cells.iter().filter(|cell| cell.is_some()).count() as u64
 }

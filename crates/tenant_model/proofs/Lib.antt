@@ -1,3 +1,4 @@
+pub mod Added
 pub mod Changed
 pub mod Chains
 pub mod Contexts

@@ -4,7 +4,6 @@ use Rattle.job_language.specs.declared.errors.JobFault.TheVariants.{TooDeep, Tas
 use Rattle.job_language.specs.declared.instructions.Instr.{Instr}
 use Rattle.job_language.specs.declared.instructions.Instr.TheVariants.{Spawn, Post, Wait, Cancel, Ask, Isolate, Load, Store, Sum, Count, Ret}
 use Rattle.job_language.specs.declared.steps.Moved.{Moved}
-use Rattle.job_language.specs.declared.steps.Moved.TheVariants.{Idle}
 use Rattle.job_step.specs.declared.frames.Frame.{Frame}
 use Rattle.job_step.specs.Frame.{new_frame, register, at_place, with_register, instr_at}
 use Rattle.tenant_model.specs.declared.rows.Kind.{Kind}
@@ -37,11 +36,11 @@ post s slot n f p a b =
     else ran slot (add_row (with_frame s n (next_place f)) (new_row Posted (row s.rows n).job None (called f p a b) Unstarted))
 
 -- While the region runs, its maker stands at the isolate (`this_task_arena::isolate`).
-abbrev pub isolate : State → (slot n : ℕ) → Frame → (p a b : ℕ) → Moved × State
-isolate s slot n f p a b =
+abbrev pub isolate_at : State → (slot n : ℕ) → (f called : Frame) → Moved × State
+isolate_at s slot n f g =
     if height s.rows slot == MAX_HEIGHT then faults slot (row s.rows n).job TooDeep s
     else if is_row_limit_met s then faults slot (row s.rows n).job TaskLimit s
-    else ran slot (add_row (with_frame s n f) (new_row (Region n) (row s.rows n).job (Some slot) (called f p a b) (Live slot (height s.rows slot + 1))))
+    else ran slot (add_row (with_frame s n f) (new_row (Region n) (row s.rows n).job (Some slot) g (Live slot (height s.rows slot + 1))))
 
 -- what the members of a group learn of a cancel: 2 where their context is cancelled, else 1
 abbrev pub group_status : State → (n g : ℕ) → ℤ
@@ -75,14 +74,14 @@ store s slot n f k a = ran slot (with_cell (with_frame s n (next_place f)) k slo
 abbrev pub has_used_group : State → ℕ → Bool
 has_used_group s n = is_used s.rows n 0 || is_used s.rows n 1 || is_used s.rows n 2 || is_used s.rows n 3
 
--- the register that an isolate names
-abbrev pub isolate_register : Option Instr → ℕ
-isolate_register (Some (Isolate d p a b)) = d
-isolate_register i = 0
+-- the frame that stands at an isolate, with the value of its region; a frame elsewhere stays
+abbrev pub handed : Option Instr → ℤ → Frame → Frame
+handed (Some (Isolate d p a b)) v f = with_register f d v
+handed i v f = f
 
 -- the value of a region goes to the register that its maker's isolate names, and the maker goes on
 abbrev pub hand_to : State → (maker : ℕ) → ℤ → State
-hand_to s m v = on_row s m (λ r. record r { frame = with_register r.frame (isolate_register (instr_at (job s.jobs r.job).program r.frame)) v })
+hand_to s m v = on_row s m (λ r. record r { frame = handed (instr_at (job s.jobs r.job).program r.frame) v r.frame })
 
 abbrev pub hand_back : State → Kind → ℤ → State
 hand_back s (Region m) v = hand_to s m v
@@ -96,7 +95,7 @@ ret s slot n f a =
 abbrev pub execute : State → (slot n : ℕ) → Frame → Instr → Moved × State
 execute s slot n f (Spawn g p a b) = spawn s slot n f g p a b
 execute s slot n f (Post p a b) = post s slot n f p a b
-execute s slot n f (Isolate d p a b) = isolate s slot n f p a b
+execute s slot n f (Isolate d p a b) = isolate_at s slot n f (called f p a b)
 execute s slot n f (Wait d e g) = wait s slot n f d e g
 execute s slot n f (Cancel g) = cancel s slot n f g
 execute s slot n f (Ask d) = learns s slot n f d (if is_context_cancelled s n then pos 1 else pos 0)
@@ -105,4 +104,4 @@ execute s slot n f (Store k a) = store s slot n f k a
 execute s slot n f (Sum d k) = learns s slot n f d (cell_sum s k)
 execute s slot n f (Count d k) = learns s slot n f d (pos (cell_count s k))
 execute s slot n f (Ret a) = ret s slot n f a
-execute s slot n f i = (Idle, s)
+execute s slot n f i = ran slot (with_frame s n f)

@@ -4,14 +4,14 @@ use Rattle.std.proofs.lemmas.List.{get_or_read}
 use Rattle.job_step.proofs.RunSteps.{run_of-nowhere, instr_at-past_procs, instr_at-past_instrs}
 use Rattle.job_step.proofs.runs.run_private.Goals as goal
 
-pub returns-then-procedure-procs : goal.returns-then-procedure-procs
-returns-then-procedure-procs c =
+pub returns-then-procedure-procs-clause-run : goal.returns-then-procedure-procs-clause-run
+returns-then-procedure-procs-clause-run c =
     let procs = c.args.program.now in
     let past : length procs ≤ c.args.start.procedure = omega (arith, ap length c.procs-procs.ensures.value) in
     c.none.ensures ∙ sym (run_of-nowhere procs _ _ c.args.start (instr_at-past_procs procs c.args.start past))
 
-pub returns-then-from-instrs : goal.returns-then-from-instrs
-returns-then-from-instrs c =
+pub returns-then-from-instrs-clause-run : goal.returns-then-from-instrs-clause-run
+returns-then-from-instrs-clause-run c =
     let procs = c.args.program.now in
     let f = c.args.start in
     let proc = c.index-procs-procedure.result in

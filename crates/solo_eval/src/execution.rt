@@ -1,0 +1,150 @@
+// Executing what a private run of the topmost row of a slot stops at.
+ghost use Rattle.std.specs.Prelude.{◌≡◌, ◌+◌, ◌<◌, ◌≤◌, length, false, true, OnErr, IfOk, IfSome, Some, if◌then◌else◌};
+ghost use Rattle.job_language.specs.Program.{is_last};
+ghost use Rattle.tenant_model.specs.State.{row};
+ghost use Rattle.tenant_model.specs.Walks.{maker_of};
+ghost use Rattle.tenant_model.specs.Advance.{pay, is_poor, paid};
+ghost use Rattle.tenant_model.specs.Changes.{is_full, is_row_limit_met, ran, faults, add_row, new_row, with_frame};
+ghost use Rattle.tenant_model.specs.Shared.{execute, isolate_at, called};
+
+use crate::stacks::height;
+use crate::state::TenantState;
+use job_language::{Instr, JobFault, Moved, Register};
+use job_step::Frame;
+use std::alloc::AllocError;
+use tenant_model::{Kind, MAX_HEIGHT, Phase};
+
+/// A row to be made.
+#[derive(Clone, Copy)]
+struct NewRow {
+    kind: Kind,
+    made_on: Option<u8>,
+    frame: Frame,
+    phase: Phase,
+}
+
+impl TenantState {
+    /// Makes a row, and moves the frame of its maker on, where one more row may be open.
+    fn make(
+        &mut self,
+        slot: u8,
+        number: u64,
+        frame: Frame,
+        cost: u64,
+        made: NewRow,
+    ) -> Result<Moved, AllocError>
+        requires full { is_full self.old ≡ false }
+        requires from { 1 ≤ number }
+        requires to { number ≤ length self.old.rows }
+        requires maker { IfSome (maker_of made.kind) (λ m. (1 ≤ m) × (m ≤ length self.old.rows)) }
+        ensures ok { IfOk result (λ moved. pay self.old slot number cost (λ t.
+            if is_row_limit_met t then faults slot (row t.rows number).job JobFault.TaskLimit t
+            else ran slot (add_row (with_frame t number frame) (new_row made.kind (row t.rows number).job made.made_on made.frame made.phase))) ≡ (moved, self.new)) }
+        ensures err { OnErr result (self.new ≡ self.old) }
+    {
+        if self.is_poor(number, cost) {
+            return Ok(self.run_dry(slot, number));
+        }
+        let job = self.row(number).job;
+        if self.is_row_limit_met() {
+            self.pay(number, cost);
+            return Ok(self.fault(slot, job, JobFault::TaskLimit));
+        }
+        self.add_row(made.kind, job, made.made_on, made.frame, made.phase)?;
+        self.pay(number, cost);
+        self.set_frame(number, frame);
+        Ok(self.ran(slot))
+    }
+
+    /// Executes a shared instruction of the topmost row, whose frame stands at it, for a cost.
+    pub(crate) fn execute(
+        &mut self,
+        slot: u8,
+        number: u64,
+        frame: Frame,
+        instr: &Instr,
+        cost: u64,
+    ) -> Result<Moved, AllocError>
+        requires full { is_full self.old ≡ false }
+        requires from { 1 ≤ number }
+        requires to { number ≤ length self.old.rows }
+        requires slot { slot < 16 }
+        requires place { is_last instr.now ≡ false → frame.place < 255 }
+        ensures ok { IfOk result (λ moved. pay self.old slot number cost (λ t. execute t slot number frame instr.now) ≡ (moved, self.new)) }
+        ensures err { OnErr result (self.new ≡ self.old) }
+    {
+        match *instr {
+            Instr::Spawn(group, procedure, first, second) => {
+                let made = NewRow {
+                    kind: Kind::Spawned(number, group),
+                    made_on: Some(slot),
+                    frame: called(frame, procedure, first, second),
+                    phase: Phase::Unstarted,
+                };
+                self.make(slot, number, frame.next(), cost, made)
+            }
+            Instr::Post(procedure, first, second) => {
+                let made = NewRow {
+                    kind: Kind::Posted,
+                    made_on: None,
+                    frame: called(frame, procedure, first, second),
+                    phase: Phase::Unstarted,
+                };
+                self.make(slot, number, frame.next(), cost, made)
+            }
+            Instr::Isolate(_, procedure, first, second) => {
+                let called = called(frame, procedure, first, second);
+                self.isolate(slot, number, frame, cost, called)
+            }
+            _ => {
+                if self.is_poor(number, cost) {
+                    return Ok(self.run_dry(slot, number));
+                }
+                self.pay(number, cost);
+                Ok(self.execute_in_place(slot, number, frame, instr))
+            }
+        }
+    }
+
+    /// Makes a region on top of a slot.
+    fn isolate(
+        &mut self,
+        slot: u8,
+        number: u64,
+        frame: Frame,
+        cost: u64,
+        called: Frame,
+    ) -> Result<Moved, AllocError>
+        requires full { is_full self.old ≡ false }
+        requires from { 1 ≤ number }
+        requires to { number ≤ length self.old.rows }
+        ensures ok { IfOk result (λ moved. pay self.old slot number cost (λ t. isolate_at t slot number frame called) ≡ (moved, self.new)) }
+        ensures err { OnErr result (self.new ≡ self.old) }
+    {
+        let height = height(self.rows(), slot);
+        if height == MAX_HEIGHT {
+            if self.is_poor(number, cost) {
+                return Ok(self.run_dry(slot, number));
+            }
+            self.pay(number, cost);
+            let job = self.row(number).job;
+            return Ok(self.fault(slot, job, JobFault::TooDeep));
+        }
+        let made = NewRow {
+            kind: Kind::Region(number),
+            made_on: Some(slot),
+            frame: called,
+            phase: Phase::Live(slot, height + 1),
+        };
+        self.make(slot, number, frame, cost, made)
+    }
+}
+
+/// A new frame at a procedure, with the values of two registers.
+fn called(frame: Frame, procedure: u8, first: Register, second: Register) -> Frame
+    ensures { result ≡ called frame procedure first second }
+{
+    let first = frame.registers[first.index()];
+    let second = frame.registers[second.index()];
+    Frame::new(procedure, first, second)
+}

@@ -1,0 +1,244 @@
+// Shared instructions of the topmost row of a slot.
+ghost use Rattle.std.specs.Prelude.{◌≡◌, ◌<◌, ◌≤◌, length, false, true, OnOk, OnErr, IfOk, IfSome, Some};
+ghost use Rattle.job_language.specs.Program.{is_last};
+ghost use Rattle.solo_eval.specs.Execution.{makes_row};
+ghost use Rattle.tenant_model.specs.State.{row};
+ghost use Rattle.tenant_model.specs.Walks.{height, is_context_cancelled, maker_of};
+ghost use Rattle.tenant_model.specs.Advance.{is_poor, paid, with_fuel, pay};
+ghost use Rattle.tenant_model.specs.Changes.{is_full, ran, faults, add_row, with_frame};
+ghost use Rattle.tenant_model.specs.Shared as shared;
+ghost use Rattle.tenant_model.specs.Shared.{called, group_status, hand_back, handed, has_used_group};
+
+use crate::groups::{is_used, total};
+use crate::state::TenantState;
+use job_language::{GROUPS, Group, Instr, JobFault, Key, Moved, Register};
+use job_step::Frame;
+use std::alloc::AllocError;
+use tenant_model::{Kind, MAX_HEIGHT, Mark, Phase, Row};
+
+impl TenantState {
+    /// Whether the fuel of a row's job does not suffice.
+    pub(crate) fn is_poor(&self, number: u64, cost: u64) -> bool
+        requires from { 1 ≤ number }
+        requires to { number ≤ length self.now.rows }
+        ensures { result ≡ is_poor self.now number cost }
+    {
+        self.job_of(number).fuel < cost
+    }
+
+    /// Takes fuel from a row's job.
+    pub(crate) fn pay(&mut self, number: u64, cost: u64)
+        requires from { 1 ≤ number }
+        requires to { number ≤ length self.old.rows }
+        requires rich { is_poor self.old number cost ≡ false }
+        ensures { self.new ≡ paid self.old number cost }
+    {
+        let fuel = self.job_of(number).fuel - cost;
+        let job = self.row(number).job;
+        self.set_fuel(job, fuel);
+    }
+
+    /// What a row's job meets whose fuel does not suffice.
+    pub(crate) fn run_dry(&mut self, slot: u8, number: u64) -> Moved
+        requires full { is_full self.old ≡ false }
+        requires from { 1 ≤ number }
+        requires to { number ≤ length self.old.rows }
+        ensures { faults slot (row self.old.rows number).job JobFault.Fuel (with_fuel self.old number 0) ≡ (result, self.new) }
+    {
+        let job = self.row(number).job;
+        self.set_fuel(job, 0);
+        self.fault(slot, job, JobFault::Fuel)
+    }
+
+    /// What the members of a group learn of a cancel.
+    fn group_status(&self, number: u64, group: Group) -> i64
+        requires from { 1 ≤ number }
+        requires to { number ≤ length self.now.rows }
+        ensures { result ≡ group_status self.now number group }
+    {
+        if self.row(number).marks[group.index()].cancelled || self.is_context_cancelled(number) {
+            2
+        } else {
+            1
+        }
+    }
+
+    fn wait(
+        &mut self,
+        slot: u8,
+        number: u64,
+        frame: Frame,
+        total_to: Register,
+        status_to: Register,
+        group: Group,
+    ) -> Moved
+        requires full { is_full self.old ≡ false }
+        requires from { 1 ≤ number }
+        requires to { number ≤ length self.old.rows }
+        requires place { frame.place < 255 }
+        ensures { shared.wait self.old slot number frame total_to status_to group ≡ (result, self.new) }
+    {
+        let mut waited = frame;
+        waited.registers[total_to.index()] = total(self.rows(), number, group.index());
+        let waited = waited.with_register(status_to, self.group_status(number, group));
+        let mark = Mark {
+            rows: self.rows().len() as u64,
+            cancelled: false,
+        };
+        self.set_mark(number, group, mark, waited);
+        self.ran(slot)
+    }
+}
+
+impl TenantState {
+    fn cancel(&mut self, slot: u8, number: u64, frame: Frame, group: Group) -> Moved
+        requires full { is_full self.old ≡ false }
+        requires from { 1 ≤ number }
+        requires to { number ≤ length self.old.rows }
+        requires place { frame.place < 255 }
+        ensures { shared.cancel self.old slot number frame group ≡ (result, self.new) }
+    {
+        let mark = self.row(number).marks[group.index()];
+        let cancelled = Mark {
+            rows: mark.rows,
+            cancelled: true,
+        };
+        self.set_mark(number, group, cancelled, frame.next());
+        self.ran(slot)
+    }
+
+    /// Writes a register of the topmost row.
+    fn learn(&mut self, slot: u8, number: u64, frame: Frame, to: Register, value: i64) -> Moved
+        requires full { is_full self.old ≡ false }
+        requires from { 1 ≤ number }
+        requires to { number ≤ length self.old.rows }
+        requires place { frame.place < 255 }
+        ensures { shared.learns self.old slot number frame to value ≡ (result, self.new) }
+    {
+        self.set_frame(number, frame.with_register(to, value));
+        self.ran(slot)
+    }
+
+    fn load(&mut self, slot: u8, number: u64, frame: Frame, to: Register, key: Key) -> Moved
+        requires full { is_full self.old ≡ false }
+        requires from { 1 ≤ number }
+        requires to { number ≤ length self.old.rows }
+        requires place { frame.place < 255 }
+        requires slot { slot < 16 }
+        ensures { shared.load self.old slot number frame to key ≡ (result, self.new) }
+    {
+        let value = self.cell(key, slot).unwrap_or(0);
+        self.set_frame(number, frame.with_register(to, value));
+        self.set_cell(key, slot, value);
+        self.ran(slot)
+    }
+
+    fn store(&mut self, slot: u8, number: u64, frame: Frame, key: Key, from: Register) -> Moved
+        requires full { is_full self.old ≡ false }
+        requires from { 1 ≤ number }
+        requires to { number ≤ length self.old.rows }
+        requires place { frame.place < 255 }
+        requires slot { slot < 16 }
+        ensures { shared.store self.old slot number frame key from ≡ (result, self.new) }
+    {
+        self.set_frame(number, frame.next());
+        self.set_cell(key, slot, frame.registers[from.index()]);
+        self.ran(slot)
+    }
+
+    fn has_used_group(&self, number: u64) -> bool
+        requires from { 1 ≤ number }
+        requires to { number ≤ length self.now.rows }
+        ensures { result ≡ has_used_group self.now number }
+    {
+        is_used(self.rows(), number, 0)
+            || is_used(self.rows(), number, 1)
+            || is_used(self.rows(), number, 2)
+            || is_used(self.rows(), number, 3)
+    }
+
+    /// Hands the value of a region to its maker, which goes on.
+    fn hand_back(&mut self, kind: &Kind, value: i64)
+        requires { IfSome (maker_of kind.now) (λ m. (1 ≤ m) × (m ≤ length self.old.rows)) }
+        ensures { self.new ≡ hand_back self.old kind.now value }
+    {
+        if let Kind::Region(maker) = *kind {
+            let frame = self.row(maker).frame;
+            if let Some(instr) = frame.instr_in(&self.job_of(maker).program) {
+                self.set_frame(maker, handed(&instr, frame, value));
+            } else {
+                self.set_frame(maker, frame);
+            }
+        }
+    }
+
+    fn ret(&mut self, slot: u8, number: u64, frame: Frame, from: Register) -> Moved
+        requires full { is_full self.old ≡ false }
+        requires from { 1 ≤ number }
+        requires to { number ≤ length self.old.rows }
+        ensures { shared.ret self.old slot number frame from ≡ (result, self.new) }
+    {
+        let row = self.row(number);
+        if self.has_used_group(number) {
+            return self.fault(slot, row.job, JobFault::MissingWait);
+        }
+        let value = frame.registers[from.index()];
+        self.end_row(number, frame, value);
+        self.hand_back(&row.kind, value);
+        self.ran(slot)
+    }
+
+    /// Executes a shared instruction that makes no row.
+    pub(crate) fn execute_in_place(
+        &mut self,
+        slot: u8,
+        number: u64,
+        frame: Frame,
+        instr: &Instr,
+    ) -> Moved
+        requires full { is_full self.old ≡ false }
+        requires from { 1 ≤ number }
+        requires to { number ≤ length self.old.rows }
+        requires slot { slot < 16 }
+        requires place { is_last instr.now ≡ false → frame.place < 255 }
+        requires makes_none { makes_row instr.now ≡ false }
+        ensures { shared.execute self.old slot number frame instr.now ≡ (result, self.new) }
+    {
+        match *instr {
+            Instr::Wait(total_to, status_to, group) => {
+                self.wait(slot, number, frame, total_to, status_to, group)
+            }
+            Instr::Cancel(group) => self.cancel(slot, number, frame, group),
+            Instr::Ask(to) => {
+                let is_cancelled = self.is_context_cancelled(number);
+                self.learn(slot, number, frame, to, i64::from(is_cancelled))
+            }
+            Instr::Load(to, key) => self.load(slot, number, frame, to, key),
+            Instr::Store(key, from) => self.store(slot, number, frame, key, from),
+            Instr::Sum(to, key) => {
+                let sum = self.cell_sum(key);
+                self.learn(slot, number, frame, to, sum)
+            }
+            Instr::Count(to, key) => {
+                let count = self.cell_count(key);
+                self.learn(slot, number, frame, to, count as i64)
+            }
+            Instr::Ret(from) => self.ret(slot, number, frame, from),
+            _ => {
+                self.set_frame(number, frame);
+                self.ran(slot)
+            }
+        }
+    }
+}
+
+/// The frame that stands at an isolate, with the value of its region.
+fn handed(instr: &Instr, frame: Frame, value: i64) -> Frame
+    requires { is_last instr.now ≡ false → frame.place < 255 }
+    ensures { result ≡ handed (Some instr.now) value frame }
+{
+    match *instr {
+        Instr::Isolate(to, _procedure, _first, _second) => frame.with_register(to, value),
+        _ => frame,
+    }
+}
