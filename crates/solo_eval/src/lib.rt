@@ -1,6 +1,7 @@
 //! The plain evaluator of one tenant's steps, over the list of all its rows.
 #![tactic(auto)]
 
+mod advances;
 mod chains;
 mod execution;
 mod groups;

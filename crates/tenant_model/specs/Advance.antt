@@ -53,20 +53,29 @@ abbrev pub is_blocked : State → ℕ → Instr → Bool
 is_blocked s n (Wait d e g) = is_pending s.rows n g
 is_blocked s n i = false
 
--- after a private run of row n that leads to frame f
+-- the frame of row n moved on, and what it executed paid
+abbrev pub move_on : State → (slot n count : ℕ) → Frame → Moved × State
+move_on s slot n count f = pay s slot n count (λ t. ran slot (with_frame t n f))
+
+-- what a private run of row n, of so many instructions, leads to
 abbrev pub after_run : State → (slot n count : ℕ) → Frame → Stop → Moved × State
-after_run s slot n count f Yield = pay s slot n count (λ t. ran slot (with_frame t n f))
+after_run s slot n count f Yield = move_on s slot n count f
 after_run s slot n count f Fault = pay s slot n count (λ t. faults slot (row t.rows n).job fault.Division t)
 after_run s slot n count f (Shared i) =
-    if is_blocked s n i
-    then (if count == 0 then blocked s slot n (pick s slot) else pay s slot n count (λ t. ran slot (with_frame t n f)))
+    if is_blocked s n i then move_on s slot n count f
     else pay s slot n (count + 1) (λ t. execute t slot n f i)
+
+-- Did the row stand at a wait for pending members, and run nothing before it?
+abbrev pub is_stuck : State → (n count : ℕ) → Stop → Bool
+is_stuck s n count Yield = false
+is_stuck s n count Fault = false
+is_stuck s n count (Shared i) = is_blocked s n i && (count == 0)
 
 abbrev pub run_on : State → (slot n : ℕ) → Run
 run_on s slot n = run_of (job s.jobs (row s.rows n).job).program slot s.config.slots (row s.rows n).frame
 
 abbrev pub advance_run : State → (slot n : ℕ) → Run → Moved × State
-advance_run s slot n r = after_run s slot n r.count r.end r.stop
+advance_run s slot n r = if is_stuck s n r.count r.stop then blocked s slot n (pick s slot) else after_run s slot n r.count r.end r.stop
 
 abbrev pub advance_top : State → ℕ → Option ℕ → Moved × State
 advance_top s slot None = begin s slot (pick s slot)

@@ -1,0 +1,205 @@
+// Advances of a slot, and arrivals at one.
+ghost use Rattle.std.specs.Prelude.{◌≡◌, ◌+◌, ◌<◌, ◌≤◌, ◌==◌, ◌&&◌, length, false, true, OnErr, IfOk, IfSome, Some};
+ghost use Rattle.job_language.specs.declared.instructions.Instr.{Instr};
+ghost use Rattle.job_language.specs.Program.{is_last};
+ghost use Rattle.tenant_model.specs.State.{row};
+ghost use Rattle.tenant_model.specs.Walks.{top, pick};
+ghost use Rattle.tenant_model.specs.Changes.{is_full};
+ghost use Rattle.tenant_model.specs.Advance.{advance, arrive, after_run, advance_run, blocked, begin, is_blocked, is_stuck, move_on, is_open_to_workers, run_on, unless_full};
+
+use crate::groups::is_pending;
+use crate::stacks::{height, pick, top};
+use crate::state::TenantState;
+use job_language::{Came, Instr, JobFault, Moved};
+use job_step::{Run, Stop, run_private};
+use std::alloc::AllocError;
+use tenant_model::MAX_HEIGHT;
+
+impl TenantState {
+    /// The row that a slot takes next.
+    fn pick(&self, slot: u8) -> Option<u64>
+        ensures value { result ≡ pick self.now slot }
+        ensures there { IfSome result (λ n. (1 ≤ n) × (n ≤ length self.now.rows)) }
+    {
+        pick(&self.config().isolation, self.rows(), slot)
+    }
+
+    /// Whether a row stands at a wait for pending members.
+    fn is_blocked(&self, number: u64, instr: &Instr) -> bool
+        requires from { 1 ≤ number }
+        requires to { number ≤ length self.now.rows }
+        ensures { result ≡ is_blocked self.now number instr.now }
+    {
+        match *instr {
+            Instr::Wait(_total, _status, group) => is_pending(self.rows(), number, group.index()),
+            _ => false,
+        }
+    }
+
+    /// Records what the topmost row of a slot did in a run.
+    fn record(&mut self, slot: u8, number: u64, run: &Run) -> Result<Moved, AllocError>
+        requires full { is_full self.old ≡ false }
+        requires from { 1 ≤ number }
+        requires to { number ≤ length self.old.rows }
+        requires slot { slot < 16 }
+        requires next { (i : Instr) → run.now.stop ≡ Stop.Shared i → is_last i ≡ false
+            → run.now.end.place < 255 }
+        ensures ok { IfOk result (λ moved. after_run self.old slot number run.now.count run.now.end run.now.stop
+            ≡ (moved, self.new)) }
+        ensures err { OnErr result (self.new ≡ self.old) }
+    {
+        let cost = u64::from(run.count);
+        match run.stop {
+            Stop::Yield => Ok(self.move_on(slot, number, run)),
+            Stop::Fault => {
+                if self.is_poor(number, cost) {
+                    return Ok(self.run_dry(slot, number));
+                }
+                self.pay(number, cost);
+                let job = self.row(number).job;
+                Ok(self.fault(slot, job, JobFault::Division))
+            }
+            Stop::Shared(instr) => {
+                if self.is_blocked(number, &instr) {
+                    Ok(self.move_on(slot, number, run))
+                } else {
+                    self.execute(slot, number, run.end, &instr, cost + 1)
+                }
+            }
+        }
+    }
+
+    /// Moves the frame of the topmost row on by a run.
+    fn move_on(&mut self, slot: u8, number: u64, run: &Run) -> Moved
+        requires full { is_full self.old ≡ false }
+        requires from { 1 ≤ number }
+        requires to { number ≤ length self.old.rows }
+        ensures { move_on self.old slot number run.now.count run.now.end ≡ (result, self.new) }
+    {
+        let cost = u64::from(run.count);
+        if self.is_poor(number, cost) {
+            return self.run_dry(slot, number);
+        }
+        self.pay(number, cost);
+        self.set_frame(number, run.end);
+        self.ran(slot)
+    }
+
+    /// Whether a row stands at a wait for pending members and ran nothing before it.
+    fn is_stuck(&self, number: u64, run: &Run) -> bool
+        requires from { 1 ≤ number }
+        requires to { number ≤ length self.now.rows }
+        ensures { result ≡ is_stuck self.now number run.now.count run.now.stop }
+    {
+        match run.stop {
+            Stop::Shared(instr) => self.is_blocked(number, &instr) && run.count == 0,
+            Stop::Yield => false,
+            Stop::Fault => false,
+        }
+    }
+
+    /// Takes the pick onto a slot whose topmost row waits.
+    fn nest_pick(&mut self, slot: u8, number: u64) -> Moved
+        requires from { 1 ≤ number }
+        requires to { number ≤ length self.old.rows }
+        ensures { unless_full self.old (blocked self.old slot number (pick self.old slot)) ≡ (result, self.new) }
+    {
+        let Some(picked) = self.pick(slot) else {
+            return Moved::Idle;
+        };
+        if self.is_full() {
+            return Moved::Full;
+        }
+        if height(self.rows(), slot) == MAX_HEIGHT {
+            let job = self.row(number).job;
+            return self.fault(slot, job, JobFault::TooDeep);
+        }
+        self.nest(slot, picked);
+        self.enter();
+        Moved::Nested(picked)
+    }
+
+    /// Takes the pick onto an empty slot, unless it is reserved.
+    fn begin(&mut self, slot: u8) -> Moved
+        ensures { unless_full self.old (begin self.old slot (pick self.old slot)) ≡ (result, self.new) }
+    {
+        let is_reserved = slot < self.config().reserved;
+        let Some(picked) = self.pick(slot) else {
+            return if is_reserved {
+                Moved::Idle
+            } else {
+                Moved::Left
+            };
+        };
+        if is_reserved {
+            return Moved::Idle;
+        }
+        if self.is_full() {
+            return Moved::Full;
+        }
+        self.nest(slot, picked);
+        self.enter();
+        Moved::Nested(picked)
+    }
+
+    /// Runs the topmost row of a slot.
+    fn advance_row(&mut self, slot: u8, number: u64) -> Result<Moved, AllocError>
+        requires from { 1 ≤ number }
+        requires to { number ≤ length self.old.rows }
+        requires slot { slot < 16 }
+        ensures ok { IfOk result (λ moved. unless_full self.old
+            (advance_run self.old slot number (run_on self.old slot number)) ≡ (moved, self.new)) }
+        ensures err { OnErr result (self.new ≡ self.old) }
+    {
+        let frame = self.row(number).frame;
+        let slots = self.config().slots;
+        let run = run_private(&self.job_of(number).program, frame, slot, slots);
+        if self.is_stuck(number, &run) {
+            return Ok(self.nest_pick(slot, number));
+        }
+        if self.is_full() {
+            return Ok(Moved::Full);
+        }
+        self.record(slot, number, &run)
+    }
+
+    /// Advances a slot. A growth that is refused leaves everything as it was.
+    pub(crate) fn advance(&mut self, slot: u8) -> Result<Moved, AllocError>
+        ensures ok { IfOk result (λ moved. advance self.old slot ≡ (moved, self.new)) }
+        ensures err { OnErr result (self.new ≡ self.old) }
+    {
+        if slot >= self.config().slots {
+            return Ok(Moved::Idle);
+        }
+        match top(self.rows(), slot) {
+            Some(number) => self.advance_row(slot, number),
+            None => Ok(self.begin(slot)),
+        }
+    }
+
+    /// Lets a worker arrive at a slot.
+    pub(crate) fn arrive(&mut self, slot: u8) -> Came
+        ensures { arrive self.old slot ≡ (result, self.new) }
+    {
+        if !self.is_open_to_workers(slot) {
+            return Came::Nothing;
+        }
+        let Some(picked) = self.pick(slot) else {
+            return Came::Nothing;
+        };
+        if self.is_full() {
+            return Came::Full;
+        }
+        self.nest(slot, picked);
+        self.enter();
+        Came::At(picked)
+    }
+
+    /// Whether a worker may arrive at a slot.
+    fn is_open_to_workers(&self, slot: u8) -> bool
+        ensures { result ≡ is_open_to_workers self.now slot }
+    {
+        let config = self.config();
+        config.reserved <= slot && slot < config.slots && height(self.rows(), slot) == 0
+    }
+}
