@@ -1,3 +1,4 @@
 pub mod Fronts
 pub mod Items
+mod ConfigTests
 mod Padding

@@ -1,3 +1,5 @@
+pub mod ConfigOf
+pub mod Configuration
 pub mod Instruction
 pub mod Job
 pub mod Json
@@ -9,3 +11,5 @@ pub mod Program
 pub mod Reads
 pub mod Refused
 pub mod Tenant
+pub mod TenantOf
+pub mod TenantWords

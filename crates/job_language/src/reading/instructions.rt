@@ -5,9 +5,9 @@ ghost use Rattle.serde_json.specs.View.{view};
 ghost use Rattle.job_language.specs.Json.{items_of, integer};
 ghost use Rattle.job_language.specs.Instruction.{register, group, key, below, one, two, three, four, instr_from, instr_of};
 
-use super::values::items_of;
 use crate::instructions::{GROUPS, Group, Instr, KEYS, Key, REGISTERS, Register};
 use crate::operations::Operation;
+use crate::values::items_of;
 use serde_json::Value;
 
 /// The instruction that a value spells, in a program of so many procedures and a procedure of so
