@@ -13,6 +13,7 @@ mod requests;
 mod steps;
 mod tenants;
 pub mod values;
+mod writing;
 
 pub use configs::{Config, MAX_TENANTS, MAX_WORKERS};
 pub use errors::{Error, JobFault, Place, Refused};
@@ -24,3 +25,4 @@ pub use reading::{read_config, read_job, read_tenant};
 pub use requests::{Asked, Reply, Request, Status};
 pub use steps::{Answer, Came, Entry, Moved, Step};
 pub use tenants::{Isolation, Level, MAX_ROWS, MAX_SLOTS, MAX_STEPS, Tenant, TenantConfig};
+pub use writing::{write_job, write_tenant};
