@@ -1,5 +1,7 @@
 // What a request may be refused with, and what may end a job.
+ghost use Rattle.std.specs.Prelude.{◌≡◌};
 ghost use Rattle.job_language.specs.Refused.{IsMemory};
+ghost use Rattle.job_language.specs.declared.errors.Error.TheVariants.{NoMemory};
 
 use std::alloc::{AllocError, AllocFailed};
 use thiserror::Error as DeriveError;
@@ -68,6 +70,22 @@ impl Error {
             Error::NoTenant => "no_tenant",
             Error::Busy => "busy",
         }
+    }
+}
+
+impl From<AllocError> for Error {
+    ghost from_gives = { λ _ e. e ≡ NoMemory };
+
+    fn from(_error: AllocError) -> Error {
+        Error::NoMemory
+    }
+}
+
+impl<T: Drop> From<AllocFailed<T>> for Error {
+    ghost from_gives = { λ _ e. e ≡ NoMemory };
+
+    fn from(_error: AllocFailed<T>) -> Error {
+        Error::NoMemory
     }
 }
 

@@ -1,0 +1,6 @@
+//! Reading what a client asks: lines of bytes, and the requests that they spell.
+#![tactic(auto)]
+
+mod requests;
+
+pub use requests::request_of;
