@@ -1,5 +1,6 @@
 pub mod ConfigOf
 pub mod Configuration
+pub mod ErrorCodes
 pub mod Instruction
 pub mod Job
 pub mod JobData
