@@ -12,6 +12,8 @@ mod reading;
 mod requests;
 mod steps;
 mod tenants;
+#[cfg(test)]
+mod tests;
 pub mod values;
 mod writing;
 
