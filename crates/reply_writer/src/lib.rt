@@ -2,6 +2,8 @@
 #![tactic(auto)]
 
 mod replies;
+#[cfg(test)]
+mod tests;
 mod texts;
 
 pub use replies::reply_line;

@@ -2,5 +2,7 @@
 #![tactic(auto)]
 
 mod requests;
+#[cfg(test)]
+mod tests;
 
 pub use requests::request_of;
