@@ -1,5 +1,5 @@
 -- What is read from a JSON value: whole numbers, items and members.
-use Rattle.std.specs.Prelude.{ℕ, ℤ, List, [], ◌∷◌, Option, Result, Ok, Err, option_map, option_and_then, Bool, false, ◌==◌, suc, zero}
+use Rattle.std.specs.Prelude.{ℕ, ℤ, List, [], ◌∷◌, Option, Some, None, Result, Ok, Err, option_map, option_and_then, Bool, false, ◌==◌, ◌&&◌, nat_le, if◌then◌else◌, suc, zero}
 use Rattle.std.specs.Option.{option_map_or}
 use Rattle.serde_json.specs.Data.{Data, Items, no_items, item, Members, no_members, member}
 use Rattle.serde_json.specs.Find.{as_number, as_u64, as_i64, as_array, as_object}
@@ -19,6 +19,10 @@ whole d = option_and_then as_u64 (as_number d)
 -- a number that is whole, of 64 bits with a sign
 abbrev pub integer : Data → Option ℤ
 integer d = option_and_then as_i64 (as_number d)
+
+-- a whole number from the lowest to the highest that may stand there
+abbrev pub number_in : (lowest highest : ℕ) → Data → Option ℕ
+number_in lowest highest d = whole d >>= λ n. if nat_le lowest n && nat_le n highest then Some n else None
 
 abbrev pub list_of : Items → List Data
 list_of no_items = []

@@ -1,5 +1,9 @@
+pub mod ConfigOf
+pub mod Configuration
+pub mod ErrorCodes
 pub mod Instruction
 pub mod Job
+pub mod JobData
 pub mod Json
 pub mod Name
 pub mod Operation
@@ -9,3 +13,6 @@ pub mod Program
 pub mod Reads
 pub mod Refused
 pub mod Tenant
+pub mod TenantData
+pub mod TenantOf
+pub mod TenantWords

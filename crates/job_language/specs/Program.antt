@@ -1,5 +1,6 @@
 -- What makes a procedure and a program valid.
-use Rattle.std.specs.Prelude.{ℕ, ◌-◌, ◌<◌, ◌≤◌, List, [], ◌∷◌, length, Bool, true, false, IsTrue, All, Option, Some, None, slice_get, IfSome}
+use Rattle.std.specs.Prelude.{ℕ, ℤ, ◌-◌, ◌<◌, ◌≤◌, List, [], ◌∷◌, length, Bool, true, false, IsTrue, All, Option, Some, None, slice_get, IfSome, FitsSigned}
+use Rattle.std.specs.Int.{w64}
 use Rattle.job_language.specs.declared.instructions.TheConstants.{REGISTERS, GROUPS, KEYS}
 use Rattle.job_language.specs.declared.instructions.Instr.{Instr}
 use Rattle.job_language.specs.declared.instructions.Instr.TheVariants.{Set, Add, Sub, Mul, Div, Lt, Jz, Jmp, Slot, Width, Spawn, Post, Wait, Cancel, Ask, Isolate, Load, Store, Sum, Count, Ret}
@@ -44,6 +45,11 @@ key_of (Sum d k) = Some k
 key_of (Count d k) = Some k
 key_of i = None
 
+-- the number that it sets a register to
+abbrev pub number_of : Instr → Option ℤ
+number_of (Set d n) = Some n
+number_of i = None
+
 -- the instruction that a jump names
 abbrev pub target_of : Instr → Option ℕ
 target_of (Jz a t) = Some t
@@ -68,6 +74,7 @@ pub record IsInRange (instrs : ℕ) (i : Instr) : Type 0 where
   pub registers : All (λ r. r < REGISTERS) (registers_of i)
   pub group : IfSome (group_of i) (λ g. g < GROUPS)
   pub key : IfSome (key_of i) (λ k. k < KEYS)
+  pub number : IfSome (number_of i) (FitsSigned w64)
   pub target : IfSome (target_of i) (λ t. t < instrs)
 
 pub record IsValidProc (instrs : List Instr) : Type 0 where

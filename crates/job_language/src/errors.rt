@@ -1,5 +1,8 @@
 // What a request may be refused with, and what may end a job.
+ghost use Rattle.std.specs.Prelude.{◌≡◌};
+ghost use Rattle.job_language.specs.ErrorCodes.{code_of, name_of, fault_code_of};
 ghost use Rattle.job_language.specs.Refused.{IsMemory};
+ghost use Rattle.job_language.specs.declared.errors.Error.TheVariants.{NoMemory};
 
 use std::alloc::{AllocError, AllocFailed};
 use thiserror::Error as DeriveError;
@@ -35,7 +38,9 @@ pub enum Error {
 
 impl Error {
     /// Its number in a reply, from 1 to 12.
-    pub fn code(self) -> u8 {
+    pub fn code(self) -> u8
+        ensures { result ≡ code_of self }
+    {
         match self {
             Error::LineTooLong => 1,
             Error::BadJson => 2,
@@ -53,7 +58,9 @@ impl Error {
     }
 
     /// Its name in a reply.
-    pub fn name(self) -> &'static str {
+    pub fn name(self) -> &'static str
+        ensures { result.now ≡ name_of self }
+    {
         match self {
             Error::LineTooLong => "line_too_long",
             Error::BadJson => "bad_json",
@@ -68,6 +75,22 @@ impl Error {
             Error::NoTenant => "no_tenant",
             Error::Busy => "busy",
         }
+    }
+}
+
+impl From<AllocError> for Error {
+    ghost from_gives = { λ _ e. e ≡ NoMemory };
+
+    fn from(_error: AllocError) -> Error {
+        Error::NoMemory
+    }
+}
+
+impl<T: Drop> From<AllocFailed<T>> for Error {
+    ghost from_gives = { λ _ e. e ≡ NoMemory };
+
+    fn from(_error: AllocFailed<T>) -> Error {
+        Error::NoMemory
     }
 }
 
@@ -88,7 +111,9 @@ pub enum JobFault {
 
 impl JobFault {
     /// Its number in a reply, from 1 to 5.
-    pub fn code(self) -> u8 {
+    pub fn code(self) -> u8
+        ensures { result ≡ fault_code_of self }
+    {
         match self {
             JobFault::Division => 1,
             JobFault::Fuel => 2,

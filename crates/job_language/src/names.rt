@@ -52,6 +52,14 @@ impl TenantName {
     {
         &self.bytes[..self.len]
     }
+
+    /// Its text.
+    pub fn as_str(&self) -> &str
+        ensures value { result.now ≡ self.now }
+        ensures name { is_name self.now ≡ true }
+    {
+        str::from_utf8(self.as_bytes()).unwrap()
+    }
 }
 
 fn is_name(text: &[u8]) -> bool

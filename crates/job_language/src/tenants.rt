@@ -1,5 +1,6 @@
 // Tenants: what each is given.
 ghost use Rattle.std.specs.Prelude.{◌≡◌, if◌then◌else◌, Some, None};
+ghost use Rattle.job_language.specs.TenantWords.{level_word, level_named, isolation_word, isolation_named};
 
 use crate::names::TenantName;
 use std::marker::Model;
@@ -21,6 +22,31 @@ pub enum Level {
     Low,
 }
 
+impl Level {
+    /// The level of that word.
+    pub fn named(word: &str) -> Option<Level>
+        ensures { result ≡ level_named word.now }
+    {
+        match word {
+            "high" => Some(Level::High),
+            "normal" => Some(Level::Normal),
+            "low" => Some(Level::Low),
+            _ => None,
+        }
+    }
+
+    /// Its word.
+    pub fn word(self) -> &'static str
+        ensures { result.now ≡ level_word self }
+    {
+        match self {
+            Level::High => "high",
+            Level::Normal => "normal",
+            Level::Low => "low",
+        }
+    }
+}
+
 /// Which rows a slot may take while its topmost row is in a region.
 #[derive(Clone, Copy, Debug, PartialEq, Eq)]
 pub enum Isolation {
@@ -28,6 +54,29 @@ pub enum Isolation {
     Exact,
     /// Rows of that region and of the regions inside it.
     Within,
+}
+
+impl Isolation {
+    /// The mode of that word.
+    pub fn named(word: &str) -> Option<Isolation>
+        ensures { result ≡ isolation_named word.now }
+    {
+        match word {
+            "exact" => Some(Isolation::Exact),
+            "within" => Some(Isolation::Within),
+            _ => None,
+        }
+    }
+
+    /// Its word.
+    pub fn word(self) -> &'static str
+        ensures { result.now ≡ isolation_word self }
+    {
+        match self {
+            Isolation::Exact => "exact",
+            Isolation::Within => "within",
+        }
+    }
 }
 
 /// What a tenant is given.

@@ -1,13 +1,14 @@
 // Reading instructions.
-ghost use Rattle.std.specs.Prelude.{◌≡◌, ◌<◌, ◌≤◌, map, option_map, IfSome};
+ghost use Rattle.std.specs.Prelude.{◌≡◌, ◌<◌, ◌≤◌, map, option_map, IfSome, FitsSigned};
+ghost use Rattle.std.specs.Int.{w64};
 ghost use Rattle.job_language.specs.Program.{IsInRange, Calls};
 ghost use Rattle.serde_json.specs.View.{view};
 ghost use Rattle.job_language.specs.Json.{items_of, integer};
 ghost use Rattle.job_language.specs.Instruction.{register, group, key, below, one, two, three, four, instr_from, instr_of};
 
-use super::values::items_of;
 use crate::instructions::{GROUPS, Group, Instr, KEYS, Key, REGISTERS, Register};
 use crate::operations::Operation;
+use crate::values::items_of;
 use serde_json::Value;
 
 /// The instruction that a value spells, in a program of so many procedures and a procedure of so
@@ -46,7 +47,8 @@ fn key(value: &Value) -> Option<Key>
 }
 
 fn number(value: &Value) -> Option<i64>
-    ensures { result ≡ integer (view value.now) }
+    ensures value { result ≡ integer (view value.now) }
+    ensures in_range { IfSome result (FitsSigned w64) }
 {
     value.as_i64()
 }
@@ -134,7 +136,7 @@ fn one_place(instrs: usize, operands: &[Value]) -> Option<u8>
 
 fn register_and_number(operands: &[Value]) -> Option<(Register, i64)>
     ensures value { result ≡ two register integer (map view operands.now) }
-    ensures in_range { IfSome result (λ x. x.0 < REGISTERS) }
+    ensures in_range { IfSome result (λ x. (x.0 < REGISTERS) × FitsSigned w64 x.1) }
 {
     let [d, n] = operands else { return None };
     Some((register(d)?, number(n)?))

@@ -8,11 +8,11 @@ ghost use Rattle.job_language.specs.Reads.{Reads};
 ghost use Rattle.job_language.specs.Job.{args_of, fuel_of, is_proc, are_procs, procs_of, outline_of, outline_of_members, instr_at, instrs_from, proc_of, proc_at, procs_from, job_of};
 
 use super::instructions::instr_of;
-use super::values::{has_members, items_of};
 use crate::errors::{Place, Refused};
 use crate::instructions::Instr;
 use crate::jobs::{Fuel, Job};
 use crate::programs::{MAX_INSTRS, MAX_PROCS, Proc, Program};
+use crate::values::{has_members, items_of};
 use serde_json::Value;
 use std::alloc::Global;
 

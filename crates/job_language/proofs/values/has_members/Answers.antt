@@ -3,7 +3,7 @@ use Rattle.std.proofs.lemmas.List.{length-map}
 use Rattle.std.specs.Option.{option_map_or}
 use Rattle.job_language.specs.Json.{count}
 use Rattle.job_language.proofs.Items.{count-members_of}
-use Rattle.job_language.proofs.reading.values.has_members.Goals as goal
+use Rattle.job_language.proofs.values.has_members.Goals as goal
 
 pub returns-in-Some : goal.returns-in-Some
 returns-in-Some c =

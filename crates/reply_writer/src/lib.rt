@@ -1,0 +1,10 @@
+//! Writing what is answered: the text of each reply, and bytes to a writer that may fail.
+#![tactic(auto)]
+
+mod replies;
+#[cfg(test)]
+mod tests;
+mod texts;
+
+pub use replies::reply_line;
+pub use texts::{MAX_LINE, ReplyBuf};

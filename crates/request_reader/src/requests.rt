@@ -1,0 +1,109 @@
+// What a JSON value asks for.
+ghost use Rattle.std.specs.Prelude.{◌≡◌, option_map};
+ghost use Rattle.serde_json.specs.View.{view};
+ghost use Rattle.request_reader.specs.Asks.{asked_by_value, plain_of, hello_of, number_of, key_of, job_value, alone, operand};
+ghost use Rattle.request_reader.specs.Answers.{Answers};
+ghost use Rattle.request_reader.specs.Shape.{asked_in};
+
+use job_language::values::has_members;
+use job_language::{Asked, Error, Key, Request, TenantName};
+use serde_json::Value;
+use std::alloc::Global;
+
+/// What a value asks for, with the job where it stands.
+#[derive(Drop)]
+enum Shape<'v> {
+    Plain(Request),
+    Submit(&'v Value),
+    Execute(&'v Value),
+}
+
+/// The request that a value spells. The job of `submit` and `execute` is copied, whatever it is:
+/// that alone takes memory.
+pub fn request_of(alloc: Global, value: &Value) -> Result<Asked, Error>
+    ensures { Answers result (asked_by_value (view value.now)) }
+{
+    let Some(shape) = shape_of(value) else {
+        return Err(Error::BadRequest);
+    };
+    match shape {
+        Shape::Plain(request) => Ok(Asked::Plain(request)),
+        Shape::Submit(job) => Ok(Asked::Submit(job.clone()?)),
+        Shape::Execute(job) => Ok(Asked::Execute(job.clone()?)),
+    }
+}
+
+fn shape_of(value: &Value) -> Option<Shape<'_>>
+    ensures { option_map asked_in result ≡ asked_by_value (view value.now) }
+{
+    let op = value.get("op")?.as_str()?;
+    match op {
+        "submit" => Some(Shape::Submit(job_value(value)?)),
+        "execute" => Some(Shape::Execute(job_value(value)?)),
+        _ => Some(Shape::Plain(plain_of(op, value)?)),
+    }
+}
+
+/// The request of that name, which holds no job.
+fn plain_of(op: &str, value: &Value) -> Option<Request>
+    ensures { result ≡ plain_of op.now (view value.now) }
+{
+    match op {
+        "hello" => Some(Request::Hello(hello_of(value)?)),
+        "poll" => Some(Request::Poll(number_of(value)?)),
+        "collect" => Some(Request::Collect(number_of(value)?)),
+        "cancel" => Some(Request::Cancel(number_of(value)?)),
+        "cells" => Some(Request::Cells(key_of(value)?)),
+        "arena" => alone(value, Request::Arena),
+        "retire" => alone(value, Request::Retire),
+        _ => None,
+    }
+}
+
+/// A request that has no member beside its name.
+fn alone(value: &Value, request: Request) -> Option<Request>
+    ensures { result ≡ alone (view value.now) request }
+{
+    if has_members(1, value) {
+        Some(request)
+    } else {
+        None
+    }
+}
+
+/// What the member of that name is, where it is the only one beside the request's name.
+fn operand<'v>(name: &str, value: &'v Value) -> Option<&'v Value>
+    ensures { option_map (λ v. view v.now) result ≡ operand name.now (view value.now) }
+{
+    if has_members(2, value) {
+        value.get(name)
+    } else {
+        None
+    }
+}
+
+/// Any text; one that can name no tenant is `None`.
+fn hello_of(value: &Value) -> Option<Option<TenantName>>
+    ensures { result ≡ hello_of (view value.now) }
+{
+    let name = operand("tenant", value)?.as_str()?;
+    Some(TenantName::new(name))
+}
+
+fn number_of(value: &Value) -> Option<u64>
+    ensures { result ≡ number_of (view value.now) }
+{
+    operand("job", value)?.as_u64()
+}
+
+fn key_of(value: &Value) -> Option<Key>
+    ensures { result ≡ key_of (view value.now) }
+{
+    Key::new(operand("key", value)?.as_u64()?)
+}
+
+fn job_value(value: &Value) -> Option<&Value>
+    ensures { option_map (λ v. view v.now) result ≡ job_value (view value.now) }
+{
+    operand("job", value)
+}
