@@ -1,2 +1,3 @@
 pub mod Execution
+pub mod Limits
 pub mod TenantState

@@ -2,6 +2,7 @@
 #![tactic(auto)]
 
 mod advances;
+mod asks;
 mod chains;
 mod execution;
 mod groups;

@@ -1,6 +1,8 @@
 // Stacks of slots, and the rows that a slot may take.
-ghost use Rattle.std.specs.Prelude.{◌≡◌, ◌≤◌, length, map, IfSome};
-ghost use Rattle.tenant_model.specs.Walks.{height, top, is_allowed, pick_of, region_on};
+ghost use Rattle.std.specs.Prelude.{◌≡◌, ◌≤◌, ◌==◌, ◌&&◌, length, map, IfSome};
+ghost use Rattle.tenant_model.specs.Walks.{is_open, height, top, is_allowed, pick_of, region_on};
+ghost use Rattle.std.specs.List.{list_any};
+ghost use Rattle.tenant_model.specs.Asks.{has_outcome};
 ghost use Rattle.tenant_model.specs.Rows.{MakersPrecede};
 ghost use Rattle.tenant_model.specs.Changes.{open_rows, task_height, task_height_of, faulted, faulted_phase};
 
@@ -34,6 +36,27 @@ pub(crate) fn open_rows(rows: &[Row]) -> usize
     ensures { result ≡ open_rows rows.now }
 {
     rows.iter().filter(|row| row.phase.is_open()).count()
+}
+
+/// Whether some row is open.
+pub(crate) fn any_open(rows: &[Row]) -> bool
+    ensures { result ≡ list_any (λ r. is_open r.phase) rows.now }
+{
+    rows.iter().any(|row| row.phase.is_open())
+}
+
+/// Whether no row of a job is open.
+pub(crate) fn has_outcome(rows: &[Row], job: u64) -> bool
+    ensures { result ≡ has_outcome rows.now job }
+{
+    !has_open_row(rows, job)
+}
+
+/// Whether some row of a job is open.
+fn has_open_row(rows: &[Row], job: u64) -> bool
+    ensures { result ≡ list_any (λ r. (r.job == job) && is_open r.phase) rows.now }
+{
+    rows.iter().any(|row| row.job == job && row.phase.is_open())
 }
 
 /// Whether a slot whose topmost row is in a region may take a row.

@@ -1,10 +1,13 @@
 // The state of a tenant as the evaluator holds it, and changes of one part of it.
-ghost use Rattle.std.specs.Prelude.{◌≡◌, ◌+◌, ◌<◌, ◌≤◌, ◌++◌, ◌∷◌, [], length, OnOk, OnErr, IfSome, fold, unwrap_or, pos, count_by, is_some};
+ghost use Rattle.std.specs.Prelude.{◌≡◌, ◌+◌, ◌<◌, ◌≤◌, ◌++◌, ◌∷◌, [], length, OnOk, OnErr, OnSome, IfSome, map, option_copied, fold, unwrap_or, pos, count_by, is_some};
 ghost use Rattle.std.specs.Int.{int_wrapping_add, w64};
+ghost use Rattle.tenant_model.specs.State.{row};
+ghost use Rattle.tenant_model.specs.Walks.{value_in};
+ghost use Rattle.tenant_model.specs.Asks.{retired_work};
 
 use crate::chains::{has_cancelled_group, row};
 use crate::stacks::{fault_rows, height, open_rows, task_height};
-use job_language::{GROUPS, Group, JobFault, KEYS, Key, Moved, Tenant, TenantConfig};
+use job_language::{GROUPS, Group, Job, JobFault, KEYS, Key, Moved, Status, Tenant, TenantConfig};
 use job_step::Frame;
 use std::alloc::AllocError;
 use std::marker::Model;
@@ -35,11 +38,12 @@ impl Model for TenantState {
 }
 
 impl TenantState {
-    ghost use Rattle.std.specs.Prelude.{true, false, map, slice_set};
-    ghost use Rattle.tenant_model.specs.State.{row, with_numbered};
+    ghost use Rattle.std.specs.Prelude.{true, false, slice_set};
+    ghost use Rattle.tenant_model.specs.State.{no_cells, with_numbered};
     ghost use Rattle.tenant_model.specs.Walks.{maker_of, height, is_context_cancelled, settled, settle};
     ghost use Rattle.tenant_model.specs.Rows.{MakersPrecede};
     ghost use Rattle.job_language.specs.Tenant.{IsValidTenant};
+    ghost use Rattle.tenant_model.specs.Asks.{add_job, known_job, outcome};
     ghost use Rattle.tenant_model.specs.Advance.{job_of};
     ghost use Rattle.tenant_model.specs.Changes.{ran, faults, cell, with_cell, cell_sum, cell_count, on_row, entry, faulted, first_fault, on_job, add_row, new_row, with_frame, nest, is_row_limit_met, is_full};
 
@@ -208,6 +212,92 @@ impl TenantState {
         self.ran(slot)
     }
 
+    /// All jobs, in order of their numbers.
+    pub(crate) fn jobs(&self) -> &[Work]
+        ensures { result.now ≡ self.now.jobs }
+    {
+        self.jobs.as_slice()
+    }
+
+    /// The job of a number, unless it is retired.
+    pub(crate) fn known_job(&self, number: u64) -> Option<&Work>
+        ensures value { option_copied result ≡ known_job self.now number }
+        ensures there { OnSome result ((1 ≤ number) × (number ≤ length self.now.jobs)) }
+    {
+        if number == 0 || number > self.jobs.len() as u64 {
+            return None;
+        }
+        let work = &self.jobs[number as usize - 1];
+        if work.retired { None } else { Some(work) }
+    }
+
+    /// The outcome of a job with no open row.
+    pub(crate) fn outcome(&self, work: &Work) -> Status
+        ensures { result ≡ outcome self.now.rows work.now }
+    {
+        if let Some(fault) = work.fault {
+            return Status::Fault(fault);
+        }
+        if work.cancelled {
+            return Status::Canceled;
+        }
+        Status::Complete(value_of(self.rows.as_slice(), work.root))
+    }
+
+    /// Adds a job, and its root in a phase.
+    pub(crate) fn add_job(&mut self, job: Job, phase: Phase) -> Result<(), AllocError>
+        ensures ok { OnOk result (self.new ≡ add_job self.old job phase) }
+        ensures err { OnErr result (self.new ≡ self.old) }
+    {
+        let Job {
+            program,
+            args,
+            fuel,
+        } = job;
+        let root = self.rows.len() as u64 + 1;
+        let number = self.jobs.len() as u64 + 1;
+        let frame = Frame::new(0, args[0], args[1]);
+        let marks = [Mark {
+            rows: 0,
+            cancelled: false,
+        }; GROUPS];
+        self.jobs.reserve(1)?;
+        self.rows.push(Row {
+            kind: Kind::Root,
+            job: number,
+            made_on: None,
+            frame,
+            phase,
+            marks,
+        })?;
+        let fuel = fuel.instructions();
+        let work = Work {
+            program,
+            fuel,
+            root,
+            cancelled: false,
+            fault: None,
+            retired: false,
+        };
+        self.jobs.push(work).unwrap();
+        Ok(())
+    }
+
+    /// Retires all jobs, empties the cells and counts an entry. It gives the epoch that begins.
+    pub(crate) fn retire_all(&mut self) -> u64
+        requires { is_full self.old ≡ false }
+        ensures epoch { result ≡ self.old.epoch + 1 }
+        ensures state { self.new ≡ entry (record self.old { jobs = map retired_work self.old.jobs; cells = no_cells; epoch = self.old.epoch + 1 }) }
+    {
+        retire_jobs(self.jobs.as_mut_slice());
+        self.cells = [[None; 16]; KEYS];
+        self.epoch += 1;
+        self.entries += 1;
+        let epoch = self.epoch;
+        self.settle();
+        epoch
+    }
+
     /// Sets the fuel of a job.
     pub(crate) fn set_fuel(&mut self, job: u64, fuel: u64)
         requires from { 1 ≤ job }
@@ -351,4 +441,23 @@ fn count_of(cells: &[Option<i64>]) -> u64
     ensures few { result ≤ length cells.now }
 {
     cells.iter().filter(|cell| cell.is_some()).count() as u64
+}
+
+/// The value of the row of a number, or 0 where there is none.
+fn value_of(rows: &[Row], number: u64) -> i64
+    ensures { result ≡ value_in (row rows.now number).phase }
+{
+    if number == 0 || number > rows.len() as u64 {
+        return 0;
+    }
+    row(rows, number).phase.value()
+}
+
+/// Marks all jobs as retired.
+fn retire_jobs(jobs: &mut [Work])
+    ensures { jobs.new ≡ map retired_work jobs.old }
+{
+    for work in jobs.iter_mut() {
+        work.retired = true;
+    }
 }

@@ -6,6 +6,8 @@ use Rattle.std.proofs.lemmas.Option.{IfSome_then}
 use Rattle.std.proofs.lemmas.List.{length_push, length-map}
 use Rattle.std.specs.List.{enumerate_from}
 use Rattle.tenant_model.specs.declared.rows.Kind.{Kind}
+use Rattle.tenant_model.specs.declared.rows.Kind.TheVariants.{Root}
+use Rattle.tenant_model.specs.declared.works.Work.{Work}
 use Rattle.tenant_model.specs.declared.rows.Row.{Row}
 use Rattle.tenant_model.specs.State.{State, row, with_numbered}
 use Rattle.tenant_model.specs.Walks.{Numbered, maker_of, numbered_rows}
@@ -82,3 +84,17 @@ SameSources-map f rows kind job = record {
     | inr none ↦ let e : n ≡ 0 = omega arith in rw e refl
   ];
 }
+
+-- more jobs
+pub IsLinked-more_jobs : (s : State) (jobs : List Work) → length s.jobs ≤ length jobs → IsLinked s → IsLinked (record s { jobs = jobs })
+IsLinked-more_jobs s jobs more linked = record {
+  makers = linked.makers;
+  jobs = λ n from to. ((linked.jobs n from to).0, omega (arith, (linked.jobs n from to).1));
+  epoch = linked.epoch;
+}
+
+-- a new job with its root
+pub IsLinked-job : (s : State) (w : Work) (r : Row) → IsLinked s → r.kind ≡ Root → r.job ≡ length s.jobs + 1 → IsLinked (record s { rows = s.rows ++ r ∷ []; jobs = s.jobs ++ w ∷ [] })
+IsLinked-job s w r linked root job =
+    let long = length_push s.jobs w in
+    IsLinked-push (record s { jobs = s.jobs ++ w ∷ [] }) r (IsLinked-more_jobs s (s.jobs ++ w ∷ []) (omega arith) linked) (rw root tt) (omega (arith, job), omega (arith, job, long))

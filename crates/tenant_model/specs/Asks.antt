@@ -79,11 +79,14 @@ cancelled s j w =
     if is_job_cancelled w || has_outcome s.rows j then (reply.Canceled j false, entry s)
     else (reply.Canceled j true, entry (on_job s j (λ v. record v { cancelled = true })))
 
+abbrev pub retired_work : Work → Work
+retired_work w = record w { retired = true }
+
 -- Nothing is retired while a row is open, which is while a job has no outcome.
 abbrev pub retired : State → Reply × State
 retired s =
     if list_any (λ (r : Row). is_open r.phase) s.rows then (reply.Refused Busy, entry s)
-    else (reply.Epoch (s.epoch + 1), entry (record s { jobs = map (λ (w : Work). record w { retired = true }) s.jobs; cells = no_cells; epoch = s.epoch + 1 }))
+    else (reply.Epoch (s.epoch + 1), entry (record s { jobs = map retired_work s.jobs; cells = no_cells; epoch = s.epoch + 1 }))
 
 -- an ask while the history has room
 abbrev pub reply_to : State → Request → Reply × State

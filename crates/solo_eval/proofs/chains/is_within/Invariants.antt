@@ -1,8 +1,6 @@
 use Rattle.std.proofs.Common.{◌≡◌, ◌==◌, ◌≤◌, length}
-use Rattle.std.specs.Prelude.{find}
 use Rattle.std.specs.List.{list_any}
-use Rattle.tenant_model.specs.State.{row}
-use Rattle.tenant_model.specs.Walks.{is_region, is_within, is_group_cancelled, region_of, chain}
+use Rattle.tenant_model.specs.Walks.{is_within, chain}
 use Rattle.solo_eval.proofs.chains.is_within.Given as goal
 
 abbrev pub invariant-loop-at : goal.invariant-loop-at

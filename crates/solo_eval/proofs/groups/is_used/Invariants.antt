@@ -1,8 +1,7 @@
 use Rattle.std.proofs.Common.{◌≡◌, ◌+◌, ◌&&◌, nat_lt, length, drop}
-use Rattle.std.specs.Prelude.{filter, fold}
-use Rattle.std.specs.Int.{int_wrapping_add, w64}
-use Rattle.std.specs.List.{list_any, enumerate_from}
-use Rattle.tenant_model.specs.Walks.{Numbered, is_open, is_pending, is_spawned_by, is_used, mark, total, value_in}
+use Rattle.std.specs.Prelude.{filter}
+use Rattle.std.specs.List.{enumerate_from}
+use Rattle.tenant_model.specs.Walks.{is_spawned_by, is_used, mark}
 use Rattle.solo_eval.proofs.groups.is_used.Given as goal
 
 abbrev pub invariant-loop-place : goal.invariant-loop-place

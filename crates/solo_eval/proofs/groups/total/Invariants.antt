@@ -1,8 +1,8 @@
-use Rattle.std.proofs.Common.{◌≡◌, ◌+◌, ◌&&◌, nat_lt, length, drop}
+use Rattle.std.proofs.Common.{◌≡◌, ◌+◌, ◌&&◌, nat_lt, drop}
 use Rattle.std.specs.Prelude.{filter, fold}
 use Rattle.std.specs.Int.{int_wrapping_add, w64}
-use Rattle.std.specs.List.{list_any, enumerate_from}
-use Rattle.tenant_model.specs.Walks.{Numbered, is_open, is_pending, is_spawned_by, is_used, mark, total, value_in}
+use Rattle.std.specs.List.{enumerate_from}
+use Rattle.tenant_model.specs.Walks.{Numbered, is_spawned_by, mark, total, value_in}
 use Rattle.solo_eval.proofs.groups.total.Given as goal
 
 abbrev pub invariant-loop-place : goal.invariant-loop-place

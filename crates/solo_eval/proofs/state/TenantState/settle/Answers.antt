@@ -1,5 +1,5 @@
 use Rattle.std.proofs.Common.{◌≡◌, arith, ap, length}
-use Rattle.tenant_model.proofs.Settling.{SettledUpTo-none, SettledUpTo-more, settle-from}
+use Rattle.tenant_model.proofs.Settling.{SettledUpTo-more, settle-from}
 use Rattle.solo_eval.proofs.state.TenantState.settle.Goals as goal
 
 pub loop-place-preserved : goal.loop-place-preserved
