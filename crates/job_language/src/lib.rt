@@ -1,6 +1,7 @@
 //! The language of jobs: instructions, programs, tenants, and what is asked and answered.
 #![tactic(auto)]
 
+mod answers;
 mod configs;
 mod errors;
 mod instructions;
@@ -17,6 +18,7 @@ mod tests;
 pub mod values;
 mod writing;
 
+pub use answers::{Answer, Came, Moved, Reply, Status};
 pub use configs::{Config, MAX_TENANTS, MAX_WORKERS};
 pub use errors::{Error, JobFault, Place, Refused};
 pub use instructions::{GROUPS, Group, Instr, KEYS, Key, REGISTERS, Register};
@@ -24,7 +26,7 @@ pub use jobs::{Fuel, Job, MAX_FUEL};
 pub use names::{MAX_NAME, TenantName};
 pub use programs::{MAX_INSTRS, MAX_PROCS, Proc, Program};
 pub use reading::{read_config, read_job, read_tenant};
-pub use requests::{Asked, Reply, Request, Status};
-pub use steps::{Answer, Came, Entry, Moved, Step};
+pub use requests::{Asked, Request};
+pub use steps::{Entry, Step};
 pub use tenants::{Isolation, Level, MAX_ROWS, MAX_SLOTS, MAX_STEPS, Tenant, TenantConfig};
 pub use writing::{write_job, write_tenant};

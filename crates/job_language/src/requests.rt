@@ -1,10 +1,11 @@
-// What is asked of a tenant's arena, and what it answers.
-use crate::errors::{Error, JobFault};
+// What is asked of a tenant's arena.
+ghost use Rattle.std.specs.Prelude.{◌≡◌, IfOk};
+
 use crate::instructions::Key;
 use crate::jobs::Job;
 use crate::names::TenantName;
-use crate::tenants::Level;
 use serde_json::Value;
+use std::alloc::AllocError;
 
 /// A request, with its job read.
 #[derive(Drop)]
@@ -29,44 +30,29 @@ pub enum Request {
     Retire,
 }
 
+impl Request {
+    /// The same request. It fails only where `Program::try_clone` does.
+    pub fn try_clone(&self) -> Result<Request, AllocError>
+        ensures { IfOk result (λ request. request ≡ self.now) }
+    {
+        match self {
+            Request::Hello(name) => Ok(Request::Hello(*name)),
+            Request::Submit(job) => Ok(Request::Submit(job.try_clone()?)),
+            Request::Execute(job) => Ok(Request::Execute(job.try_clone()?)),
+            Request::Poll(job) => Ok(Request::Poll(*job)),
+            Request::Collect(job) => Ok(Request::Collect(*job)),
+            Request::Cancel(job) => Ok(Request::Cancel(*job)),
+            Request::Cells(key) => Ok(Request::Cells(*key)),
+            Request::Arena => Ok(Request::Arena),
+            Request::Retire => Ok(Request::Retire),
+        }
+    }
+}
+
 /// What a line asks for, before its job is read.
 #[derive(Drop)]
 pub enum Asked {
     Plain(Request),
     Submit(Value),
     Execute(Value),
-}
-
-/// How far a job is, or its outcome.
-#[derive(Clone, Copy, Debug, PartialEq, Eq)]
-pub enum Status {
-    Running,
-    Canceled,
-    /// It completed, with its root's value.
-    Complete(i64),
-    Fault(JobFault),
-}
-
-/// The answer to a request. Jobs are numbered from 1, slots from 0.
-#[derive(Clone, Copy, Debug, PartialEq, Eq)]
-pub enum Reply {
-    /// The connection is bound to the tenant.
-    Bound(TenantName),
-    /// The job is made; its root is not started.
-    Made(u64),
-    /// The job is made, and its root runs on the slot.
-    Placed(u64, u8),
-    /// How far the job is.
-    Job(u64, Status),
-    /// Whether this was the first cancel of a job that had no outcome.
-    Canceled(u64, bool),
-    /// The number of the key's cells, and their sum.
-    Cells(Key, u64, i64),
-    /// The priority, the number of reserved slots and the number of slots.
-    Arena(Level, u8, u8),
-    /// The number of times that the tenant's jobs were retired.
-    Epoch(u64),
-    Refused(Error),
-    /// The job has no outcome yet. It is never written.
-    Pending,
 }

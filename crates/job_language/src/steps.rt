@@ -1,5 +1,9 @@
-// The steps of a tenant, their answers, and the entries of its history.
-use crate::requests::{Reply, Request};
+// The steps of a tenant, and the entries of its history.
+ghost use Rattle.std.specs.Prelude.{◌≡◌, IfOk};
+
+use crate::answers::Answer;
+use crate::requests::Request;
+use std::alloc::AllocError;
 
 /// A step of a tenant: an ask, or an arrival or an advance on a slot, numbered from 0.
 #[derive(Drop)]
@@ -9,41 +13,17 @@ pub enum Step {
     Advance(u8),
 }
 
-/// What an advance of a slot did.
-#[derive(Clone, Copy, Debug, PartialEq, Eq)]
-pub enum Moved {
-    /// The topmost row ran.
-    Ran,
-    /// The row of that number is now on top of the slot.
-    Nested(u64),
-    /// The topmost row ran, and left a reserved slot empty.
-    Freed,
-    /// A worker's slot is empty, and no row is there for it.
-    Left,
-    /// Nothing can run now.
-    Idle,
-    /// What was to be recorded does not start where the slot is.
-    Stale,
-    /// The history is at its limit.
-    Full,
-}
-
-/// What an arrival at a worker's slot found.
-#[derive(Clone, Copy, Debug, PartialEq, Eq)]
-pub enum Came {
-    /// The row of that number now runs on the slot.
-    At(u64),
-    Nothing,
-    /// The history is at its limit.
-    Full,
-}
-
-/// The answer to a step.
-#[derive(Clone, Copy, Debug, PartialEq, Eq)]
-pub enum Answer {
-    Replied(Reply),
-    Came(Came),
-    Moved(Moved),
+impl Step {
+    /// The same step. It fails only where `Program::try_clone` does.
+    pub fn try_clone(&self) -> Result<Step, AllocError>
+        ensures { IfOk result (λ step. step ≡ self.now) }
+    {
+        match self {
+            Step::Ask(request) => Ok(Step::Ask(request.try_clone()?)),
+            Step::Arrive(slot) => Ok(Step::Arrive(*slot)),
+            Step::Advance(slot) => Ok(Step::Advance(*slot)),
+        }
+    }
 }
 
 /// An entry of a tenant's history.

@@ -1,10 +1,10 @@
 -- The text of each reply, without its newline.
 use Rattle.std.specs.Prelude.{ℕ, List, [], ◌++◌, Bool, true, false, codes, decimal}
 use Rattle.std.specs.Fmt.{signed_decimal}
-use Rattle.job_language.specs.declared.requests.Reply.{Reply}
-use Rattle.job_language.specs.declared.requests.Reply.TheVariants.{Bound, Made, Placed, Job, Canceled, Cells, Arena, Epoch, Refused, Pending}
-use Rattle.job_language.specs.declared.requests.Status.{Status}
-use Rattle.job_language.specs.declared.requests.Status.TheVariants as status
+use Rattle.job_language.specs.declared.answers.Reply.{Reply}
+use Rattle.job_language.specs.declared.answers.Reply.TheVariants.{Bound, Made, Placed, Job, Canceled, Cells, Arena, Epoch, Refused, Pending}
+use Rattle.job_language.specs.declared.answers.Status.{Status}
+use Rattle.job_language.specs.declared.answers.Status.TheVariants as status
 use Rattle.job_language.specs.ErrorCodes.{code_of, name_of, fault_code_of}
 use Rattle.job_language.specs.TenantWords.{level_word}
 

@@ -31,7 +31,7 @@ impl TenantState {
             Request::Poll(job) => Ok(self.poll(job)),
             Request::Collect(job) => Ok(self.collect(job)),
             Request::Cancel(job) => Ok(self.cancel_by_request(job)),
-            Request::Cells(key) => Ok(self.cells(key)),
+            Request::Cells(key) => Ok(self.cells_of(key)),
             Request::Arena => Ok(self.arena()),
             Request::Retire => Ok(self.retire()),
         }
@@ -163,12 +163,12 @@ impl TenantState {
         Reply::Canceled(number, true)
     }
 
-    fn cells(&mut self, key: Key) -> Reply
+    fn cells_of(&mut self, key: Key) -> Reply
         requires { is_full self.old ≡ false }
         ensures { reply_to self.old (Request.Cells key) ≡ (result, self.new) }
     {
-        let count = self.cell_count(key);
-        let sum = self.cell_sum(key);
+        let count = self.cells().count(key);
+        let sum = self.cells().sum(key);
         self.enter();
         Reply::Cells(key, count, sum)
     }

@@ -3,9 +3,13 @@
 
 mod advances;
 mod asks;
+mod cells;
 mod chains;
 mod execution;
 mod groups;
 mod shared;
+mod solo;
 mod stacks;
 mod state;
+
+pub use solo::Solo;

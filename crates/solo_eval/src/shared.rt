@@ -127,7 +127,7 @@ impl TenantState {
         requires slot { slot < 16 }
         ensures { shared.load self.old slot number frame to key ≡ (result, self.new) }
     {
-        let value = self.cell(key, slot).unwrap_or(0);
+        let value = self.cells().get(key, slot).unwrap_or(0);
         self.set_frame(number, frame.with_register(to, value));
         self.set_cell(key, slot, value);
         self.ran(slot)
@@ -216,11 +216,11 @@ impl TenantState {
             Instr::Load(to, key) => self.load(slot, number, frame, to, key),
             Instr::Store(key, from) => self.store(slot, number, frame, key, from),
             Instr::Sum(to, key) => {
-                let sum = self.cell_sum(key);
+                let sum = self.cells().sum(key);
                 self.learn(slot, number, frame, to, sum)
             }
             Instr::Count(to, key) => {
-                let count = self.cell_count(key);
+                let count = self.cells().count(key);
                 self.learn(slot, number, frame, to, count as i64)
             }
             Instr::Ret(from) => self.ret(slot, number, frame, from),

@@ -5,11 +5,12 @@ ghost use Rattle.tenant_model.specs.State.{row};
 ghost use Rattle.tenant_model.specs.Walks.{value_in};
 ghost use Rattle.tenant_model.specs.Asks.{retired_work};
 
+use crate::cells::Cells;
 use crate::chains::{has_cancelled_group, row};
 use crate::stacks::{fault_rows, height, open_rows, task_height};
-use job_language::{GROUPS, Group, Job, JobFault, KEYS, Key, Moved, Status, Tenant, TenantConfig};
+use job_language::{GROUPS, Group, Job, JobFault, Key, Moved, Status, Tenant, TenantConfig};
 use job_step::Frame;
-use std::alloc::AllocError;
+use std::alloc::{AllocError, Global};
 use std::marker::Model;
 use tenant_model::{Kind, Mark, Phase, Row, Work};
 
@@ -19,7 +20,7 @@ pub(crate) struct TenantState {
     config: TenantConfig,
     rows: Vec<Row>,
     jobs: Vec<Work>,
-    cells: [[Option<i64>; 16]; KEYS],
+    cells: Cells,
     entries: usize,
     epoch: u64,
 }
@@ -39,13 +40,28 @@ impl Model for TenantState {
 
 impl TenantState {
     ghost use Rattle.std.specs.Prelude.{true, false, slice_set};
-    ghost use Rattle.tenant_model.specs.State.{no_cells, with_numbered};
+    ghost use Rattle.tenant_model.specs.State.{empty, with_numbered};
+    ghost use Rattle.tenant_model.specs.Cells.{no_cells, with_cell};
     ghost use Rattle.tenant_model.specs.Walks.{maker_of, height, is_context_cancelled, settled, settle};
     ghost use Rattle.tenant_model.specs.Rows.{MakersPrecede};
     ghost use Rattle.job_language.specs.Tenant.{IsValidTenant};
     ghost use Rattle.tenant_model.specs.Asks.{add_job, known_job, outcome};
     ghost use Rattle.tenant_model.specs.Advance.{job_of};
-    ghost use Rattle.tenant_model.specs.Changes.{ran, faults, cell, with_cell, cell_sum, cell_count, on_row, entry, faulted, first_fault, on_job, add_row, new_row, with_frame, nest, is_row_limit_met, is_full};
+    ghost use Rattle.tenant_model.specs.Changes.{ran, faults, with_cells, on_row, entry, faulted, first_fault, on_job, add_row, new_row, with_frame, nest, is_row_limit_met, is_full};
+
+    /// A tenant that has done nothing yet.
+    pub(crate) fn new(alloc: Global, config: TenantConfig) -> TenantState
+        ensures { result ≡ empty config }
+    {
+        TenantState {
+            config,
+            rows: Vec::new(alloc),
+            jobs: Vec::new(alloc),
+            cells: Cells::new(),
+            entries: 0,
+            epoch: 0,
+        }
+    }
 
     /// What the tenant is given.
     pub(crate) fn config(&self) -> &Tenant
@@ -290,7 +306,7 @@ impl TenantState {
         ensures state { self.new ≡ entry (record self.old { jobs = map retired_work self.old.jobs; cells = no_cells; epoch = self.old.epoch + 1 }) }
     {
         retire_jobs(self.jobs.as_mut_slice());
-        self.cells = [[None; 16]; KEYS];
+        self.cells = Cells::new();
         self.epoch += 1;
         self.entries += 1;
         let epoch = self.epoch;
@@ -367,37 +383,19 @@ impl TenantState {
         );
     }
 
-    /// The cell of a key on a slot.
-    pub(crate) fn cell(&self, key: Key, slot: u8) -> Option<i64>
-        requires { slot < 16 }
-        ensures { result ≡ cell self.now key slot }
+    /// The cells.
+    pub(crate) fn cells(&self) -> Cells
+        ensures { result ≡ self.now.cells }
     {
-        self.cells[key.index()][usize::from(slot)]
+        self.cells
     }
 
     /// Sets the cell of a key on a slot.
     pub(crate) fn set_cell(&mut self, key: Key, slot: u8, value: i64)
         requires { slot < 16 }
-        ensures { self.new ≡ with_cell self.old key slot value }
+        ensures { self.new ≡ with_cells self.old (with_cell self.old.cells key slot value) }
     {
-        self.cells[key.index()][usize::from(slot)] = Some(value);
-    }
-
-    /// The wrapping sum of a key's cells.
-    pub(crate) fn cell_sum(&self, key: Key) -> i64
-        ensures { result ≡ cell_sum self.now key }
-    {
-        let cells = &self.cells[key.index()];
-        sum_of(cells)
-    }
-
-    /// The number of a key's cells.
-    pub(crate) fn cell_count(&self, key: Key) -> u64
-        ensures value { result ≡ cell_count self.now key }
-        ensures few { result ≤ 16 }
-    {
-        let cells = &self.cells[key.index()];
-        count_of(cells)
+        self.cells.set(key, slot, value);
     }
 
     /// Whether no step may be an entry any more.
@@ -422,25 +420,6 @@ impl TenantState {
     {
         self.job_of(number).is_cancelled() || has_cancelled_group(self.rows(), number)
     }
-}
-
-/// The wrapping sum of the cells that are there.
-fn sum_of(cells: &[Option<i64>]) -> i64
-    ensures { result ≡ fold (λ sum c. int_wrapping_add w64 sum (unwrap_or c (pos 0))) (pos 0) cells.now }
-{
-    let mut sum = 0i64;
-    for cell in cells {
-        sum = sum.wrapping_add(cell.unwrap_or(0));
-    }
-    sum
-}
-
-/// The number of cells that are there.
-fn count_of(cells: &[Option<i64>]) -> u64
-    ensures value { result ≡ count_by (λ c. is_some c) cells.now }
-    ensures few { result ≤ length cells.now }
-{
-    cells.iter().filter(|cell| cell.is_some()).count() as u64
 }
 
 /// The value of the row of a number, or 0 where there is none.

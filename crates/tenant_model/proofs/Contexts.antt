@@ -1,14 +1,13 @@
 -- What a context depends on: makers, jobs and marks, and no phase.
-use Rattle.std.proofs.Common.{◌≡◌, ℕ, zero, suc, List, [], ◌∷◌, ◌++◌, Option, Some, None, Bool, false, ◌||◌, length, refl, sym, ap, ◌∙◌, map}
+use Rattle.std.proofs.Common.{◌≡◌, ℕ, zero, suc, List, [], ◌∷◌, Option, Some, None, Bool, false, ◌||◌, refl, ap}
 use Rattle.std.specs.Prelude.{slice_index_or}
 use Rattle.std.specs.List.{list_any}
 use Rattle.tenant_model.specs.declared.rows.Kind.{Kind}
 use Rattle.tenant_model.specs.declared.rows.Kind.TheVariants.{Root, Posted, Spawned, Region}
 use Rattle.tenant_model.specs.declared.rows.Mark.{Mark}
 use Rattle.tenant_model.specs.declared.rows.Row.{Row}
-use Rattle.tenant_model.specs.declared.works.Work.{Work}
 use Rattle.tenant_model.specs.State.{State, row, job}
-use Rattle.tenant_model.specs.Walks.{maker_of, with_makers, chain_for, chain, mark, is_group_cancelled, is_context_cancelled, is_job_cancelled}
+use Rattle.tenant_model.specs.Walks.{maker_of, with_makers, chain_for, chain, is_group_cancelled, is_context_cancelled, is_job_cancelled}
 use Rattle.tenant_model.proofs.Linked.{SameSources}
 
 -- the rows of two lists differ in frames and phases alone

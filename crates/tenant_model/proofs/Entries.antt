@@ -1,13 +1,13 @@
 -- What a private run leads to is an entry.
-use Rattle.std.proofs.Common.{◌≡◌, ℕ, ◌+◌, ◌==◌, ◌<◌, Bool, true, false, ◌&&◌, ◌||◌, cond, refl, sym, ap, ◌∙◌, nat_lt}
+use Rattle.std.proofs.Common.{◌≡◌, ℕ, ◌+◌, ◌==◌, Bool, true, false, ◌&&◌, refl, nat_lt}
 use Rattle.std.specs.Prelude.{if◌then◌else◌}
 use Rattle.std.proofs.lemmas.Bool.{cond_both, and_right}
 use Rattle.job_language.specs.declared.errors.JobFault.{JobFault}
 use Rattle.job_language.specs.declared.errors.JobFault.TheVariants as fault
 use Rattle.job_language.specs.declared.instructions.Instr.{Instr}
 use Rattle.job_language.specs.declared.instructions.Instr.TheVariants.{Set, Add, Sub, Mul, Div, Lt, Jz, Jmp, Slot, Width, Spawn, Post, Wait, Cancel, Ask, Isolate, Load, Store, Sum, Count, Ret}
-use Rattle.job_language.specs.declared.steps.Moved.{Moved}
-use Rattle.job_language.specs.declared.steps.Moved.TheVariants.{Full, Freed, Ran}
+use Rattle.job_language.specs.declared.answers.Moved.{Moved}
+use Rattle.job_language.specs.declared.answers.Moved.TheVariants.{Full, Freed, Ran}
 use Rattle.job_step.specs.declared.frames.Frame.{Frame}
 use Rattle.job_step.specs.declared.runs.Stop.{Stop}
 use Rattle.job_step.specs.declared.runs.Stop.TheVariants.{Shared, Yield, Fault}

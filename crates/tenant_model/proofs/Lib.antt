@@ -4,5 +4,6 @@ pub mod Chains
 pub mod Contexts
 pub mod Entries
 pub mod Linked
+pub mod Runs
 pub mod Settling
 mod WorkedProofs

@@ -1,17 +1,15 @@
 -- Changes that leave a state linked.
-use Rattle.std.proofs.Common.{◌≡◌, ◌≢◌, ℕ, zero, suc, ◌+◌, ◌-◌, ◌<◌, ◌≤◌, List, [], ◌∷◌, ◌++◌, length, Some, None, refl, sym, ap, subst, ◌∙◌, arith, inl, inr, length-append, length-set, map}
-use Rattle.std.specs.Prelude.{IfSome, slice_set}
+use Rattle.std.proofs.Common.{◌≡◌, ℕ, ◌+◌, ◌-◌, ◌≤◌, List, [], ◌∷◌, ◌++◌, length, refl, sym, ap, ◌∙◌, arith, inl, inr, length-set, map}
+use Rattle.std.specs.Prelude.{IfSome}
 use Rattle.std.proofs.lemmas.Bool.{cases_eq, cases_lt}
 use Rattle.std.proofs.lemmas.Option.{IfSome_then}
 use Rattle.std.proofs.lemmas.List.{length_push, length-map}
-use Rattle.std.specs.List.{enumerate_from}
-use Rattle.tenant_model.specs.declared.rows.Kind.{Kind}
 use Rattle.tenant_model.specs.declared.rows.Kind.TheVariants.{Root}
 use Rattle.tenant_model.specs.declared.works.Work.{Work}
 use Rattle.tenant_model.specs.declared.rows.Row.{Row}
 use Rattle.tenant_model.specs.State.{State, row, with_numbered}
-use Rattle.tenant_model.specs.Walks.{Numbered, maker_of, numbered_rows}
-use Rattle.tenant_model.specs.Rows.{MakersPrecede, JobsAreThere, IsLinked}
+use Rattle.tenant_model.specs.Walks.{maker_of}
+use Rattle.tenant_model.specs.Rows.{IsLinked}
 use Rattle.tenant_model.proofs.Changed.{row-with_same, row-with_other, row-push_old, row-push_new, row-past, row-map}
 
 -- the rows of two lists have the same makers and jobs

@@ -1,15 +1,13 @@
 -- Settling, a row at a time.
-use Rattle.std.proofs.Common.{◌≡◌, ◌≢◌, ℕ, zero, suc, ◌+◌, ◌-◌, ◌<◌, ◌≤◌, List, length, Bool, true, false, ◌&&◌, cond, refl, sym, ap, ◌∙◌, arith, inl, inr, map, get_or, length-set}
-use Rattle.std.specs.Prelude.{nat_le, if◌then◌else◌}
+use Rattle.std.proofs.Common.{◌≡◌, ℕ, ◌+◌, ◌-◌, ◌<◌, ◌≤◌, length, refl, sym, ap, ◌∙◌, arith, inl, inr, get_or, length-set}
 use Rattle.std.specs.List.{enumerate_from}
-use Rattle.std.proofs.lemmas.Bool.{cases_eq, cases_lt, le-leb, lt-leb}
+use Rattle.std.proofs.lemmas.Bool.{cases_eq, cases_lt}
 use Rattle.std.proofs.lemmas.List.{length-map, get_or-map, same_lists}
 use Rattle.std.proofs.lemmas.List.FromFn.{length-enumerate_from, get_or-enumerate_from}
 use Rattle.tenant_model.specs.declared.rows.Row.{Row}
 use Rattle.tenant_model.specs.State.{State, row, with_numbered}
-use Rattle.tenant_model.specs.Walks.{Numbered, numbered_rows, is_context_cancelled, settled, settle}
+use Rattle.tenant_model.specs.Walks.{Numbered, is_context_cancelled, settled, settle}
 use Rattle.tenant_model.proofs.Changed.{row-get_or, row-with_same, row-with_other}
-use Rattle.tenant_model.proofs.Linked.{SameSources}
 use Rattle.tenant_model.proofs.Contexts.{SameContexts, is_context_cancelled-same}
 
 -- the row of a number as it settles

@@ -1,11 +1,11 @@
 -- The worked examples compute.
-use Rattle.std.proofs.Common.{◌≡◌, refl, List, [], ◌∷◌, ◌++◌, replicate, pos}
-use Rattle.job_language.specs.declared.tenants.Isolation.TheVariants.{Exact, Within}
+use Rattle.std.proofs.Common.{◌≡◌, refl, [], ◌∷◌, replicate, pos}
+use Rattle.job_language.specs.declared.tenants.Isolation.TheVariants.{Exact}
 use Rattle.job_language.specs.declared.requests.Request.TheVariants.{Execute, Poll}
-use Rattle.job_language.specs.declared.requests.Reply.TheVariants as reply
-use Rattle.job_language.specs.declared.requests.Status.TheVariants.{Complete}
+use Rattle.job_language.specs.declared.answers.Reply.TheVariants as reply
+use Rattle.job_language.specs.declared.answers.Status.TheVariants.{Complete}
 use Rattle.job_language.specs.declared.steps.Step.TheVariants.{Ask, Advance}
-use Rattle.job_language.specs.declared.steps.Answer.TheVariants.{Replied}
+use Rattle.job_language.specs.declared.answers.Answer.TheVariants.{Replied}
 use Rattle.job_step.specs.Run.{run_for}
 use Rattle.tenant_model.specs.State.{empty}
 use Rattle.tenant_model.specs.Solo.{after, answers}

@@ -3,10 +3,10 @@ use Rattle.std.specs.Prelude.{ℕ, ◌+◌, ◌-◌, ◌==◌, nat_lt, nat_le, B
 use Rattle.job_language.specs.declared.errors.JobFault.TheVariants as fault
 use Rattle.job_language.specs.declared.instructions.Instr.{Instr}
 use Rattle.job_language.specs.declared.instructions.Instr.TheVariants.{Wait}
-use Rattle.job_language.specs.declared.steps.Moved.{Moved}
-use Rattle.job_language.specs.declared.steps.Moved.TheVariants.{Nested, Left, Idle, Full}
-use Rattle.job_language.specs.declared.steps.Came.{Came}
-use Rattle.job_language.specs.declared.steps.Came.TheVariants as came
+use Rattle.job_language.specs.declared.answers.Moved.{Moved}
+use Rattle.job_language.specs.declared.answers.Moved.TheVariants.{Nested, Left, Idle, Full}
+use Rattle.job_language.specs.declared.answers.Came.{Came}
+use Rattle.job_language.specs.declared.answers.Came.TheVariants as came
 use Rattle.job_step.specs.declared.frames.Frame.{Frame}
 use Rattle.job_step.specs.declared.runs.Run.{Run}
 use Rattle.job_step.specs.declared.runs.Stop.{Stop}

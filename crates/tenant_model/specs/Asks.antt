@@ -1,15 +1,15 @@
 -- What a tenant asks: the reply, and the state after it.
-use Rattle.std.specs.Prelude.{ℕ, ◌+◌, ◌==◌, nat_le, pos, Bool, true, false, not, ◌&&◌, ◌||◌, if◌then◌else◌, List, [], ◌∷◌, ◌++◌, Option, Some, None, is_some, option_and_then, slice_index_or, length, map, find, count_by}
-use Rattle.std.specs.List.{list_any, list_all, range_with_len}
+use Rattle.std.specs.Prelude.{ℕ, ◌+◌, ◌==◌, nat_le, pos, Bool, true, false, not, ◌&&◌, ◌||◌, if◌then◌else◌, List, [], ◌∷◌, ◌++◌, Option, Some, None, option_and_then, slice_index_or, length, map, find, count_by}
+use Rattle.std.specs.List.{list_any, range_with_len}
 use Rattle.std.specs.Option.{option_map_or}
 use Rattle.job_language.specs.declared.errors.Error.TheVariants.{BadRequest, UnknownJob, JobLimit, HistoryFull, TaskLimit, Busy}
 use Rattle.job_language.specs.declared.jobs.Job.{Job}
 use Rattle.job_language.specs.declared.requests.Request.{Request}
 use Rattle.job_language.specs.declared.requests.Request.TheVariants.{Hello, Submit, Execute, Poll, Collect, Cancel, Cells, Arena, Retire}
-use Rattle.job_language.specs.declared.requests.Reply.{Reply}
-use Rattle.job_language.specs.declared.requests.Reply.TheVariants as reply
-use Rattle.job_language.specs.declared.requests.Status.{Status}
-use Rattle.job_language.specs.declared.requests.Status.TheVariants.{Running, Canceled, Complete, Fault}
+use Rattle.job_language.specs.declared.answers.Reply.{Reply}
+use Rattle.job_language.specs.declared.answers.Reply.TheVariants as reply
+use Rattle.job_language.specs.declared.answers.Status.{Status}
+use Rattle.job_language.specs.declared.answers.Status.TheVariants.{Running, Canceled, Complete, Fault}
 use Rattle.job_step.specs.Frame.{new_frame}
 use Rattle.tenant_model.specs.declared.rows.Kind.TheVariants.{Root}
 use Rattle.tenant_model.specs.declared.rows.Phase.{Phase}
@@ -17,9 +17,10 @@ use Rattle.tenant_model.specs.declared.rows.Phase.TheVariants.{Unstarted, Live}
 use Rattle.tenant_model.specs.declared.rows.Row.{Row}
 use Rattle.tenant_model.specs.declared.works.TheConstants.{MAX_JOBS}
 use Rattle.tenant_model.specs.declared.works.Work.{Work}
-use Rattle.tenant_model.specs.State.{State, no_cells, numbered, row}
+use Rattle.tenant_model.specs.State.{State, numbered, row}
 use Rattle.tenant_model.specs.Walks.{is_open, is_job_cancelled, value_in, height}
-use Rattle.tenant_model.specs.Changes.{on_job, new_row, add_row, is_row_limit_met, is_full, entry, cell_sum, cell_count}
+use Rattle.tenant_model.specs.Changes.{on_job, new_row, add_row, is_row_limit_met, is_full, entry}
+use Rattle.tenant_model.specs.Cells.{no_cells, cell_sum, cell_count}
 
 -- A job has an outcome where none of its rows is open.
 abbrev pub has_outcome : List Row → ℕ → Bool
@@ -96,7 +97,7 @@ reply_to s (Execute j) = unless_limit s (executed s j (free_slot s))
 reply_to s (Poll j) = of_job s j (λ w. (reply.Job j (status s.rows j w), entry s))
 reply_to s (Collect j) = of_job s j (λ w. collected s j (status s.rows j w))
 reply_to s (Cancel j) = of_job s j (cancelled s j)
-reply_to s (Cells k) = (reply.Cells k (cell_count s k) (cell_sum s k), entry s)
+reply_to s (Cells k) = (reply.Cells k (cell_count s.cells k) (cell_sum s.cells k), entry s)
 reply_to s Arena = (reply.Arena s.config.priority s.config.reserved s.config.slots, entry s)
 reply_to s Retire = retired s
 

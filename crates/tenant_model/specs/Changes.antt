@@ -1,17 +1,16 @@
 -- Changes of a tenant's state, one part at a time.
-use Rattle.std.specs.Prelude.{ℕ, ◌+◌, ◌-◌, ◌==◌, nat_lt, nat_le, max, ℤ, pos, Bool, true, false, not, ◌&&◌, if◌then◌else◌, List, [], ◌∷◌, ◌++◌, Option, Some, None, is_some, unwrap_or, length, map, fold, count_by, slice_index_or, slice_set}
-use Rattle.std.specs.Int.{int_wrapping_add, w64}
+use Rattle.std.specs.Prelude.{ℕ, ◌+◌, ◌==◌, nat_lt, nat_le, max, Bool, not, ◌&&◌, if◌then◌else◌, List, [], ◌∷◌, ◌++◌, Option, Some, None, map, fold, count_by}
 use Rattle.job_language.specs.declared.errors.JobFault.{JobFault}
-use Rattle.job_language.specs.declared.steps.Moved.{Moved}
-use Rattle.job_language.specs.declared.steps.Moved.TheVariants.{Ran, Freed}
+use Rattle.job_language.specs.declared.answers.Moved.{Moved}
+use Rattle.job_language.specs.declared.answers.Moved.TheVariants.{Ran, Freed}
 use Rattle.job_step.specs.declared.frames.Frame.{Frame}
 use Rattle.tenant_model.specs.declared.rows.Kind.{Kind}
 use Rattle.tenant_model.specs.declared.rows.Phase.{Phase}
-use Rattle.tenant_model.specs.declared.rows.Phase.TheVariants.{Unstarted, Live, Faulted}
-use Rattle.tenant_model.specs.declared.rows.Mark.{Mark}
+use Rattle.tenant_model.specs.declared.rows.Phase.TheVariants.{Live, Faulted}
 use Rattle.tenant_model.specs.declared.rows.Row.{Row}
 use Rattle.tenant_model.specs.declared.works.Work.{Work}
 use Rattle.tenant_model.specs.State.{State, no_marks, with_numbered, row, job}
+use Rattle.tenant_model.specs.Cells.{Table}
 use Rattle.tenant_model.specs.Walks.{is_region, is_open, is_live_on, height, settle}
 
 -- a row changed
@@ -50,19 +49,8 @@ with_frame s n f = on_row s n (λ r. record r { frame = f })
 abbrev pub nest : State → ℕ → ℕ → State
 nest s slot n = on_row s n (λ r. record r { phase = Live slot (height s.rows slot + 1) })
 
--- the cell of a key on a slot
-abbrev pub cell : State → ℕ → ℕ → Option ℤ
-cell s k slot = slice_index_or (slice_index_or s.cells k []) slot None
-
-abbrev pub with_cell : State → ℕ → ℕ → ℤ → State
-with_cell s k slot v = record s { cells = slice_set s.cells k (slice_set (slice_index_or s.cells k []) slot (Some v)) }
-
--- the sum and the number of a key's cells
-abbrev pub cell_sum : State → ℕ → ℤ
-cell_sum s k = fold (λ sum c. int_wrapping_add w64 sum (unwrap_or c (pos 0))) (pos 0) (slice_index_or s.cells k [])
-
-abbrev pub cell_count : State → ℕ → ℕ
-cell_count s k = count_by (λ (c : Option ℤ). is_some c) (slice_index_or s.cells k [])
+abbrev pub with_cells : State → Table → State
+with_cells s cells = record s { cells = cells }
 
 -- a step that ran: a reserved slot is freed where nothing is left on it
 abbrev pub ran : ℕ → State → Moved × State

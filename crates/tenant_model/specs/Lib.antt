@@ -1,5 +1,6 @@
 pub mod State
 pub mod Walks
+pub mod Cells
 pub mod Changes
 pub mod Rows
 pub mod Shared

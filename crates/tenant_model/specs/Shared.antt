@@ -1,19 +1,19 @@
 -- Shared instructions: what the topmost row n of a slot does, whose frame f stands at one.
-use Rattle.std.specs.Prelude.{ℕ, ◌+◌, ◌==◌, nat_lt, ℤ, pos, Bool, true, false, ◌&&◌, ◌||◌, if◌then◌else◌, List, [], Option, Some, None, unwrap_or, length, slice_set}
+use Rattle.std.specs.Prelude.{ℕ, ◌+◌, ◌==◌, ℤ, pos, Bool, true, false, ◌||◌, if◌then◌else◌, Option, Some, None, unwrap_or, length, slice_set}
 use Rattle.job_language.specs.declared.errors.JobFault.TheVariants.{TooDeep, TaskLimit, MissingWait}
 use Rattle.job_language.specs.declared.instructions.Instr.{Instr}
 use Rattle.job_language.specs.declared.instructions.Instr.TheVariants.{Spawn, Post, Wait, Cancel, Ask, Isolate, Load, Store, Sum, Count, Ret}
-use Rattle.job_language.specs.declared.steps.Moved.{Moved}
+use Rattle.job_language.specs.declared.answers.Moved.{Moved}
 use Rattle.job_step.specs.declared.frames.Frame.{Frame}
 use Rattle.job_step.specs.Frame.{new_frame, register, at_place, with_register, instr_at}
 use Rattle.tenant_model.specs.declared.rows.Kind.{Kind}
-use Rattle.tenant_model.specs.declared.rows.Kind.TheVariants.{Root, Posted, Spawned, Region}
+use Rattle.tenant_model.specs.declared.rows.Kind.TheVariants.{Posted, Spawned, Region}
 use Rattle.tenant_model.specs.declared.rows.Phase.TheVariants.{Unstarted, Live, Done}
-use Rattle.tenant_model.specs.declared.rows.Mark.{Mark}
 use Rattle.tenant_model.specs.declared.rows.TheConstants.{MAX_HEIGHT}
 use Rattle.tenant_model.specs.State.{State, row, job}
 use Rattle.tenant_model.specs.Walks.{mark, total, is_used, is_context_cancelled, height}
-use Rattle.tenant_model.specs.Changes.{on_row, with_frame, new_row, add_row, is_row_limit_met, cell, with_cell, cell_sum, cell_count, ran, faults}
+use Rattle.tenant_model.specs.Changes.{on_row, with_frame, new_row, add_row, is_row_limit_met, with_cells, ran, faults}
+use Rattle.tenant_model.specs.Cells.{cell, with_cell, cell_sum, cell_count}
 
 -- the frame at the next place
 abbrev pub next_place : Frame → Frame
@@ -66,10 +66,10 @@ learns s slot n f d v = ran slot (with_frame s n (with_register f d v))
 
 -- The cell is made where it is absent (`enumerable_thread_specific::local`).
 abbrev pub load : State → (slot n : ℕ) → Frame → (d k : ℕ) → Moved × State
-load s slot n f d k = let v = unwrap_or (cell s k slot) (pos 0) in ran slot (with_cell (with_frame s n (with_register f d v)) k slot v)
+load s slot n f d k = let v = unwrap_or (cell s.cells k slot) (pos 0) in ran slot (with_cells (with_frame s n (with_register f d v)) (with_cell s.cells k slot v))
 
 abbrev pub store : State → (slot n : ℕ) → Frame → (k a : ℕ) → Moved × State
-store s slot n f k a = ran slot (with_cell (with_frame s n (next_place f)) k slot (register f a))
+store s slot n f k a = ran slot (with_cells (with_frame s n (next_place f)) (with_cell s.cells k slot (register f a)))
 
 abbrev pub has_used_group : State → ℕ → Bool
 has_used_group s n = is_used s.rows n 0 || is_used s.rows n 1 || is_used s.rows n 2 || is_used s.rows n 3
@@ -101,7 +101,7 @@ execute s slot n f (Cancel g) = cancel s slot n f g
 execute s slot n f (Ask d) = learns s slot n f d (if is_context_cancelled s n then pos 1 else pos 0)
 execute s slot n f (Load d k) = load s slot n f d k
 execute s slot n f (Store k a) = store s slot n f k a
-execute s slot n f (Sum d k) = learns s slot n f d (cell_sum s k)
-execute s slot n f (Count d k) = learns s slot n f d (pos (cell_count s k))
+execute s slot n f (Sum d k) = learns s slot n f d (cell_sum s.cells k)
+execute s slot n f (Count d k) = learns s slot n f d (pos (cell_count s.cells k))
 execute s slot n f (Ret a) = ret s slot n f a
 execute s slot n f i = ran slot (with_frame s n f)

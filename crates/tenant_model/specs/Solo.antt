@@ -1,11 +1,11 @@
 -- A tenant's whole run: the answers to its steps, and the state after them.
-use Rattle.std.specs.Prelude.{ℕ, not, List, [], ◌∷◌, Option, Some, None, map, filter}
+use Rattle.std.specs.Prelude.{ℕ, not, List, [], ◌∷◌, map, filter, fold}
 use Rattle.std.specs.List.{enumerate_from}
-use Rattle.job_language.specs.declared.requests.Status.{Status}
+use Rattle.job_language.specs.declared.answers.Status.{Status}
 use Rattle.job_language.specs.declared.steps.Step.{Step}
 use Rattle.job_language.specs.declared.steps.Step.TheVariants.{Ask, Arrive, Advance}
-use Rattle.job_language.specs.declared.steps.Answer.{Answer}
-use Rattle.job_language.specs.declared.steps.Answer.TheVariants.{Replied, Came, Moved}
+use Rattle.job_language.specs.declared.answers.Answer.{Answer}
+use Rattle.job_language.specs.declared.answers.Answer.TheVariants.{Replied, Came, Moved}
 use Rattle.tenant_model.specs.declared.works.Work.{Work}
 use Rattle.tenant_model.specs.State.{State}
 use Rattle.tenant_model.specs.Advance.{advance, arrive}
@@ -23,8 +23,7 @@ answers s (x ∷ xs) = let a = step s x in a.0 ∷ answers a.1 xs
 
 -- the state after them
 abbrev pub after : State → List Step → State
-after s [] = s
-after s (x ∷ xs) = after (step s x).1 xs
+after s xs = fold (λ t x. (step t x).1) s xs
 
 -- the jobs that are not retired, with their numbers and how far they are
 abbrev pub job_table : State → List (ℕ × Status)

@@ -1,9 +1,9 @@
 -- The state of one tenant: all rows that it ever made, its jobs and its cells.
-use Rattle.std.specs.Prelude.{ℕ, ◌-◌, zero, suc, pos, ℤ, false, List, [], replicate, Option, Some, None, slice_get, slice_set, unwrap_or}
-use Rattle.job_language.specs.declared.instructions.TheConstants.{GROUPS, KEYS}
-use Rattle.job_language.specs.declared.tenants.TheConstants.{MAX_SLOTS}
+use Rattle.std.specs.Prelude.{ℕ, ◌-◌, zero, suc, pos, false, List, [], replicate, Option, None, slice_get, slice_set, unwrap_or}
+use Rattle.job_language.specs.declared.instructions.TheConstants.{GROUPS}
 use Rattle.job_language.specs.declared.tenants.Tenant.{Tenant}
 use Rattle.job_step.specs.Frame.{new_frame}
+use Rattle.tenant_model.specs.Cells.{Table, no_cells}
 use Rattle.tenant_model.specs.declared.rows.Kind.TheVariants.{Root}
 use Rattle.tenant_model.specs.declared.rows.Phase.TheVariants.{Dropped}
 use Rattle.tenant_model.specs.declared.rows.Mark.{Mark}
@@ -15,15 +15,12 @@ pub record State : Type 0 where
   pub config : Tenant
   pub rows : List Row
   pub jobs : List Work
-  pub cells : List (List (Option ℤ))
+  pub cells : Table
   pub entries : ℕ
   pub epoch : ℕ
 
 abbrev pub no_marks : List Mark
 no_marks = replicate GROUPS (record { rows = 0; cancelled = false })
-
-abbrev pub no_cells : List (List (Option ℤ))
-no_cells = replicate KEYS (replicate MAX_SLOTS None)
 
 -- a tenant that has done nothing yet
 abbrev pub empty : Tenant → State

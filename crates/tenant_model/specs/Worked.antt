@@ -1,10 +1,9 @@
 -- Worked examples: jobs, and what tenants are answered.
-use Rattle.std.specs.Prelude.{ℕ, ℤ, pos, negsuc, List, [], ◌∷◌, ◌++◌, replicate}
+use Rattle.std.specs.Prelude.{ℕ, ℤ, pos, List, [], ◌∷◌}
 use Rattle.job_language.specs.declared.instructions.Instr.{Instr}
-use Rattle.job_language.specs.declared.instructions.Instr.TheVariants.{Set, Add, Sub, Mul, Div, Lt, Jz, Jmp, Slot, Spawn, Post, Wait, Cancel, Isolate, Load, Store, Ret}
+use Rattle.job_language.specs.declared.instructions.Instr.TheVariants.{Set, Sub, Lt, Jz, Spawn, Wait, Ret}
 use Rattle.job_language.specs.declared.jobs.Job.{Job}
 use Rattle.job_language.specs.declared.tenants.Isolation.{Isolation}
-use Rattle.job_language.specs.declared.tenants.Isolation.TheVariants.{Exact, Within}
 use Rattle.job_language.specs.declared.tenants.Level.TheVariants.{Normal}
 use Rattle.job_language.specs.declared.tenants.Tenant.{Tenant}
 

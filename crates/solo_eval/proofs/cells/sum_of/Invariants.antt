@@ -1,7 +1,7 @@
 use Rattle.std.proofs.Common.{◌≡◌, drop, pos}
 use Rattle.std.specs.Prelude.{fold, unwrap_or}
 use Rattle.std.specs.Int.{int_wrapping_add, w64}
-use Rattle.solo_eval.proofs.state.sum_of.Given as goal
+use Rattle.solo_eval.proofs.cells.sum_of.Given as goal
 
 abbrev pub invariant-loop-cell : goal.invariant-loop-cell
 invariant-loop-cell l =
