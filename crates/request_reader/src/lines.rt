@@ -1,0 +1,138 @@
+// Lines of bytes from a reader.
+ghost use Rattle.std.specs.Prelude.{◌≡◌, ℕ, List, [], ◌++◌, ◌<◌, ◌≤◌, ◌+◌, ◌^◌, length, take, false, IfOk, Some, None};
+ghost use Rattle.std.specs.Io.KnownBytes.{Consumes, IsAtEnd};
+
+use crate::newlines::newline_from;
+use crate::windows::Window;
+use std::alloc::{AllocError, Global};
+use std::io::{ErrorKind, Read};
+use std::marker::Model;
+
+/// How often a `LineReader` calls `read`.
+pub const MAX_TURNS: u64 = 1_048_576;
+
+/// How many bytes are asked for at once, at least.
+const BLOCK: usize = 65_536;
+
+/// What reading a line came to.
+#[derive(Clone, Copy, Debug, PartialEq, Eq)]
+pub enum LineRead {
+    /// A line, which `LineReader::line` lends.
+    Line,
+    /// A line of more bytes than the limit; they are dropped.
+    TooLong,
+    /// The reader has no more bytes.
+    End,
+    /// The reader failed.
+    ReadFault,
+    /// The reader was called 1,048,576 times.
+    TurnLimit,
+}
+
+/// Reads the lines of a reader, which is called 1,048,576 times at most. Its memory is all taken by
+/// `new`.
+#[derive(Drop)]
+pub struct LineReader {
+    window: Window,
+    limit: usize,
+    is_within_long: bool,
+    is_ended: bool,
+    turns: u64,
+}
+
+impl Model for LineReader {
+    ghost use Rattle.request_reader.specs.Reading.{Reading};
+
+    ghost Value = { Reading };
+
+    ghost use Rattle.request_reader.specs.ReaderState.{reading, IsReader};
+
+    ghost view = { reading };
+
+    ghost invariant = { IsReader };
+}
+
+impl LineReader {
+    ghost use Rattle.request_reader.specs.LineReads.{Finds};
+    ghost use Rattle.request_reader.specs.Lines.{HasNoNewline};
+    ghost use Rattle.request_reader.specs.Newlines.{IsFirstNewline};
+    ghost use Rattle.request_reader.specs.Reading.{is_long};
+
+    /// A reader of lines that have so many bytes at most, without their newline.
+    pub fn new(alloc: Global, limit: usize) -> Result<LineReader, AllocError>
+        requires { limit + BLOCK < 2 ^ 64 }
+        ensures { IfOk result (λ r. r ≡ record { limit = limit; line = []; held = []; is_within_long = false; is_ended = false; turns = MAX_TURNS }) }
+    {
+        Ok(LineReader {
+            window: Window::new(alloc, limit + BLOCK)?,
+            limit,
+            is_within_long: false,
+            is_ended: false,
+            turns: MAX_TURNS,
+        })
+    }
+
+    /// The line that was read last, without its newline; empty where `read_line` answered anything
+    /// but `Line`.
+    pub fn line(&self) -> &[u8]
+        ensures { result.now ≡ self.now.line }
+    {
+        self.window.line()
+    }
+
+    /// The next line, if a newline that is held ends it. None stands before `start`.
+    fn next_held(&mut self, start: usize) -> Option<LineRead>
+        requires not_ended { self.old.is_ended ≡ false }
+        requires within { start ≤ length self.old.held }
+        requires before { HasNoNewline (take start self.old.held) }
+        ensures { Finds result self.old self.new }
+    {
+        match newline_from(self.window.held(), start) {
+            Some(place) => Some(self.tell(place)),
+            None => {
+                self.drop_if_long();
+                None
+            }
+        }
+    }
+
+    /// Tells the line before the first newline.
+    fn tell(&mut self, place: usize) -> LineRead
+        requires not_ended { self.old.is_ended ≡ false }
+        requires place { IsFirstNewline self.old.held place }
+        requires fits { place + 1 < 2 ^ 64 }
+        ensures { Finds (Some result) self.old self.new }
+    {
+        let is_long = self.is_long(place);
+        self.is_within_long = false;
+        if is_long {
+            self.window.cut(0, place + 1);
+            LineRead::TooLong
+        } else {
+            self.window.cut(place, place + 1);
+            LineRead::Line
+        }
+    }
+
+    /// Drops what is held of a line that is too long.
+    fn drop_if_long(&mut self)
+        requires not_ended { self.old.is_ended ≡ false }
+        requires held { HasNoNewline self.old.held }
+        ensures { Finds None self.old self.new }
+    {
+        let len = self.window.held().len();
+        if self.is_long(len) {
+            self.is_within_long = true;
+            self.window.cut(0, len);
+        } else {
+            self.window.cut(0, 0);
+        }
+    }
+
+    /// Whether a line is too long that has so many of the bytes that are held.
+    fn is_long(&self, len: usize) -> bool
+        ensures { result ≡ is_long self.now len }
+    {
+        self.is_within_long || len > self.limit
+    }
+}
