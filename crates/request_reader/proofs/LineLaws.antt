@@ -34,6 +34,9 @@ drop_through-append : (text more : List ℕ) → HasNoNewline text → drop_thro
 drop_through-append [] more h = refl
 drop_through-append (b ∷ text) more h = rw (ne_eqb b newline (All-head Not b text h)) (drop_through-append text more (All-tail Not b text h))
 
+pub drop_through-none : (text : List ℕ) → HasNoNewline text → drop_through newline text ≡ []
+drop_through-none text h = ap (drop_through newline) (sym (append-nil text)) ∙ drop_through-append text [] h
+
 -- a line that is too long already
 pub lines_from-long : (limit : ℕ) (is_within_long : Bool) (text more : List ℕ) → HasNoNewline text → (is_within_long || nat_lt limit (length text)) ≡ true → lines_from limit is_within_long (text ++ more) ≡ too_long ∷ lines_of limit (drop_through newline more)
 lines_from-long limit true text more h long = ap (λ bytes. too_long ∷ lines_of limit bytes) (drop_through-append text more h)

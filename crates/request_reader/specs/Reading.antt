@@ -1,5 +1,5 @@
 -- How far a reader of lines is, and what it tells.
-use Rattle.std.specs.Prelude.{◌≡◌, ℕ, ◌≤◌, ◌<◌, List, [], ◌∷◌, ◌++◌, length, Bool, true, false, ◌||◌, nat_lt, if◌then◌else◌, Option, Some, None, ⊤}
+use Rattle.std.specs.Prelude.{◌≡◌, ℕ, ◌≤◌, List, [], ◌∷◌, ◌++◌, length, Bool, true, false, ◌||◌, nat_lt, if◌then◌else◌, Option}
 use Rattle.std.specs.Io.BufRead.{drop_through}
 use Rattle.std.specs.Io.KnownBytes.{Consumes, IsAtEnd}
 use Rattle.request_reader.specs.Lines.{newline, HasNoNewline, Line, too_long, lines_of}
@@ -13,7 +13,7 @@ pub record Reading : Type 0 where
   pub held : List ℕ
   -- whether they are within a line that is too long, whose first bytes are dropped
   pub is_within_long : Bool
-  -- whether the bytes came to their end
+  -- whether the reader of bytes has said that it has no more
   pub is_ended : Bool
   -- how often the reader of bytes may still be called
   pub turns : ℕ
@@ -34,12 +34,27 @@ lines_left r bytes = lines_from r.limit r.is_within_long (r.held ++ (if r.is_end
 -- These bytes come and these lines are told: whatever comes next, they were the first of the lines left, and the others are left now.
 pub record Tells (old new : Reading) (came : List ℕ) (told : List Line) : Type 0 where
   pub limit : new.limit ≡ old.limit
-  pub turns : new.turns ≤ old.turns
   pub ended : old.is_ended ≡ true → (came ≡ []) × (new.is_ended ≡ true)
   pub lines : (more : List ℕ) → (new.is_ended ≡ true → more ≡ []) → lines_left old (came ++ more) ≡ told ++ lines_left new more
 
--- no whole line is held
+-- The same of a reader of bytes, whose known bytes are those before and those after.
+pub record Reads (old new : Reading) (before after : Option (List ℕ)) (told : List Line) : Type 0 where
+  pub came : List ℕ
+  pub consumed : Consumes before after came
+  pub tells : Tells old new came told
+  pub turns : new.turns ≤ old.turns
+  pub end : (old.is_ended ≡ true → IsAtEnd before) → new.is_ended ≡ true → IsAtEnd after
+
+-- no whole line is held, and none was told last
 pub record IsPending (r : Reading) : Type 0 where
   pub not_ended : r.is_ended ≡ false
   pub held : HasNoNewline r.held
   pub short : length r.held ≤ r.limit
+  pub line : r.line ≡ []
+
+-- all is told
+pub record IsDone (r : Reading) : Type 0 where
+  pub ended : r.is_ended ≡ true
+  pub held : r.held ≡ []
+  pub not_within : r.is_within_long ≡ false
+  pub line : r.line ≡ []

@@ -53,10 +53,10 @@ impl Model for LineReader {
 }
 
 impl LineReader {
-    ghost use Rattle.request_reader.specs.LineReads.{Finds};
+    ghost use Rattle.request_reader.specs.LineReads.{told_by, ComesTo, Finds, FindsLast, TurnsTo};
     ghost use Rattle.request_reader.specs.Lines.{HasNoNewline};
     ghost use Rattle.request_reader.specs.Newlines.{IsFirstNewline};
-    ghost use Rattle.request_reader.specs.Reading.{is_long};
+    ghost use Rattle.request_reader.specs.Reading.{is_long, IsPending, Reads};
 
     /// A reader of lines that have so many bytes at most, without their newline.
     pub fn new(alloc: Global, limit: usize) -> Result<LineReader, AllocError>
@@ -80,12 +80,71 @@ impl LineReader {
         self.window.line()
     }
 
+    /// Reads on to the end of the next line. A line that is longer than the limit is read to its
+    /// newline and told once. An interrupted call of `read` counts, and is tried again.
+    pub fn read_line<R: Read>(&mut self, reader: &mut R) -> LineRead
+        ensures reads { Reads self.old self.new (R.remaining reader.old) (R.remaining reader.new) (told_by result self.new) }
+        ensures comes_to { ComesTo result self.old self.new }
+    {
+        if self.is_ended {
+            self.window.cut(0, 0);
+            return LineRead::End;
+        }
+        if let Some(told) = self.next_held(0) {
+            return told;
+        }
+        while self.turns > 0 {
+            if let Some(told) = self.turn(reader) {
+                return told;
+            }
+        }
+        LineRead::TurnLimit
+    }
+
+    /// Calls the reader once, and tells a line that is whole then.
+    fn turn<R: Read>(&mut self, reader: &mut R) -> Option<LineRead>
+        requires pending { IsPending self.old }
+        requires turns { 0 < self.old.turns }
+        ensures turns_to { TurnsTo result self.old self.new (R.remaining reader.old) (R.remaining reader.new) }
+        ensures turns { self.new.turns + 1 ≡ self.old.turns }
+    {
+        let start = self.window.held().len();
+        self.turns -= 1;
+        match self.window.fill(reader) {
+            Ok(0) => Some(self.tell_last()),
+            Ok(_) => self.next_held(start),
+            Err(error) if error.kind() == ErrorKind::Interrupted => None,
+            Err(_) => Some(LineRead::ReadFault),
+        }
+    }
+
+    /// Tells what is held as the last line, where no more bytes come.
+    fn tell_last(&mut self) -> LineRead
+        requires { IsPending self.old }
+        ensures { FindsLast result self.old self.new }
+    {
+        let len = self.window.held().len();
+        let was_within_long = self.is_within_long;
+        self.is_within_long = false;
+        self.is_ended = true;
+        if was_within_long {
+            self.window.cut(0, len);
+            LineRead::TooLong
+        } else if len > 0 {
+            self.window.cut(len, len);
+            LineRead::Line
+        } else {
+            LineRead::End
+        }
+    }
+
     /// The next line, if a newline that is held ends it. None stands before `start`.
     fn next_held(&mut self, start: usize) -> Option<LineRead>
         requires not_ended { self.old.is_ended ≡ false }
         requires within { start ≤ length self.old.held }
         requires before { HasNoNewline (take start self.old.held) }
-        ensures { Finds result self.old self.new }
+        ensures finds { Finds result self.old self.new }
+        ensures goes_on { self.new.is_ended ≡ false }
     {
         match newline_from(self.window.held(), start) {
             Some(place) => Some(self.tell(place)),
@@ -101,7 +160,8 @@ impl LineReader {
         requires not_ended { self.old.is_ended ≡ false }
         requires place { IsFirstNewline self.old.held place }
         requires fits { place + 1 < 2 ^ 64 }
-        ensures { Finds (Some result) self.old self.new }
+        ensures finds { Finds (Some result) self.old self.new }
+        ensures goes_on { self.new.is_ended ≡ false }
     {
         let is_long = self.is_long(place);
         self.is_within_long = false;
@@ -118,7 +178,8 @@ impl LineReader {
     fn drop_if_long(&mut self)
         requires not_ended { self.old.is_ended ≡ false }
         requires held { HasNoNewline self.old.held }
-        ensures { Finds None self.old self.new }
+        ensures finds { Finds None self.old self.new }
+        ensures goes_on { self.new.is_ended ≡ false }
     {
         let len = self.window.held().len();
         if self.is_long(len) {
