@@ -1,7 +1,7 @@
 -- What is told of the bytes that are held.
-use Rattle.std.proofs.Common.{Option, Some, None, subst, ◌≡◌, ◌≢◌, ℕ, ◌+◌, ◌≤◌, ◌<◌, List, [], ◌∷◌, ◌++◌, length, take, drop, Bool, true, false, sym, ap, refl, ◌∙◌, arith, append_assoc}
-use Rattle.std.specs.Prelude.{◌||◌, nat_lt, if◌then◌else◌}
-use Rattle.std.proofs.lemmas.Bool.{both_ways, ltb-false, or_parts}
+use Rattle.std.proofs.Common.{IsSome, inl, inr, Option, Some, None, subst, ◌≡◌, ◌≢◌, ℕ, ◌+◌, ◌≤◌, ◌<◌, List, [], ◌∷◌, ◌++◌, length, take, drop, Bool, true, false, sym, ap, refl, ◌∙◌, arith, append_assoc}
+use Rattle.std.specs.Prelude.{◌⊎◌, unwrap_or, ◌||◌, nat_lt, if◌then◌else◌}
+use Rattle.std.proofs.lemmas.Bool.{both_ways, cases_Bool, ltb-false, or_parts}
 use Rattle.std.proofs.lemmas.List.{append-nil, length-take, length-take-le}
 use Rattle.std.proofs.lemmas.List.Elements.{All-nil, All-same}
 use Rattle.std.specs.Io.BufRead.{drop_through}
@@ -179,3 +179,26 @@ Reads-then a b c x y z told more_told s t = record {
   turns = omega (arith, s.turns, t.turns);
   end = λ h. t.end (s.end h);
 }
+
+-- where the bytes are known
+pub Reads-known : (old new : Reading) (before after : Option (List ℕ)) (told : List Line) → Reads old new before after told → IsSome before → IsSome after
+Reads-known old new None after told r h = cc
+Reads-known old new (Some xs) None told r h = absurd r.consumed
+Reads-known old new (Some xs) (Some ys) told r h = refl
+
+-- at the end no bytes are left to come
+left_at_end : (r : Reading) (bytes : List ℕ) → r.is_ended ≡ true → lines_left r bytes ≡ lines_left r []
+left_at_end r bytes ended = rw (ended, append-nil) refl
+
+Reads-lines_some : (old new : Reading) (xs ys : List ℕ) (told : List Line) → Reads old new (Some xs) (Some ys) told → (old.is_ended ≡ true) ⊎ (old.is_ended ≡ false) → lines_left old xs ≡ told ++ lines_left new ys
+Reads-lines_some old new xs ys told r (inl ended) =
+    let none = r.tells.ended ended in
+    left_at_end old xs ended ∙ sym (left_at_end old (r.came ++ []) ended) ∙ r.tells.lines [] (λ _. refl) ∙ ap (λ lines. told ++ lines) (sym (left_at_end new ys none.1))
+Reads-lines_some old new xs ys told r (inr not_ended) =
+    let at_end : new.is_ended ≡ true → ys ≡ [] = r.end (λ e. absurd (both_ways _ not_ended e)) in
+    ap (lines_left old) r.consumed ∙ r.tells.lines ys at_end
+
+pub Reads-lines : (old new : Reading) (before after : Option (List ℕ)) (told : List Line) → Reads old new before after told → IsSome before → lines_left old (unwrap_or before []) ≡ told ++ lines_left new (unwrap_or after [])
+Reads-lines old new None after told r h = cc
+Reads-lines old new (Some xs) None told r h = absurd r.consumed
+Reads-lines old new (Some xs) (Some ys) told r h = Reads-lines_some old new xs ys told r (cases_Bool old.is_ended)

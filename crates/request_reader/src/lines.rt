@@ -1,5 +1,5 @@
 // Lines of bytes from a reader.
-ghost use Rattle.std.specs.Prelude.{◌≡◌, ℕ, List, [], ◌++◌, ◌<◌, ◌≤◌, ◌+◌, ◌^◌, length, take, false, IfOk, Some, None};
+ghost use Rattle.std.specs.Prelude.{◌≡◌, ℕ, List, [], ◌++◌, ◌<◌, ◌≤◌, ◌+◌, ◌^◌, length, take, false, IfOk, Some, None, IsSome, unwrap_or};
 ghost use Rattle.std.specs.Io.KnownBytes.{Consumes, IsAtEnd};
 
 use crate::newlines::newline_from;
@@ -56,7 +56,7 @@ impl LineReader {
     ghost use Rattle.request_reader.specs.LineReads.{told_by, ComesTo, Finds, FindsLast, TurnsTo};
     ghost use Rattle.request_reader.specs.Lines.{HasNoNewline};
     ghost use Rattle.request_reader.specs.Newlines.{IsFirstNewline};
-    ghost use Rattle.request_reader.specs.Reading.{is_long, IsPending, Reads};
+    ghost use Rattle.request_reader.specs.Reading.{is_long, lines_left, IsPending, Reads};
 
     /// A reader of lines that have so many bytes at most, without their newline.
     pub fn new(alloc: Global, limit: usize) -> Result<LineReader, AllocError>
@@ -83,8 +83,24 @@ impl LineReader {
     /// Reads on to the end of the next line. A line that is longer than the limit is read to its
     /// newline and told once. An interrupted call of `read` counts, and is tried again.
     pub fn read_line<R: Read>(&mut self, reader: &mut R) -> LineRead
+        // Where the bytes are known, the lines that were left are those that are told now, and then
+        // those that are left.
+        ensures lines { IsSome (R.remaining reader.old) → lines_left self.old (unwrap_or (R.remaining reader.old) [])
+            ≡ told_by result self.new ++ lines_left self.new (unwrap_or (R.remaining reader.new) []) }
+        ensures known { IsSome (R.remaining reader.old) → IsSome (R.remaining reader.new) }
+
+        // At any reader, the lines that are told are those of the bytes that came.
         ensures reads { Reads self.old self.new (R.remaining reader.old) (R.remaining reader.new) (told_by result self.new) }
         ensures comes_to { ComesTo result self.old self.new }
+        ensures unread { self.new.turns ≡ self.old.turns → reader.new ≡ reader.old }
+    {
+        self.read_on(reader)
+    }
+
+    fn read_on<R: Read>(&mut self, reader: &mut R) -> LineRead
+        ensures reads { Reads self.old self.new (R.remaining reader.old) (R.remaining reader.new) (told_by result self.new) }
+        ensures comes_to { ComesTo result self.old self.new }
+        ensures unread { self.new.turns ≡ self.old.turns → reader.new ≡ reader.old }
     {
         if self.is_ended {
             self.window.cut(0, 0);

@@ -1,14 +1,9 @@
-use Rattle.std.proofs.Common.{[]}
-use Rattle.request_reader.proofs.Telling.{Reads-then}
 use Rattle.request_reader.specs.LineReads.{told_by}
+use Rattle.request_reader.proofs.Telling.{Reads-known, Reads-lines}
 use Rattle.request_reader.proofs.lines.LineReader.read_line.Goals as goal
 
-pub returns-in-Some-turn-clause-reads : goal.returns-in-Some-turn-clause-reads
-returns-in-Some-turn-clause-reads g c =
-    Reads-then c.args.self.now c.loop-self.self c.turn.new.self _ _ _ [] (told_by c.in-Some-turn.told c.turn.new.self) c.loop-self.invariant.reads c.in-Some-turn.ensures.turns_to.0
+pub returns-clause-lines : goal.returns-clause-lines
+returns-clause-lines g c = Reads-lines c.args.self.now c.read_on.new.self _ _ (told_by c.read_on.result c.read_on.new.self) c.read_on.ensures.reads
 
-pub loop-self-preserved : goal.loop-self-preserved
-loop-self-preserved g c = record {
-  reads = Reads-then c.args.self.now c.loop-self.self c.turn.new.self _ _ _ [] [] c.loop-self.invariant.reads c.in_default-turn.ensures.turns_to.0;
-  pending = c.in_default-turn.ensures.turns_to.1;
-}
+pub returns-clause-known : goal.returns-clause-known
+returns-clause-known g c = Reads-known c.args.self.now c.read_on.new.self _ _ (told_by c.read_on.result c.read_on.new.self) c.read_on.ensures.reads
