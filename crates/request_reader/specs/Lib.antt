@@ -1,3 +1,9 @@
 pub mod Answers
 pub mod Asks
+pub mod Buffered
+pub mod LineReads
+pub mod Lines
+pub mod Newlines
+pub mod ReaderState
+pub mod Reading
 pub mod Shape

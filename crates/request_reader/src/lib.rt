@@ -1,8 +1,12 @@
 //! Reading what a client asks: lines of bytes, and the requests that they spell.
 #![tactic(auto)]
 
+mod lines;
+mod newlines;
 mod requests;
 #[cfg(test)]
 mod tests;
+mod windows;
 
+pub use lines::{LineRead, LineReader, MAX_TURNS};
 pub use requests::request_of;

@@ -1,0 +1,4 @@
+mod LineLaws
+mod NewlinePlaces
+mod Parts
+mod Telling
