@@ -1,10 +1,12 @@
 //! Writing what is answered: the text of each reply, and bytes to a writer that may fail.
 #![tactic(auto)]
 
+mod answers;
 mod replies;
 #[cfg(test)]
 mod tests;
 mod texts;
 
+pub use answers::answer_line;
 pub use replies::reply_line;
 pub use texts::{MAX_LINE, ReplyBuf};
