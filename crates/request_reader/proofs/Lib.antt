@@ -1,3 +1,4 @@
+mod LineAnswers
 mod LineLaws
 mod NewlinePlaces
 mod Parts

@@ -1,6 +1,8 @@
 pub mod Answers
 pub mod Asks
+pub mod Blank
 pub mod Buffered
+pub mod LineAsks
 pub mod LineReads
 pub mod Lines
 pub mod Newlines

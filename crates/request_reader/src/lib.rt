@@ -9,4 +9,4 @@ mod tests;
 mod windows;
 
 pub use lines::{LineRead, LineReader, MAX_TURNS};
-pub use requests::request_of;
+pub use requests::{MAX_REQUEST, is_blank, read_request, request_of};

@@ -1,8 +1,11 @@
-// What a JSON value asks for.
+// What a line asks for.
 ghost use Rattle.std.specs.Prelude.{◌≡◌, option_map};
+ghost use Rattle.std.specs.List.{list_all};
 ghost use Rattle.serde_json.specs.View.{view};
 ghost use Rattle.request_reader.specs.Asks.{asked_by_value, plain_of, hello_of, number_of, key_of, job_value, alone, operand};
 ghost use Rattle.request_reader.specs.Answers.{Answers};
+ghost use Rattle.request_reader.specs.Blank.{is_blank_byte};
+ghost use Rattle.request_reader.specs.LineAsks.{AnswersLine, AnswersText};
 ghost use Rattle.request_reader.specs.Shape.{asked_in};
 
 use job_language::values::has_members;
@@ -10,12 +13,54 @@ use job_language::{Asked, Error, Key, Request, TenantName};
 use serde_json::Value;
 use std::alloc::Global;
 
+/// How many bytes the line of a request may have, without its newline.
+pub const MAX_REQUEST: usize = 65_536;
+
 /// What a value asks for, with the job where it stands.
 #[derive(Drop)]
 enum Shape<'v> {
     Plain(Request),
     Submit(&'v Value),
     Execute(&'v Value),
+}
+
+/// Whether a line has only spaces, tabs and carriage returns, or nothing.
+pub fn is_blank(line: &[u8]) -> bool
+    ensures { result ≡ list_all is_blank_byte line.now }
+{
+    line.iter().all(|b| is_blank_byte(*b))
+}
+
+fn is_blank_byte(b: u8) -> bool
+    ensures { result ≡ is_blank_byte b }
+{
+    b == b' ' || b == b'\t' || b == b'\r'
+}
+
+/// The request that a line spells. Errors come in this order: too long, no JSON, no request. Want
+/// of memory is told where it is met, which only a text can come to.
+pub fn read_request(alloc: Global, line: &[u8]) -> Result<Asked, Error>
+    ensures { AnswersLine result line.now }
+{
+    if line.len() > MAX_REQUEST {
+        return Err(Error::LineTooLong);
+    }
+    let value = value_of(alloc, line)?;
+    request_of(alloc, &value)
+}
+
+/// The JSON value that a line is.
+fn value_of(alloc: Global, line: &[u8]) -> Result<Value, Error>
+    ensures { AnswersText result line.now }
+{
+    let Ok(text) = str::from_utf8(line) else {
+        return Err(Error::BadJson);
+    };
+    match Value::from_str(alloc, text) {
+        Ok(value) => Ok(value),
+        Err(error) if error.is_memory() => Err(Error::NoMemory),
+        Err(_) => Err(Error::BadJson),
+    }
 }
 
 /// The request that a value spells. The job of `submit` and `execute` is copied, whatever it is:
