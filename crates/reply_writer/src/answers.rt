@@ -52,6 +52,13 @@ fn moved_line(moved: &Moved) -> ReplyBuf
     }
 }
 
+/// The line that answers what is no step.
+pub fn bad_step_line() -> ReplyBuf
+    ensures { result ≡ codes "{\"moved\":\"bad_step\"}" }
+{
+    word_line("bad_step")
+}
+
 fn word_line(word: &str) -> ReplyBuf
     requires { length word.now ≤ 8 }
     ensures { result ≡ codes "{\"moved\":\"" ++ word.now ++ codes "\"}" }

@@ -7,6 +7,6 @@ mod replies;
 mod tests;
 mod texts;
 
-pub use answers::answer_line;
+pub use answers::{answer_line, bad_step_line};
 pub use replies::reply_line;
 pub use texts::{MAX_LINE, ReplyBuf};

@@ -17,8 +17,8 @@ IsNewlineAt bytes = Passes (is_byte newline) bytes
 HasNoNewline-front : (bytes : List ℕ) (n : ℕ) → n ≤ length bytes → Nowhere (IsNewlineAt bytes) 0 n → HasNoNewline (take n bytes)
 HasNoNewline-front bytes n within none =
     All-from_get_or IsOther (take n bytes) 0 (λ i h e.
-      let below : i < n = omega (arith, length-take n bytes) in
-      none i (omega arith) below (eq-eqb _ _ (sym (get_or-take n bytes i 0 below) ∙ e)))
+    let below : i < n = omega (arith, length-take n bytes) in
+    none i (omega arith) below (eq-eqb _ _ (sym (get_or-take n bytes i 0 below) ∙ e)))
 
 module _ (bytes : List ℕ) (start : ℕ) (before : HasNoNewline (take start bytes)) where
   -- what is searched, which is the rest of the bytes

@@ -68,17 +68,16 @@ whole-short r place limit e short =
 
 -- what is held is dropped
 pub Tells-dropped : (old new : Reading) → IsSameRun old new → HasNoNewline old.held → is_long old (length old.held) ≡ true → new.is_within_long ≡ true → new.held ≡ [] → new.line ≡ [] → Tells old new [] [] × IsPending new × (new.turns ≡ old.turns)
-Tells-dropped old new run none long within empty line =
-    (
-      told_from old new [] run (λ more. lines_from-long old.limit old.is_within_long old.held more none long ∙ rw (within, empty) refl),
-      record {
-        not_ended = run.goes_on;
-        held = All-same (λ b. b ≢ newline) _ _ empty (All-nil (λ b. b ≢ newline));
-        short = rw empty (omega arith);
-        line = line;
-      },
-      run.turns,
-    )
+Tells-dropped old new run none long within empty line = (
+  told_from old new [] run (λ more. lines_from-long old.limit old.is_within_long old.held more none long ∙ rw (within, empty) refl),
+  record {
+    not_ended = run.goes_on;
+    held = All-same (λ b. b ≢ newline) _ _ empty (All-nil (λ b. b ≢ newline));
+    short = rw empty (omega arith);
+    line = line;
+  },
+  run.turns,
+)
 
 -- what is held is the last line
 told_last : (old new : Reading) (told : List Line) → old.is_ended ≡ false → new.limit ≡ old.limit → new.is_ended ≡ true → new.held ≡ [] → new.is_within_long ≡ false → lines_from old.limit old.is_within_long old.held ≡ told → Tells old new [] told
@@ -101,12 +100,12 @@ pub Tells-then : (a b c : Reading) (first next : List ℕ) (told more_told : Lis
 Tells-then a b c first next told more_told s t = record {
   limit = t.limit ∙ s.limit;
   ended = λ e.
-    let here = s.ended e in
-    let later = t.ended here.1 in
-    (rw (here.0, later.0) refl, later.1);
+      let here = s.ended e in
+      let later = t.ended here.1 in
+      (rw (here.0, later.0) refl, later.1);
   lines = λ more last.
-    let still : b.is_ended ≡ true → next ++ more ≡ [] = λ e. let later = t.ended e in rw (later.0, last later.1) refl in
-    ap (lines_left a) (append_assoc first next more) ∙ s.lines (next ++ more) still ∙ ap (λ lines. told ++ lines) (t.lines more last) ∙ sym (append_assoc told more_told (lines_left c more));
+      let still : b.is_ended ≡ true → next ++ more ≡ [] = λ e. let later = t.ended e in rw (later.0, last later.1) refl in
+      ap (lines_left a) (append_assoc first next more) ∙ s.lines (next ++ more) still ∙ ap (λ lines. told ++ lines) (t.lines more last) ∙ sym (append_assoc told more_told (lines_left c more));
 }
 
 -- bytes come, and are held
@@ -153,8 +152,7 @@ Consumes-append (Some xs) (Some ys) (Some zs) first next h k = h ∙ ap (λ byte
 -- a call that gives nothing, and does not say that there is no more
 pub TurnsTo-kept : (old new : Reading) (before after : Option (List ℕ)) → Keeps before after → IsPending old → new.limit ≡ old.limit → new.is_ended ≡ old.is_ended → new.is_within_long ≡ old.is_within_long → new.held ≡ old.held → new.line ≡ [] → new.turns ≤ old.turns → Reads old new before after [] × IsPending new
 TurnsTo-kept old new before after keeps pending limit ended within held line turns =
-    let goes_on = ended ∙ pending.not_ended in
-    (
+    let goes_on = ended ∙ pending.not_ended in (
       record {
         came = [];
         consumed = Consumes-from_Keeps before after keeps;

@@ -8,4 +8,5 @@ pub mod Lines
 pub mod Newlines
 pub mod ReaderState
 pub mod Reading
+pub mod Ready
 pub mod Shape

@@ -1,6 +1,7 @@
 //! Reading what a client asks: lines of bytes, and the requests that they spell.
 #![tactic(auto)]
 
+mod job_requests;
 mod lines;
 mod newlines;
 mod requests;
@@ -8,5 +9,6 @@ mod requests;
 mod tests;
 mod windows;
 
+pub use job_requests::ready;
 pub use lines::{LineRead, LineReader, MAX_TURNS};
-pub use requests::{MAX_REQUEST, is_blank, read_request, request_of};
+pub use requests::{MAX_REQUEST, is_blank, read_request, request_of, value_of};

@@ -49,8 +49,8 @@ pub fn read_request(alloc: Global, line: &[u8]) -> Result<Asked, Error>
     request_of(alloc, &value)
 }
 
-/// The JSON value that a line is.
-fn value_of(alloc: Global, line: &[u8]) -> Result<Value, Error>
+/// The JSON value that a line is. Its errors are no JSON and want of memory.
+pub fn value_of(alloc: Global, line: &[u8]) -> Result<Value, Error>
     ensures { AnswersText result line.now }
 {
     let Ok(text) = str::from_utf8(line) else {

@@ -1,0 +1,57 @@
+// How a script ends.
+ghost use Rattle.std.specs.Prelude.{◌≡◌, option_map};
+ghost use Rattle.arena_script.specs.Ends.{status_of, fault_of};
+ghost use Rattle.arena_script.specs.declared.ends.ScriptEnd.TheVariants.{Memory};
+
+use std::alloc::{AllocError, AllocFailed};
+
+/// How a script ended.
+#[derive(Clone, Copy, Debug, PartialEq, Eq)]
+pub enum ScriptEnd {
+    /// All lines were answered.
+    Done,
+    /// A line that had to be right was not; the last line of the output names it.
+    BadLine,
+    /// The program was not called with words that it knows.
+    Words,
+    /// The first line names no tenant.
+    Config,
+    /// The reader or the writer failed, or the reader was called too often.
+    Device,
+    /// A growth was refused.
+    Memory,
+}
+
+impl ScriptEnd {
+    /// The status that the process ends with.
+    pub fn status(self) -> u8
+        ensures { result ≡ status_of self }
+    {
+        match self {
+            ScriptEnd::Done => 0,
+            ScriptEnd::BadLine | ScriptEnd::Words | ScriptEnd::Config => 2,
+            ScriptEnd::Device | ScriptEnd::Memory => 3,
+        }
+    }
+
+    /// What is told on standard error.
+    pub fn fault(self) -> Option<&'static str>
+        ensures { option_map (λ text. text.now) result ≡ fault_of self }
+    {
+        match self {
+            ScriptEnd::Done | ScriptEnd::BadLine => None,
+            ScriptEnd::Words => Some("arena-script: words"),
+            ScriptEnd::Config => Some("arena-script: config"),
+            ScriptEnd::Device => Some("arena-script: device"),
+            ScriptEnd::Memory => Some("arena-script: memory"),
+        }
+    }
+}
+
+impl From<AllocError> for ScriptEnd {
+    ghost from_gives = { λ _ e. e ≡ Memory };
+
+    fn from(_error: AllocError) -> ScriptEnd {
+        ScriptEnd::Memory
+    }
+}

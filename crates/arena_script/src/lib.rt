@@ -1,0 +1,12 @@
+//! The scripts of `arena-script`: lines of steps in, lines of answers out.
+#![tactic(auto)]
+
+mod ends;
+mod inputs;
+mod own;
+mod scripts;
+mod steps;
+
+pub use ends::ScriptEnd;
+pub use inputs::MAX_SCRIPT_LINE;
+pub use scripts::script;

@@ -1,0 +1,50 @@
+// A script, from its words and its first line to its end.
+use crate::ends::ScriptEnd;
+use crate::inputs::{Input, MAX_SCRIPT_LINE, next_input};
+use crate::own::Own;
+use reply_writer::bad_step_line;
+use request_reader::LineReader;
+use std::alloc::Global;
+use std::io::{Read, Write};
+
+/// Does the whole work of `arena-script`: reads a script, and writes one line for each of its
+/// lines that is not blank, in order. Without a word, or with the word `own`, the first line is a
+/// tenant and the others are its steps.
+pub fn script<R: Read, W: Write>(
+    alloc: Global,
+    words: &[&str],
+    reader: &mut R,
+    writer: &mut W,
+) -> ScriptEnd {
+    let ended = match words {
+        [] | ["own"] => own(alloc, reader, writer),
+        _ => Err(ScriptEnd::Words),
+    };
+    match ended {
+        Ok(()) => ScriptEnd::Done,
+        Err(end) => end,
+    }
+}
+
+fn own<R: Read, W: Write>(alloc: Global, reader: &mut R, writer: &mut W) -> Result<(), ScriptEnd> {
+    let mut lines = LineReader::new(alloc, MAX_SCRIPT_LINE)?;
+    let mut own = match next_input(&mut lines, reader)? {
+        Input::Line => Own::read(alloc, lines.line())?,
+        Input::TooLong | Input::End => return Err(ScriptEnd::Config),
+    };
+    for _line in 0..u64::MAX {
+        match next_input(&mut lines, reader)? {
+            Input::Line => put(writer, own.answer(alloc, lines.line())?.line())?,
+            Input::TooLong => put(writer, bad_step_line().line())?,
+            Input::End => return Ok(()),
+        }
+    }
+    Err(ScriptEnd::Device)
+}
+
+fn put<W: Write>(writer: &mut W, line: &[u8]) -> Result<(), ScriptEnd> {
+    match writer.write_all(line) {
+        Ok(()) => Ok(()),
+        Err(_) => Err(ScriptEnd::Device),
+    }
+}

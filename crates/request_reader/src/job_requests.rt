@@ -1,0 +1,32 @@
+// Requests with their jobs read.
+ghost use Rattle.std.specs.Prelude.{◌≡◌};
+ghost use Rattle.serde_json.specs.View.{view};
+ghost use Rattle.job_language.specs.Job.{job_of};
+ghost use Rattle.request_reader.specs.Answers.{asked_data};
+ghost use Rattle.request_reader.specs.Ready.{Readies, ReadsJob, ready_of};
+
+use job_language::{Asked, Error, Job, Refused, Request, read_job};
+use serde_json::Value;
+use std::alloc::Global;
+
+/// The request that is asked for, with its job read. A job that is not valid is error 4; want of
+/// memory is told where it is met.
+pub fn ready(alloc: Global, asked: Asked) -> Result<Request, Error>
+    ensures { Readies result (ready_of (asked_data asked)) }
+{
+    match asked {
+        Asked::Plain(request) => Ok(request),
+        Asked::Submit(job) => Ok(Request::Submit(job_in(alloc, &job)?)),
+        Asked::Execute(job) => Ok(Request::Execute(job_in(alloc, &job)?)),
+    }
+}
+
+fn job_in(alloc: Global, value: &Value) -> Result<Job, Error>
+    ensures { ReadsJob result (job_of (view value.now)) }
+{
+    match read_job(alloc, value) {
+        Ok(job) => Ok(job),
+        Err(Refused::Bad { .. }) => Err(Error::BadProgram),
+        Err(Refused::Memory(_)) => Err(Error::NoMemory),
+    }
+}

@@ -1,0 +1,42 @@
+//! `arena-script`: answers a script of steps on standard input, line by line.
+#![tactic(auto)]
+
+use arena_script::{ScriptEnd, script};
+use std::env::Env;
+use std::process::ExitCode;
+use std::{env, io};
+
+fn main(rt: HostRuntime) -> ExitCode {
+    let end = match words_of(&rt) {
+        Ok(words) => answered(&rt, words.as_slice()),
+        Err(_) => ScriptEnd::Memory,
+    };
+    if let Some(fault) = end.fault() {
+        let _ = rt.eprintln(fault);
+    }
+    ExitCode::from(end.status())
+}
+
+/// The words that the program was called with, after its name.
+fn words_of<R: Env + AllocGlobal>(rt: &R) -> io::Result<Vec<String>> {
+    let mut words = Vec::new(rt.alloc());
+    for word in env::args(rt)?.skip(1) {
+        words.push(word)?;
+    }
+    Ok(words)
+}
+
+fn answered<R: Input + Print + AllocGlobal>(rt: &R, words: &[String]) -> ScriptEnd {
+    let mut texts = Vec::new(rt.alloc());
+    for word in words {
+        if texts.push(word.as_str()).is_err() {
+            return ScriptEnd::Memory;
+        }
+    }
+    script(
+        rt.alloc(),
+        texts.as_slice(),
+        &mut rt.reader(),
+        &mut io::writer(rt),
+    )
+}
