@@ -1,16 +1,68 @@
 -- The worked examples compute.
-use Rattle.std.proofs.Common.{◌≡◌, refl, [], ◌∷◌, replicate, pos}
-use Rattle.job_language.specs.declared.tenants.Isolation.TheVariants.{Exact}
-use Rattle.job_language.specs.declared.requests.Request.TheVariants.{Execute, Poll}
-use Rattle.job_language.specs.declared.answers.Reply.TheVariants as reply
-use Rattle.job_language.specs.declared.answers.Status.TheVariants.{Complete}
-use Rattle.job_language.specs.declared.steps.Step.TheVariants.{Ask, Advance}
-use Rattle.job_language.specs.declared.answers.Answer.TheVariants.{Replied}
+use Rattle.std.proofs.Common.{refl}
 use Rattle.job_step.specs.Run.{run_for}
-use Rattle.tenant_model.specs.State.{empty}
-use Rattle.tenant_model.specs.Solo.{after, answers}
-use Rattle.tenant_model.specs.Worked.{tenant, fib}
+use Rattle.tenant_model.specs.Worked.{FirstJobIsComplete, IsolatedWaiterKeepsItsCell, IsolatedWaiterKeepsItsCellWithin, PlainWaiterMayLoseItsCell, PostLeavesItsRegion, StolenTaskKeepsItsRegion, FibTakes85Advances, FibNests24Times, FibCosts172, FibNeeds172, CancelledGroupTellsOnce, ChainReachesHeight128, ChainIsTooDeep, WaiterLeavesInnerRegion, WaiterTakesInnerRegion, RetiredJobIsForgotten}
 
-fib_completes : answers (after (empty (tenant 1 1 Exact)) (Ask (Execute fib) ∷ replicate 85 (Advance 0))) (Ask (Poll 1) ∷ []) ≡ Replied (reply.Job 1 (Complete (pos 8))) ∷ []
-unfolding run_for
-fib_completes = refl
+pub first_job_is_complete_computes : FirstJobIsComplete
+unfolding run_for FirstJobIsComplete
+first_job_is_complete_computes = refl
+
+pub isolated_waiter_keeps_its_cell_computes : IsolatedWaiterKeepsItsCell
+unfolding run_for IsolatedWaiterKeepsItsCell
+isolated_waiter_keeps_its_cell_computes = refl
+
+pub isolated_waiter_keeps_its_cell_within_computes : IsolatedWaiterKeepsItsCellWithin
+unfolding run_for IsolatedWaiterKeepsItsCellWithin
+isolated_waiter_keeps_its_cell_within_computes = refl
+
+pub plain_waiter_may_lose_its_cell_computes : PlainWaiterMayLoseItsCell
+unfolding run_for PlainWaiterMayLoseItsCell
+plain_waiter_may_lose_its_cell_computes = refl
+
+pub post_leaves_its_region_computes : PostLeavesItsRegion
+unfolding run_for PostLeavesItsRegion
+post_leaves_its_region_computes = refl
+
+pub stolen_task_keeps_its_region_computes : StolenTaskKeepsItsRegion
+unfolding run_for StolenTaskKeepsItsRegion
+stolen_task_keeps_its_region_computes = refl
+
+pub fib_takes_85_advances_computes : FibTakes85Advances
+unfolding run_for FibTakes85Advances
+fib_takes_85_advances_computes = refl
+
+pub fib_nests_24_times_computes : FibNests24Times
+unfolding run_for FibNests24Times
+fib_nests_24_times_computes = refl
+
+pub fib_costs_172_computes : FibCosts172
+unfolding run_for FibCosts172
+fib_costs_172_computes = refl
+
+pub fib_needs_172_computes : FibNeeds172
+unfolding run_for FibNeeds172
+fib_needs_172_computes = refl
+
+pub cancelled_group_tells_once_computes : CancelledGroupTellsOnce
+unfolding run_for CancelledGroupTellsOnce
+cancelled_group_tells_once_computes = refl
+
+pub chain_reaches_height_128_computes : ChainReachesHeight128
+unfolding run_for ChainReachesHeight128
+chain_reaches_height_128_computes = refl
+
+pub chain_is_too_deep_computes : ChainIsTooDeep
+unfolding run_for ChainIsTooDeep
+chain_is_too_deep_computes = refl
+
+pub waiter_leaves_inner_region_computes : WaiterLeavesInnerRegion
+unfolding run_for WaiterLeavesInnerRegion
+waiter_leaves_inner_region_computes = refl
+
+pub waiter_takes_inner_region_computes : WaiterTakesInnerRegion
+unfolding run_for WaiterTakesInnerRegion
+waiter_takes_inner_region_computes = refl
+
+pub retired_job_is_forgotten_computes : RetiredJobIsForgotten
+unfolding run_for RetiredJobIsForgotten
+retired_job_is_forgotten_computes = refl

@@ -2,7 +2,9 @@
 #![tactic(auto)]
 
 mod rows;
+mod worked;
 mod works;
 
 pub use rows::{Kind, MAX_HEIGHT, Mark, Phase, Row};
+pub use worked::worked_examples;
 pub use works::{MAX_JOBS, Work};
