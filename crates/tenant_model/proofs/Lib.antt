@@ -6,4 +6,15 @@ pub mod Entries
 pub mod Linked
 pub mod Runs
 pub mod Settling
+pub mod Within
+pub mod Stacking
+pub mod Stacked
+pub mod Faulting
+pub mod Insides
+pub mod Picks
+pub mod Parts
+pub mod Keeping
+pub mod KeptSteps
+pub mod Nesting
+pub mod KeptAdvances
 mod WorkedProofs

@@ -68,7 +68,7 @@ SettledUpTo-more s t k so_far within = record {
 }
 
 -- the rows that settled, by place
-settle-get_or : (s : State) (k : ℕ) (d : Row) → k < length s.rows → get_or (settle s).rows k d ≡ settled_at s (k + 1)
+pub settle-get_or : (s : State) (k : ℕ) (d : Row) → k < length s.rows → get_or (settle s).rows k d ≡ settled_at s (k + 1)
 settle-get_or s k d within =
     let f : Numbered → Row = λ p. settled p.1 (is_context_cancelled s p.0) in
     let number : 1 + k ≡ k + 1 = omega arith in

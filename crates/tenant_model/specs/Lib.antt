@@ -3,6 +3,7 @@ pub mod Walks
 pub mod Cells
 pub mod Changes
 pub mod Rows
+pub mod WellFormed
 pub mod Shared
 pub mod Advance
 pub mod Asks

@@ -1,0 +1,171 @@
+-- Changes that keep a state well formed.
+use Rattle.std.proofs.Common.{◌≡◌, ℕ, ◌+◌, ◌-◌, ◌==◌, ◌<◌, ◌≤◌, List, [], ◌∷◌, length, Some, Bool, true, false, ◌&&◌, refl, sym, ap, ◌∙◌, arith, inl, inr, ◌⊎◌, map, length-set}
+use Rattle.std.specs.Prelude.{IfSome, nat_le}
+use Rattle.tenant_model.specs.declared.rows.Phase.{Phase}
+use Rattle.tenant_model.specs.declared.rows.Phase.TheVariants.{Unstarted, Live, Done, Dropped, Faulted}
+use Rattle.tenant_model.specs.declared.rows.Row.{Row}
+use Rattle.tenant_model.specs.declared.rows.TheConstants.{MAX_HEIGHT}
+use Rattle.tenant_model.specs.declared.works.Work.{Work}
+use Rattle.tenant_model.specs.State.{State, row, job, with_numbered}
+use Rattle.tenant_model.specs.Walks.{maker_of, is_region, is_within, is_open, is_live_at, height, settle}
+use Rattle.tenant_model.specs.Changes.{open_rows, on_row, on_job, add_row, entry, task_height, faulted, faulted_phase}
+use Rattle.tenant_model.specs.WellFormed.{IsWellFormed}
+use Rattle.tenant_model.proofs.Changed.{row-map}
+use Rattle.tenant_model.proofs.Linked.{IsLinked-same, IsLinked-set, IsLinked-push, IsLinked-more_jobs, SameSources-map}
+use Rattle.tenant_model.proofs.Stacking.{one_if, count-cons, count-push, AreStacked-same, AreStacked-pushed, AreStacked-cut}
+use Rattle.tenant_model.proofs.Stacked.{IsOff, AreSame-set, IsPushed-set, IsCut-set, AreSame-push, IsPushed-push}
+use Rattle.tenant_model.proofs.Faulting.{AreSame-settle, IsCut-faults}
+use Rattle.tenant_model.proofs.Insides.{live_there, AreInside-fewer}
+use Rattle.tenant_model.proofs.Parts.{SameSources-settle, settle-lives, open-settle, AreInside-set, AreInside-set_top, AreInside-push, AreInside-push_top, open-set, off_live}
+
+either_way : (b : Bool) → (b ≡ true) ⊎ (b ≡ false)
+either_way true = inl refl
+either_way false = inr refl
+
+pub one_at_most : (b : Bool) → one_if b ≤ 1
+one_at_most true = omega arith
+one_at_most false = omega arith
+
+-- the state settles
+pub settle_kept : (s : State) → IsWellFormed s → IsWellFormed (settle s)
+settle_kept s is = record {
+  linked = IsLinked-same s (settle s) (SameSources-settle s) refl is.linked.epoch is.linked;
+  stacked = AreStacked-same s.rows (settle s).rows (AreSame-settle s) is.stacked;
+  inside = AreInside-fewer s.rows (settle s).rows (SameSources-settle s).kinds (settle-lives s) is.inside;
+  limit = omega (arith, open-settle s, is.limit);
+  table = is.table;
+  slots = is.slots;
+}
+
+-- an entry is counted
+pub entry_kept : (s : State) → IsWellFormed s → IsWellFormed (entry s)
+entry_kept s is = settle_kept (record s { entries = s.entries + 1 }) (record {
+  linked = record { makers = is.linked.makers; jobs = is.linked.jobs; epoch = omega (arith, is.linked.epoch) };
+  stacked = is.stacked;
+  inside = is.inside;
+  limit = is.limit;
+  table = is.table;
+  slots = is.slots;
+})
+
+-- a job changed
+pub on_job_kept : (s : State) (j : ℕ) (f : Work → Work) → IsWellFormed s → IsWellFormed (on_job s j f)
+on_job_kept s j f is = record {
+  linked = IsLinked-more_jobs s (with_numbered s.jobs j (f (job s.jobs j))) (omega (arith, length-set s.jobs (j - 1) (f (job s.jobs j)))) is.linked;
+  stacked = is.stacked;
+  inside = is.inside;
+  limit = is.limit;
+  table = is.table;
+  slots = is.slots;
+}
+
+module _ (s : State) (n : ℕ) (f : Row → Row) (from : 1 ≤ n) (to : n ≤ length s.rows) (kind : (f (row s.rows n)).kind ≡ (row s.rows n).kind) (job : (f (row s.rows n)).job ≡ (row s.rows n).job) where
+  -- a row changed, in the same phase
+  pub on_row_kept : (f (row s.rows n)).phase ≡ (row s.rows n).phase → IsWellFormed s → IsWellFormed (on_row s n f)
+  on_row_kept phase is =
+      let r = f (row s.rows n) in
+      record {
+        linked = IsLinked-set s n r from to kind job is.linked;
+        stacked = AreStacked-same s.rows _ (AreSame-set s.rows n r from to phase) is.stacked;
+        inside = AreInside-set s.rows n r from to kind (λ slot h live. sym phase ∙ live) is.inside;
+        limit = let same : one_if (is_open r.phase) ≡ one_if (is_open (row s.rows n).phase) = ap (λ p. one_if (is_open p)) phase in omega (arith, open-set s.rows n r from to kind (omega (arith, same)), is.limit);
+        table = is.table;
+        slots = is.slots;
+      }
+
+  -- the topmost row done
+  pub done_kept : (slot : ℕ) → (row s.rows n).phase ≡ Live slot (height s.rows slot) → IsOff (f (row s.rows n)).phase → is_open (f (row s.rows n)).phase ≡ false → 1 ≤ height s.rows slot → IsWellFormed s → IsWellFormed (on_row s n f)
+  done_kept slot live off closed some is =
+      let r = f (row s.rows n) in
+      record {
+        linked = IsLinked-set s n r from to kind job is.linked;
+        stacked = AreStacked-cut s.rows _ slot (height s.rows slot) (IsCut-set s.rows n r from to slot live off some is.stacked) is.stacked;
+        inside = AreInside-set s.rows n r from to kind (λ t h live. absurd (off_live off live)) is.inside;
+        limit = let none : one_if (is_open r.phase) ≡ 0 = rw closed refl in omega (arith, open-set s.rows n r from to kind (omega (arith, none)), is.limit);
+        table = is.table;
+        slots = is.slots;
+      }
+
+  -- an open row on top of a slot now
+  pub nest_kept : (slot : ℕ) → IsOff (row s.rows n).phase → is_open (row s.rows n).phase ≡ true → (f (row s.rows n)).phase ≡ Live slot (height s.rows slot + 1) → height s.rows slot < MAX_HEIGHT →
+      ((x low q : ℕ) → (row s.rows x).phase ≡ Live slot low → is_region (row s.rows q).kind ≡ true → is_within s.rows x q ≡ true → is_within s.rows n q ≡ true) → IsWellFormed s → IsWellFormed (on_row s n f)
+  nest_kept slot off opened live room fits is =
+      let r = f (row s.rows n) in
+      record {
+        linked = IsLinked-set s n r from to kind job is.linked;
+        stacked = AreStacked-pushed s.rows _ slot (IsPushed-set s.rows n r from to slot off live) room is.stacked;
+        inside = AreInside-set_top s.rows n r from to kind slot is.linked.makers is.stacked live fits is.inside;
+        limit = let one : one_if (is_open r.phase) ≡ one_if (is_open (row s.rows n).phase) = rw (live, opened) refl in omega (arith, open-set s.rows n r from to kind (omega (arith, one)), is.limit);
+        table = is.table;
+        slots = is.slots;
+      }
+
+module _ (s : State) (r : Row) (maker : IfSome (maker_of r.kind) (λ m. (1 ≤ m) × (m ≤ length s.rows))) (job : (1 ≤ r.job) × (r.job ≤ length s.jobs)) (room : open_rows s.rows < s.config.rows) where
+  -- a new row that has not started
+  pub add_row_kept : IsOff r.phase → IsWellFormed s → IsWellFormed (add_row s r)
+  add_row_kept off is =
+      let linked = IsLinked-push s r is.linked maker job in
+      record {
+        linked = linked;
+        stacked = AreStacked-same s.rows _ (AreSame-push s.rows r off) is.stacked;
+        inside = AreInside-push s.rows r is.linked.makers linked.makers is.stacked off is.inside;
+        limit = omega (arith, room, count-push (λ (x : Row). is_open x.phase) s.rows r, one_at_most (is_open r.phase));
+        table = is.table;
+        slots = is.slots;
+      }
+
+  -- a region on top of its maker
+  pub add_region_kept : (slot n : ℕ) → r.phase ≡ Live slot (height s.rows slot + 1) → height s.rows slot < MAX_HEIGHT → maker_of r.kind ≡ Some n → (row s.rows n).phase ≡ Live slot (height s.rows slot) → IsWellFormed s → IsWellFormed (add_row s r)
+  add_region_kept slot n live low made top is =
+      let linked = IsLinked-push s r is.linked maker job in
+      record {
+        linked = linked;
+        stacked = AreStacked-pushed s.rows _ slot (IsPushed-push s.rows r slot live) low is.stacked;
+        inside = AreInside-push_top s.rows r is.linked.makers linked.makers slot n is.stacked live made top is.inside;
+        limit = omega (arith, room, count-push (λ (x : Row). is_open x.phase) s.rows r, one_at_most (is_open r.phase));
+        table = is.table;
+        slots = is.slots;
+      }
+
+faulted_lives : (slot from : ℕ) (p : Phase) (t h : ℕ) → faulted_phase slot from p ≡ Live t h → p ≡ Live t h
+faulted_lives slot from Unstarted t h live = live
+faulted_lives slot from (Live u k) t h live = elim (either_way ((u == slot) && nat_le from k)) [
+  | inl gone ↦
+      let no : Faulted ≡ Live t h = rw gone at live in
+      absurd (grind (arith, ap (is_live_at t h) no))
+  | inr kept ↦ rw kept at live
+]
+faulted_lives slot from (Done v) t h live = live
+faulted_lives slot from Dropped t h live = live
+faulted_lives slot from Faulted t h live = live
+
+faulted_open : (slot from : ℕ) (p : Phase) → one_if (is_open (faulted_phase slot from p)) ≤ one_if (is_open p)
+faulted_open slot from Unstarted = omega arith
+faulted_open slot from (Live u k) = one_at_most (is_open (faulted_phase slot from (Live u k)))
+faulted_open slot from (Done v) = omega arith
+faulted_open slot from Dropped = omega arith
+faulted_open slot from Faulted = omega arith
+
+faulted_fewer : (slot from : ℕ) (rows : List Row) → open_rows (map (faulted slot from) rows) ≤ open_rows rows
+faulted_fewer slot from [] = omega arith
+faulted_fewer slot from (x ∷ xs) =
+    let p : Row → Bool = λ r. is_open r.phase in
+    omega (arith, count-cons p (faulted slot from x) (map (faulted slot from) xs), count-cons p x xs, faulted_open slot from x.phase, faulted_fewer slot from xs)
+
+-- a slot's rows down to the first that is no region are faulted
+pub faulted_kept : (s : State) (slot : ℕ) → IsWellFormed s → IsWellFormed (record s { rows = map (faulted slot (task_height s.rows slot)) s.rows })
+faulted_kept s slot is =
+    let from = task_height s.rows slot in
+    let rows = map (faulted slot from) s.rows in
+    let same = SameSources-map (faulted slot from) s.rows (λ r. refl) (λ r. refl) in
+    record {
+      linked = IsLinked-same s (record s { rows = rows }) same refl is.linked.epoch is.linked;
+      stacked = AreStacked-cut s.rows rows slot from (IsCut-faults s.rows is.stacked slot) is.stacked;
+      inside = AreInside-fewer s.rows rows same.kinds (λ n t h live.
+          let there = live_there rows n t h live in
+          let to : n ≤ length s.rows = omega (arith, there, same.long) in
+          faulted_lives slot from (row s.rows n).phase t h (ap (λ (r : Row). r.phase) (sym (row-map (faulted slot from) s.rows n there.0 to)) ∙ live)) is.inside;
+      limit = omega (arith, faulted_fewer slot from s.rows, is.limit);
+      table = is.table;
+      slots = is.slots;
+    }

@@ -1,0 +1,43 @@
+-- What a tenant's rows keep, whatever steps it takes.
+use Rattle.std.specs.Prelude.{ℕ, ◌≡◌, ◌<◌, ◌≤◌, true, List, length, count_by, All}
+use Rattle.job_language.specs.declared.instructions.TheConstants.{KEYS}
+use Rattle.job_language.specs.declared.tenants.TheConstants.{MAX_SLOTS}
+use Rattle.tenant_model.specs.declared.rows.Phase.TheVariants.{Live}
+use Rattle.tenant_model.specs.declared.rows.Row.{Row}
+use Rattle.tenant_model.specs.declared.rows.TheConstants.{MAX_HEIGHT}
+use Rattle.tenant_model.specs.State.{State, row}
+use Rattle.tenant_model.specs.Walks.{is_region, is_within, is_live_at, height}
+use Rattle.tenant_model.specs.Changes.{open_rows}
+use Rattle.tenant_model.specs.Cells.{Table}
+use Rattle.tenant_model.specs.Rows.{IsLinked}
+
+-- how many rows are on a slot at a height
+abbrev pub rows_at : List Row → (slot height : ℕ) → ℕ
+rows_at rows slot h = count_by (λ (r : Row). is_live_at slot h r.phase) rows
+
+-- The rows on a slot stand at heights 1 to the slot's height, one at each, and at most 128.
+pub record AreStacked (rows : List Row) : Type 0 where
+  pub one_at_each : (slot h : ℕ) → 1 ≤ h → h ≤ height rows slot → rows_at rows slot h ≡ 1
+  pub none_below : (slot : ℕ) → rows_at rows slot 0 ≡ 0
+  pub none_above : (slot h : ℕ) → height rows slot < h → rows_at rows slot h ≡ 0
+  pub low : (slot : ℕ) → height rows slot ≤ MAX_HEIGHT
+
+-- What stands above a row is within each region that the row is within.
+abbrev pub AreInside : List Row → Type 0
+AreInside rows =
+    (a b slot low high q : ℕ) → (row rows a).phase ≡ Live slot low → (row rows b).phase ≡ Live slot high → low ≤ high → is_region (row rows q).kind ≡ true →
+    is_within rows a q ≡ true → is_within rows b q ≡ true
+
+-- a table of a cell for each key and slot
+pub record IsTable (t : Table) : Type 0 where
+  pub keys : length t ≡ KEYS
+  pub slots : All (λ cells. length cells ≡ MAX_SLOTS) t
+
+-- what each state that a tenant reaches is
+pub record IsWellFormed (s : State) : Type 0 where
+  pub linked : IsLinked s
+  pub stacked : AreStacked s.rows
+  pub inside : AreInside s.rows
+  pub limit : open_rows s.rows ≤ s.config.rows
+  pub table : IsTable s.cells
+  pub slots : s.config.slots ≤ MAX_SLOTS
