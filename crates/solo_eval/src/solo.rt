@@ -23,10 +23,15 @@ impl Model for Solo {
     ghost Value = { State };
 
     ghost view = { λ s. s.state };
+
+    ghost use Rattle.tenant_model.specs.WellFormed.{IsWellFormed};
+
+    ghost invariant = { λ s. IsWellFormed s.state };
 }
 
 impl Solo {
     /// A tenant that has done nothing yet.
+    #[tactic(auto, using(tenant_model::proofs::KeptAdvances::empty_kept))]
     pub fn new(alloc: Global, config: TenantConfig) -> Solo
         ensures { result ≡ empty config }
     {
@@ -36,6 +41,7 @@ impl Solo {
     }
 
     /// Answers an ask. It fails only where a growth was refused, and then nothing has changed.
+    #[tactic(auto, using(tenant_model::proofs::KeptSteps::ask_kept))]
     pub fn ask(&mut self, request: Request) -> Result<Reply, AllocError>
         ensures ok { IfOk result (λ reply. ask self.old request ≡ (reply, self.new)) }
         ensures err { OnErr result (self.new ≡ self.old) }
@@ -44,6 +50,7 @@ impl Solo {
     }
 
     /// Lets a worker arrive at a slot.
+    #[tactic(auto, using(tenant_model::proofs::KeptAdvances::arrive_kept))]
     pub fn arrive(&mut self, slot: u8) -> Came
         ensures { arrive self.old slot ≡ (result, self.new) }
     {
@@ -51,6 +58,7 @@ impl Solo {
     }
 
     /// Advances a slot. It fails only where a growth was refused, and then nothing has changed.
+    #[tactic(auto, using(tenant_model::proofs::KeptAdvances::advance_kept))]
     pub fn advance(&mut self, slot: u8) -> Result<Moved, AllocError>
         ensures ok { IfOk result (λ moved. advance self.old slot ≡ (moved, self.new)) }
         ensures err { OnErr result (self.new ≡ self.old) }
