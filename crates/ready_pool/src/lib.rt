@@ -5,4 +5,4 @@ mod pool;
 #[cfg(test)]
 mod tests;
 
-pub use pool::{MAX_SLOTS, Pool, Waiting};
+pub use pool::{Pool, Waiting};

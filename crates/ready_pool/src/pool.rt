@@ -3,13 +3,10 @@ ghost use Rattle.std.specs.Prelude.{◌≡◌, ◌≢◌, ◌<◌, ◌≤◌, �
 ghost use Rattle.std.specs.Option.{ForSome};
 ghost use Rattle.ready_pool.specs.Ready.{empty, with_row, is_waiting, without, IsRegionEntered, is_allowed, is_made_on, pick};
 
-use job_language::Isolation;
-use region_tag::{MAX_ROWS, Regions, RowId};
+use job_language::{Isolation, MAX_ROWS, MAX_SLOTS};
+use region_tag::{Regions, RowId};
 use std::alloc::{AllocError, Global};
 use std::marker::Model;
-
-/// The most slots that a tenant may have.
-pub const MAX_SLOTS: usize = 16;
 
 /// A row that waits to be started.
 #[derive(Clone, Copy, Debug, PartialEq, Eq)]

@@ -6,5 +6,5 @@ mod row_id;
 #[cfg(test)]
 mod tests;
 
-pub use regions::{MAX_ROWS, Regions, Tagged};
+pub use regions::{Regions, Tagged};
 pub use row_id::RowId;

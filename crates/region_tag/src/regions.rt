@@ -7,9 +7,6 @@ use crate::row_id::RowId;
 use std::alloc::{AllocError, Global};
 use std::marker::Model;
 
-/// The most rows that a tenant may have open.
-pub const MAX_ROWS: usize = 4096;
-
 /// What an open row is tagged with.
 #[derive(Clone, Copy, Debug, PartialEq, Eq)]
 pub struct Tagged {
@@ -42,7 +39,6 @@ impl Model for Regions {
 impl Regions {
     /// No row, and room for as many open rows as the limit says.
     pub fn new(alloc: Global, rows: usize) -> Result<Regions, AllocError>
-        requires { rows ≤ MAX_ROWS }
         ensures { IfOk result (λ regions. regions ≡ replicate rows None) }
     {
         let rows = vec![in alloc; None; rows]?;
