@@ -1,5 +1,5 @@
 -- The rows that have been entered, by their places; their regions, and the regions around a region.
-use Rattle.std.specs.Prelude.{ℕ, zero, suc, ◌==◌, ◌&&◌, ◌<◌, Bool, if◌then◌else◌, List, [], ◌∷◌, Option, Some, None, IsSome, IfSome, slice_index_or}
+use Rattle.std.specs.Prelude.{All, ℕ, zero, suc, ◌==◌, ◌&&◌, ◌<◌, Bool, if◌then◌else◌, List, [], ◌∷◌, Option, Some, None, IsSome, IfSome, slice_index_or}
 use Rattle.std.specs.List.{list_any}
 use Rattle.std.specs.Option.{option_and_then, option_eq}
 use Rattle.region_tag.specs.declared.row_id.RowId.{RowId}
@@ -58,3 +58,7 @@ is_within table tag outer = list_any (λ r. is_same r outer) (regions_from table
 
 abbrev pub IsAroundEarlier : Option Tagged → Type 0
 IsAroundEarlier t = IfSome t (λ t. IfSome t.around (λ r. r.number < t.number))
+
+-- Each region was made after the region around it.
+abbrev pub IsNested : Table → Type 0
+IsNested table = All IsAroundEarlier table

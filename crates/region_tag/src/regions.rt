@@ -1,7 +1,7 @@
 // The finite map from open rows to their regions.
-ghost use Rattle.std.specs.Prelude.{All, IfSome, ◌≡◌, ◌<◌, ◌≤◌, None, Some, IsNone, IfOk, length, replicate, slice_index_or, slice_set};
+ghost use Rattle.std.specs.Prelude.{IfSome, ◌≡◌, ◌<◌, ◌≤◌, None, Some, IsNone, IfOk, length, replicate, slice_index_or, slice_set};
 ghost use Rattle.std.specs.Option.{ForSome};
-ghost use Rattle.region_tag.specs.Region.{IsEntered, region_of, is_within, same_region, tagged, around, get, IsAroundEarlier};
+ghost use Rattle.region_tag.specs.Region.{IsEntered, region_of, is_within, same_region, tagged, around, get, IsNested};
 
 use crate::row_id::RowId;
 use std::alloc::{AllocError, Global};
@@ -26,14 +26,13 @@ pub struct Regions {
 }
 
 impl Model for Regions {
-    ghost use Rattle.region_tag.specs.Region.{Table, IsAroundEarlier};
-    ghost use Rattle.std.specs.Prelude.{All};
+    ghost use Rattle.region_tag.specs.Region.{Table, IsNested};
 
     ghost Value = { Table };
 
     ghost view = { λ r. r.rows.items };
 
-    ghost invariant = { λ r. All IsAroundEarlier r.rows.items };
+    ghost invariant = { λ r. IsNested r.rows.items };
 }
 
 impl Regions {
@@ -80,8 +79,10 @@ impl Regions {
 
     /// The region that a row is in: none outside all regions, and for a row that is not there.
     pub fn region_of(&self, row: RowId) -> Option<RowId>
-        ensures { result ≡ region_of self.now row }
+        ensures value { result ≡ region_of self.now row }
+        ensures nested { IsNested self.now }
     {
+        let _ = &self.rows;
         self.get(row)?.tag
     }
 
@@ -111,7 +112,7 @@ impl Regions {
     #[tactic(auto, using(crate::proofs::Around::around_earlier))]
     fn around(&self, region: RowId) -> Option<RowId>
         ensures value { result ≡ around self.now region }
-        ensures every { All IsAroundEarlier self.now }
+        ensures nested { IsNested self.now }
         ensures earlier { IfSome result (λ outer. outer.number < region.number) }
     {
         let _ = &self.rows;
