@@ -105,10 +105,11 @@ impl Nests {
         stack.truncate(height);
     }
 
-    /// How many rows are on a slot's stack.
+    /// How many rows are on a slot's stack, `MAX_HEIGHT` at most.
     pub fn height(&self, slot: usize) -> usize
         requires { slot < length self.now }
-        ensures { result ≡ length (stack self.now slot) }
+        ensures value { result ≡ length (stack self.now slot) }
+        ensures few { result ≤ MAX_HEIGHT }
     {
         self.stacks[slot].height()
     }

@@ -26,7 +26,7 @@ pub(crate) struct Stack {
 }
 
 impl Model for Stack {
-    ghost use Rattle.std.specs.Prelude.{List, ◌≤◌, vec_capacity};
+    ghost use Rattle.std.specs.Prelude.{List, ◌≤◌, vec_capacity, vec_len};
     ghost use Rattle.nest_stack.specs.declared.stack.Nested.{Nested};
     ghost use Rattle.nest_stack.specs.declared.stack.TheConstants.{MAX_HEIGHT};
 
@@ -34,7 +34,7 @@ impl Model for Stack {
 
     ghost view = { λ s. s.rows.items };
 
-    ghost invariant = { λ s. MAX_HEIGHT ≤ vec_capacity s.rows };
+    ghost invariant = { λ s. record { few : vec_len s.rows ≤ MAX_HEIGHT; room : MAX_HEIGHT ≤ vec_capacity s.rows } };
 }
 
 impl Stack {
@@ -49,7 +49,8 @@ impl Stack {
 
     /// How many rows there are.
     pub(crate) fn height(&self) -> usize
-        ensures { result ≡ length self.now }
+        ensures value { result ≡ length self.now }
+        ensures few { result ≤ MAX_HEIGHT }
     {
         self.rows.len()
     }
