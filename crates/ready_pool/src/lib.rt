@@ -1,0 +1,8 @@
+//! The rows that wait to be started, and which of them a slot takes next.
+#![tactic(auto)]
+
+mod pool;
+#[cfg(test)]
+mod tests;
+
+pub use pool::{Pool, Waiting};

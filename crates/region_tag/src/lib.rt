@@ -1,0 +1,10 @@
+//! The region that each open row of a tenant is in, and the regions around it.
+#![tactic(auto)]
+
+mod regions;
+mod row_id;
+#[cfg(test)]
+mod tests;
+
+pub use regions::{Regions, Tagged};
+pub use row_id::RowId;
