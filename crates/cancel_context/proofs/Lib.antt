@@ -1,0 +1,5 @@
+pub mod Chains
+pub mod Mapped
+pub mod Requests
+pub mod Bound
+pub mod Released

@@ -1,0 +1,197 @@
+// A forest of contexts.
+ghost use Rattle.std.specs.Prelude.{◌≡◌, ◌≢◌, ◌+◌, ◌*◌, ◌<◌, ◌≤◌, ◌||◌, ℕ, true, false, not, Some, None, length, map, replicate, IfOk};
+ghost use Rattle.std.specs.Option.{ForSome, option_map_or};
+ghost use Rattle.cancel_context.specs.Forest.{IsHeld, held_count, binding, parent, is_within, is_cancelled, IsForest, with_bound, asking, with_request, without_parent, without};
+
+use crate::bindings::{Binding, ContextId};
+use std::alloc::{AllocError, Global};
+use std::marker::Model;
+
+/// Room for a context of each job.
+const JOB_CONTEXTS: usize = 256;
+
+/// Room for the contexts of each row: its own and those of its four groups.
+const ROW_CONTEXTS: usize = 5;
+
+/// Contexts that are bound to one another. A context is cancelled where it has a cancel request of
+/// its own, or one that it is bound to is cancelled.
+#[derive(Drop)]
+pub struct Contexts {
+    bindings: Vec<Option<Binding>>,
+}
+
+impl Model for Contexts {
+    ghost use Rattle.cancel_context.specs.Forest.{Forest};
+
+    ghost Value = { Forest };
+
+    ghost use Rattle.cancel_context.specs.Order.{IsSound};
+
+    ghost view = { λ c. c.bindings.items };
+
+    ghost invariant = { λ c. IsSound c.bindings.items };
+}
+
+impl Contexts {
+    /// No context, with room for those of 256 jobs and of so many rows.
+    pub fn new(alloc: Global, rows: usize) -> Result<Contexts, AllocError>
+        requires { rows ≤ 4096 }
+        ensures empty { IfOk result (λ forest. forest ≡ replicate (256 + 5 * rows) None) }
+        ensures forest { IfOk result IsForest }
+    {
+        let bindings = vec![in alloc; None; JOB_CONTEXTS + ROW_CONTEXTS * rows]?;
+        Ok(Contexts { bindings })
+    }
+
+    /// A new context, bound to another or to none. It has no request of its own.
+    pub fn bind(&mut self, parent: Option<ContextId>) -> ContextId
+        requires room { held_count self.old < length self.old }
+        requires parent { ForSome parent (IsHeld self.old) }
+        ensures fresh { binding self.old result ≡ None }
+        ensures bound { self.new ≡ with_bound self.old result parent }
+        ensures held { IsHeld self.new result }
+        ensures keeps { (c : ℕ) → IsHeld self.old c → IsHeld self.new c }
+        ensures count { held_count self.new ≡ held_count self.old + 1 }
+        ensures from_above { is_cancelled self.new result ≡ option_map_or (is_cancelled self.old) parent false }
+        ensures others { (c : ℕ) → c ≢ result → is_cancelled self.new c ≡ is_cancelled self.old c }
+        ensures forest { IsForest self.new }
+    {
+        let place = free_place(&self.bindings);
+        self.bindings[place] = Some(Binding {
+            parent,
+            is_asked: false,
+            is_orphan: false,
+        });
+        ContextId(place as u16)
+    }
+
+    /// Asks for the cancellation of a context. Answers whether it was not cancelled before, by itself
+    /// or from above.
+    pub fn cancel(&mut self, context: ContextId) -> bool
+        requires { IsHeld self.old context }
+        ensures first { result ≡ not (is_cancelled self.old context) }
+        ensures asked { self.new ≡ with_request self.old context true }
+        ensures keeps { (c : ℕ) → IsHeld self.old c → IsHeld self.new c }
+        ensures count { held_count self.new ≡ held_count self.old }
+        ensures cancelled { is_cancelled self.new context ≡ true }
+        // It reaches all that is bound below, and nothing else.
+        ensures reaches { (c : ℕ) → is_cancelled self.new c ≡ (is_cancelled self.old c || is_within self.old c context) }
+        ensures forest { IsForest self.new }
+    {
+        let first = !walk(&self.bindings, context);
+        self.set_request(context, true);
+        first
+    }
+
+    /// Whether a context, or one above it, has a cancel request, or was bound to one that was released
+    /// while it was cancelled.
+    pub fn is_cancelled(&self, context: ContextId) -> bool
+        requires { IsHeld self.now context }
+        ensures value { result ≡ is_cancelled self.now context }
+        ensures forest { IsForest self.now }
+    {
+        walk(&self.bindings, context)
+    }
+
+    /// Takes back the cancel request of a context, and no other: one above it still holds.
+    pub fn reset(&mut self, context: ContextId)
+        requires { IsHeld self.old context }
+        ensures taken_back { self.new ≡ with_request self.old context false }
+        ensures keeps { (c : ℕ) → IsHeld self.old c → IsHeld self.new c }
+        ensures count { held_count self.new ≡ held_count self.old }
+        ensures others { (c : ℕ) → is_within self.old c context ≡ false → is_cancelled self.new c ≡ is_cancelled self.old c }
+        ensures forest { IsForest self.new }
+    {
+        self.set_request(context, false);
+    }
+
+    /// Ends a context. Where it is cancelled, what is bound to it stays cancelled for good.
+    pub fn release(&mut self, context: ContextId)
+        requires held { IsHeld self.old context }
+        // What is bound to it is so only where it is cancelled.
+        requires ends { (c : ℕ) → parent self.old c ≡ Some context → is_cancelled self.old context ≡ true }
+        ensures released { self.new ≡ without self.old context }
+        ensures keeps { (c : ℕ) → c ≢ context → IsHeld self.old c → IsHeld self.new c }
+        ensures count { held_count self.new + 1 ≡ held_count self.old }
+        ensures others { (c : ℕ) → c ≢ context → is_cancelled self.new c ≡ is_cancelled self.old c }
+        ensures forest { IsForest self.new }
+    {
+        leave(&mut self.bindings, context);
+        self.bindings[context.index()] = None;
+    }
+
+    /// Makes the request of a context, or takes it back.
+    fn set_request(&mut self, context: ContextId, is_asked: bool)
+        requires { IsHeld self.old context }
+        ensures set { self.new ≡ with_request self.old context is_asked }
+        ensures keeps { (c : ℕ) → IsHeld self.old c → IsHeld self.new c }
+        ensures count { held_count self.new ≡ held_count self.old }
+        ensures forest { IsForest self.new }
+    {
+        let slot = &mut self.bindings[context.index()];
+        *slot = asking(*slot, is_asked);
+    }
+}
+
+/// The first place where no context is held.
+fn free_place(bindings: &[Option<Binding>]) -> usize
+    requires { held_count bindings.now < length bindings.now }
+    ensures in_range { result < length bindings.now }
+    ensures free { binding bindings.now result ≡ None }
+{
+    for (place, binding) in bindings.iter().enumerate() {
+        if binding.is_none() {
+            return place;
+        }
+    }
+    unreachable!()
+}
+
+/// Whether the walk up from a context finds a request.
+fn walk(bindings: &[Option<Binding>], context: ContextId) -> bool
+    requires forest { IsForest bindings.now }
+    requires held { IsHeld bindings.now context }
+    ensures { result ≡ is_cancelled bindings.now context }
+{
+    let mut here = context;
+    while let Some(binding) = bindings[here.index()] {
+        if binding.is_asked || binding.is_orphan {
+            return true;
+        }
+        let Some(parent) = binding.parent else {
+            return false;
+        };
+        here = parent;
+    }
+    unreachable!()
+}
+
+/// A binding with its request made or taken back.
+fn asking(slot: Option<Binding>, is_asked: bool) -> Option<Binding>
+    ensures { result ≡ asking is_asked slot }
+{
+    let mut binding = slot?;
+    binding.is_asked = is_asked;
+    Some(binding)
+}
+
+/// Takes a parent from what is bound to it.
+fn leave(bindings: &mut [Option<Binding>], parent: ContextId)
+    ensures { bindings.new ≡ map (without_parent parent) bindings.old }
+{
+    for slot in bindings.iter_mut() {
+        *slot = without_parent(*slot, parent);
+    }
+}
+
+/// A binding without a parent that is released.
+fn without_parent(slot: Option<Binding>, parent: ContextId) -> Option<Binding>
+    ensures { result ≡ without_parent parent slot }
+{
+    let mut binding = slot?;
+    if binding.parent == Some(parent) {
+        binding.parent = None;
+        binding.is_orphan = true;
+    }
+    Some(binding)
+}

@@ -1,0 +1,11 @@
+//! Contexts that are bound to one another and can be cancelled: a cancellation reaches all that is
+//! bound below a context, and nothing above it (the oneAPI's `task_group_context`).
+#![tactic(auto)]
+
+mod bindings;
+mod contexts;
+#[cfg(test)]
+mod tests;
+
+pub use bindings::ContextId;
+pub use contexts::Contexts;

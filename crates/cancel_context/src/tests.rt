@@ -1,0 +1,41 @@
+// What a cancellation reaches, and what stays when a context ends. The one allocation of `new` may be
+// refused, and then the next call succeeds.
+use super::*;
+use std::test::Fail;
+
+#[test]
+fn a_cancellation_reaches_what_is_bound_below(rt: HostRuntime) -> Result<(), Fail> {
+    let mut contexts = match Contexts::new(rt.alloc(), 1) {
+        Ok(contexts) => contexts,
+        Err(_) => Contexts::new(rt.alloc(), 1)?,
+    };
+    let job = contexts.bind(None);
+    let row = contexts.bind(Some(job));
+    let group = contexts.bind(Some(row));
+    assert!(rt; contexts.cancel(row));
+    assert!(rt; !contexts.cancel(row));
+    assert!(rt; !contexts.is_cancelled(job));
+    assert!(rt; contexts.is_cancelled(group));
+    contexts.reset(row);
+    assert!(rt; !contexts.is_cancelled(group));
+    assert!(rt; contexts.cancel(job));
+    assert!(rt; !contexts.cancel(group), "it is cancelled from above");
+    Ok(())
+}
+
+#[test]
+fn what_a_cancelled_context_leaves_stays_cancelled(rt: HostRuntime) -> Result<(), Fail> {
+    let mut contexts = match Contexts::new(rt.alloc(), 4096) {
+        Ok(contexts) => contexts,
+        Err(_) => Contexts::new(rt.alloc(), 4096)?,
+    };
+    let row = contexts.bind(None);
+    let group = contexts.bind(Some(row));
+    assert!(rt; contexts.cancel(row));
+    contexts.release(row);
+    contexts.reset(group);
+    assert!(rt; contexts.is_cancelled(group));
+    let next = contexts.bind(None);
+    assert!(rt; !contexts.is_cancelled(next));
+    Ok(())
+}
