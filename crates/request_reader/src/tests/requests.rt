@@ -47,15 +47,6 @@ fn name_len(name: &Option<TenantName>) -> u64 {
     }
 }
 
-/// The job that a value submits.
-fn submitted(alloc: Global, value: &Value) -> Result<Value, Error> {
-    match request_of(alloc, value)? {
-        Asked::Submit(job) => Ok(job),
-        Asked::Plain(_) => Err(Error::BadRequest),
-        Asked::Execute(_) => Err(Error::BadRequest),
-    }
-}
-
 #[test]
 fn each_request_has_exactly_its_members(rt: HostRuntime) -> Result<(), Fail> {
     let table = [
@@ -100,20 +91,5 @@ fn each_request_has_exactly_its_members(rt: HostRuntime) -> Result<(), Fail> {
     for (text, form) in table {
         assert_eq!(rt; form_of(rt.alloc(), text)?, form, "{text}");
     }
-    Ok(())
-}
-
-#[test]
-fn a_job_is_copied_whole(rt: HostRuntime) -> Result<(), Fail> {
-    let text = "{\"job\":{\"args\":[7,0],\"fuel\":10,\"procs\":[[[\"ret\",0]]]},\"op\":\"submit\"}";
-    let value = Value::from_str(rt.alloc(), text)?;
-    let job = match submitted(rt.alloc(), &value) {
-        Ok(job) => job,
-        Err(error) => {
-            assert_eq!(rt; error, Error::NoMemory);
-            submitted(rt.alloc(), &value).ok().ok_or("a job")?
-        }
-    };
-    assert!(rt; Some(&job) == value.get("job"));
     Ok(())
 }
