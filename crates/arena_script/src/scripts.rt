@@ -2,7 +2,7 @@
 use crate::ends::ScriptEnd;
 use crate::inputs::{Input, MAX_SCRIPT_LINE, next_input};
 use crate::own::Own;
-use reply_writer::bad_step_line;
+use reply_writer::{bad_step_line, write_all_of};
 use request_reader::LineReader;
 use std::alloc::Global;
 use std::io::{Read, Write};
@@ -43,7 +43,7 @@ fn own<R: Read, W: Write>(alloc: Global, reader: &mut R, writer: &mut W) -> Resu
 }
 
 fn put<W: Write>(writer: &mut W, line: &[u8]) -> Result<(), ScriptEnd> {
-    match writer.write_all(line) {
+    match write_all_of(writer, line) {
         Ok(()) => Ok(()),
         Err(_) => Err(ScriptEnd::Device),
     }
