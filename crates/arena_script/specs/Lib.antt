@@ -1,3 +1,4 @@
 pub mod Ends
+pub mod OwnEnds
 pub mod OwnLine
 pub mod Steps

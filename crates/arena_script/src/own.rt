@@ -1,4 +1,7 @@
 // The steps of one tenant, as the lines of a script spell them, and their answers.
+ghost use Rattle.std.specs.Prelude.{◌≡◌, IfErr};
+ghost use Rattle.arena_script.specs.OwnEnds.{IsFault};
+
 use crate::ends::ScriptEnd;
 use crate::steps::{OwnLine, own_line};
 use job_language::values::has_members;
@@ -18,7 +21,9 @@ pub(crate) struct Own {
 
 impl Own {
     /// The tenant of a script's first line.
-    pub(crate) fn read(alloc: Global, line: &[u8]) -> Result<Own, ScriptEnd> {
+    pub(crate) fn read(alloc: Global, line: &[u8]) -> Result<Own, ScriptEnd>
+        ensures { IfErr result IsFault }
+    {
         let config = tenant_of(alloc, line)?;
         let slots = config.tenant().slots;
         let solo = Solo::new(alloc, config);
@@ -26,7 +31,9 @@ impl Own {
     }
 
     /// Takes the step of a line, and gives the line that answers it.
-    pub(crate) fn answer(&mut self, alloc: Global, line: &[u8]) -> Result<ReplyBuf, ScriptEnd> {
+    pub(crate) fn answer(&mut self, alloc: Global, line: &[u8]) -> Result<ReplyBuf, ScriptEnd>
+        ensures { IfErr result (λ end. end ≡ ScriptEnd.Memory) }
+    {
         let value = match value_of(alloc, line) {
             Ok(value) => value,
             Err(Error::NoMemory) => return Err(ScriptEnd::Memory),
@@ -40,7 +47,9 @@ impl Own {
         }
     }
 
-    fn ask(&mut self, alloc: Global, value: &Value) -> Result<ReplyBuf, ScriptEnd> {
+    fn ask(&mut self, alloc: Global, value: &Value) -> Result<ReplyBuf, ScriptEnd>
+        ensures { IfErr result (λ end. end ≡ ScriptEnd.Memory) }
+    {
         let reply = match request_in(alloc, value) {
             Ok(request) => self.reply(request),
             Err(Error::NoMemory) => return Err(ScriptEnd::Memory),
@@ -64,7 +73,9 @@ impl Own {
         }
     }
 
-    fn advance(&mut self, slot: u64) -> Result<ReplyBuf, ScriptEnd> {
+    fn advance(&mut self, slot: u64) -> Result<ReplyBuf, ScriptEnd>
+        ensures { IfErr result (λ end. end ≡ ScriptEnd.Memory) }
+    {
         let Some(slot) = self.slot(slot) else {
             return Ok(bad_step_line());
         };
@@ -83,7 +94,9 @@ impl Own {
 }
 
 /// The tenant that a line names.
-fn tenant_of(alloc: Global, line: &[u8]) -> Result<TenantConfig, ScriptEnd> {
+fn tenant_of(alloc: Global, line: &[u8]) -> Result<TenantConfig, ScriptEnd>
+    ensures { IfErr result IsFault }
+{
     let value = match value_of(alloc, line) {
         Ok(value) => value,
         Err(Error::NoMemory) => return Err(ScriptEnd::Memory),

@@ -1,4 +1,7 @@
 // A script, from its words and its first line to its end.
+ghost use Rattle.std.specs.Prelude.{◌≡◌, true, false, IfErr};
+ghost use Rattle.arena_script.specs.OwnEnds.{are_own_words, IsFault, IsOwnEnd};
+
 use crate::ends::ScriptEnd;
 use crate::inputs::{Input, MAX_SCRIPT_LINE, next_input};
 use crate::own::Own;
@@ -15,7 +18,15 @@ pub fn script<R: Read, W: Write>(
     words: &[&str],
     reader: &mut R,
     writer: &mut W,
-) -> ScriptEnd {
+) -> ScriptEnd
+    ensures words { are_own_words words.now ≡ true → IsOwnEnd result }
+    ensures other_words { are_own_words words.now ≡ false → result ≡ ScriptEnd.Words }
+    ensures unread { result ≡ ScriptEnd.Words → reader.new ≡ reader.old }
+
+    // Nothing is written before the first line is a tenant.
+    ensures unwritten { result ≡ ScriptEnd.Words → writer.new ≡ writer.old }
+    ensures no_tenant { result ≡ ScriptEnd.Config → writer.new ≡ writer.old }
+{
     let ended = match words {
         [] | ["own"] => own(alloc, reader, writer),
         _ => Err(ScriptEnd::Words),
@@ -26,7 +37,10 @@ pub fn script<R: Read, W: Write>(
     }
 }
 
-fn own<R: Read, W: Write>(alloc: Global, reader: &mut R, writer: &mut W) -> Result<(), ScriptEnd> {
+fn own<R: Read, W: Write>(alloc: Global, reader: &mut R, writer: &mut W) -> Result<(), ScriptEnd>
+    ensures ends { IfErr result IsFault }
+    ensures no_tenant { result ≡ Err ScriptEnd.Config → writer.new ≡ writer.old }
+{
     let mut lines = LineReader::new(alloc, MAX_SCRIPT_LINE)?;
     let mut own = match next_input(&mut lines, reader)? {
         Input::Line => Own::read(alloc, lines.line())?,
@@ -42,7 +56,9 @@ fn own<R: Read, W: Write>(alloc: Global, reader: &mut R, writer: &mut W) -> Resu
     Err(ScriptEnd::Device)
 }
 
-fn put<W: Write>(writer: &mut W, line: &[u8]) -> Result<(), ScriptEnd> {
+fn put<W: Write>(writer: &mut W, line: &[u8]) -> Result<(), ScriptEnd>
+    ensures { IfErr result (λ end. end ≡ ScriptEnd.Device) }
+{
     match write_all_of(writer, line) {
         Ok(()) => Ok(()),
         Err(_) => Err(ScriptEnd::Device),
