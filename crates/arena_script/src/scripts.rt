@@ -1,11 +1,13 @@
 // A script, from its words and its first line to its end.
 ghost use Rattle.std.specs.Prelude.{◌≡◌, true, false, IfErr};
+ghost use Rattle.arena_script.specs.OwnAnswers.{told};
 ghost use Rattle.arena_script.specs.OwnEnds.{are_own_words, IsFault, IsOwnEnd};
 
 use crate::ends::ScriptEnd;
 use crate::inputs::{Input, MAX_SCRIPT_LINE, next_input};
 use crate::own::Own;
-use reply_writer::{bad_step_line, write_all_of};
+use job_language::Answer;
+use reply_writer::{ReplyBuf, answer_line, bad_step_line, write_all_of};
 use request_reader::LineReader;
 use std::alloc::Global;
 use std::io::{Read, Write};
@@ -48,12 +50,22 @@ fn own<R: Read, W: Write>(alloc: Global, reader: &mut R, writer: &mut W) -> Resu
     };
     for _line in 0..u64::MAX {
         match next_input(&mut lines, reader)? {
-            Input::Line => put(writer, own.answer(alloc, lines.line())?.line())?,
-            Input::TooLong => put(writer, bad_step_line().line())?,
+            Input::Line => put(writer, told(own.take(alloc, lines.line())?).line())?,
+            Input::TooLong => put(writer, told(None).line())?,
             Input::End => return Ok(()),
         }
     }
     Err(ScriptEnd::Device)
+}
+
+/// The line that tells an answer, or that there is none.
+fn told(answer: Option<Answer>) -> ReplyBuf
+    ensures { result ≡ told answer }
+{
+    match answer {
+        Some(answer) => answer_line(&answer),
+        None => bad_step_line(),
+    }
 }
 
 fn put<W: Write>(writer: &mut W, line: &[u8]) -> Result<(), ScriptEnd>
