@@ -1,3 +1,5 @@
 pub mod Ends
+pub mod OwnAnswers
+pub mod OwnEnds
 pub mod OwnLine
 pub mod Steps

@@ -1,4 +1,6 @@
 // The lines of a script.
+ghost use Rattle.std.specs.Prelude.{◌≡◌, IfErr};
+
 use crate::ends::ScriptEnd;
 use request_reader::{LineRead, LineReader, is_blank};
 use std::io::Read;
@@ -19,7 +21,9 @@ pub(crate) enum Input {
 pub(crate) fn next_input<R: Read>(
     lines: &mut LineReader,
     reader: &mut R,
-) -> Result<Input, ScriptEnd> {
+) -> Result<Input, ScriptEnd>
+    ensures { IfErr result (λ end. end ≡ ScriptEnd.Device) }
+{
     for _line in 0..u64::MAX {
         match lines.read_line(reader) {
             LineRead::Line if is_blank(lines.line()) => {}

@@ -6,6 +6,8 @@ mod inputs;
 mod own;
 mod scripts;
 mod steps;
+#[cfg(test)]
+mod tests;
 
 pub use ends::ScriptEnd;
 pub use inputs::MAX_SCRIPT_LINE;

@@ -1,9 +1,15 @@
 // The steps of one tenant, as the lines of a script spell them, and their answers.
+ghost use Rattle.std.specs.Prelude.{◌≡◌, nat_lt, if◌then◌else◌, Some, None, Ok, IfOk, IfErr};
+ghost use Rattle.serde_json.specs.View.{view};
+ghost use Rattle.request_reader.specs.Ready.{Readies};
+ghost use Rattle.arena_script.specs.Steps.{own_line};
+ghost use Rattle.arena_script.specs.OwnEnds.{IsFault};
+ghost use Rattle.arena_script.specs.OwnAnswers.{request_in, Replies, arrival, advancement, step_in, TakesStep};
+
 use crate::ends::ScriptEnd;
 use crate::steps::{OwnLine, own_line};
 use job_language::values::has_members;
 use job_language::{Answer, Error, Reply, Request, TenantConfig, read_tenant};
-use reply_writer::{ReplyBuf, answer_line, bad_step_line};
 use request_reader::{ready, request_of, value_of};
 use serde_json::Value;
 use solo_eval::Solo;
@@ -18,62 +24,89 @@ pub(crate) struct Own {
 
 impl Own {
     /// The tenant of a script's first line.
-    pub(crate) fn read(alloc: Global, line: &[u8]) -> Result<Own, ScriptEnd> {
+    pub(crate) fn read(alloc: Global, line: &[u8]) -> Result<Own, ScriptEnd>
+        ensures { IfErr result IsFault }
+    {
         let config = tenant_of(alloc, line)?;
         let slots = config.tenant().slots;
         let solo = Solo::new(alloc, config);
         Ok(Own { solo, slots })
     }
 
-    /// Takes the step of a line, and gives the line that answers it.
-    pub(crate) fn answer(&mut self, alloc: Global, line: &[u8]) -> Result<ReplyBuf, ScriptEnd> {
+    /// Takes the step of a line, and gives the answer; a line that is no step has none.
+    pub(crate) fn take(&mut self, alloc: Global, line: &[u8]) -> Result<Option<Answer>, ScriptEnd>
+        ensures ok { IfOk result (λ answer. TakesStep self.old.slots (step_in line.now) self.old.solo answer self.new.solo) }
+        ensures slots { self.new.slots ≡ self.old.slots }
+        ensures err { IfErr result (λ end. (end ≡ ScriptEnd.Memory) × (self.new.solo ≡ self.old.solo)) }
+    {
         let value = match value_of(alloc, line) {
             Ok(value) => value,
             Err(Error::NoMemory) => return Err(ScriptEnd::Memory),
-            Err(_) => return Ok(bad_step_line()),
+            Err(_) => return Ok(None),
         };
-        match own_line(&value) {
-            Some(OwnLine::Ask(request)) => self.ask(alloc, request),
+        self.take_value(alloc, &value)
+    }
+
+    fn take_value(&mut self, alloc: Global, value: &Value) -> Result<Option<Answer>, ScriptEnd>
+        ensures ok { IfOk result (λ answer. TakesStep self.old.slots (own_line (view value.now)) self.old.solo answer self.new.solo) }
+        ensures slots { self.new.slots ≡ self.old.slots }
+        ensures err { IfErr result (λ end. (end ≡ ScriptEnd.Memory) × (self.new.solo ≡ self.old.solo)) }
+    {
+        match own_line(value) {
+            Some(OwnLine::Ask(request)) => Ok(Some(Answer::Replied(self.ask(alloc, request)?))),
             Some(OwnLine::Arrive(slot)) => Ok(self.arrive(slot)),
             Some(OwnLine::Advance(slot)) => self.advance(slot),
-            None => Ok(bad_step_line()),
+            None => Ok(None),
         }
     }
 
-    fn ask(&mut self, alloc: Global, value: &Value) -> Result<ReplyBuf, ScriptEnd> {
-        let reply = match request_in(alloc, value) {
-            Ok(request) => self.reply(request),
-            Err(Error::NoMemory) => return Err(ScriptEnd::Memory),
-            Err(error) => Reply::Refused(error),
-        };
-        Ok(answer_line(&Answer::Replied(reply)))
+    fn ask(&mut self, alloc: Global, value: &Value) -> Result<Reply, ScriptEnd>
+        ensures ok { IfOk result (λ reply. Replies (request_in (view value.now)) self.old.solo reply self.new.solo) }
+        ensures slots { self.new.slots ≡ self.old.slots }
+        ensures err { IfErr result (λ end. (end ≡ ScriptEnd.Memory) × (self.new.solo ≡ self.old.solo)) }
+    {
+        match request_in(alloc, value) {
+            Ok(request) => Ok(self.reply(request)),
+            Err(Error::NoMemory) => Err(ScriptEnd::Memory),
+            Err(error) => Ok(Reply::Refused(error)),
+        }
     }
 
     /// The reply to a request. A growth that the evaluator was refused is an error like another.
-    fn reply(&mut self, request: Request) -> Reply {
+    fn reply(&mut self, request: Request) -> Reply
+        ensures reply { Replies (Ok request) self.old.solo result self.new.solo }
+        ensures slots { self.new.slots ≡ self.old.slots }
+    {
         match self.solo.ask(request) {
             Ok(reply) => reply,
             Err(_) => Reply::Refused(Error::NoMemory),
         }
     }
 
-    fn arrive(&mut self, slot: u64) -> ReplyBuf {
-        match self.slot(slot) {
-            Some(slot) => answer_line(&Answer::Came(self.solo.arrive(slot))),
-            None => bad_step_line(),
-        }
+    fn arrive(&mut self, slot: u64) -> Option<Answer>
+        ensures answer { arrival self.old.slots self.old.solo slot ≡ (result, self.new.solo) }
+        ensures slots { self.new.slots ≡ self.old.slots }
+    {
+        let slot = self.slot(slot)?;
+        Some(Answer::Came(self.solo.arrive(slot)))
     }
 
-    fn advance(&mut self, slot: u64) -> Result<ReplyBuf, ScriptEnd> {
+    fn advance(&mut self, slot: u64) -> Result<Option<Answer>, ScriptEnd>
+        ensures ok { IfOk result (λ answer. advancement self.old.slots self.old.solo slot ≡ (answer, self.new.solo)) }
+        ensures slots { self.new.slots ≡ self.old.slots }
+        ensures err { IfErr result (λ end. (end ≡ ScriptEnd.Memory) × (self.new.solo ≡ self.old.solo)) }
+    {
         let Some(slot) = self.slot(slot) else {
-            return Ok(bad_step_line());
+            return Ok(None);
         };
         let moved = self.solo.advance(slot)?;
-        Ok(answer_line(&Answer::Moved(moved)))
+        Ok(Some(Answer::Moved(moved)))
     }
 
     /// The slot of a number, where the tenant has it.
-    fn slot(&self, number: u64) -> Option<u8> {
+    fn slot(&self, number: u64) -> Option<u8>
+        ensures { result ≡ (if nat_lt number self.now.slots then Some number else None) }
+    {
         if number < u64::from(self.slots) {
             Some(number as u8)
         } else {
@@ -83,7 +116,9 @@ impl Own {
 }
 
 /// The tenant that a line names.
-fn tenant_of(alloc: Global, line: &[u8]) -> Result<TenantConfig, ScriptEnd> {
+fn tenant_of(alloc: Global, line: &[u8]) -> Result<TenantConfig, ScriptEnd>
+    ensures { IfErr result IsFault }
+{
     let value = match value_of(alloc, line) {
         Ok(value) => value,
         Err(Error::NoMemory) => return Err(ScriptEnd::Memory),
@@ -102,6 +137,8 @@ fn tenant_of(alloc: Global, line: &[u8]) -> Result<TenantConfig, ScriptEnd> {
 }
 
 /// The request that a value spells, with its job read.
-fn request_in(alloc: Global, value: &Value) -> Result<Request, Error> {
+fn request_in(alloc: Global, value: &Value) -> Result<Request, Error>
+    ensures { Readies result (request_in (view value.now)) }
+{
     ready(alloc, request_of(alloc, value)?)
 }

@@ -6,7 +6,9 @@ mod replies;
 #[cfg(test)]
 mod tests;
 mod texts;
+mod writes;
 
 pub use answers::{answer_line, bad_step_line};
 pub use replies::reply_line;
 pub use texts::{MAX_LINE, ReplyBuf};
+pub use writes::{WriteFault, write_all_of};

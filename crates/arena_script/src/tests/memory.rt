@@ -1,0 +1,50 @@
+// Each growth may be refused: then the script ends, or the answer is error 9 and nothing has changed.
+use super::{ANSWERS, STEPS, TENANT};
+use crate::{ScriptEnd, script};
+use std::alloc::Global;
+use std::io::Read;
+
+/// What a script of one job prints where no growth is refused, and where one of its asks is.
+const PRINTED: [&str; 3] = [
+    ANSWERS,
+    "{\"code\":9,\"error\":\"no_memory\"}
+{\"moved\":\"none\"}
+{\"moved\":\"left\"}
+{\"code\":6,\"error\":\"unknown_job\"}
+",
+    "{\"job\":1}
+{\"moved\":\"arrived\",\"row\":1}
+{\"moved\":\"ran\"}
+{\"code\":9,\"error\":\"no_memory\"}
+",
+];
+
+/// How the script of a job ends, and how much it prints into a buffer.
+fn run(alloc: Global, printed: &mut [u8; 256]) -> (ScriptEnd, usize) {
+    let mut reader = TENANT.as_bytes().chain(STEPS.as_bytes());
+    let mut room = printed.as_mut_slice();
+    let end = script(alloc, &[], &mut reader, &mut room);
+    let left = room.len();
+    (end, 256usize.saturating_sub(left))
+}
+
+#[test]
+fn want_of_memory_is_told(rt: HostRuntime) {
+    let mut printed = [0; 256];
+    let (end, len) = run(rt.alloc(), &mut printed);
+    let told = printed.get(..len).unwrap_or(&[]);
+    match end {
+        ScriptEnd::Done => {
+            assert!(rt; PRINTED.iter().any(|text| text.as_bytes() == told));
+        }
+        _ => {
+            assert_eq!(rt; end, ScriptEnd::Memory);
+            assert!(rt; PRINTED.iter().any(|text| text.as_bytes().starts_with(told)));
+        }
+    }
+
+    // The growth that was refused is over: the second script is done.
+    let (end, len) = run(rt.alloc(), &mut printed);
+    assert_eq!(rt; end, ScriptEnd::Done);
+    assert_eq!(rt; printed.get(..len).unwrap_or(&[]), ANSWERS.as_bytes());
+}
