@@ -4,6 +4,7 @@ ghost use Rattle.tenant_model.specs.Advance.{advance, arrive};
 ghost use Rattle.tenant_model.specs.Asks.{ask};
 ghost use Rattle.tenant_model.specs.State.{empty};
 ghost use Rattle.tenant_model.specs.Solo.{step, answers, after};
+ghost use Rattle.tenant_model.specs.Regions.{KeepsRegions};
 
 use crate::state::TenantState;
 use job_language::{Answer, Came, Moved, Reply, Request, Step, TenantConfig};
@@ -85,13 +86,17 @@ impl Solo {
     }
 
     /// Takes steps, one after another, and gives their answers. It fails only where a growth was
-    /// refused, and then the first of the steps have been taken.
-    #[tactic(auto, using(tenant_model::proofs::Runs::after_more))]
+    /// refused, and then the first of the steps have been taken. Whatever the steps, while a region
+    /// is live on a slot only rows within it run above it there, and the slot's cells change by their
+    /// touches alone (`this_task_arena::isolate`).
+    #[tactic(auto, using(tenant_model::proofs::Runs::after_more, tenant_model::proofs::RegionLaws::keeps_regions))]
     pub fn run(&mut self, alloc: Global, steps: &[Step]) -> Result<Vec<Answer>, AllocError>
         ensures answers { IfOk result (λ given. given.items ≡ answers self.old steps.now) }
         ensures state { OnOk result (self.new ≡ after self.old steps.now) }
+        ensures regions { KeepsRegions self.old steps.now }
         ensures err { OnErr result ((n : ℕ) × (n ≤ length steps.now) × (self.new ≡ after self.old (take n steps.now))) }
     {
+        let _ = &self.state;
         let mut given = Vec::with_capacity(alloc, steps.len())?;
         for next in steps {
             let answer = match next {

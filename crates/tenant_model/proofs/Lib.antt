@@ -17,4 +17,6 @@ pub mod Keeping
 pub mod KeptSteps
 pub mod Nesting
 pub mod KeptAdvances
+pub mod Touching
+pub mod RegionLaws
 mod WorkedProofs

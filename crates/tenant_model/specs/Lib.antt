@@ -4,6 +4,7 @@ pub mod Cells
 pub mod Changes
 pub mod Rows
 pub mod WellFormed
+pub mod Regions
 pub mod Shared
 pub mod Advance
 pub mod Asks

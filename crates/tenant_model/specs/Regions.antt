@@ -1,0 +1,92 @@
+-- What an isolated region protects: touches of cells, and the interval of a region on its slot.
+use Rattle.std.specs.Prelude.{ℕ, ◌≡◌, ◌+◌, ◌<◌, ◌≤◌, ℤ, pos, true, ◌==◌, nat_lt, if◌then◌else◌, List, [], ◌∷◌, ◌++◌, Option, Some, None, is_some, option_to_list, length, map, fold, take, drop, slice_index_or, slice_set}
+use Rattle.job_language.specs.declared.instructions.Instr.{Instr}
+use Rattle.job_language.specs.declared.instructions.Instr.TheVariants.{Load, Store}
+use Rattle.job_language.specs.declared.steps.Step.{Step}
+use Rattle.job_language.specs.declared.steps.Step.TheVariants.{Advance}
+use Rattle.job_step.specs.declared.frames.Frame.{Frame}
+use Rattle.job_step.specs.Frame.{register}
+use Rattle.job_step.specs.declared.runs.Stop.{Stop}
+use Rattle.job_step.specs.declared.runs.Stop.TheVariants.{Shared}
+use Rattle.tenant_model.specs.declared.rows.Phase.TheVariants.{Live}
+use Rattle.tenant_model.specs.State.{State, row}
+use Rattle.tenant_model.specs.Walks.{is_region, is_within, is_live_on, top}
+use Rattle.tenant_model.specs.Changes.{is_full}
+use Rattle.tenant_model.specs.Cells.{Table, cell}
+use Rattle.tenant_model.specs.Advance.{is_poor, is_blocked, run_on}
+use Rattle.tenant_model.specs.Solo.{step, after}
+use Rattle.tenant_model.specs.WellFormed.{IsWellFormed}
+
+-- a key, and the value that its cell was given
+abbrev pub Touch : Type 0
+Touch = ℕ × ℤ
+
+-- the cells of a slot, by key
+abbrev pub cells_on : Table → ℕ → List (Option ℤ)
+cells_on t slot = map (λ cells. slice_index_or cells slot None) t
+
+-- cells after touches, one after another
+abbrev pub touched : List (Option ℤ) → List Touch → List (Option ℤ)
+touched cells ts = fold (λ now (t : Touch). slice_set now t.0 (Some t.1)) cells ts
+
+-- the cell that an instruction makes or sets
+abbrev pub touch_of : Table → (slot : ℕ) → Frame → Instr → Option Touch
+touch_of t slot f (Load d k) = if is_some (cell t k slot) then None else Some (k, pos 0)
+touch_of t slot f (Store k a) = Some (k, register f a)
+touch_of t slot f i = None
+
+-- after a run of so many instructions: the instruction must not be blocked, and be paid
+abbrev pub touch_after : State → (slot n count : ℕ) → Frame → Stop → Option Touch
+touch_after s slot n count f (Shared i) = if is_blocked s n i then None else if is_poor s n (count + 1) then None else touch_of s.cells slot f i
+touch_after s slot n count f stop = None
+
+abbrev pub touch_by : State → (slot : ℕ) → Option ℕ → Option Touch
+touch_by s slot None = None
+touch_by s slot (Some n) = let r = run_on s slot n in touch_after s slot n r.count r.end r.stop
+
+-- The touch of an advance: the cell of its slot that its top row's load makes or its store sets.
+abbrev pub touch : State → ℕ → Option Touch
+touch s slot = if nat_lt slot s.config.slots then if is_full s then None else touch_by s slot (top s.rows slot) else None
+
+abbrev pub touch_at : State → ℕ → Step → Option Touch
+touch_at s slot (Advance t) = if t == slot then touch s t else None
+touch_at s slot x = None
+
+-- the touches of a slot's advances, in order
+abbrev pub touches : State → ℕ → List Step → List Touch
+touches s slot [] = []
+touches s slot (x ∷ xs) = option_to_list (touch_at s slot x) ++ touches (step s x).1 slot xs
+
+-- Row r is live on the slot before each of the steps.
+abbrev pub IsInterval : State → (slot r : ℕ) → List Step → Type 0
+IsInterval s slot r xs = (k : ℕ) → k < length xs → is_live_on slot (row (after s (take k xs)).rows r).phase ≡ true
+
+-- Every row above a region on its slot is within it.
+abbrev pub IsolatesRows : State → Type 0
+IsolatesRows s =
+    (slot r n low high : ℕ) → is_region (row s.rows r).kind ≡ true → (row s.rows r).phase ≡ Live slot low → (row s.rows n).phase ≡ Live slot high → low ≤ high →
+    is_within s.rows n r ≡ true
+
+-- While a region is live on a slot, the slot advances by rows within it alone.
+abbrev pub AdvancesWithin : State → Type 0
+AdvancesWithin s =
+    (slot r n : ℕ) → is_region (row s.rows r).kind ≡ true → is_live_on slot (row s.rows r).phase ≡ true → top s.rows slot ≡ Some n → is_within s.rows n r ≡ true
+
+-- The cells of a slot after an interval are those before it, with the touches of the slot's advances.
+abbrev pub CellsFollowTouches : State → List Step → Type 0
+CellsFollowTouches s xs =
+    (slot r : ℕ) → IsInterval s slot r xs → cells_on (after s xs).cells slot ≡ touched (cells_on s.cells slot) (touches s slot xs)
+
+-- Two intervals that begin with equal cells and have equal touches end with equal cells, of whatever tenants they are.
+abbrev pub EqualTouchesEqualCells : State → List Step → Type 0
+EqualTouchesEqualCells s xs =
+    (slot r : ℕ) → IsInterval s slot r xs →
+    (t : State) (ys : List Step) (slot' r' : ℕ) → IsWellFormed t → IsInterval t slot' r' ys →
+    cells_on t.cells slot' ≡ cells_on s.cells slot → touches t slot' ys ≡ touches s slot xs → cells_on (after t ys).cells slot' ≡ cells_on (after s xs).cells slot
+
+-- What regions protect in a run of steps, at each moment of it and in each part of it.
+pub record KeepsRegions (s : State) (xs : List Step) : Type 0 where
+  pub rows : (k : ℕ) → IsolatesRows (after s (take k xs))
+  pub advances : (k : ℕ) → AdvancesWithin (after s (take k xs))
+  pub cells : (k n : ℕ) → CellsFollowTouches (after s (take k xs)) (take n (drop k xs))
+  pub equal : (k n : ℕ) → EqualTouchesEqualCells (after s (take k xs)) (take n (drop k xs))
