@@ -19,4 +19,7 @@ pub mod Nesting
 pub mod KeptAdvances
 pub mod Touching
 pub mod RegionLaws
+pub mod Standing
+pub mod Unstuck
+pub mod UnstuckSteps
 mod WorkedProofs

@@ -5,6 +5,7 @@ pub mod Changes
 pub mod Rows
 pub mod WellFormed
 pub mod Regions
+pub mod Naming
 pub mod Shared
 pub mod Advance
 pub mod Asks
