@@ -1,5 +1,5 @@
 -- A context fewer.
-use Rattle.std.proofs.Common.{◌≡◌, ◌≢◌, ◌≤◌, ◌<◌, ◌+◌, ◌==◌, ℕ, suc, Bool, true, false, ◌||◌, if◌then◌else◌, List, [], ◌∷◌, Option, Some, None, is_some, map, length, refl, sym, ◌∙◌, ap, subst, inl, inr, arith}
+use Rattle.std.proofs.Common.{◌≡◌, ◌≢◌, ◌≤◌, ◌^◌, ◌<◌, ◌+◌, ◌==◌, ℕ, suc, Bool, true, false, ◌||◌, if◌then◌else◌, List, [], ◌∷◌, Option, Some, None, is_some, map, length, refl, sym, ◌∙◌, ap, subst, inl, inr, arith}
 use Rattle.std.specs.Prelude.{slice_index_or}
 use Rattle.std.specs.Option.{option_map_or}
 use Rattle.std.proofs.lemmas.Bool.Decides.{eqb_tells}
@@ -127,7 +127,7 @@ length-without forest c = length-set (map (without_parent c) forest) c None ∙ 
 
 pub IsSound-without : (forest : Forest) (c : ℕ) → IsHeld forest c → IsSound forest → IsSound (without forest c)
 IsSound-without forest c h s = record {
-  few = subst (λ n. n ≤ 20736) (sym (length-without forest c)) s.few;
+  few = subst (λ n. n ≤ 2 ^ 16) (sym (length-without forest c)) s.few;
   ordered = ordered-without forest c h s.ordered;
 }
 

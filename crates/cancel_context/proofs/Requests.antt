@@ -1,5 +1,5 @@
 -- A request that is made or taken back.
-use Rattle.std.proofs.Common.{◌≡◌, ◌≢◌, ◌≤◌, ◌<◌, ◌==◌, ℕ, Bool, true, false, ◌||◌, if◌then◌else◌, List, [], ◌∷◌, Option, Some, None, is_some, length, refl, sym, ◌∙◌, ap, subst, inl, inr, arith}
+use Rattle.std.proofs.Common.{◌≡◌, ◌≢◌, ◌≤◌, ◌^◌, ◌<◌, ◌==◌, ℕ, Bool, true, false, ◌||◌, if◌then◌else◌, List, [], ◌∷◌, Option, Some, None, is_some, length, refl, sym, ◌∙◌, ap, subst, inl, inr, arith}
 use Rattle.std.specs.List.{list_any}
 use Rattle.std.proofs.lemmas.Bool.Decides.{eqb_tells}
 use Rattle.std.proofs.lemmas.List.{get_or-set_same, get_or-set_other, length-set}
@@ -60,7 +60,7 @@ ordered-with_request forest c asked h (order, o) = (
 
 pub IsSound-with_request : (forest : Forest) (c : ℕ) (asked : Bool) → IsHeld forest c → IsSound forest → IsSound (with_request forest c asked)
 IsSound-with_request forest c asked h s = record {
-  few = subst (λ n. n ≤ 20736) (sym (length-set forest c (asking asked (binding forest c)))) s.few;
+  few = subst (λ n. n ≤ 2 ^ 16) (sym (length-set forest c (asking asked (binding forest c)))) s.few;
   ordered = ordered-with_request forest c asked h s.ordered;
 }
 
