@@ -1,5 +1,5 @@
 -- A context more.
-use Rattle.std.proofs.Common.{◌≡◌, ◌≢◌, ◌≤◌, ◌<◌, ◌+◌, ℕ, zero, suc, true, false, ◌||◌, if◌then◌else◌, List, [], ◌∷◌, Option, Some, None, is_some, length, refl, sym, ◌∙◌, ap, subst, inl, inr, arith}
+use Rattle.std.proofs.Common.{◌≡◌, ◌≢◌, ◌≤◌, ◌^◌, ◌<◌, ◌+◌, ℕ, zero, suc, true, false, ◌||◌, if◌then◌else◌, List, [], ◌∷◌, Option, Some, None, is_some, length, refl, sym, ◌∙◌, ap, subst, inl, inr, arith}
 use Rattle.std.specs.List.{list_any}
 use Rattle.std.specs.Option.{option_map_or}
 use Rattle.std.specs.Prelude.{replicate}
@@ -57,7 +57,7 @@ ordered-with_bound forest c p within free held (order, o) =
 
 pub IsSound-with_bound : (forest : Forest) (c : ℕ) (p : Option ℕ) → c < length forest → binding forest c ≡ None → ((q : ℕ) → p ≡ Some q → IsHeld forest q) → IsSound forest → IsSound (with_bound forest c p)
 IsSound-with_bound forest c p within free held s = record {
-  few = subst (λ n. n ≤ 20736) (sym (length-set forest c (Some (record { parent = p; is_asked = false; is_orphan = false })))) s.few;
+  few = subst (λ n. n ≤ 2 ^ 16) (sym (length-set forest c (Some (record { parent = p; is_asked = false; is_orphan = false })))) s.few;
   ordered = ordered-with_bound forest c p within free held s.ordered;
 }
 

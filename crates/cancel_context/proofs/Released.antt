@@ -1,7 +1,8 @@
 -- A context fewer.
-use Rattle.std.proofs.Common.{◌≡◌, ◌≢◌, ◌≤◌, ◌<◌, ◌+◌, ◌==◌, ℕ, suc, Bool, true, false, ◌||◌, if◌then◌else◌, List, [], ◌∷◌, Option, Some, None, is_some, map, length, refl, sym, ◌∙◌, ap, subst, inl, inr, arith}
+use Rattle.std.proofs.Common.{◌≡◌, ◌≢◌, ◌≤◌, ◌^◌, ◌<◌, ◌+◌, ◌==◌, ℕ, suc, Bool, true, false, ◌||◌, if◌then◌else◌, List, [], ◌∷◌, Option, Some, None, is_some, map, length, refl, sym, ◌∙◌, ap, subst, inl, inr, arith}
 use Rattle.std.specs.Prelude.{slice_index_or}
 use Rattle.std.specs.Option.{option_map_or}
+use Rattle.std.proofs.Math.Bool.{or-true}
 use Rattle.std.proofs.lemmas.Bool.Decides.{eqb_tells}
 use Rattle.std.proofs.lemmas.List.{get_or-set_same, get_or-set_other, length-set}
 use Rattle.std.proofs.lemmas.List.Sums.{sum_by-set, sum_by-cons}
@@ -127,13 +128,9 @@ length-without forest c = length-set (map (without_parent c) forest) c None ∙ 
 
 pub IsSound-without : (forest : Forest) (c : ℕ) → IsHeld forest c → IsSound forest → IsSound (without forest c)
 IsSound-without forest c h s = record {
-  few = subst (λ n. n ≤ 20736) (sym (length-without forest c)) s.few;
+  few = subst (λ n. n ≤ 2 ^ 16) (sym (length-without forest c)) s.few;
   ordered = ordered-without forest c h s.ordered;
 }
-
-or_true : (b : Bool) → (b || true) ≡ true
-or_true true = refl
-or_true false = refl
 
 -- what is left of a binding asks, or goes on above, as before
 kept_at : (c : ℕ) (b : Binding) (o : Option ℕ) (after before : ℕ → Bool) → b.parent ≡ o → (o ≡ Some c → before c ≡ true) → ((p : ℕ) → o ≡ Some p → p ≢ c → after p ≡ before p) → (asks_in (Some (leaving c b o)) || option_map_or after ((leaving c b o).parent) false) ≡ (asks_in (Some b) || option_map_or before b.parent false)
@@ -141,8 +138,8 @@ kept_at c b None after before e cancelled same = ap (λ o. asks_in (Some b) || o
 kept_at c b (Some p) after before e cancelled same =
     elim (eqb_tells p c) [
       | inl h ↦
-          let then_true : (asks_in (Some (leaving c b (Some p))) || option_map_or after ((leaving c b (Some p)).parent) false) ≡ true = ap (λ t. asks_in (Some (if t then record { parent = None; is_asked = b.is_asked; is_orphan = true } else b)) || option_map_or after ((if t then record { parent = None; is_asked = b.is_asked; is_orphan = true } else b).parent) false) h.0 ∙ ap (λ t. t || false) (or_true b.is_asked) in
-          let was_true : (asks_in (Some b) || option_map_or before b.parent false) ≡ true = ap (λ o. asks_in (Some b) || option_map_or before o false) e ∙ ap (λ t. asks_in (Some b) || t) (ap before h.1 ∙ cancelled (ap Some h.1)) ∙ or_true (asks_in (Some b)) in
+          let then_true : (asks_in (Some (leaving c b (Some p))) || option_map_or after ((leaving c b (Some p)).parent) false) ≡ true = ap (λ t. asks_in (Some (if t then record { parent = None; is_asked = b.is_asked; is_orphan = true } else b)) || option_map_or after ((if t then record { parent = None; is_asked = b.is_asked; is_orphan = true } else b).parent) false) h.0 ∙ ap (λ t. t || false) (or-true b.is_asked) in
+          let was_true : (asks_in (Some b) || option_map_or before b.parent false) ≡ true = ap (λ o. asks_in (Some b) || option_map_or before o false) e ∙ ap (λ t. asks_in (Some b) || t) (ap before h.1 ∙ cancelled (ap Some h.1)) ∙ or-true (asks_in (Some b)) in
           then_true ∙ sym was_true
       | inr h ↦ ap (λ t. asks_in (Some (if t then record { parent = None; is_asked = b.is_asked; is_orphan = true } else b)) || option_map_or after ((if t then record { parent = None; is_asked = b.is_asked; is_orphan = true } else b).parent) false) h.0 ∙ ap (λ o. asks_in (Some b) || option_map_or after o false) e ∙ ap (λ t. asks_in (Some b) || t) (same p refl h.1) ∙ sym (ap (λ o. asks_in (Some b) || option_map_or before o false) e)
     ]

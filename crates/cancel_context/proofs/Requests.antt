@@ -1,6 +1,7 @@
 -- A request that is made or taken back.
-use Rattle.std.proofs.Common.{◌≡◌, ◌≢◌, ◌≤◌, ◌<◌, ◌==◌, ℕ, Bool, true, false, ◌||◌, if◌then◌else◌, List, [], ◌∷◌, Option, Some, None, is_some, length, refl, sym, ◌∙◌, ap, subst, inl, inr, arith}
+use Rattle.std.proofs.Common.{◌≡◌, ◌≢◌, ◌≤◌, ◌^◌, ◌<◌, ◌==◌, ℕ, Bool, true, false, ◌||◌, if◌then◌else◌, List, [], ◌∷◌, Option, Some, None, is_some, length, refl, sym, ◌∙◌, ap, subst, inl, inr, arith}
 use Rattle.std.specs.List.{list_any}
+use Rattle.std.proofs.Math.Bool.{or-true, or-false}
 use Rattle.std.proofs.lemmas.Bool.Decides.{eqb_tells}
 use Rattle.std.proofs.lemmas.List.{get_or-set_same, get_or-set_other, length-set}
 use Rattle.std.proofs.lemmas.List.Sums.{sum_by-set}
@@ -60,7 +61,7 @@ ordered-with_request forest c asked h (order, o) = (
 
 pub IsSound-with_request : (forest : Forest) (c : ℕ) (asked : Bool) → IsHeld forest c → IsSound forest → IsSound (with_request forest c asked)
 IsSound-with_request forest c asked h s = record {
-  few = subst (λ n. n ≤ 20736) (sym (length-set forest c (asking asked (binding forest c)))) s.few;
+  few = subst (λ n. n ≤ 2 ^ 16) (sym (length-set forest c (asking asked (binding forest c)))) s.few;
   ordered = ordered-with_request forest c asked h s.ordered;
 }
 
@@ -78,20 +79,12 @@ list_any-either : (f g h : ℕ → Bool) → ((d : ℕ) → f d ≡ (g d || h d)
 list_any-either f g h each [] = refl
 list_any-either f g h each (x ∷ xs) = ap (λ b. b || list_any f xs) (each x) ∙ ap (λ b. (g x || h x) || b) (list_any-either f g h each xs) ∙ either-swap (g x) (h x) (list_any g xs) (list_any h xs)
 
-or_true : (b : Bool) → (b || true) ≡ true
-or_true true = refl
-or_true false = refl
-
-or_false : (b : Bool) → (b || false) ≡ b
-or_false true = refl
-or_false false = refl
-
 asks-with_request : (forest : Forest) (c : ℕ) → IsHeld forest c → (d : ℕ) → asks_in (binding (with_request forest c true) d) ≡ (asks_in (binding forest d) || (d == c))
 asks-with_request forest c h d =
     elim (eqb_tells d c) [
       | inl e ↦ let held : IsHeld forest d = subst (λ y. IsHeld forest y) (sym e.1) h in
-          ap asks_in (binding-with_request forest c d true h e.1) ∙ asks_in-asking (binding forest d) held ∙ sym (ap (λ b. asks_in (binding forest d) || b) e.0 ∙ or_true (asks_in (binding forest d)))
-      | inr e ↦ ap asks_in (binding-with_request_other forest c d true e.1) ∙ sym (ap (λ b. asks_in (binding forest d) || b) e.0 ∙ or_false (asks_in (binding forest d)))
+          ap asks_in (binding-with_request forest c d true h e.1) ∙ asks_in-asking (binding forest d) held ∙ sym (ap (λ b. asks_in (binding forest d) || b) e.0 ∙ or-true (asks_in (binding forest d)))
+      | inr e ↦ ap asks_in (binding-with_request_other forest c d true e.1) ∙ sym (ap (λ b. asks_in (binding forest d) || b) e.0 ∙ or-false (asks_in (binding forest d)))
     ]
 
 -- A request reaches what is within the context, and nothing else.

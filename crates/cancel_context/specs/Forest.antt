@@ -1,5 +1,5 @@
 -- Contexts that are bound to one another.
-use Rattle.std.specs.Prelude.{◌≡◌, ◌==◌, ℕ, zero, suc, Bool, true, false, ◌||◌, if◌then◌else◌, List, [], ◌∷◌, Option, Some, None, is_some, map, length, count_by, slice_index_or, slice_set}
+use Rattle.std.specs.Prelude.{◌≡◌, ◌==◌, ℕ, zero, suc, Bool, true, false, IsTrue, ◌||◌, if◌then◌else◌, List, [], ◌∷◌, Option, Some, None, is_some, IsSome, map, length, count_by, slice_index_or, slice_set}
 use Rattle.std.specs.List.{list_any}
 use Rattle.std.specs.Option.{option_map_or}
 
@@ -17,7 +17,7 @@ abbrev pub binding : Forest → ℕ → Option Binding
 binding forest c = slice_index_or forest c None
 
 abbrev pub IsHeld : Forest → ℕ → Type 0
-IsHeld forest c = is_some (binding forest c) ≡ true
+IsHeld forest c = IsSome (binding forest c)
 
 abbrev pub held_count : Forest → ℕ
 held_count forest = count_by (λ (b : Option Binding). is_some b) forest
@@ -61,7 +61,7 @@ pub record IsForest (forest : Forest) : Type 0 where
   pub parents : (c p : ℕ) → parent forest c ≡ Some p → IsHeld forest p
   pub chains : (c p : ℕ) → parent forest c ≡ Some p → chain forest c ≡ c ∷ chain forest p
   pub walk : (c : ℕ) → is_cancelled forest c ≡ (asks_in (binding forest c) || is_cancelled_above forest c)
-  pub one_way : (c d : ℕ) → is_within forest c d ≡ true → is_within forest d c ≡ true → c ≡ d
+  pub one_way : (c d : ℕ) → IsTrue (is_within forest c d) → IsTrue (is_within forest d c) → c ≡ d
 
 -- a context more
 abbrev pub with_bound : Forest → ℕ → Option ℕ → Forest

@@ -1,5 +1,5 @@
 -- Why chains end: the contexts that are held, the last bound first, each before what it is bound to.
-use Rattle.std.specs.Prelude.{◌≡◌, ◌≤◌, ◌⊎◌, ℕ, List, [], ◌∷◌, Option, Some, None, length}
+use Rattle.std.specs.Prelude.{◌≡◌, ◌≤◌, ◌^◌, ◌⊎◌, ℕ, List, [], ◌∷◌, Option, Some, None, length}
 use Rattle.cancel_context.specs.Forest.{Forest, IsHeld, parent, held_count}
 
 abbrev pub IsIn : List ℕ → ℕ → Type 0
@@ -24,5 +24,5 @@ HasBindingOrder forest = (order : List ℕ) × IsBindingOrder forest order
 
 -- what is true of all contexts: an id is a `u16`, and chains end
 pub record IsSound (forest : Forest) : Type 0 where
-  pub few : length forest ≤ 20736
+  pub few : length forest ≤ 2 ^ 16
   pub ordered : HasBindingOrder forest

@@ -1,5 +1,5 @@
 // A forest of contexts.
-ghost use Rattle.std.specs.Prelude.{◌≡◌, ◌≢◌, ◌+◌, ◌*◌, ◌<◌, ◌≤◌, ◌||◌, ℕ, true, false, not, Some, None, length, map, replicate, IfOk};
+ghost use Rattle.std.specs.Prelude.{◌≡◌, ◌≢◌, ◌+◌, ◌*◌, ◌<◌, ◌≤◌, ◌||◌, ℕ, IsTrue, true, false, not, Some, None, length, map, replicate, IfOk};
 ghost use Rattle.std.specs.Option.{ForSome, option_map_or};
 ghost use Rattle.cancel_context.specs.Forest.{IsHeld, held_count, binding, parent, is_within, is_cancelled, IsForest, with_bound, asking, with_request, without_parent, without};
 
@@ -7,11 +7,14 @@ use crate::bindings::{Binding, ContextId};
 use std::alloc::{AllocError, Global};
 use std::marker::Model;
 
-/// Room for a context of each job.
-const JOB_CONTEXTS: usize = 256;
+/// How many contexts there is room for beside those of rows.
+pub const BASE_CONTEXTS: usize = 256;
 
-/// Room for the contexts of each row: its own and those of its four groups.
-const ROW_CONTEXTS: usize = 5;
+/// How many contexts there is room for with each row.
+pub const CONTEXTS_PER_ROW: usize = 5;
+
+/// How many rows there may be.
+pub const MAX_ROWS: usize = 4_096;
 
 /// Contexts that are bound to one another. A context is cancelled where it has a cancel request of
 /// its own, or one that it is bound to is cancelled.
@@ -33,13 +36,13 @@ impl Model for Contexts {
 }
 
 impl Contexts {
-    /// No context, with room for those of 256 jobs and of so many rows.
+    /// No context, with room for those of so many rows and 256 more.
     pub fn new(alloc: Global, rows: usize) -> Result<Contexts, AllocError>
-        requires { rows ≤ 4096 }
-        ensures empty { IfOk result (λ forest. forest ≡ replicate (256 + 5 * rows) None) }
+        requires { rows ≤ MAX_ROWS }
+        ensures empty { IfOk result (λ forest. forest ≡ replicate (BASE_CONTEXTS + CONTEXTS_PER_ROW * rows) None) }
         ensures forest { IfOk result IsForest }
     {
-        let bindings = vec![in alloc; None; JOB_CONTEXTS + ROW_CONTEXTS * rows]?;
+        let bindings = vec![in alloc; None; BASE_CONTEXTS + CONTEXTS_PER_ROW * rows]?;
         Ok(Contexts { bindings })
     }
 
@@ -73,7 +76,7 @@ impl Contexts {
         ensures asked { self.new ≡ with_request self.old context true }
         ensures keeps { (c : ℕ) → IsHeld self.old c → IsHeld self.new c }
         ensures count { held_count self.new ≡ held_count self.old }
-        ensures cancelled { is_cancelled self.new context ≡ true }
+        ensures cancelled { IsTrue (is_cancelled self.new context) }
         // It reaches all that is bound below, and nothing else.
         ensures reaches { (c : ℕ) → is_cancelled self.new c ≡ (is_cancelled self.old c || is_within self.old c context) }
         ensures forest { IsForest self.new }
@@ -109,7 +112,7 @@ impl Contexts {
     pub fn release(&mut self, context: ContextId)
         requires held { IsHeld self.old context }
         // What is bound to it is so only where it is cancelled.
-        requires ends { (c : ℕ) → parent self.old c ≡ Some context → is_cancelled self.old context ≡ true }
+        requires ends { (c : ℕ) → parent self.old c ≡ Some context → IsTrue (is_cancelled self.old context) }
         ensures released { self.new ≡ without self.old context }
         ensures keeps { (c : ℕ) → c ≢ context → IsHeld self.old c → IsHeld self.new c }
         ensures count { held_count self.new + 1 ≡ held_count self.old }

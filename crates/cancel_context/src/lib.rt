@@ -8,4 +8,4 @@ mod contexts;
 mod tests;
 
 pub use bindings::ContextId;
-pub use contexts::Contexts;
+pub use contexts::{BASE_CONTEXTS, CONTEXTS_PER_ROW, Contexts, MAX_ROWS};

@@ -9,16 +9,16 @@ fn a_cancellation_reaches_what_is_bound_below(rt: HostRuntime) -> Result<(), Fai
         Ok(contexts) => contexts,
         Err(_) => Contexts::new(rt.alloc(), 1)?,
     };
-    let job = contexts.bind(None);
-    let row = contexts.bind(Some(job));
+    let root = contexts.bind(None);
+    let row = contexts.bind(Some(root));
     let group = contexts.bind(Some(row));
     assert!(rt; contexts.cancel(row));
     assert!(rt; !contexts.cancel(row));
-    assert!(rt; !contexts.is_cancelled(job));
+    assert!(rt; !contexts.is_cancelled(root));
     assert!(rt; contexts.is_cancelled(group));
     contexts.reset(row);
     assert!(rt; !contexts.is_cancelled(group));
-    assert!(rt; contexts.cancel(job));
+    assert!(rt; contexts.cancel(root));
     assert!(rt; !contexts.cancel(group), "it is cancelled from above");
     Ok(())
 }

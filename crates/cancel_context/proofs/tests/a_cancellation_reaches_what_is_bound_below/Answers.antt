@@ -2,8 +2,8 @@ use Rattle.cancel_context.proofs.tests.a_cancellation_reaches_what_is_bound_belo
 
 pub is_cancelled-requires : goal.is_cancelled-requires
 is_cancelled-requires g c =
-    let job = c.bind-job.result in
-    c.cancel-2.ensures.keeps job (c.cancel.ensures.keeps job (c.bind-group.ensures.keeps job (c.bind-row.ensures.keeps job c.bind-job.ensures.held)))
+    let root = c.bind-root.result in
+    c.cancel-2.ensures.keeps root (c.cancel.ensures.keeps root (c.bind-group.ensures.keeps root (c.bind-row.ensures.keeps root c.bind-root.ensures.held)))
 
 pub is_cancelled-requires-2 : goal.is_cancelled-requires-2
 is_cancelled-requires-2 g c =
@@ -17,8 +17,8 @@ is_cancelled-requires-3 g c =
 
 pub cancel-requires-3 : goal.cancel-requires-3
 cancel-requires-3 g c =
-    let job = c.bind-job.result in
-    c.reset.ensures.keeps job (c.cancel-2.ensures.keeps job (c.cancel.ensures.keeps job (c.bind-group.ensures.keeps job (c.bind-row.ensures.keeps job c.bind-job.ensures.held))))
+    let root = c.bind-root.result in
+    c.reset.ensures.keeps root (c.cancel-2.ensures.keeps root (c.cancel.ensures.keeps root (c.bind-group.ensures.keeps root (c.bind-row.ensures.keeps root c.bind-root.ensures.held))))
 
 pub cancel-requires-4 : goal.cancel-requires-4
 cancel-requires-4 g c =
