@@ -1,5 +1,6 @@
 // The lines of a script.
-ghost use Rattle.std.specs.Prelude.{◌≡◌, IfErr};
+ghost use Rattle.std.specs.Prelude.{◌≡◌, ◌++◌, [], Ok, IsSome, IfErr};
+ghost use Rattle.arena_script.specs.ScriptLines.{script_lines, lines_read};
 
 use crate::ends::ScriptEnd;
 use request_reader::{LineRead, LineReader, is_blank};
@@ -22,7 +23,11 @@ pub(crate) fn next_input<R: Read>(
     lines: &mut LineReader,
     reader: &mut R,
 ) -> Result<Input, ScriptEnd>
-    ensures { IfErr result (λ end. end ≡ ScriptEnd.Device) }
+    ensures lines { IsSome (R.remaining reader.old) → script_lines lines.old (R.remaining reader.old)
+        ≡ lines_read result lines.new.line ++ script_lines lines.new (R.remaining reader.new) }
+    ensures known { IsSome (R.remaining reader.old) → IsSome (R.remaining reader.new) }
+    ensures end { result ≡ Ok Input.End → script_lines lines.new (R.remaining reader.new) ≡ [] }
+    ensures err { IfErr result (λ end. end ≡ ScriptEnd.Device) }
 {
     for _line in 0..u64::MAX {
         match lines.read_line(reader) {

@@ -1,12 +1,16 @@
 // The steps of one tenant, as the lines of a script spell them, and their answers.
-ghost use Rattle.std.specs.Prelude.{◌≡◌, nat_lt, if◌then◌else◌, Some, None, Ok, IfOk, IfErr};
+ghost use Rattle.std.specs.Prelude.{◌≡◌, nat_lt, if◌then◌else◌, Some, None, Ok, Err, IfOk, IfErr};
+ghost use Rattle.tenant_model.specs.State.{empty};
 ghost use Rattle.serde_json.specs.View.{view};
 ghost use Rattle.request_reader.specs.Ready.{Readies};
 ghost use Rattle.arena_script.specs.Steps.{own_line};
 ghost use Rattle.arena_script.specs.OwnEnds.{IsFault};
+ghost use Rattle.arena_script.specs.ScriptAnswers.{tenant_in, TakesLine};
+ghost use Rattle.arena_script.specs.ScriptLines.{line_of};
 ghost use Rattle.arena_script.specs.OwnAnswers.{request_in, Replies, arrival, advancement, step_in, TakesStep};
 
 use crate::ends::ScriptEnd;
+use crate::inputs::Input;
 use crate::steps::{OwnLine, own_line};
 use job_language::values::has_members;
 use job_language::{Answer, Error, Reply, Request, TenantConfig, read_tenant};
@@ -25,7 +29,10 @@ pub(crate) struct Own {
 impl Own {
     /// The tenant of a script's first line.
     pub(crate) fn read(alloc: Global, line: &[u8]) -> Result<Own, ScriptEnd>
-        ensures { IfErr result IsFault }
+        ensures ok { IfOk result (λ own. (tenant_in line.now ≡ Some own.solo.config) × (own.solo ≡ empty own.solo.config)) }
+        ensures slots { IfOk result (λ own. own.slots ≡ own.solo.config.slots) }
+        ensures no_tenant { result ≡ Err ScriptEnd.Config → tenant_in line.now ≡ None }
+        ensures err { IfErr result IsFault }
     {
         let config = tenant_of(alloc, line)?;
         let slots = config.tenant().slots;
@@ -33,8 +40,26 @@ impl Own {
         Ok(Own { solo, slots })
     }
 
+    /// Takes the step of an input, whose text is that line, and gives the answer. A line that is too
+    /// long is no step.
+    pub(crate) fn take_input(
+        &mut self,
+        alloc: Global,
+        input: Input,
+        line: &[u8],
+    ) -> Result<Option<Answer>, ScriptEnd>
+        ensures ok { IfOk result (λ answer. TakesLine self.old.slots (line_of input line.now) self.old.solo answer self.new.solo) }
+        ensures slots { self.new.slots ≡ self.old.slots }
+        ensures err { IfErr result (λ end. (end ≡ ScriptEnd.Memory) × (self.new.solo ≡ self.old.solo)) }
+    {
+        match input {
+            Input::Line => self.take(alloc, line),
+            Input::TooLong | Input::End => Ok(None),
+        }
+    }
+
     /// Takes the step of a line, and gives the answer; a line that is no step has none.
-    pub(crate) fn take(&mut self, alloc: Global, line: &[u8]) -> Result<Option<Answer>, ScriptEnd>
+    fn take(&mut self, alloc: Global, line: &[u8]) -> Result<Option<Answer>, ScriptEnd>
         ensures ok { IfOk result (λ answer. TakesStep self.old.slots (step_in line.now) self.old.solo answer self.new.solo) }
         ensures slots { self.new.slots ≡ self.old.slots }
         ensures err { IfErr result (λ end. (end ≡ ScriptEnd.Memory) × (self.new.solo ≡ self.old.solo)) }
@@ -117,7 +142,9 @@ impl Own {
 
 /// The tenant that a line names.
 fn tenant_of(alloc: Global, line: &[u8]) -> Result<TenantConfig, ScriptEnd>
-    ensures { IfErr result IsFault }
+    ensures ok { IfOk result (λ config. tenant_in line.now ≡ Some config) }
+    ensures no_tenant { result ≡ Err ScriptEnd.Config → tenant_in line.now ≡ None }
+    ensures err { IfErr result IsFault }
 {
     let value = match value_of(alloc, line) {
         Ok(value) => value,

@@ -1,7 +1,11 @@
 // A script, from its words and its first line to its end.
-ghost use Rattle.std.specs.Prelude.{◌≡◌, true, false, IfErr};
+ghost use Rattle.std.specs.Prelude.{◌≡◌, ◌≢◌, true, false, Err, IsSome, IfErr, OnOk};
+ghost use Rattle.std.specs.Io.KnownBytes.{Appends};
+ghost use Rattle.tenant_model.specs.State.{State};
 ghost use Rattle.arena_script.specs.OwnAnswers.{told};
 ghost use Rattle.arena_script.specs.OwnEnds.{are_own_words, IsFault, IsOwnEnd};
+ghost use Rattle.arena_script.specs.ScriptAnswers.{AnswersAll, AnswersScript, NamesNoTenant};
+ghost use Rattle.arena_script.specs.ScriptLines.{script_lines, all_lines};
 
 use crate::ends::ScriptEnd;
 use crate::inputs::{Input, MAX_SCRIPT_LINE, next_input};
@@ -27,7 +31,12 @@ pub fn script<R: Read, W: Write>(
 
     // Nothing is written before the first line is a tenant.
     ensures unwritten { result ≡ ScriptEnd.Words → writer.new ≡ writer.old }
-    ensures no_tenant { result ≡ ScriptEnd.Config → writer.new ≡ writer.old }
+    ensures no_answer { result ≡ ScriptEnd.Config → writer.new ≡ writer.old }
+
+    // Where the bytes are known, the answers to all lines are written.
+    ensures no_tenant { result ≡ ScriptEnd.Config → IsSome (R.remaining reader.old) → NamesNoTenant (all_lines (R.remaining reader.old)) }
+    ensures done { result ≡ ScriptEnd.Done → IsSome (R.remaining reader.old)
+        → AnswersScript (all_lines (R.remaining reader.old)) (W.contents writer.old) (W.contents writer.new) }
 {
     let ended = match words {
         [] | ["own"] => own(alloc, reader, writer),
@@ -41,19 +50,37 @@ pub fn script<R: Read, W: Write>(
 
 fn own<R: Read, W: Write>(alloc: Global, reader: &mut R, writer: &mut W) -> Result<(), ScriptEnd>
     ensures ends { IfErr result IsFault }
-    ensures no_tenant { result ≡ Err ScriptEnd.Config → writer.new ≡ writer.old }
+    ensures unwritten { result ≡ Err ScriptEnd.Config → writer.new ≡ writer.old }
+    ensures no_tenant { result ≡ Err ScriptEnd.Config → IsSome (R.remaining reader.old) → NamesNoTenant (all_lines (R.remaining reader.old)) }
+    ensures done { OnOk result (IsSome (R.remaining reader.old) → AnswersScript (all_lines (R.remaining reader.old)) (W.contents writer.old) (W.contents writer.new)) }
 {
     let mut lines = LineReader::new(alloc, MAX_SCRIPT_LINE)?;
-    let mut own = match next_input(&mut lines, reader)? {
-        Input::Line => Own::read(alloc, lines.line())?,
-        Input::TooLong | Input::End => return Err(ScriptEnd::Config),
-    };
+    if next_input(&mut lines, reader)? != Input::Line {
+        return Err(ScriptEnd::Config);
+    }
+    let own = Own::read(alloc, lines.line())?;
+    take_all(alloc, own, lines, reader, writer)
+}
+
+/// Takes a tenant's steps to the end of a script.
+fn take_all<R: Read, W: Write>(
+    alloc: Global,
+    mut own: Own,
+    mut lines: LineReader,
+    reader: &mut R,
+    writer: &mut W,
+) -> Result<(), ScriptEnd>
+    ensures ends { IfErr result (λ end. IsFault end × (end ≢ ScriptEnd.Config)) }
+    ensures done { OnOk result (IsSome (R.remaining reader.old) → (final : State)
+        × AnswersAll own.slots (script_lines lines (R.remaining reader.old)) own.solo (W.contents writer.old) (W.contents writer.new) final) }
+{
     for _line in 0..u64::MAX {
-        match next_input(&mut lines, reader)? {
-            Input::Line => put(writer, told(own.take(alloc, lines.line())?).line())?,
-            Input::TooLong => put(writer, told(None).line())?,
-            Input::End => return Ok(()),
+        let input = next_input(&mut lines, reader)?;
+        if input == Input::End {
+            return Ok(());
         }
+        let answer = own.take_input(alloc, input, lines.line())?;
+        put(writer, told(answer).line())?;
     }
     Err(ScriptEnd::Device)
 }
@@ -69,7 +96,8 @@ fn told(answer: Option<Answer>) -> ReplyBuf
 }
 
 fn put<W: Write>(writer: &mut W, line: &[u8]) -> Result<(), ScriptEnd>
-    ensures { IfErr result (λ end. end ≡ ScriptEnd.Device) }
+    ensures ok { OnOk result (Appends (W.contents writer.old) (W.contents writer.new) line.now) }
+    ensures err { IfErr result (λ end. end ≡ ScriptEnd.Device) }
 {
     match write_all_of(writer, line) {
         Ok(()) => Ok(()),

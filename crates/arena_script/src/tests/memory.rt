@@ -4,18 +4,13 @@ use crate::{ScriptEnd, script};
 use std::alloc::Global;
 use std::io::Read;
 
-/// What a script of one job prints where no growth is refused, and where one of its asks is.
-const PRINTED: [&str; 3] = [
+/// What a script of one job prints where no growth is refused, and where its submission is.
+const PRINTED: [&str; 2] = [
     ANSWERS,
     "{\"code\":9,\"error\":\"no_memory\"}
 {\"moved\":\"none\"}
 {\"moved\":\"left\"}
 {\"code\":6,\"error\":\"unknown_job\"}
-",
-    "{\"job\":1}
-{\"moved\":\"arrived\",\"row\":1}
-{\"moved\":\"ran\"}
-{\"code\":9,\"error\":\"no_memory\"}
 ",
 ];
 
@@ -33,6 +28,9 @@ fn want_of_memory_is_told(rt: HostRuntime) {
     let mut printed = [0; 256];
     let (end, len) = run(rt.alloc(), &mut printed);
     let told = printed.get(..len).unwrap_or(&[]);
+    if end == ScriptEnd::Done && told == ANSWERS.as_bytes() {
+        return;
+    }
     match end {
         ScriptEnd::Done => {
             assert!(rt; PRINTED.iter().any(|text| text.as_bytes() == told));

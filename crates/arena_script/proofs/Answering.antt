@@ -1,0 +1,53 @@
+-- The answers to the lines of a script, one after another.
+use Rattle.std.proofs.Common.{◌≡◌, ◌≢◌, ℕ, List, [], ◌∷◌, ◌++◌, Option, Some, None, Ok, refl, sym, ap, ◌∙◌, append_assoc, subst}
+use Rattle.std.proofs.lemmas.List.{append-nil}
+use Rattle.std.specs.Io.KnownBytes.{Appends}
+use Rattle.job_language.specs.declared.answers.Answer.{Answer}
+use Rattle.request_reader.specs.Lines.{Line, newline}
+use Rattle.tenant_model.specs.State.{State}
+use Rattle.arena_script.specs.OwnAnswers.{told}
+use Rattle.arena_script.specs.ScriptAnswers.{TakesLine, AnswersAll}
+use Rattle.arena_script.specs.ScriptLines.{line_of, lines_read}
+use Rattle.arena_script.specs.declared.inputs.Input.{Input}
+use Rattle.arena_script.specs.declared.inputs.Input.TheVariants as input
+
+appends_two : (before middle after : Option (List ℕ)) (line rest : List ℕ) → Appends before middle (line ++ newline ∷ []) → Appends middle after rest → Appends before after (line ++ newline ∷ rest)
+appends_two None middle after line rest first next = tt
+appends_two (Some x) None after line rest first next = absurd first
+appends_two (Some x) (Some y) None line rest first next = absurd next
+appends_two (Some x) (Some y) (Some z) line rest first next =
+    next ∙ ap (λ t. t ++ rest) first ∙ append_assoc x (line ++ newline ∷ []) rest ∙ ap (λ t. x ++ t) (append_assoc line (newline ∷ []) rest)
+
+appends_nothing : (known : Option (List ℕ)) → Appends known known []
+appends_nothing None = tt
+appends_nothing (Some x) = sym (append-nil x)
+
+-- No lines have no answers.
+pub answers_none : (slots : ℕ) (s : State) (known : Option (List ℕ)) → AnswersAll slots [] s known known s
+answers_none slots s known = ([], (refl, refl), appends_nothing known)
+
+-- A line that is taken and answered, and then the others.
+pub answers_on : (slots : ℕ) (line : Line) (lines : List Line) (old mid final : State) (answer : Option Answer) (before middle after : Option (List ℕ)) → TakesLine slots line old answer mid → Appends before middle (told answer ++ newline ∷ []) → AnswersAll slots lines mid middle after final → AnswersAll slots (line ∷ lines) old before after final
+answers_on slots line lines old mid final answer before middle after taken written others =
+    (told answer ++ newline ∷ others.0, (answer, mid, others.0, taken, refl, others.1), appends_two before middle after (told answer) others.0 written others.2)
+
+-- An input that is not the end is one line.
+pub lines_read-line : (i : Input) (text : List ℕ) → i ≢ input.End → lines_read (Ok i) text ≡ line_of i text ∷ []
+lines_read-line input.Line text h = refl
+lines_read-line input.TooLong text h = refl
+lines_read-line input.End text h = absurd (h refl)
+
+-- The next input is taken and its answer written, and then the lines that are left.
+pub answers_step : (slots slots' : ℕ) (i : Input) (text text' : List ℕ) (left left' : List Line) (old mid final : State) (answer : Option Answer) (line : List ℕ) (before middle after : Option (List ℕ)) → slots' ≡ slots → text' ≡ text → i ≢ input.End → left ≡ lines_read (Ok i) text ++ left' → TakesLine slots' (line_of i text') old answer mid → line ≡ told answer ++ newline ∷ [] → Appends before middle line → AnswersAll slots left' mid middle after final → AnswersAll slots left old before after final
+answers_step slots slots' i text text' left left' old mid final answer line before middle after same_slots same_text going here taken told_as written others =
+    let taken_here : TakesLine slots' (line_of i text) old answer mid = subst (λ (t : List ℕ). TakesLine slots' (line_of i t) old answer mid) same_text taken in
+    let taken_there : TakesLine slots (line_of i text) old answer mid = subst (λ (s : ℕ). TakesLine s (line_of i text) old answer mid) same_slots taken_here in
+    let written_line : Appends before middle (told answer ++ newline ∷ []) = subst (λ (t : List ℕ). Appends before middle t) told_as written in
+    let one_line : left ≡ line_of i text ∷ left' = here ∙ ap (λ ls. ls ++ left') (lines_read-line i text going) in
+    subst (λ (ls : List Line). AnswersAll slots ls old before after final) (sym one_line) (answers_on slots (line_of i text) left' old mid final answer before middle after taken_there written_line others)
+
+-- At the end no lines are left, and all are answered.
+pub answers_end : (slots : ℕ) (i : Input) (text : List ℕ) (left left' : List Line) (s : State) (known : Option (List ℕ)) → i ≡ input.End → left ≡ lines_read (Ok i) text ++ left' → left' ≡ [] → AnswersAll slots left s known known s
+answers_end slots i text left left' s known ended here none =
+    let no_lines : left ≡ [] = here ∙ ap (λ e. lines_read (Ok e) text ++ left') ended ∙ none in
+    subst (λ (ls : List Line). AnswersAll slots ls s known known s) (sym no_lines) (answers_none slots s known)

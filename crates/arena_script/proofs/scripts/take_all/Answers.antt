@@ -1,0 +1,23 @@
+use Rattle.std.proofs.Common.{◌≡◌, ◌≢◌, rules, List, ℕ, [], ◌∷◌, ◌++◌, ap, ◌∙◌, Ok}
+use Rattle.arena_script.specs.declared.inputs.Input.{Input}
+use Rattle.arena_script.specs.declared.inputs.Input.TheVariants as input
+use Rattle.arena_script.proofs.Answering.{answers_step, answers_end}
+use Rattle.arena_script.proofs.scripts.take_all.Goals as goal
+
+pub returns-then-eq-clause-done : goal.returns-then-eq-clause-done
+returns-then-eq-clause-done g c known =
+    let so_far = c.loop-line.invariant.1 known in
+    let ended : c.in_ok-input.input ≡ input.End = search rules in
+    (c.loop-line.own.solo, so_far.1 _ _ (answers_end _ _ _ _ _ _ _ ended (c.in_ok-input.ensures.lines so_far.0) (c.in_ok-input.ensures.end (ap (λ (i : Input). Ok i) ended))))
+
+pub loop-line-preserved : goal.loop-line-preserved
+loop-line-preserved g c =
+    let going : c.in_ok-input.input ≢ input.End = search rules in (
+      c.in_ok-answer.ensures.slots ∙ c.loop-line.invariant.0,
+      λ known. let so_far = c.loop-line.invariant.1 known in (
+        c.in_ok-input.ensures.known so_far.0,
+        λ after final others. so_far.1 after final
+            (answers_step _ _ _ _ _ _ _ _ _ _ _ _ _ _ _ c.loop-line.invariant.0 c.line.ensures going (c.in_ok-input.ensures.lines so_far.0) c.in_ok-answer.ensures.ok
+            (c.line-in-loop-line.ensures.value ∙ ap (λ (t : List ℕ). t ++ 10 ∷ []) c.told.ensures) c.in_ok-put.ensures.ok others),
+      ),
+    )

@@ -1,0 +1,34 @@
+-- The lines of a script that are not blank, and which of them is read next.
+use Rattle.std.specs.Prelude.{ℕ, List, [], ◌∷◌, Bool, true, not, filter, Option, unwrap_or, Result, Ok, Err}
+use Rattle.std.specs.List.{list_all}
+use Rattle.request_reader.specs.Blank.{is_blank_byte}
+use Rattle.request_reader.specs.Lines.{Line, whole, too_long, lines_of}
+use Rattle.request_reader.specs.Reading.{Reading, lines_left}
+use Rattle.arena_script.specs.declared.ends.ScriptEnd.{ScriptEnd}
+use Rattle.arena_script.specs.declared.inputs.TheConstants.{MAX_SCRIPT_LINE}
+use Rattle.arena_script.specs.declared.inputs.Input.{Input}
+use Rattle.arena_script.specs.declared.inputs.Input.TheVariants as input
+
+abbrev pub is_filled : Line → Bool
+is_filled (whole text) = not (list_all is_blank_byte text)
+is_filled too_long = true
+
+-- the lines that are not blank of what is held and the bytes to come
+abbrev pub script_lines : Reading → Option (List ℕ) → List Line
+script_lines r known = filter is_filled (lines_left r (unwrap_or known []))
+
+-- the lines that are not blank of all the bytes
+abbrev pub all_lines : Option (List ℕ) → List Line
+all_lines known = filter is_filled (lines_of MAX_SCRIPT_LINE (unwrap_or known []))
+
+-- the line that an input is, where this is the text that was read
+abbrev pub line_of : Input → List ℕ → Line
+line_of input.Line text = whole text
+line_of input.TooLong text = too_long
+line_of input.End text = too_long
+
+abbrev pub lines_read : Result Input ScriptEnd → List ℕ → List Line
+lines_read (Ok input.Line) text = whole text ∷ []
+lines_read (Ok input.TooLong) text = too_long ∷ []
+lines_read (Ok input.End) text = []
+lines_read (Err end) text = []
