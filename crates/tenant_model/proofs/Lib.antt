@@ -19,4 +19,6 @@ pub mod Nesting
 pub mod KeptAdvances
 pub mod Touching
 pub mod RegionLaws
+mod SerialWorkedProofs
 mod WorkedProofs
+pub mod SerialRule
