@@ -12,6 +12,7 @@ pub mod PaddedName
 pub mod Program
 pub mod Reads
 pub mod Refused
+pub mod Serial
 pub mod Tenant
 pub mod TenantData
 pub mod TenantOf

@@ -11,6 +11,7 @@ mod operations;
 mod programs;
 mod reading;
 mod requests;
+mod serials;
 mod steps;
 mod tenants;
 #[cfg(test)]

@@ -22,4 +22,6 @@ pub mod RegionLaws
 pub mod Standing
 pub mod Unstuck
 pub mod UnstuckSteps
+mod SerialWorkedProofs
 mod WorkedProofs
+pub mod SerialRule

@@ -10,4 +10,6 @@ pub mod Shared
 pub mod Advance
 pub mod Asks
 pub mod Solo
+pub mod Serial
+pub mod SerialWorked
 pub mod Worked

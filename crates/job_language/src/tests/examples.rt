@@ -25,6 +25,17 @@ fn a_job_is_read_and_written(rt: HostRuntime) -> Result<(), Fail> {
 }
 
 #[test]
+fn a_job_is_serial_without_slots_cells_and_cancels(rt: HostRuntime) -> Result<(), Fail> {
+    let serial =
+        "[[[\"spawn\",0,1,0,1],[\"wait\",2,3,0],[\"isolate\",4,1,0,1],[\"ret\",4]],[[\"ret\",0]]]";
+    let text = job_text(rt.alloc(), serial)?;
+    assert!(rt; job_of(rt.alloc(), text.as_str())?.program.is_serial());
+    let text = job_text(rt.alloc(), EVERY_INSTRUCTION)?;
+    assert!(rt; !job_of(rt.alloc(), text.as_str())?.program.is_serial());
+    Ok(())
+}
+
+#[test]
 fn spaces_and_the_order_of_members_are_free(rt: HostRuntime) -> Result<(), Fail> {
     let text = " { \"procs\" : [ [ [ \"ret\" , 0 ] ] ] , \"fuel\" : 10 , \"args\" : [ 7 , 0 ] } ";
     let job = job_of(rt.alloc(), text)?;

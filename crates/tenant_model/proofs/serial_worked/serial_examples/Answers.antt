@@ -1,0 +1,26 @@
+use Rattle.tenant_model.proofs.SerialWorkedProofs.{fib_gives_8_computes, fib_gives_8_with_172_computes, fib_gives_none_with_171_computes, chain_gives_7_computes, region_gives_7_computes, zero_divisor_gives_none_computes, unwaited_gives_none_computes, spin_gives_none_computes}
+use Rattle.tenant_model.proofs.serial_worked.serial_examples.Goals as goal
+
+pub returns-clause-fib_gives_8 : goal.returns-clause-fib_gives_8
+returns-clause-fib_gives_8 c = fib_gives_8_computes
+
+pub returns-clause-fib_gives_8_with_172 : goal.returns-clause-fib_gives_8_with_172
+returns-clause-fib_gives_8_with_172 c = fib_gives_8_with_172_computes
+
+pub returns-clause-fib_gives_none_with_171 : goal.returns-clause-fib_gives_none_with_171
+returns-clause-fib_gives_none_with_171 c = fib_gives_none_with_171_computes
+
+pub returns-clause-chain_gives_7 : goal.returns-clause-chain_gives_7
+returns-clause-chain_gives_7 c = chain_gives_7_computes
+
+pub returns-clause-region_gives_7 : goal.returns-clause-region_gives_7
+returns-clause-region_gives_7 c = region_gives_7_computes
+
+pub returns-clause-zero_divisor_gives_none : goal.returns-clause-zero_divisor_gives_none
+returns-clause-zero_divisor_gives_none c = zero_divisor_gives_none_computes
+
+pub returns-clause-unwaited_gives_none : goal.returns-clause-unwaited_gives_none
+returns-clause-unwaited_gives_none c = unwaited_gives_none_computes
+
+pub returns-clause-spin_gives_none : goal.returns-clause-spin_gives_none
+returns-clause-spin_gives_none c = spin_gives_none_computes

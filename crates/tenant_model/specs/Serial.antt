@@ -1,0 +1,91 @@
+-- The serial value of a program: what its root gives where each task runs as soon as it is made, and to its end.
+use Rattle.std.specs.Prelude.{ℕ, zero, suc, ℤ, pos, Bool, if◌then◌else◌, List, replicate, Option, Some, None, is_some, unwrap_or, slice_index_or, slice_set}
+use Rattle.std.specs.Int.{int_wrapping_add, w64}
+use Rattle.std.specs.List.{list_any}
+use Rattle.std.specs.Option.{option_map}
+use Rattle.job_language.specs.declared.instructions.Instr.{Instr}
+use Rattle.job_language.specs.declared.instructions.Instr.TheVariants.{Spawn, Wait, Isolate, Ret}
+use Rattle.job_language.specs.declared.instructions.TheConstants.{GROUPS}
+use Rattle.job_step.specs.declared.frames.Frame.{Frame}
+use Rattle.job_step.specs.Frame.{new_frame, register, with_register, instr_at, Effect, Moves, DividesByZero, IsShared, effect}
+use Rattle.tenant_model.specs.declared.serials.SerialTask.{SerialTask}
+use Rattle.tenant_model.specs.declared.serials.ValueTo.{ValueTo}
+use Rattle.tenant_model.specs.declared.serials.ValueTo.TheVariants as to
+use Rattle.tenant_model.specs.declared.serials.SerialTurn.{SerialTurn}
+use Rattle.tenant_model.specs.declared.serials.SerialTurn.TheVariants.{Goes, Makes, Gives, Fails}
+use Rattle.tenant_model.specs.Shared.{next_place, called}
+
+-- a task that begins, with nothing in its groups
+abbrev pub begun : Frame → SerialTask
+begun f = record { frame = f; sums = replicate GROUPS None }
+
+-- the sum of a group so far
+abbrev pub sum_of : SerialTask → ℕ → ℤ
+sum_of t g = unwrap_or (slice_index_or t.sums g None) (pos 0)
+
+-- a group was given a value since its last wait
+abbrev pub is_owing : SerialTask → Bool
+is_owing t = list_any (λ (sum : Option ℤ). is_some sum) t.sums
+
+-- the task behind a spawn or an isolate, with the value of the task that it made
+abbrev pub with_value : ValueTo → SerialTask → ℤ → SerialTask
+with_value (to.Group g) t v = record { frame = next_place t.frame; sums = slice_set t.sums g (Some (int_wrapping_add w64 (sum_of t g) v)) }
+with_value (to.Register d) t v = record t { frame = with_register t.frame d v }
+
+-- the task behind a wait: nothing was cancelled, so the status is 1
+abbrev pub waited : SerialTask → (d e g : ℕ) → SerialTask
+waited t d e g = record {
+  frame = with_register (record t.frame { registers = slice_set t.frame.registers d (sum_of t g) }) e (pos 1);
+  sums = slice_set t.sums g None;
+}
+
+-- A private instruction that neither reads the slot nor the width has one effect on all slots of all arenas.
+abbrev pub turn_by : SerialTask → Effect → SerialTurn
+turn_by t (Moves f) = Goes (record t { frame = f })
+turn_by t DividesByZero = Fails
+turn_by t IsShared = Fails
+
+-- what a task does by an instruction of a serial program
+abbrev pub turn_of : Instr → SerialTask → SerialTurn
+turn_of (Spawn g p a b) t = Makes (begun (called t.frame p a b)) (to.Group g)
+turn_of (Isolate d p a b) t = Makes (begun (called t.frame p a b)) (to.Register d)
+turn_of (Wait d e g) t = Goes (waited t d e g)
+turn_of (Ret a) t = if is_owing t then Fails else Gives (register t.frame a)
+turn_of i t = turn_by t (effect i 0 0 t.frame)
+
+abbrev pub turn_at : Option Instr → SerialTask → SerialTurn
+turn_at (Some i) t = turn_of i t
+turn_at None t = Fails
+
+-- a value, with how many instructions are left
+abbrev pub Given : Type 0
+Given = Option (ℤ × ℕ)
+
+abbrev pub given_then : Given → (ℤ → ℕ → Given) → Given
+given_then None next = None
+given_then (Some p) next = next p.0 p.1
+
+-- what a task gives by its turn, with so many instructions left behind it, where `next` says what each task gives with the instructions that are left
+abbrev pub given_by : (next : ℕ → SerialTask → Given) → SerialTask → (left : ℕ) → SerialTurn → Given
+given_by next t left (Goes u) = next left u
+given_by next t left (Makes u to) = given_then (next left u) (λ v rest. next rest (with_value to t v))
+given_by next t left (Gives v) = Some (v, left)
+given_by next t left Fails = None
+
+-- what a task gives with so many instructions, of which no more than a bound are executed one behind or inside another
+unfoldable pub given_within : (bound : ℕ) → List (List Instr) → (left : ℕ) → SerialTask → Given
+given_within zero procs left t = None
+given_within (suc bound) procs zero t = None
+given_within (suc bound) procs (suc left) t = given_by (given_within bound procs) t left (turn_at (instr_at procs t.frame) t)
+
+-- The serial value of a task with so many instructions, and how many of them are left. Each instruction takes one, so their number is bound enough.
+abbrev pub given_of : List (List Instr) → (left : ℕ) → SerialTask → Given
+given_of procs left t = given_within left procs left t
+
+-- the root of a program with its two arguments
+abbrev pub root_task : List ℤ → SerialTask
+root_task args = begun (new_frame 0 (slice_index_or args 0 (pos 0)) (slice_index_or args 1 (pos 0)))
+
+-- the serial value of a program, where n instructions suffice and nothing fails
+abbrev pub serial_value : List (List Instr) → (args : List ℤ) → (n : ℕ) → Option ℤ
+serial_value procs args n = option_map (λ (p : ℤ × ℕ). p.0) (given_of procs n (root_task args))

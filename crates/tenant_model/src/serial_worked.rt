@@ -1,0 +1,15 @@
+// The worked examples of serial values, as laws that compute.
+ghost use Rattle.tenant_model.specs.SerialWorked.{FibGives8, FibGives8With172, FibGivesNoneWith171, ChainGives7, RegionGives7, ZeroDivisorGivesNone, UnwaitedGivesNone, SpinGivesNone};
+
+/// The serial values of the worked examples, by the definitions alone. It does nothing: its contract
+/// is the law.
+pub fn serial_examples()
+    ensures fib_gives_8 { FibGives8 }
+    ensures fib_gives_8_with_172 { FibGives8With172 }
+    ensures fib_gives_none_with_171 { FibGivesNoneWith171 }
+    ensures chain_gives_7 { ChainGives7 }
+    ensures region_gives_7 { RegionGives7 }
+    ensures zero_divisor_gives_none { ZeroDivisorGivesNone }
+    ensures unwaited_gives_none { UnwaitedGivesNone }
+    ensures spin_gives_none { SpinGivesNone }
+{}
