@@ -23,10 +23,12 @@ pub(crate) fn next_input<R: Read>(
     lines: &mut LineReader,
     reader: &mut R,
 ) -> Result<Input, ScriptEnd>
-    ensures lines { IsSome (R.remaining reader.old) → script_lines lines.old (R.remaining reader.old)
+    ensures lines { IsSome (R.remaining reader.old)
+        → script_lines lines.old (R.remaining reader.old)
         ≡ lines_read result lines.new.line ++ script_lines lines.new (R.remaining reader.new) }
     ensures known { IsSome (R.remaining reader.old) → IsSome (R.remaining reader.new) }
-    ensures end { result ≡ Ok Input.End → script_lines lines.new (R.remaining reader.new) ≡ [] }
+    ensures end { result ≡ Ok Input.End
+        → script_lines lines.new (R.remaining reader.new) ≡ [] }
     ensures err { IfErr result (λ end. end ≡ ScriptEnd.Device) }
 {
     for _line in 0..u64::MAX {

@@ -29,7 +29,8 @@ pub(crate) struct Own {
 impl Own {
     /// The tenant of a script's first line.
     pub(crate) fn read(alloc: Global, line: &[u8]) -> Result<Own, ScriptEnd>
-        ensures ok { IfOk result (λ own. (tenant_in line.now ≡ Some own.solo.config) × (own.solo ≡ empty own.solo.config)) }
+        ensures ok { IfOk result (λ own.
+            (tenant_in line.now ≡ Some own.solo.config) × (own.solo ≡ empty own.solo.config)) }
         ensures slots { IfOk result (λ own. own.slots ≡ own.solo.config.slots) }
         ensures no_tenant { result ≡ Err ScriptEnd.Config → tenant_in line.now ≡ None }
         ensures err { IfErr result IsFault }
@@ -48,9 +49,11 @@ impl Own {
         input: Input,
         line: &[u8],
     ) -> Result<Option<Answer>, ScriptEnd>
-        ensures ok { IfOk result (λ answer. TakesLine self.old.slots (line_of input line.now) self.old.solo answer self.new.solo) }
+        ensures ok { IfOk result (λ answer.
+            TakesLine self.old.slots (line_of input line.now) self.old.solo answer self.new.solo) }
         ensures slots { self.new.slots ≡ self.old.slots }
-        ensures err { IfErr result (λ end. (end ≡ ScriptEnd.Memory) × (self.new.solo ≡ self.old.solo)) }
+        ensures err { IfErr result (λ end.
+            (end ≡ ScriptEnd.Memory) × (self.new.solo ≡ self.old.solo)) }
     {
         match input {
             Input::Line => self.take(alloc, line),
@@ -60,9 +63,11 @@ impl Own {
 
     /// Takes the step of a line, and gives the answer; a line that is no step has none.
     fn take(&mut self, alloc: Global, line: &[u8]) -> Result<Option<Answer>, ScriptEnd>
-        ensures ok { IfOk result (λ answer. TakesStep self.old.slots (step_in line.now) self.old.solo answer self.new.solo) }
+        ensures ok { IfOk result (λ answer.
+            TakesStep self.old.slots (step_in line.now) self.old.solo answer self.new.solo) }
         ensures slots { self.new.slots ≡ self.old.slots }
-        ensures err { IfErr result (λ end. (end ≡ ScriptEnd.Memory) × (self.new.solo ≡ self.old.solo)) }
+        ensures err { IfErr result (λ end.
+            (end ≡ ScriptEnd.Memory) × (self.new.solo ≡ self.old.solo)) }
     {
         let value = match value_of(alloc, line) {
             Ok(value) => value,
@@ -73,9 +78,11 @@ impl Own {
     }
 
     fn take_value(&mut self, alloc: Global, value: &Value) -> Result<Option<Answer>, ScriptEnd>
-        ensures ok { IfOk result (λ answer. TakesStep self.old.slots (own_line (view value.now)) self.old.solo answer self.new.solo) }
+        ensures ok { IfOk result (λ answer.
+            TakesStep self.old.slots (own_line (view value.now)) self.old.solo answer self.new.solo) }
         ensures slots { self.new.slots ≡ self.old.slots }
-        ensures err { IfErr result (λ end. (end ≡ ScriptEnd.Memory) × (self.new.solo ≡ self.old.solo)) }
+        ensures err { IfErr result (λ end.
+            (end ≡ ScriptEnd.Memory) × (self.new.solo ≡ self.old.solo)) }
     {
         match own_line(value) {
             Some(OwnLine::Ask(request)) => Ok(Some(Answer::Replied(self.ask(alloc, request)?))),
@@ -86,9 +93,11 @@ impl Own {
     }
 
     fn ask(&mut self, alloc: Global, value: &Value) -> Result<Reply, ScriptEnd>
-        ensures ok { IfOk result (λ reply. Replies (request_in (view value.now)) self.old.solo reply self.new.solo) }
+        ensures ok { IfOk result (λ reply.
+            Replies (request_in (view value.now)) self.old.solo reply self.new.solo) }
         ensures slots { self.new.slots ≡ self.old.slots }
-        ensures err { IfErr result (λ end. (end ≡ ScriptEnd.Memory) × (self.new.solo ≡ self.old.solo)) }
+        ensures err { IfErr result (λ end.
+            (end ≡ ScriptEnd.Memory) × (self.new.solo ≡ self.old.solo)) }
     {
         match request_in(alloc, value) {
             Ok(request) => Ok(self.reply(request)),
@@ -117,9 +126,11 @@ impl Own {
     }
 
     fn advance(&mut self, slot: u64) -> Result<Option<Answer>, ScriptEnd>
-        ensures ok { IfOk result (λ answer. advancement self.old.slots self.old.solo slot ≡ (answer, self.new.solo)) }
+        ensures ok { IfOk result (λ answer.
+            advancement self.old.slots self.old.solo slot ≡ (answer, self.new.solo)) }
         ensures slots { self.new.slots ≡ self.old.slots }
-        ensures err { IfErr result (λ end. (end ≡ ScriptEnd.Memory) × (self.new.solo ≡ self.old.solo)) }
+        ensures err { IfErr result (λ end.
+            (end ≡ ScriptEnd.Memory) × (self.new.solo ≡ self.old.solo)) }
     {
         let Some(slot) = self.slot(slot) else {
             return Ok(None);

@@ -34,9 +34,11 @@ pub fn script<R: Read, W: Write>(
     ensures no_answer { result ≡ ScriptEnd.Config → writer.new ≡ writer.old }
 
     // Where the bytes are known, the answers to all lines are written.
-    ensures no_tenant { result ≡ ScriptEnd.Config → IsSome (R.remaining reader.old) → NamesNoTenant (all_lines (R.remaining reader.old)) }
+    ensures no_tenant { result ≡ ScriptEnd.Config → IsSome (R.remaining reader.old)
+        → NamesNoTenant (all_lines (R.remaining reader.old)) }
     ensures done { result ≡ ScriptEnd.Done → IsSome (R.remaining reader.old)
-        → AnswersScript (all_lines (R.remaining reader.old)) (W.contents writer.old) (W.contents writer.new) }
+        → AnswersScript (all_lines (R.remaining reader.old))
+        (W.contents writer.old) (W.contents writer.new) }
 {
     let ended = match words {
         [] | ["own"] => own(alloc, reader, writer),
@@ -51,8 +53,11 @@ pub fn script<R: Read, W: Write>(
 fn own<R: Read, W: Write>(alloc: Global, reader: &mut R, writer: &mut W) -> Result<(), ScriptEnd>
     ensures ends { IfErr result IsFault }
     ensures unwritten { result ≡ Err ScriptEnd.Config → writer.new ≡ writer.old }
-    ensures no_tenant { result ≡ Err ScriptEnd.Config → IsSome (R.remaining reader.old) → NamesNoTenant (all_lines (R.remaining reader.old)) }
-    ensures done { OnOk result (IsSome (R.remaining reader.old) → AnswersScript (all_lines (R.remaining reader.old)) (W.contents writer.old) (W.contents writer.new)) }
+    ensures no_tenant { result ≡ Err ScriptEnd.Config → IsSome (R.remaining reader.old)
+        → NamesNoTenant (all_lines (R.remaining reader.old)) }
+    ensures done { OnOk result (IsSome (R.remaining reader.old)
+        → AnswersScript (all_lines (R.remaining reader.old))
+        (W.contents writer.old) (W.contents writer.new)) }
 {
     let mut lines = LineReader::new(alloc, MAX_SCRIPT_LINE)?;
     if next_input(&mut lines, reader)? != Input::Line {
@@ -72,7 +77,8 @@ fn take_all<R: Read, W: Write>(
 ) -> Result<(), ScriptEnd>
     ensures ends { IfErr result (λ end. IsFault end × (end ≢ ScriptEnd.Config)) }
     ensures done { OnOk result (IsSome (R.remaining reader.old) → (final : State)
-        × AnswersAll own.slots (script_lines lines (R.remaining reader.old)) own.solo (W.contents writer.old) (W.contents writer.new) final) }
+        × AnswersAll own.slots (script_lines lines (R.remaining reader.old)) own.solo
+        (W.contents writer.old) (W.contents writer.new) final) }
 {
     for _line in 0..u64::MAX {
         let input = next_input(&mut lines, reader)?;

@@ -15,7 +15,8 @@ pub struct WriteFault {
 /// call has failed: none is tried again.
 pub fn write_all_of<W: Write>(writer: &mut W, bytes: &[u8]) -> Result<(), WriteFault>
     ensures ok { OnOk result (Appends (W.contents writer.old) (W.contents writer.new) bytes.now) }
-    ensures err { IfErr result (λ fault. Appends (W.contents writer.old) (W.contents writer.new) (take fault.sent bytes.now)) }
+    ensures err { IfErr result (λ fault.
+        Appends (W.contents writer.old) (W.contents writer.new) (take fault.sent bytes.now)) }
     ensures short { IfErr result (λ fault. fault.sent < length bytes.now) }
 {
     let mut sent = 0;
