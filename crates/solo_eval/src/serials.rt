@@ -1,10 +1,10 @@
 // The serial value of a program: each task runs as soon as it is made, and to its end.
-ghost use Rattle.std.specs.Prelude.{◌≡◌, ◌<◌, ℕ, suc, true, false, [], pos, IfOk};
+ghost use Rattle.std.specs.Prelude.{◌≡◌, ◌<◌, true, false, IfOk};
 ghost use Rattle.job_language.specs.Program.{is_last};
 ghost use Rattle.job_language.specs.Serial.{is_serial};
 ghost use Rattle.job_step.specs.Frame.{effect, instr_at};
 ghost use Rattle.tenant_model.specs.Serial.{begun, is_owing, making, root_task, serial_value, sum_of, turn_at, turn_by, turn_of, waited, with_value_to};
-ghost use Rattle.solo_eval.specs.Serial.{Turns, nest_value, value_given, given_to};
+ghost use Rattle.solo_eval.specs.Serial.{Turns};
 
 use job_language::{GROUPS, Group, Instr, Program, Register};
 use job_step::{Frame, Single, effect_on};
