@@ -4,4 +4,6 @@ pub mod OwnEnds
 pub mod OwnLine
 pub mod ScriptAnswers
 pub mod ScriptLines
+pub mod SerialAnswers
+pub mod SerialEnds
 pub mod Steps

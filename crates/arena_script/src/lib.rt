@@ -5,6 +5,7 @@ mod ends;
 mod inputs;
 mod own;
 mod scripts;
+mod serials;
 mod steps;
 #[cfg(test)]
 mod tests;

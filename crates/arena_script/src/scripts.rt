@@ -6,10 +6,12 @@ ghost use Rattle.arena_script.specs.OwnAnswers.{told};
 ghost use Rattle.arena_script.specs.OwnEnds.{are_own_words, IsFault, IsOwnEnd};
 ghost use Rattle.arena_script.specs.ScriptAnswers.{AnswersAll, AnswersScript, NamesNoTenant};
 ghost use Rattle.arena_script.specs.ScriptLines.{script_lines, all_lines};
+ghost use Rattle.arena_script.specs.SerialEnds.{are_known_words, are_serial_words, IsSerialEnd};
 
 use crate::ends::ScriptEnd;
 use crate::inputs::{Input, MAX_SCRIPT_LINE, next_input};
 use crate::own::Own;
+use crate::serials::serial_values;
 use job_language::Answer;
 use reply_writer::{ReplyBuf, answer_line, bad_step_line, write_all_of};
 use request_reader::LineReader;
@@ -18,7 +20,8 @@ use std::io::{Read, Write};
 
 /// Does the whole work of `arena-script`: reads a script, and writes one line for each of its
 /// lines that is not blank, in order. Without a word, or with the word `own`, the first line is a
-/// tenant and the others are its steps.
+/// tenant and the others are its steps. With the word `serial` each line is a job, whose serial
+/// value is asked.
 pub fn script<R: Read, W: Write>(
     alloc: Global,
     words: &[&str],
@@ -26,7 +29,8 @@ pub fn script<R: Read, W: Write>(
     writer: &mut W,
 ) -> ScriptEnd
     ensures words { are_own_words words.now ≡ true → IsOwnEnd result }
-    ensures other_words { are_own_words words.now ≡ false → result ≡ ScriptEnd.Words }
+    ensures serial { are_serial_words words.now ≡ true → IsSerialEnd result }
+    ensures other_words { are_known_words words.now ≡ false → result ≡ ScriptEnd.Words }
     ensures unread { result ≡ ScriptEnd.Words → reader.new ≡ reader.old }
 
     // Nothing is written before the first line is a tenant.
@@ -36,11 +40,12 @@ pub fn script<R: Read, W: Write>(
     // Where the bytes are known, the answers to all lines are written.
     ensures no_tenant { result ≡ ScriptEnd.Config → IsSome (R.remaining reader.old)
         → NamesNoTenant (all_lines (R.remaining reader.old)) }
-    ensures done { result ≡ ScriptEnd.Done → IsSome (R.remaining reader.old)
+    ensures done { are_own_words words.now ≡ true → result ≡ ScriptEnd.Done → IsSome (R.remaining reader.old)
         → AnswersScript (all_lines (R.remaining reader.old))
         (W.contents writer.old) (W.contents writer.new) }
 {
     let ended = match words {
+        ["serial"] => serial_values(alloc, reader, writer),
         [] | ["own"] => own(alloc, reader, writer),
         _ => Err(ScriptEnd::Words),
     };
@@ -101,7 +106,7 @@ fn told(answer: Option<Answer>) -> ReplyBuf
     }
 }
 
-fn put<W: Write>(writer: &mut W, line: &[u8]) -> Result<(), ScriptEnd>
+pub(crate) fn put<W: Write>(writer: &mut W, line: &[u8]) -> Result<(), ScriptEnd>
     ensures ok { OnOk result (Appends (W.contents writer.old) (W.contents writer.new) line.now) }
     ensures err { IfErr result (λ end. end ≡ ScriptEnd.Device) }
 {

@@ -1,3 +1,4 @@
 pub mod Execution
 pub mod Frame
 pub mod Run
+pub mod Single

@@ -35,7 +35,7 @@ pub struct Run {
 
 /// What an instruction does by itself.
 #[derive(Clone, Copy)]
-enum Effect {
+pub(crate) enum Effect {
     /// The frame goes on at a place.
     Goes(u8),
     DividesByZero,
@@ -131,7 +131,7 @@ fn run_in(instrs: &[Instr], start: Frame, slot: u8, width: u8) -> Run
 }
 
 #[inline(always)]
-fn execute(
+pub(crate) fn execute(
     instr: &Instr,
     slot: u8,
     width: u8,

@@ -1,2 +1,3 @@
 pub mod AnswerText
 pub mod ReplyText
+pub mod SerialText

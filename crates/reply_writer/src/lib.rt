@@ -3,6 +3,7 @@
 
 mod answers;
 mod replies;
+mod serials;
 #[cfg(test)]
 mod tests;
 mod texts;
@@ -10,5 +11,6 @@ mod writes;
 
 pub use answers::{answer_line, bad_step_line};
 pub use replies::reply_line;
+pub use serials::{SerialAnswer, serial_line};
 pub use texts::{MAX_LINE, ReplyBuf};
 pub use writes::{WriteFault, write_all_of};

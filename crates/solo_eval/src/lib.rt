@@ -7,9 +7,11 @@ mod cells;
 mod chains;
 mod execution;
 mod groups;
+mod serials;
 mod shared;
 mod solo;
 mod stacks;
 mod state;
 
+pub use serials::serial;
 pub use solo::Solo;

@@ -11,6 +11,7 @@ use Rattle.job_step.specs.Frame.{new_frame, register, with_register, instr_at, E
 use Rattle.tenant_model.specs.declared.serials.SerialTask.{SerialTask}
 use Rattle.tenant_model.specs.declared.serials.ValueTo.{ValueTo}
 use Rattle.tenant_model.specs.declared.serials.ValueTo.TheVariants as to
+use Rattle.tenant_model.specs.declared.serials.SerialMaker.{SerialMaker}
 use Rattle.tenant_model.specs.declared.serials.SerialTurn.{SerialTurn}
 use Rattle.tenant_model.specs.declared.serials.SerialTurn.TheVariants.{Goes, Makes, Gives, Fails}
 use Rattle.tenant_model.specs.Shared.{next_place, called}
@@ -27,10 +28,16 @@ sum_of t g = unwrap_or (slice_index_or t.sums g None) (pos 0)
 abbrev pub is_owing : SerialTask → Bool
 is_owing t = list_any (λ (sum : Option ℤ). is_some sum) t.sums
 
--- the task behind a spawn or an isolate, with the value of the task that it made
-abbrev pub with_value : ValueTo → SerialTask → ℤ → SerialTask
-with_value (to.Group g) t v = record { frame = next_place t.frame; sums = slice_set t.sums g (Some (int_wrapping_add w64 (sum_of t g) v)) }
-with_value (to.Register d) t v = record t { frame = with_register t.frame d v }
+abbrev pub with_value_to : ValueTo → SerialTask → ℤ → SerialTask
+with_value_to (to.Group g) t v = record t { sums = slice_set t.sums g (Some (int_wrapping_add w64 (sum_of t g) v)) }
+with_value_to (to.Register d) t v = record t { frame = record t.frame { registers = slice_set t.frame.registers d v } }
+
+-- the maker of a task, with that task's value
+abbrev pub with_value : SerialMaker → ℤ → SerialTask
+with_value m v = with_value_to m.to m.task v
+
+abbrev pub making : SerialTask → (p a b : ℕ) → ValueTo → SerialTurn
+making t p a b to = Makes (begun (called t.frame p a b)) (record { task = record t { frame = next_place t.frame }; to = to })
 
 -- the task behind a wait: nothing was cancelled, so the status is 1
 abbrev pub waited : SerialTask → (d e g : ℕ) → SerialTask
@@ -47,8 +54,8 @@ turn_by t IsShared = Fails
 
 -- what a task does by an instruction of a serial program
 abbrev pub turn_of : Instr → SerialTask → SerialTurn
-turn_of (Spawn g p a b) t = Makes (begun (called t.frame p a b)) (to.Group g)
-turn_of (Isolate d p a b) t = Makes (begun (called t.frame p a b)) (to.Register d)
+turn_of (Spawn g p a b) t = making t p a b (to.Group g)
+turn_of (Isolate d p a b) t = making t p a b (to.Register d)
 turn_of (Wait d e g) t = Goes (waited t d e g)
 turn_of (Ret a) t = if is_owing t then Fails else Gives (register t.frame a)
 turn_of i t = turn_by t (effect i 0 0 t.frame)
@@ -66,17 +73,17 @@ given_then None next = None
 given_then (Some p) next = next p.0 p.1
 
 -- what a task gives by its turn, with so many instructions left behind it, where `next` says what each task gives with the instructions that are left
-abbrev pub given_by : (next : ℕ → SerialTask → Given) → SerialTask → (left : ℕ) → SerialTurn → Given
-given_by next t left (Goes u) = next left u
-given_by next t left (Makes u to) = given_then (next left u) (λ v rest. next rest (with_value to t v))
-given_by next t left (Gives v) = Some (v, left)
-given_by next t left Fails = None
+abbrev pub given_by : (next : ℕ → SerialTask → Given) → (left : ℕ) → SerialTurn → Given
+given_by next left (Goes t) = next left t
+given_by next left (Makes t m) = given_then (next left t) (λ v rest. next rest (with_value m v))
+given_by next left (Gives v) = Some (v, left)
+given_by next left Fails = None
 
 -- what a task gives with so many instructions, of which no more than a bound are executed one behind or inside another
 unfoldable pub given_within : (bound : ℕ) → List (List Instr) → (left : ℕ) → SerialTask → Given
 given_within zero procs left t = None
 given_within (suc bound) procs zero t = None
-given_within (suc bound) procs (suc left) t = given_by (given_within bound procs) t left (turn_at (instr_at procs t.frame) t)
+given_within (suc bound) procs (suc left) t = given_by (given_within bound procs) left (turn_at (instr_at procs t.frame) t)
 
 -- The serial value of a task with so many instructions, and how many of them are left. Each instruction takes one, so their number is bound enough.
 abbrev pub given_of : List (List Instr) → (left : ℕ) → SerialTask → Given

@@ -11,6 +11,6 @@ mod works;
 pub use laws::never_stuck;
 pub use rows::{Kind, MAX_HEIGHT, Mark, Phase, Row};
 pub use serial_worked::serial_examples;
-pub use serials::{SerialTask, SerialTurn, ValueTo};
+pub use serials::{SerialMaker, SerialTask, SerialTurn, ValueTo};
 pub use worked::worked_examples;
 pub use works::{MAX_JOBS, Work};

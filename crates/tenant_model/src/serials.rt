@@ -18,13 +18,20 @@ pub enum ValueTo {
     Register(Register),
 }
 
+/// A task that waits at the instruction behind the one that made another task.
+#[derive(Clone, Copy, Debug)]
+pub struct SerialMaker {
+    pub task: SerialTask,
+    pub to: ValueTo,
+}
+
 /// What a task does by one instruction.
 #[derive(Clone, Copy, Debug)]
 pub enum SerialTurn {
     /// It goes on so.
     Goes(SerialTask),
-    /// It makes that task, whose value goes there, and goes on behind it.
-    Makes(SerialTask, ValueTo),
+    /// It makes that task, and waits for its value.
+    Makes(SerialTask, SerialMaker),
     /// It ends with that value.
     Gives(i64),
     /// It ends without a value.

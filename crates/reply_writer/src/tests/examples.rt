@@ -1,5 +1,5 @@
 // Worked examples: the line of each reply and of each answer to a step.
-use crate::{answer_line, bad_step_line, reply_line};
+use crate::{SerialAnswer, answer_line, bad_step_line, reply_line, serial_line};
 use job_language::{Answer, Came, Error, JobFault, Key, Level, Moved, Reply, Status, TenantName};
 use std::test::Fail;
 
@@ -95,4 +95,24 @@ fn each_answer_has_its_line(rt: HostRuntime) {
         bad_step_line().line(),
         b"{\"moved\":\"bad_step\"}\n".as_slice()
     );
+}
+
+#[test]
+fn each_serial_value_has_its_line(rt: HostRuntime) {
+    let table = [
+        (SerialAnswer::Value(8), "{\"serial\":8}\n"),
+        (
+            SerialAnswer::Value(i64::MIN),
+            "{\"serial\":-9223372036854775808}\n",
+        ),
+        (SerialAnswer::NoValue, "{\"serial\":\"none\"}\n"),
+        (SerialAnswer::NotSerial, "{\"serial\":\"not_serial\"}\n"),
+        (
+            SerialAnswer::Refused(Error::BadJson),
+            "{\"code\":2,\"error\":\"bad_json\"}\n",
+        ),
+    ];
+    for (answer, line) in table {
+        assert_eq!(rt; serial_line(&answer).line(), line.as_bytes());
+    }
 }
