@@ -1,3 +1,4 @@
 pub mod Execution
 pub mod Limits
 pub mod TenantState
+pub mod Verdicts

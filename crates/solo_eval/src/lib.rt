@@ -5,6 +5,7 @@ mod advances;
 mod asks;
 mod cells;
 mod chains;
+mod checking;
 mod execution;
 mod groups;
 mod shared;
@@ -12,4 +13,5 @@ mod solo;
 mod stacks;
 mod state;
 
+pub use checking::{Verdict, check};
 pub use solo::Solo;

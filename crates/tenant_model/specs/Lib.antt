@@ -9,4 +9,6 @@ pub mod Shared
 pub mod Advance
 pub mod Asks
 pub mod Solo
+pub mod SameAnswer
+pub mod Checked
 pub mod Worked
