@@ -116,7 +116,7 @@ impl Own {
 }
 
 /// The tenant that a line names.
-fn tenant_of(alloc: Global, line: &[u8]) -> Result<TenantConfig, ScriptEnd>
+pub(crate) fn tenant_of(alloc: Global, line: &[u8]) -> Result<TenantConfig, ScriptEnd>
     ensures { IfErr result IsFault }
 {
     let value = match value_of(alloc, line) {
@@ -137,7 +137,7 @@ fn tenant_of(alloc: Global, line: &[u8]) -> Result<TenantConfig, ScriptEnd>
 }
 
 /// The request that a value spells, with its job read.
-fn request_in(alloc: Global, value: &Value) -> Result<Request, Error>
+pub(crate) fn request_in(alloc: Global, value: &Value) -> Result<Request, Error>
     ensures { Readies result (request_in (view value.now)) }
 {
     ready(alloc, request_of(alloc, value)?)

@@ -1,8 +1,10 @@
 // A script, from its words and its first line to its end.
 ghost use Rattle.std.specs.Prelude.{◌≡◌, true, false, IfErr};
+ghost use Rattle.arena_script.specs.CheckEnds.{are_check_words, IsCheckEnd};
 ghost use Rattle.arena_script.specs.OwnAnswers.{told};
 ghost use Rattle.arena_script.specs.OwnEnds.{are_own_words, IsFault, IsOwnEnd};
 
+use crate::checks::check_dump;
 use crate::ends::ScriptEnd;
 use crate::inputs::{Input, MAX_SCRIPT_LINE, next_input};
 use crate::own::Own;
@@ -12,9 +14,10 @@ use request_reader::LineReader;
 use std::alloc::Global;
 use std::io::{Read, Write};
 
-/// Does the whole work of `arena-script`: reads a script, and writes one line for each of its
-/// lines that is not blank, in order. Without a word, or with the word `own`, the first line is a
-/// tenant and the others are its steps.
+/// Does the whole work of `arena-script`. Without a word, or with the word `own`, it reads a script,
+/// whose first line is a tenant and whose others are its steps, and writes one line for each of its
+/// lines that is not blank, in order. With the word `check` it reads a dump and writes one line: its
+/// verdict, or the number of its first bad line.
 pub fn script<R: Read, W: Write>(
     alloc: Global,
     words: &[&str],
@@ -22,7 +25,8 @@ pub fn script<R: Read, W: Write>(
     writer: &mut W,
 ) -> ScriptEnd
     ensures words { are_own_words words.now ≡ true → IsOwnEnd result }
-    ensures other_words { are_own_words words.now ≡ false → result ≡ ScriptEnd.Words }
+    ensures check_words { are_check_words words.now ≡ true → IsCheckEnd result }
+    ensures other_words { are_own_words words.now ≡ false → are_check_words words.now ≡ false → result ≡ ScriptEnd.Words }
     ensures unread { result ≡ ScriptEnd.Words → reader.new ≡ reader.old }
 
     // Nothing is written before the first line is a tenant.
@@ -31,6 +35,7 @@ pub fn script<R: Read, W: Write>(
 {
     let ended = match words {
         [] | ["own"] => own(alloc, reader, writer),
+        ["check"] => check_dump(alloc, reader, writer),
         _ => Err(ScriptEnd::Words),
     };
     match ended {
@@ -68,7 +73,7 @@ fn told(answer: Option<Answer>) -> ReplyBuf
     }
 }
 
-fn put<W: Write>(writer: &mut W, line: &[u8]) -> Result<(), ScriptEnd>
+pub(crate) fn put<W: Write>(writer: &mut W, line: &[u8]) -> Result<(), ScriptEnd>
     ensures { IfErr result (λ end. end ≡ ScriptEnd.Device) }
 {
     match write_all_of(writer, line) {
