@@ -1,3 +1,4 @@
+pub mod CheckEnds
 pub mod Ends
 pub mod OwnAnswers
 pub mod OwnEnds
@@ -7,3 +8,5 @@ pub mod ScriptLines
 pub mod SerialAnswers
 pub mod SerialEnds
 pub mod Steps
+pub mod VerdictText
+pub mod KnownWords

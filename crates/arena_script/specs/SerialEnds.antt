@@ -1,8 +1,7 @@
 -- When a script asks for serial values, and how it may end.
-use Rattle.std.specs.Prelude.{ℕ, List, [], ◌∷◌, Bool, false, ◌||◌, codes}
+use Rattle.std.specs.Prelude.{ℕ, List, [], ◌∷◌, Bool, false, codes}
 use Rattle.std.specs.Borrow.{Bor}
 use Rattle.std.specs.Str.{bytes_eq}
-use Rattle.arena_script.specs.OwnEnds.{are_own_words}
 use Rattle.arena_script.specs.declared.ends.ScriptEnd.{ScriptEnd}
 use Rattle.arena_script.specs.declared.ends.ScriptEnd.TheVariants.{Done, Device, Memory}
 
@@ -11,9 +10,6 @@ abbrev pub are_serial_words : List (Bor (List ℕ)) → Bool
 are_serial_words [] = false
 are_serial_words (word ∷ []) = bytes_eq word.now (codes "serial")
 are_serial_words (word ∷ other ∷ words) = false
-
-abbrev pub are_known_words : List (Bor (List ℕ)) → Bool
-are_known_words words = are_own_words words || are_serial_words words
 
 -- what may end it before its last line is answered
 abbrev pub IsSerialFault : ScriptEnd → Type 0

@@ -1,6 +1,9 @@
 //! The scripts of `arena-script`: lines of steps in, lines of answers out.
 #![tactic(auto)]
 
+mod checks;
+mod dump_replies;
+mod dumps;
 mod ends;
 mod inputs;
 mod own;

@@ -152,7 +152,7 @@ impl Own {
 }
 
 /// The tenant that a line names.
-fn tenant_of(alloc: Global, line: &[u8]) -> Result<TenantConfig, ScriptEnd>
+pub(crate) fn tenant_of(alloc: Global, line: &[u8]) -> Result<TenantConfig, ScriptEnd>
     ensures ok { IfOk result (λ config. tenant_in line.now ≡ Some config) }
     ensures no_tenant { result ≡ Err ScriptEnd.Config → tenant_in line.now ≡ None }
     ensures err { IfErr result IsFault }
@@ -175,7 +175,7 @@ fn tenant_of(alloc: Global, line: &[u8]) -> Result<TenantConfig, ScriptEnd>
 }
 
 /// The request that a value spells, with its job read.
-fn request_in(alloc: Global, value: &Value) -> Result<Request, Error>
+pub(crate) fn request_in(alloc: Global, value: &Value) -> Result<Request, Error>
     ensures { Readies result (request_in (view value.now)) }
 {
     ready(alloc, request_of(alloc, value)?)

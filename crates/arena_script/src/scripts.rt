@@ -2,12 +2,15 @@
 ghost use Rattle.std.specs.Prelude.{◌≡◌, ◌≢◌, true, false, Err, IsSome, IfErr, OnOk};
 ghost use Rattle.std.specs.Io.KnownBytes.{Appends};
 ghost use Rattle.tenant_model.specs.State.{State};
+ghost use Rattle.arena_script.specs.CheckEnds.{are_check_words, IsCheckEnd};
+ghost use Rattle.arena_script.specs.KnownWords.{are_known_words};
 ghost use Rattle.arena_script.specs.OwnAnswers.{told};
 ghost use Rattle.arena_script.specs.OwnEnds.{are_own_words, IsFault, IsOwnEnd};
 ghost use Rattle.arena_script.specs.ScriptAnswers.{AnswersAll, AnswersScript, NamesNoTenant};
 ghost use Rattle.arena_script.specs.ScriptLines.{script_lines, all_lines};
-ghost use Rattle.arena_script.specs.SerialEnds.{are_known_words, are_serial_words, IsSerialEnd};
+ghost use Rattle.arena_script.specs.SerialEnds.{are_serial_words, IsSerialEnd};
 
+use crate::checks::check_dump;
 use crate::ends::ScriptEnd;
 use crate::inputs::{Input, MAX_SCRIPT_LINE, next_input};
 use crate::own::Own;
@@ -21,7 +24,8 @@ use std::io::{Read, Write};
 /// Does the whole work of `arena-script`: reads a script, and writes one line for each of its
 /// lines that is not blank, in order. Without a word, or with the word `own`, the first line is a
 /// tenant and the others are its steps. With the word `serial` each line is a job, whose serial
-/// value is asked.
+/// value is asked. With the word `check` it reads a dump and writes one line: its verdict, or the
+/// number of its first bad line.
 pub fn script<R: Read, W: Write>(
     alloc: Global,
     words: &[&str],
@@ -29,6 +33,7 @@ pub fn script<R: Read, W: Write>(
     writer: &mut W,
 ) -> ScriptEnd
     ensures words { are_own_words words.now ≡ true → IsOwnEnd result }
+    ensures check { are_check_words words.now ≡ true → IsCheckEnd result }
     ensures serial { are_serial_words words.now ≡ true → IsSerialEnd result }
     ensures other_words { are_known_words words.now ≡ false → result ≡ ScriptEnd.Words }
     ensures unread { result ≡ ScriptEnd.Words → reader.new ≡ reader.old }
@@ -47,6 +52,7 @@ pub fn script<R: Read, W: Write>(
     let ended = match words {
         ["serial"] => serial_values(alloc, reader, writer),
         [] | ["own"] => own(alloc, reader, writer),
+        ["check"] => check_dump(alloc, reader, writer),
         _ => Err(ScriptEnd::Words),
     };
     match ended {

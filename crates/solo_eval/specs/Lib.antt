@@ -2,3 +2,4 @@ pub mod Execution
 pub mod Limits
 pub mod Serial
 pub mod TenantState
+pub mod Verdicts

@@ -5,6 +5,7 @@ mod advances;
 mod asks;
 mod cells;
 mod chains;
+mod checking;
 mod execution;
 mod groups;
 mod serials;
@@ -13,5 +14,6 @@ mod solo;
 mod stacks;
 mod state;
 
+pub use checking::{Verdict, check};
 pub use serials::serial;
 pub use solo::Solo;

@@ -12,4 +12,6 @@ pub mod Asks
 pub mod Solo
 pub mod Serial
 pub mod SerialWorked
+pub mod SameAnswer
+pub mod Checked
 pub mod Worked

@@ -1,0 +1,48 @@
+// Checking a dump.
+ghost use Rattle.std.specs.Prelude.{◌≡◌, IfErr, IfOk, string_bytes};
+ghost use Rattle.arena_script.specs.CheckEnds.{IsCheckFault};
+ghost use Rattle.arena_script.specs.VerdictText.{verdict_text, bad_line_text};
+
+use crate::dumps::{DumpRead, read_dump};
+use crate::ends::ScriptEnd;
+use crate::scripts::put;
+use solo_eval::Verdict;
+use std::alloc::{AllocError, Global};
+use std::io::{Read, Write};
+
+/// Reads a dump, and writes its verdict, or the number of its first bad line.
+pub(crate) fn check_dump<R: Read, W: Write>(
+    alloc: Global,
+    reader: &mut R,
+    writer: &mut W,
+) -> Result<(), ScriptEnd>
+    ensures { IfErr result IsCheckFault }
+{
+    match read_dump(alloc, reader)? {
+        DumpRead::Whole(dump) => {
+            let verdict = dump.verdict(alloc)?;
+            put(writer, verdict_line(alloc, verdict)?.as_bytes())
+        }
+        DumpRead::BadLine(number) => {
+            put(writer, bad_line(alloc, number)?.as_bytes())?;
+            Err(ScriptEnd::BadLine)
+        }
+    }
+}
+
+/// The line that tells a verdict.
+fn verdict_line(alloc: Global, verdict: Verdict) -> Result<String, AllocError>
+    ensures { IfOk result (λ line. string_bytes line ≡ verdict_text verdict) }
+{
+    match verdict {
+        Verdict::Yes => format!(in alloc; "yes\n"),
+        Verdict::No(number) => format!(in alloc; "no at step {number}\n"),
+    }
+}
+
+/// The line that tells the number of a bad line.
+fn bad_line(alloc: Global, number: u64) -> Result<String, AllocError>
+    ensures { IfOk result (λ line. string_bytes line ≡ bad_line_text number) }
+{
+    format!(in alloc; "bad line {number}\n")
+}

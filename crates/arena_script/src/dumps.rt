@@ -1,0 +1,204 @@
+// The lines of a dump: a tenant, and the entries of its history.
+ghost use Rattle.std.specs.Prelude.{IfErr};
+ghost use Rattle.arena_script.specs.CheckEnds.{IsLost};
+
+use crate::dump_replies::{natural, reply_in, small};
+use crate::ends::ScriptEnd;
+use crate::inputs::MAX_SCRIPT_LINE;
+use crate::own::{request_in, tenant_of};
+use job_language::values::has_members;
+use job_language::{Answer, Came, Entry, Error, Moved, Request, Step, TenantConfig};
+use request_reader::{LineRead, LineReader, value_of};
+use serde_json::Value;
+use solo_eval::{Verdict, check};
+use std::alloc::{AllocError, Global};
+use std::io::Read;
+
+/// What a line of a dump says.
+#[derive(Drop)]
+enum Said {
+    Entry(Entry),
+    /// An entry of a slot that no tenant has, or with an answer that no tenant gives.
+    Foreign,
+}
+
+/// A tenant, and what a dump says of its history.
+#[derive(Drop)]
+pub(crate) struct Dump {
+    config: TenantConfig,
+    /// The entries before the first that is foreign.
+    entries: Vec<Entry>,
+    has_foreign: bool,
+}
+
+/// What reading a dump came to.
+#[derive(Drop)]
+pub(crate) enum DumpRead {
+    Whole(Dump),
+    /// The line of that number, from 1, is the first that is none of a dump's.
+    BadLine(u64),
+}
+
+/// Reads a dump to its end, or to its first bad line.
+pub(crate) fn read_dump<R: Read>(alloc: Global, reader: &mut R) -> Result<DumpRead, ScriptEnd>
+    ensures { IfErr result IsLost }
+{
+    let mut lines = LineReader::new(alloc, MAX_SCRIPT_LINE)?;
+    let Some(mut dump) = read_first(alloc, &mut lines, reader)? else {
+        return Ok(DumpRead::BadLine(1));
+    };
+    for number in 2..u64::MAX {
+        match lines.read_line(reader) {
+            LineRead::Line => match said_by(alloc, lines.line())? {
+                Some(said) => dump.add(said)?,
+                None => return Ok(DumpRead::BadLine(number)),
+            },
+            LineRead::TooLong => return Ok(DumpRead::BadLine(number)),
+            LineRead::End => return Ok(DumpRead::Whole(dump)),
+            LineRead::ReadFault | LineRead::TurnLimit => return Err(ScriptEnd::Device),
+        }
+    }
+    Err(ScriptEnd::Device)
+}
+
+/// A dump with no entry yet, of the tenant that the first line names.
+fn read_first<R: Read>(
+    alloc: Global,
+    lines: &mut LineReader,
+    reader: &mut R,
+) -> Result<Option<Dump>, ScriptEnd>
+    ensures { IfErr result IsLost }
+{
+    match lines.read_line(reader) {
+        LineRead::Line => {}
+        LineRead::TooLong | LineRead::End => return Ok(None),
+        LineRead::ReadFault | LineRead::TurnLimit => return Err(ScriptEnd::Device),
+    }
+    match tenant_of(alloc, lines.line()) {
+        Ok(config) => Ok(Some(Dump {
+            config,
+            entries: Vec::new(alloc),
+            has_foreign: false,
+        })),
+        Err(ScriptEnd::Config) => Ok(None),
+        Err(end) => Err(end),
+    }
+}
+
+impl Dump {
+    /// Adds what the next line says.
+    fn add(&mut self, said: Said) -> Result<(), AllocError> {
+        match said {
+            Said::Foreign => self.has_foreign = true,
+            Said::Entry(entry) => {
+                if !self.has_foreign {
+                    self.entries.push(entry)?;
+                }
+            }
+        }
+        Ok(())
+    }
+
+    /// The verdict on its history, in which a foreign entry is never right.
+    pub(crate) fn verdict(&self, alloc: Global) -> Result<Verdict, AllocError> {
+        let verdict = check(alloc, self.config, self.entries.as_slice())?;
+        if verdict == Verdict::Yes && self.has_foreign {
+            return Ok(Verdict::No(self.entries.len() as u64 + 1));
+        }
+        Ok(verdict)
+    }
+}
+
+/// What a line says, where it has the shape of an entry.
+fn said_by(alloc: Global, line: &[u8]) -> Result<Option<Said>, ScriptEnd>
+    ensures { IfErr result IsLost }
+{
+    let value = match value_of(alloc, line) {
+        Ok(value) => value,
+        Err(Error::NoMemory) => return Err(ScriptEnd::Memory),
+        Err(_) => return Ok(None),
+    };
+    match step_word(&value) {
+        Some("ask") => asked(alloc, &value),
+        Some("arrive") => Ok(arrived(&value)),
+        Some("advance") => Ok(advanced(&value)),
+        _ => Ok(None),
+    }
+}
+
+fn step_word(value: &Value) -> Option<&str> {
+    value.get("step")?.as_str()
+}
+
+fn asked(alloc: Global, value: &Value) -> Result<Option<Said>, ScriptEnd>
+    ensures { IfErr result IsLost }
+{
+    if !has_members(3, value) {
+        return Ok(None);
+    }
+    let (Some(request), Some(reply)) = (value.get("request"), value.get("reply")) else {
+        return Ok(None);
+    };
+    let Some(reply) = reply_in(reply) else {
+        return Ok(None);
+    };
+    let Some(request) = recorded(alloc, request)? else {
+        return Ok(None);
+    };
+    match reply {
+        Some(reply) => Ok(Some(Said::Entry(Entry {
+            step: Step::Ask(request),
+            answer: Answer::Replied(reply),
+        }))),
+        None => Ok(Some(Said::Foreign)),
+    }
+}
+
+/// The request that a value spells, where it is valid and no hello.
+fn recorded(alloc: Global, value: &Value) -> Result<Option<Request>, ScriptEnd>
+    ensures { IfErr result IsLost }
+{
+    match request_in(alloc, value) {
+        Ok(Request::Hello(_)) => Ok(None),
+        Ok(request) => Ok(Some(request)),
+        Err(Error::NoMemory) => Err(ScriptEnd::Memory),
+        Err(_) => Ok(None),
+    }
+}
+
+fn arrived(value: &Value) -> Option<Said> {
+    if !has_members(4, value) || value.get("moved")?.as_str()? != "arrived" {
+        return None;
+    }
+    let slot = small("slot", value)?;
+    let row = natural("row", value)?;
+    match (slot, row) {
+        (Some(slot), Some(row)) => Some(Said::Entry(Entry {
+            step: Step::Arrive(slot),
+            answer: Answer::Came(Came::At(row)),
+        })),
+        _ => Some(Said::Foreign),
+    }
+}
+
+fn advanced(value: &Value) -> Option<Said> {
+    let slot = small("slot", value)?;
+    let moved = moved_in(value)?;
+    match (slot, moved) {
+        (Some(slot), Some(moved)) => Some(Said::Entry(Entry {
+            step: Step::Advance(slot),
+            answer: Answer::Moved(moved),
+        })),
+        _ => Some(Said::Foreign),
+    }
+}
+
+/// What an advance did; a row of a number below 0 is an inner `None`.
+fn moved_in(value: &Value) -> Option<Option<Moved>> {
+    match value.get("moved")?.as_str()? {
+        "ran" if has_members(3, value) => Some(Some(Moved::Ran)),
+        "freed" if has_members(3, value) => Some(Some(Moved::Freed)),
+        "nested" if has_members(4, value) => Some(natural("row", value)?.map(Moved::Nested)),
+        _ => None,
+    }
+}
