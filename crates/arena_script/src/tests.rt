@@ -3,6 +3,7 @@ mod devices;
 mod examples;
 mod memory;
 mod refusals;
+mod serials;
 
 use crate::{ScriptEnd, script};
 use std::alloc::{AllocError, Global};
