@@ -5,6 +5,7 @@ mod evaluator;
 mod examples;
 mod memory;
 mod refusals;
+mod serials;
 
 use crate::{ScriptEnd, script};
 use std::alloc::{AllocError, Global};

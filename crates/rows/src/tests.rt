@@ -9,6 +9,7 @@ mod limits;
 mod numbers;
 mod regions;
 mod retiring;
+mod serial_values;
 mod spawning;
 
 const RAN: &str = r#"{"moved":"ran"}"#;

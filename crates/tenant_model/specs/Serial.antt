@@ -1,5 +1,5 @@
 -- The serial value of a program: what its root gives where each task runs as soon as it is made, and to its end.
-use Rattle.std.specs.Prelude.{ℕ, zero, suc, ℤ, pos, Bool, if◌then◌else◌, List, replicate, Option, Some, None, is_some, unwrap_or, slice_index_or, slice_set}
+use Rattle.std.specs.Prelude.{ℕ, zero, suc, ◌<◌, ◌≡◌, ℤ, pos, Bool, if◌then◌else◌, List, replicate, Option, Some, None, IfSome, is_some, unwrap_or, slice_index_or, slice_set}
 use Rattle.std.specs.Int.{int_wrapping_add, w64}
 use Rattle.std.specs.List.{list_any}
 use Rattle.std.specs.Option.{option_map}
@@ -88,6 +88,19 @@ given_within (suc bound) procs (suc left) t = given_by (given_within bound procs
 -- The serial value of a task with so many instructions, and how many of them are left. Each instruction takes one, so their number is bound enough.
 abbrev pub given_of : List (List Instr) → (left : ℕ) → SerialTask → Given
 given_of procs left t = given_within left procs left t
+
+-- The rule of serial values: a task takes its turn, and goes on with one instruction less.
+unfoldable pub FollowsItsTurn : Type 0
+FollowsItsTurn =
+    (procs : List (List Instr)) (left : ℕ) (t : SerialTask) → given_of procs (suc left) t ≡ given_by (given_of procs) left (turn_at (instr_at procs t.frame) t)
+
+-- without an instruction left nothing is given
+unfoldable pub NeedsInstructions : Type 0
+NeedsInstructions = (procs : List (List Instr)) (t : SerialTask) → given_of procs 0 t ≡ None
+
+-- no task gives back as many instructions as it was given
+unfoldable pub TakesInstructions : Type 0
+TakesInstructions = (procs : List (List Instr)) (left : ℕ) (t : SerialTask) → IfSome (given_of procs left t) (λ p. p.1 < left)
 
 -- the root of a program with its two arguments
 abbrev pub root_task : List ℤ → SerialTask

@@ -3,14 +3,14 @@
 
 mod laws;
 mod rows;
-mod serial_worked;
+mod serial_laws;
 mod serials;
 mod worked;
 mod works;
 
 pub use laws::never_stuck;
 pub use rows::{Kind, MAX_HEIGHT, Mark, Phase, Row};
-pub use serial_worked::serial_examples;
+pub use serial_laws::{serial_examples, serial_rule};
 pub use serials::{SerialMaker, SerialTask, SerialTurn, ValueTo};
 pub use worked::worked_examples;
 pub use works::{MAX_JOBS, Work};

@@ -1,4 +1,5 @@
-// The worked examples of serial values, as laws that compute.
+// What holds of serial values, and worked examples, as laws.
+ghost use Rattle.tenant_model.specs.Serial.{FollowsItsTurn, NeedsInstructions, TakesInstructions};
 ghost use Rattle.tenant_model.specs.SerialWorked.{FibGives8, FibGives8With172, FibGivesNoneWith171, ChainGives7, RegionGives7, ZeroDivisorGivesNone, UnwaitedGivesNone, SpinGivesNone};
 
 /// The serial values of the worked examples, by the definitions alone. It does nothing: its contract
@@ -12,4 +13,11 @@ pub fn serial_examples()
     ensures zero_divisor_gives_none { ZeroDivisorGivesNone }
     ensures unwaited_gives_none { UnwaitedGivesNone }
     ensures spin_gives_none { SpinGivesNone }
+{}
+
+/// By which rule serial values come about. It does nothing: its contract is the law.
+pub fn serial_rule()
+    ensures follows_its_turn { FollowsItsTurn }
+    ensures needs_instructions { NeedsInstructions }
+    ensures takes_instructions { TakesInstructions }
 {}

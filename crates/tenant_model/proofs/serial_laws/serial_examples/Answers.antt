@@ -1,5 +1,5 @@
 use Rattle.tenant_model.proofs.SerialWorkedProofs.{fib_gives_8_computes, fib_gives_8_with_172_computes, fib_gives_none_with_171_computes, chain_gives_7_computes, region_gives_7_computes, zero_divisor_gives_none_computes, unwaited_gives_none_computes, spin_gives_none_computes}
-use Rattle.tenant_model.proofs.serial_worked.serial_examples.Goals as goal
+use Rattle.tenant_model.proofs.serial_laws.serial_examples.Goals as goal
 
 pub returns-clause-fib_gives_8 : goal.returns-clause-fib_gives_8
 returns-clause-fib_gives_8 c = fib_gives_8_computes
