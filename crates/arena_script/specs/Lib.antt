@@ -1,4 +1,6 @@
 pub mod CheckEnds
+pub mod DumpLines
+pub mod DumpReplies
 pub mod Ends
 pub mod OwnAnswers
 pub mod OwnEnds

@@ -1,13 +1,16 @@
 // The lines of a dump: a tenant, and the entries of its history.
-ghost use Rattle.std.specs.Prelude.{IfErr};
+ghost use Rattle.std.specs.Prelude.{◌≡◌, option_map, IfOk, IfErr};
+ghost use Rattle.serde_json.specs.View.{view};
 ghost use Rattle.arena_script.specs.CheckEnds.{IsLost};
+ghost use Rattle.arena_script.specs.DumpLines.{said_by, said_in_value, step_word, asked, ask_said, recorded, arrived, arrival_of, arrival_said, advanced, advance_said, moved_word, moved_named, verdict_on};
+ghost use Rattle.arena_script.specs.OwnAnswers.{request_in};
 
 use crate::dump_replies::{natural, reply_in, small};
 use crate::ends::ScriptEnd;
 use crate::inputs::MAX_SCRIPT_LINE;
 use crate::own::{request_in, tenant_of};
 use job_language::values::has_members;
-use job_language::{Answer, Came, Entry, Error, Moved, Request, Step, TenantConfig};
+use job_language::{Answer, Came, Entry, Error, Moved, Reply, Request, Step, TenantConfig};
 use request_reader::{LineRead, LineReader, value_of};
 use serde_json::Value;
 use solo_eval::{Verdict, check};
@@ -100,38 +103,53 @@ impl Dump {
     }
 
     /// The verdict on its history, in which a foreign entry is never right.
-    pub(crate) fn verdict(&self, alloc: Global) -> Result<Verdict, AllocError> {
+    pub(crate) fn verdict(&self, alloc: Global) -> Result<Verdict, AllocError>
+        ensures { IfOk result (λ verdict. verdict ≡ verdict_on self.now.config self.now.entries.items self.now.has_foreign) }
+    {
         let verdict = check(alloc, self.config, self.entries.as_slice())?;
-        if verdict == Verdict::Yes && self.has_foreign {
-            return Ok(Verdict::No(self.entries.len() as u64 + 1));
+        if !self.has_foreign {
+            return Ok(verdict);
         }
-        Ok(verdict)
+        match verdict {
+            Verdict::Yes => Ok(Verdict::No(self.entries.len() as u64 + 1)),
+            Verdict::No(number) => Ok(Verdict::No(number)),
+        }
     }
 }
 
 /// What a line says, where it has the shape of an entry.
 fn said_by(alloc: Global, line: &[u8]) -> Result<Option<Said>, ScriptEnd>
-    ensures { IfErr result IsLost }
+    ensures ok { IfOk result (λ said. said ≡ said_by line.now) }
+    ensures err { IfErr result IsLost }
 {
-    let value = match value_of(alloc, line) {
-        Ok(value) => value,
-        Err(Error::NoMemory) => return Err(ScriptEnd::Memory),
-        Err(_) => return Ok(None),
-    };
-    match step_word(&value) {
-        Some("ask") => asked(alloc, &value),
-        Some("arrive") => Ok(arrived(&value)),
-        Some("advance") => Ok(advanced(&value)),
+    match value_of(alloc, line) {
+        Ok(value) => said_in_value(alloc, &value),
+        Err(Error::NoMemory) => Err(ScriptEnd::Memory),
+        Err(_) => Ok(None),
+    }
+}
+
+fn said_in_value(alloc: Global, value: &Value) -> Result<Option<Said>, ScriptEnd>
+    ensures ok { IfOk result (λ said. said ≡ said_in_value (view value.now)) }
+    ensures err { IfErr result IsLost }
+{
+    match step_word(value) {
+        Some("ask") => asked(alloc, value),
+        Some("arrive") => Ok(arrived(value)),
+        Some("advance") => Ok(advanced(value)),
         _ => Ok(None),
     }
 }
 
-fn step_word(value: &Value) -> Option<&str> {
+fn step_word(value: &Value) -> Option<&str>
+    ensures { option_map (λ word. word.now) result ≡ step_word (view value.now) }
+{
     value.get("step")?.as_str()
 }
 
 fn asked(alloc: Global, value: &Value) -> Result<Option<Said>, ScriptEnd>
-    ensures { IfErr result IsLost }
+    ensures ok { IfOk result (λ said. said ≡ asked (view value.now)) }
+    ensures err { IfErr result IsLost }
 {
     if !has_members(3, value) {
         return Ok(None);
@@ -142,21 +160,28 @@ fn asked(alloc: Global, value: &Value) -> Result<Option<Said>, ScriptEnd>
     let Some(reply) = reply_in(reply) else {
         return Ok(None);
     };
-    let Some(request) = recorded(alloc, request)? else {
-        return Ok(None);
-    };
+    match recorded(alloc, request)? {
+        Some(request) => Ok(Some(ask_said(request, reply))),
+        None => Ok(None),
+    }
+}
+
+fn ask_said(request: Request, reply: Option<Reply>) -> Said
+    ensures { result ≡ ask_said request reply }
+{
     match reply {
-        Some(reply) => Ok(Some(Said::Entry(Entry {
+        Some(reply) => Said::Entry(Entry {
             step: Step::Ask(request),
             answer: Answer::Replied(reply),
-        }))),
-        None => Ok(Some(Said::Foreign)),
+        }),
+        None => Said::Foreign,
     }
 }
 
 /// The request that a value spells, where it is valid and no hello.
 fn recorded(alloc: Global, value: &Value) -> Result<Option<Request>, ScriptEnd>
-    ensures { IfErr result IsLost }
+    ensures ok { IfOk result (λ request. request ≡ recorded (request_in (view value.now))) }
+    ensures err { IfErr result IsLost }
 {
     match request_in(alloc, value) {
         Ok(Request::Hello(_)) => Ok(None),
@@ -166,36 +191,69 @@ fn recorded(alloc: Global, value: &Value) -> Result<Option<Request>, ScriptEnd>
     }
 }
 
-fn arrived(value: &Value) -> Option<Said> {
-    if !has_members(4, value) || value.get("moved")?.as_str()? != "arrived" {
+fn arrived(value: &Value) -> Option<Said>
+    ensures { result ≡ arrived (view value.now) }
+{
+    if !has_members(4, value) {
         return None;
     }
-    let slot = small("slot", value)?;
-    let row = natural("row", value)?;
-    match (slot, row) {
-        (Some(slot), Some(row)) => Some(Said::Entry(Entry {
-            step: Step::Arrive(slot),
-            answer: Answer::Came(Came::At(row)),
-        })),
-        _ => Some(Said::Foreign),
+    match moved_word(value)? {
+        "arrived" => arrival_of(value),
+        _ => None,
     }
 }
 
-fn advanced(value: &Value) -> Option<Said> {
+fn arrival_of(value: &Value) -> Option<Said>
+    ensures { result ≡ arrival_of (view value.now) }
+{
     let slot = small("slot", value)?;
-    let moved = moved_in(value)?;
+    let row = natural("row", value)?;
+    Some(arrival_said(slot, row))
+}
+
+fn arrival_said(slot: Option<u8>, row: Option<u64>) -> Said
+    ensures { result ≡ arrival_said slot row }
+{
+    match (slot, row) {
+        (Some(slot), Some(row)) => Said::Entry(Entry {
+            step: Step::Arrive(slot),
+            answer: Answer::Came(Came::At(row)),
+        }),
+        _ => Said::Foreign,
+    }
+}
+
+fn moved_word(value: &Value) -> Option<&str>
+    ensures { option_map (λ word. word.now) result ≡ moved_word (view value.now) }
+{
+    value.get("moved")?.as_str()
+}
+
+fn advanced(value: &Value) -> Option<Said>
+    ensures { result ≡ advanced (view value.now) }
+{
+    let slot = small("slot", value)?;
+    let moved = moved_named(moved_word(value)?, value)?;
+    Some(advance_said(slot, moved))
+}
+
+fn advance_said(slot: Option<u8>, moved: Option<Moved>) -> Said
+    ensures { result ≡ advance_said slot moved }
+{
     match (slot, moved) {
-        (Some(slot), Some(moved)) => Some(Said::Entry(Entry {
+        (Some(slot), Some(moved)) => Said::Entry(Entry {
             step: Step::Advance(slot),
             answer: Answer::Moved(moved),
-        })),
-        _ => Some(Said::Foreign),
+        }),
+        _ => Said::Foreign,
     }
 }
 
 /// What an advance did; a row of a number below 0 is an inner `None`.
-fn moved_in(value: &Value) -> Option<Option<Moved>> {
-    match value.get("moved")?.as_str()? {
+fn moved_named(word: &str, value: &Value) -> Option<Option<Moved>>
+    ensures { result ≡ moved_named word.now (view value.now) }
+{
+    match word {
         "ran" if has_members(3, value) => Some(Some(Moved::Ran)),
         "freed" if has_members(3, value) => Some(Some(Moved::Freed)),
         "nested" if has_members(4, value) => Some(natural("row", value)?.map(Moved::Nested)),

@@ -25,6 +25,11 @@ const ARENA: &str =
     r#"{"reply":{"priority":"normal","reserved":0,"slots":1},"request":{"op":"arena"},"step":"ask"}
 "#;
 
+/// A tenant whose history has one entry at most.
+const BRIEF: &str =
+    r#"{"tenant":{"name":"acme","priority":"normal","reserved":0,"rows":8,"slots":1,"steps":1}}
+"#;
+
 /// How the check of a tenant's dump ends, and what it prints.
 fn checked(alloc: Global, entries: &[&str]) -> Result<(ScriptEnd, Vec<u8>), Fail> {
     let text = joined(alloc, entries)?;
@@ -215,10 +220,8 @@ fn slots_and_rows_of_any_size_have_a_verdict(rt: HostRuntime) -> Result<(), Fail
 
 #[test]
 fn a_full_history_refuses_what_follows(rt: HostRuntime) -> Result<(), Fail> {
-    let tenant =
-        r#"{"tenant":{"name":"acme","priority":"normal","reserved":0,"rows":8,"slots":1,"steps":1}}"#;
     let full = replied(rt.alloc(), r#"{"code":8,"error":"history_full"}"#)?;
-    let dump = joined(rt.alloc(), &[tenant, "\n", ARENA, full.as_str()])?;
+    let dump = joined(rt.alloc(), &[BRIEF, ARENA, full.as_str()])?;
     let (end, printed) = run(rt.alloc(), &["check"], dump.as_str());
     assert_eq!(rt; end, ScriptEnd::Done);
     assert_eq!(rt; printed.as_slice(), b"no at step 2\n".as_slice());
@@ -237,22 +240,31 @@ fn a_line_above_the_limit_is_bad(rt: HostRuntime) -> Result<(), Fail> {
     Ok(())
 }
 
+/// How the check of the history ends, and how much it prints into a buffer.
+fn check_into(alloc: Global, printed: &mut [u8; 64]) -> (ScriptEnd, usize) {
+    let mut reader = TENANT.as_bytes().chain(ENTRIES.as_bytes());
+    let mut room = printed.as_mut_slice();
+    let end = script(alloc, &["check"], &mut reader, &mut room);
+    let left = room.len();
+    (end, 64usize.saturating_sub(left))
+}
+
 #[test]
 fn want_of_memory_ends_a_check(rt: HostRuntime) {
     let mut printed = [0; 64];
-    for _twice in 0..2 {
-        let mut reader = TENANT.as_bytes().chain(ENTRIES.as_bytes());
-        let mut room = printed.as_mut_slice();
-        let end = script(rt.alloc(), &["check"], &mut reader, &mut room);
-        let len = 64usize.saturating_sub(room.len());
-        let told = printed.get(..len).unwrap_or(&[]);
-        if end == ScriptEnd::Memory {
-            assert!(rt; told.is_empty());
-        } else {
-            assert_eq!(rt; end, ScriptEnd::Done);
-            assert_eq!(rt; told, b"yes\n".as_slice());
-        }
+    let (end, len) = check_into(rt.alloc(), &mut printed);
+    let told = printed.get(..len).unwrap_or(&[]);
+    if end == ScriptEnd::Memory {
+        assert!(rt; told.is_empty());
+    } else {
+        assert_eq!(rt; end, ScriptEnd::Done);
+        assert_eq!(rt; told, b"yes\n".as_slice());
     }
+
+    // The growth that was refused is over.
+    let (end, len) = check_into(rt.alloc(), &mut printed);
+    assert_eq!(rt; end, ScriptEnd::Done);
+    assert_eq!(rt; printed.get(..len).unwrap_or(&[]), b"yes\n".as_slice());
 }
 
 #[test]
