@@ -50,9 +50,9 @@ pub fn script<R: Read, W: Write>(
         (W.contents writer.old) (W.contents writer.new) }
 {
     let ended = match words {
+        ["check"] => check_dump(alloc, reader, writer),
         ["serial"] => serial_values(alloc, reader, writer),
         [] | ["own"] => own(alloc, reader, writer),
-        ["check"] => check_dump(alloc, reader, writer),
         _ => Err(ScriptEnd::Words),
     };
     match ended {
