@@ -1,6 +1,6 @@
 // Faults: each allocation of the evaluator may be refused, and the same call then gives its answer.
 use job_language::{
-    Answer, Job, Moved, Reply, Request, Status, Step, TenantConfig, read_job, read_tenant,
+    Answer, Job, Reply, Request, Status, Step, TenantConfig, read_job, read_tenant,
 };
 use serde_json::Value;
 use solo_eval::Solo;
@@ -53,21 +53,37 @@ fn begun(alloc: Global) -> Option<(Solo, Vec<Step>)> {
     Some((Solo::new(alloc, config), steps))
 }
 
-fn is_eight(answer: &Answer) -> bool {
-    matches!(answer, Answer::Replied(Reply::Job(1, Status::Complete(8))))
+fn is_eight(reply: &Reply) -> bool {
+    matches!(reply, Reply::Job(1, Status::Complete(8)))
+}
+
+fn replies_eight(answer: &Answer) -> bool {
+    match answer {
+        Answer::Replied(reply) => is_eight(reply),
+        Answer::Came(_) | Answer::Moved(_) => false,
+    }
+}
+
+/// Takes a step at the first or the second try, and tells whether the reply is the job's value.
+fn takes_step(solo: &mut Solo, step: &Step) -> Option<bool> {
+    let answer = match solo.step(step) {
+        Ok(answer) => answer,
+        Err(_) => solo.step(step).ok()?,
+    };
+    match answer {
+        Answer::Replied(reply) => Some(is_eight(&reply)),
+        Answer::Came(_) | Answer::Moved(_) => Some(false),
+    }
 }
 
 #[test]
 fn a_refused_step_is_taken_again(rt: HostRuntime) -> Result<(), Fail> {
     let (mut solo, steps) = begun(rt.alloc()).ok_or("an evaluator")?;
-    let mut last = Answer::Moved(Moved::Idle);
+    let mut is_last_eight = false;
     for step in &steps {
-        last = match solo.step(step) {
-            Ok(answer) => answer,
-            Err(_) => solo.step(step)?,
-        };
+        is_last_eight = takes_step(&mut solo, step).ok_or("an answer")?;
     }
-    assert!(rt; is_eight(&last));
+    assert!(rt; is_last_eight);
     Ok(())
 }
 
@@ -82,6 +98,6 @@ fn a_refused_run_is_made_again(rt: HostRuntime) -> Result<(), Fail> {
         }
     };
     assert_eq!(rt; answers.len(), 87);
-    assert!(rt; answers.last().is_some_and(is_eight));
+    assert!(rt; answers.last().is_some_and(replies_eight));
     Ok(())
 }
