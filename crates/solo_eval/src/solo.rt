@@ -96,6 +96,7 @@ impl Solo {
         ensures regions { KeepsRegions self.old steps.now }
         ensures err { OnErr result ((n : ℕ) × (n ≤ length steps.now) × (self.new ≡ after self.old (take n steps.now))) }
     {
+        // The clause on regions rests on the state being well formed.
         let _ = &self.state;
         let mut given = Vec::with_capacity(alloc, steps.len())?;
         for next in steps {

@@ -10,6 +10,7 @@ use Rattle.tenant_model.specs.State.{State, row, job, with_numbered}
 use Rattle.tenant_model.specs.Walks.{maker_of, is_region, is_within, is_open, is_live_at, height, settle}
 use Rattle.tenant_model.specs.Changes.{open_rows, on_row, on_job, add_row, entry, task_height, faulted, faulted_phase}
 use Rattle.tenant_model.specs.WellFormed.{IsWellFormed}
+use Rattle.tenant_model.proofs.Within.{either_way}
 use Rattle.tenant_model.proofs.Changed.{row-map}
 use Rattle.tenant_model.proofs.Linked.{IsLinked-same, IsLinked-set, IsLinked-push, IsLinked-more_jobs, SameSources-map}
 use Rattle.tenant_model.proofs.Stacking.{one_if, count-cons, count-push, AreStacked-same, AreStacked-pushed, AreStacked-cut}
@@ -17,10 +18,6 @@ use Rattle.tenant_model.proofs.Stacked.{IsOff, AreSame-set, IsPushed-set, IsCut-
 use Rattle.tenant_model.proofs.Faulting.{AreSame-settle, IsCut-faults}
 use Rattle.tenant_model.proofs.Insides.{live_there, AreInside-fewer}
 use Rattle.tenant_model.proofs.Parts.{SameSources-settle, settle-lives, open-settle, AreInside-set, AreInside-set_top, AreInside-push, AreInside-push_top, open-set, off_live}
-
-either_way : (b : Bool) → (b ≡ true) ⊎ (b ≡ false)
-either_way true = inl refl
-either_way false = inr refl
 
 pub one_at_most : (b : Bool) → one_if b ≤ 1
 one_at_most true = omega arith

@@ -13,12 +13,9 @@ use Rattle.tenant_model.specs.declared.rows.Row.{Row}
 use Rattle.tenant_model.specs.State.{row}
 use Rattle.tenant_model.specs.Walks.{Numbered, numbered_rows, is_live_at, is_unstarted, height, top, region_on, is_allowed, eligible, first_of, last_or, pick_of}
 use Rattle.tenant_model.specs.WellFormed.{AreStacked}
+use Rattle.tenant_model.proofs.Within.{either_way}
 use Rattle.tenant_model.proofs.Changed.{row-get_or}
 use Rattle.tenant_model.proofs.Stacking.{one_if, count-cons}
-
-either_way : (b : Bool) → (b ≡ true) ⊎ (b ≡ false)
-either_way true = inl refl
-either_way false = inr refl
 
 -- a row with its own number
 abbrev pub IsNumbered : List Row → Numbered → Type 0

@@ -32,15 +32,11 @@ use Rattle.tenant_model.specs.Solo.{step, after}
 use Rattle.tenant_model.specs.WellFormed.{IsTable, IsWellFormed}
 use Rattle.tenant_model.specs.Regions.{Touch, cells_on, touched, touch, touch_at, touches, IsInterval, IsolatesRows, AdvancesWithin, CellsFollowTouches, EqualTouchesEqualCells, KeepsRegions}
 use Rattle.tenant_model.proofs.Changed.{row-get_or}
-use Rattle.tenant_model.proofs.Within.{within_itself}
+use Rattle.tenant_model.proofs.Within.{either_way, within_itself}
 use Rattle.tenant_model.proofs.Insides.{live_there, live_low}
 use Rattle.tenant_model.proofs.Picks.{top_is}
 use Rattle.tenant_model.proofs.Touching.{with_touch, advance_cells}
 use Rattle.tenant_model.proofs.KeptAdvances.{step_kept, after_kept}
-
-either_way : (b : Bool) → (b ≡ true) ⊎ (b ≡ false)
-either_way true = inl refl
-either_way false = inr refl
 
 -- the cells of a slot after one of them is set
 cells_on-here : (t : Table) (k slot : ℕ) (v : ℤ) → IsTable t → slot < MAX_SLOTS → cells_on (with_cell t k slot v) slot ≡ slice_set (cells_on t slot) k (Some v)

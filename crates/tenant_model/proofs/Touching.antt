@@ -22,11 +22,8 @@ use Rattle.tenant_model.specs.Cells.{Table, cell, with_cell}
 use Rattle.tenant_model.specs.Shared.{execute, has_used_group, hand_back}
 use Rattle.tenant_model.specs.Advance.{begin, blocked, is_poor, paid, move_on, is_blocked, after_run, is_stuck, run_on, advance_run, advance_top, is_entry, unless_full, advance}
 use Rattle.tenant_model.specs.Regions.{Touch, touch_of, touch_after, touch_by, touch}
+use Rattle.tenant_model.proofs.Within.{either_way}
 use Rattle.tenant_model.proofs.Entries.{unless_full-room, unless_full-full, after_run_enters}
-
-either_way : (b : Bool) → (b ≡ true) ⊎ (b ≡ false)
-either_way true = inl refl
-either_way false = inr refl
 
 -- a table after a touch
 abbrev pub with_touch : Table → ℕ → Option Touch → Table

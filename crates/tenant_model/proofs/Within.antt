@@ -28,7 +28,8 @@ chain_for-kinds a b kinds (suc k) n = with_makers-cong n (maker_of (row b n).kin
 pub is_within-kinds : (a b : List Row) → ((n : ℕ) → (row b n).kind ≡ (row a n).kind) → (n r : ℕ) → is_within b n r ≡ is_within a n r
 is_within-kinds a b kinds n r = ap (list_any (λ m. m == r)) (chain_for-kinds a b kinds n n)
 
-either_way : (b : Bool) → (b ≡ true) ⊎ (b ≡ false)
+-- a test that passes, or does not
+pub either_way : (b : Bool) → (b ≡ true) ⊎ (b ≡ false)
 either_way true = inl refl
 either_way false = inr refl
 
