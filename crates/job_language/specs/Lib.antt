@@ -1,3 +1,4 @@
+pub mod Brought
 pub mod ConfigOf
 pub mod Configuration
 pub mod ErrorCodes

@@ -1,5 +1,6 @@
 // What is asked of a tenant's arena.
-ghost use Rattle.std.specs.Prelude.{◌≡◌, IfOk};
+ghost use Rattle.std.specs.Prelude.{◌≡◌, option_map, IfOk};
+ghost use Rattle.job_language.specs.Brought.{job_of, BringsValid};
 
 use crate::instructions::Key;
 use crate::jobs::Job;
@@ -45,6 +46,20 @@ impl Request {
             Request::Cells(key) => Ok(Request::Cells(*key)),
             Request::Arena => Ok(Request::Arena),
             Request::Retire => Ok(Request::Retire),
+        }
+    }
+
+    /// The job that it brings, of a valid program.
+    pub fn job(&self) -> Option<&Job>
+        ensures value { option_map (λ job. job.now) result ≡ job_of self.now }
+        ensures valid { BringsValid self.now }
+    {
+        match self {
+            Request::Submit(job) | Request::Execute(job) => {
+                let _ = job.program.procs();
+                Some(job)
+            }
+            _ => None,
         }
     }
 }

@@ -5,6 +5,7 @@ use Rattle.std.proofs.lemmas.Option.{slice_get_within}
 use Rattle.std.specs.List.{list_any}
 use Rattle.std.specs.Option.{option_map_or}
 use Rattle.std.proofs.lemmas.Bool.{cond_both}
+use Rattle.job_language.specs.Brought.{BringsValid}
 use Rattle.job_language.specs.Program.{IsValidProgram, Calls, is_last}
 use Rattle.job_language.specs.declared.errors.JobFault.{JobFault}
 use Rattle.job_language.specs.declared.errors.JobFault.TheVariants as fault
@@ -39,11 +40,11 @@ use Rattle.tenant_model.specs.Changes.{on_row, new_row, add_row, is_row_limit_me
 use Rattle.tenant_model.specs.Cells.{Table, no_cells}
 use Rattle.tenant_model.specs.Shared.{next_place, called, group_status, execute, has_used_group, handed, hand_to, hand_back}
 use Rattle.tenant_model.specs.Advance.{begin, blocked, is_poor, with_fuel, pay, move_on, is_blocked, after_run, is_stuck, run_on, advance_run, advance_top, is_entry, advance, arrive_at, is_open_to_workers, arrive}
-use Rattle.tenant_model.specs.Asks.{free_slot, unless_limit, executed, collected, cancelled, retired, retired_work, reply_to, is_hello, known_job, has_outcome, current_jobs}
+use Rattle.tenant_model.specs.Asks.{ask, free_slot, unless_limit, executed, collected, cancelled, retired, retired_work, reply_to, is_hello, known_job, has_outcome, current_jobs}
 use Rattle.tenant_model.specs.Solo.{step, after}
 use Rattle.tenant_model.specs.Rows.{IsLinked}
 use Rattle.tenant_model.specs.WellFormed.{IsWellFormed}
-use Rattle.tenant_model.specs.Naming.{Stands, IsUnstuck, BringsValid, StepBringsValid}
+use Rattle.tenant_model.specs.Naming.{Stands, IsUnstuck, StepBringsValid}
 use Rattle.tenant_model.proofs.Changed.{numbered-with_same}
 use Rattle.tenant_model.proofs.Linked.{IsLinked-set, IsLinked-more_jobs}
 use Rattle.tenant_model.proofs.Picks.{top_is, pick_is}
@@ -246,7 +247,7 @@ top_unstuck s slot (Some n) linked is some =
     let there = top_is s.rows slot n some in
     run_unstuck s slot n (record { from = there.0; to = there.1; linked = linked }) is
 
-advance_unstuck : (s : State) (slot : ℕ) → IsLinked s → IsUnstuck s → Keeps (advance s slot)
+pub advance_unstuck : (s : State) (slot : ℕ) → IsLinked s → IsUnstuck s → Keeps (advance s slot)
 advance_unstuck s slot linked is =
     either (nat_lt slot s.config.slots) _ _ (λ _.
     let r = advance_top s slot (top s.rows slot) in
@@ -258,7 +259,7 @@ arrived_unstuck s slot (Some m) is picked =
     let its = pick_is s.config.isolation s.rows slot m picked in
     cond_both (is_full s) _ _ (λ (r : Came × State). IsUnstuck r.1) (λ _. is) (λ _. entry_unstuck _ (nest_unstuck s slot m its.0 its.1 is))
 
-arrive_unstuck : (s : State) (slot : ℕ) → IsUnstuck s → IsUnstuck (arrive s slot).1
+pub arrive_unstuck : (s : State) (slot : ℕ) → IsUnstuck s → IsUnstuck (arrive s slot).1
 arrive_unstuck s slot is = cond_both (is_open_to_workers s slot) _ _ (λ (r : Came × State). IsUnstuck r.1) (λ _. arrived_unstuck s slot (pick s slot) is refl) (λ _. is)
 
 abbrev KeepsReply : Reply × State → Type 0
@@ -315,8 +316,11 @@ reply_unstuck s request.Arena linked valid is = entry_unstuck s is
 reply_unstuck s request.Retire linked valid is = retired_reply s is
 
 -- No ask, arrival or advance leaves a row stuck.
+pub ask_unstuck : (s : State) (r : Request) → IsLinked s → BringsValid r → IsUnstuck s → IsUnstuck (ask s r).1
+ask_unstuck s r linked valid is = either_reply (is_full s && not (is_hello r)) _ _ (λ _. is) (λ _. reply_unstuck s r linked valid is)
+
 pub step_unstuck : (s : State) (x : Step) → IsLinked s → StepBringsValid x → IsUnstuck s → IsUnstuck (step s x).1
-step_unstuck s (steps.Ask r) linked valid is = either_reply (is_full s && not (is_hello r)) _ _ (λ _. is) (λ _. reply_unstuck s r linked valid is)
+step_unstuck s (steps.Ask r) linked valid is = ask_unstuck s r linked valid is
 step_unstuck s (steps.Arrive slot) linked valid is = arrive_unstuck s slot is
 step_unstuck s (steps.Advance slot) linked valid is = advance_unstuck s slot linked is
 

@@ -1,10 +1,9 @@
 -- A valid program is never stuck: the frame of every row names an instruction.
 use Rattle.std.specs.Prelude.{ℕ, ◌<◌, ◌≤◌, List, [], length, slice_index_or}
 use Rattle.job_language.specs.declared.instructions.Instr.{Instr}
-use Rattle.job_language.specs.declared.requests.Request.{Request}
-use Rattle.job_language.specs.declared.requests.Request.TheVariants.{Submit, Execute}
 use Rattle.job_language.specs.declared.steps.Step.{Step}
 use Rattle.job_language.specs.declared.steps.Step.TheVariants.{Ask}
+use Rattle.job_language.specs.Brought.{BringsValid}
 use Rattle.job_language.specs.Program.{IsValidProgram}
 use Rattle.job_step.specs.declared.frames.Frame.{Frame}
 use Rattle.tenant_model.specs.State.{State, row, job}
@@ -18,12 +17,6 @@ pub record Stands (procs : List (List Instr)) (f : Frame) : Type 0 where
 pub record IsUnstuck (s : State) : Type 0 where
   pub programs : (j : ℕ) → 1 ≤ j → j ≤ length s.jobs → IsValidProgram (job s.jobs j).program
   pub frames : (n : ℕ) → 1 ≤ n → n ≤ length s.rows → Stands (job s.jobs (row s.rows n).job).program (row s.rows n).frame
-
--- The program that a request brings is valid.
-abbrev pub BringsValid : Request → Type 0
-BringsValid (Submit j) = IsValidProgram j.program
-BringsValid (Execute j) = IsValidProgram j.program
-BringsValid r = Unit
 
 abbrev pub StepBringsValid : Step → Type 0
 StepBringsValid (Ask r) = BringsValid r
