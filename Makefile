@@ -12,9 +12,11 @@ out/arena-script: $(shell find crates -path '*/src/*.rt') crates.txt
 	@cd crates/script_program && rt run < ../../examples/first_job.jsonl > ../../out/build.log 2>&1 || { tail -n 40 ../../out/build.log; exit 1; }
 	@cp crates/script_program/out/script_program $@
 
-# Passes everything: each proof from nothing, each must-fail edit, each test, each program.
+# Passes everything: each proof from nothing, each must-fail edit, each test, each program, and the
+# evaluator's calls with each allocation refused in turn.
 test:
 	rt ci
+	checks/refusals/run.sh
 
 # Proves each crate over what earlier checks kept.
 check:

@@ -1,7 +1,6 @@
 // Scripts over memory: worked examples, refusals, and devices and memory that fail.
 mod devices;
 mod dumps;
-mod evaluator;
 mod examples;
 mod memory;
 mod refusals;

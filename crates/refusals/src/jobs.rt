@@ -1,0 +1,70 @@
+// The tenant, its job and its steps, read once more where memory was refused.
+use job_language::{Job, Request, Step, TenantConfig, read_job, read_tenant};
+use serde_json::Value;
+use std::alloc::Global;
+
+/// The sixth Fibonacci number: a task for each smaller one, in a region each that stores and posts.
+const FIBONACCI: &str =
+    r#"{"args":[6,0],"fuel":5000,"procs":[[["set",2,2],["lt",3,0,2],["jz",3,4],["ret",0],["isolate",6,1,0,0],["set",2,1],["sub",3,0,2],["spawn",0,0,3,1],["sub",3,3,2],["spawn",0,0,3,1],["wait",4,5,0],["ret",4]],[["store",0,0],["post",2,0,0],["ret",0]],[["ret",0]]]}"#;
+
+/// The same without regions, so that it has a serial value.
+const SERIAL: &str =
+    r#"{"args":[6,0],"fuel":5000,"procs":[[["set",2,2],["lt",3,0,2],["jz",3,4],["ret",0],["set",2,1],["sub",3,0,2],["spawn",0,0,3,1],["sub",3,3,2],["spawn",0,0,3,1],["wait",4,5,0],["ret",4]]]}"#;
+
+const TENANT: &str =
+    r#"{"name":"acme","priority":"normal","reserved":1,"rows":200,"slots":2,"steps":10000}"#;
+
+/// How many advances the root takes on the reserved slot.
+const ADVANCES_OF_ROOT: usize = 133;
+
+/// How many advances the tasks that it posted take on the other slot.
+const ADVANCES_OF_POSTED: usize = 23;
+
+/// The tenant.
+pub fn tenant(alloc: Global) -> Option<TenantConfig> {
+    match read_tenant_once(alloc) {
+        Some(config) => Some(config),
+        None => read_tenant_once(alloc),
+    }
+}
+
+fn read_tenant_once(alloc: Global) -> Option<TenantConfig> {
+    let value = Value::from_str(alloc, TENANT).ok()?;
+    read_tenant(&value).ok()
+}
+
+/// The job that has a serial value.
+pub fn serial_job(alloc: Global) -> Option<Job> {
+    match read(alloc, SERIAL) {
+        Some(job) => Some(job),
+        None => read(alloc, SERIAL),
+    }
+}
+
+fn read(alloc: Global, text: &str) -> Option<Job> {
+    let value = Value::from_str(alloc, text).ok()?;
+    read_job(alloc, &value).ok()
+}
+
+/// The execute, the advances on both slots and the collect.
+pub fn steps(alloc: Global) -> Option<Vec<Step>> {
+    match steps_once(alloc) {
+        Some(steps) => Some(steps),
+        None => steps_once(alloc),
+    }
+}
+
+fn steps_once(alloc: Global) -> Option<Vec<Step>> {
+    let mut steps = Vec::new(alloc);
+    let job = read(alloc, FIBONACCI)?;
+    steps.push(Step::Ask(Request::Execute(job))).ok()?;
+    for _advance in 0..ADVANCES_OF_ROOT {
+        steps.push(Step::Advance(0)).ok()?;
+    }
+    steps.push(Step::Arrive(1)).ok()?;
+    for _advance in 0..ADVANCES_OF_POSTED {
+        steps.push(Step::Advance(1)).ok()?;
+    }
+    steps.push(Step::Ask(Request::Collect(1))).ok()?;
+    Some(steps)
+}
