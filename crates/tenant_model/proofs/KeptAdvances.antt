@@ -24,7 +24,7 @@ use Rattle.tenant_model.specs.declared.rows.Phase.TheVariants.{Unstarted, Live, 
 use Rattle.tenant_model.specs.declared.rows.Row.{Row}
 use Rattle.tenant_model.specs.declared.rows.TheConstants.{MAX_HEIGHT}
 use Rattle.tenant_model.specs.State.{State, row, job, empty}
-use Rattle.tenant_model.specs.Walks.{maker_of, mark, total, height, top, pick}
+use Rattle.tenant_model.specs.Walks.{maker_of, is_region, mark, total, height, top, pick}
 use Rattle.tenant_model.specs.Changes.{on_row, new_row, add_row, is_row_limit_met, is_full, open_rows, with_frame, with_cells, ran, faults, task_height, faulted, first_fault}
 use Rattle.tenant_model.specs.Cells.{with_cell}
 use Rattle.tenant_model.specs.Shared.{next_place, called, group_status, execute, has_used_group, handed, hand_back}
@@ -37,6 +37,8 @@ use Rattle.tenant_model.proofs.Parts.{open-set}
 use Rattle.tenant_model.proofs.Insides.{live_low, live_there}
 use Rattle.tenant_model.proofs.Picks.{top_is, top_none}
 use Rattle.tenant_model.proofs.Nesting.{nest_first_kept, nest_top_kept}
+use Rattle.tenant_model.proofs.Marked.{mark_in, mark_fits, AreMarked-none}
+use Rattle.tenant_model.proofs.OnMakers.{no_row_waits}
 use Rattle.tenant_model.proofs.Keeping.{entry_kept, on_job_kept, on_row_kept, done_kept, add_row_kept, add_region_kept, faulted_kept}
 use Rattle.tenant_model.proofs.KeptSteps.{with_cell_kept, no_cells_kept, unstarted_off, ask_kept}
 
@@ -63,11 +65,11 @@ record IsTop (s : State) (slot n : ℕ) : Type 0 where
 
 module _ (s : State) (slot n : ℕ) (is : IsWellFormed s) (top : IsTop s slot n) where
   -- a frame moved on, with its marks
-  set_kept : (f : Row → Row) → (f (row s.rows n)).kind ≡ (row s.rows n).kind → (f (row s.rows n)).job ≡ (row s.rows n).job → (f (row s.rows n)).phase ≡ (row s.rows n).phase → IsWellFormed (on_row s n f)
-  set_kept f kind job phase = on_row_kept s n f top.from top.to kind job phase is
+  set_kept : (f : Row → Row) → (f (row s.rows n)).kind ≡ (row s.rows n).kind → (f (row s.rows n)).job ≡ (row s.rows n).job → (f (row s.rows n)).phase ≡ (row s.rows n).phase → ((g : ℕ) → (mark_in (f (row s.rows n)).marks g).rows ≤ length s.rows) → IsWellFormed (on_row s n f)
+  set_kept f kind job phase marks = on_row_kept s n f top.from top.to kind job marks phase is
 
   moved_kept : (f : Frame) → IsWellFormed (with_frame s n f)
-  moved_kept f = set_kept (λ r. record r { frame = f }) refl refl refl
+  moved_kept f = set_kept (λ r. record r { frame = f }) refl refl refl (is.marked n)
 
   moved_long : (f : Frame) → length (with_frame s n f).rows ≡ length s.rows
   moved_long f = length-set s.rows (n - 1) (record (row s.rows n) { frame = f })
@@ -75,11 +77,11 @@ module _ (s : State) (slot n : ℕ) (is : IsWellFormed s) (top : IsTop s slot n)
   moved_room : (f : Frame) → open_rows s.rows < s.config.rows → open_rows (with_frame s n f).rows < s.config.rows
   moved_room f room = omega (arith, room, open-set s.rows n (record (row s.rows n) { frame = f }) top.from top.to refl (omega arith))
 
-  spawned_kept : (f g : Frame) (k : Kind) (made_on : Option ℕ) → IfSome (maker_of k) (λ m. m ≡ n) → open_rows s.rows < s.config.rows →
+  spawned_kept : (f g : Frame) (k : Kind) (made_on : Option ℕ) → is_region k ≡ false → IfSome (maker_of k) (λ m. m ≡ n) → open_rows s.rows < s.config.rows →
       IsWellFormed (add_row (with_frame s n f) (new_row k (row s.rows n).job made_on g Unstarted))
-  spawned_kept f g k made_on maker room =
+  spawned_kept f g k made_on no_region maker room =
       let job = is.linked.jobs n top.from top.to in
-      add_row_kept (with_frame s n f) (new_row k (row s.rows n).job made_on g Unstarted) (IfSome_then (maker_of k) maker (λ m same. (omega (arith, same, top.from), omega (arith, same, top.to, moved_long f)))) job (moved_room f room) unstarted_off (moved_kept f)
+      add_row_kept (with_frame s n f) (new_row k (row s.rows n).job made_on g Unstarted) (IfSome_then (maker_of k) maker (λ m same. (omega (arith, same, top.from), omega (arith, same, top.to, moved_long f)))) job (moved_room f room) refl no_region unstarted_off (moved_kept f)
 
   region_kept : (f g : Frame) → height s.rows slot < MAX_HEIGHT → open_rows s.rows < s.config.rows →
       IsWellFormed (add_row (with_frame s n f) (new_row (Region n) (row s.rows n).job (Some slot) g (Live slot (height s.rows slot + 1))))
@@ -89,17 +91,17 @@ module _ (s : State) (slot n : ℕ) (is : IsWellFormed s) (top : IsTop s slot n)
       let same : height (with_frame s n f).rows slot ≡ height s.rows slot = (AreSame-set s.rows n moved top.from top.to refl).on slot in
       let here : row (with_frame s n f).rows n ≡ moved = row-with_same s.rows n moved top.from top.to in
       add_region_kept (with_frame s n f) (new_row (Region n) (row s.rows n).job (Some slot) g (Live slot (height s.rows slot + 1)))
-      (top.from, omega (arith, top.to, moved_long f)) job (moved_room f room) slot n (rw same refl) (omega (arith, same, low)) refl (rw (here, same) top.live) (moved_kept f)
+      (top.from, omega (arith, top.to, moved_long f)) job (moved_room f room) refl slot n (rw same refl) (omega (arith, same, low)) refl (rw (here, same) top.live) (moved_kept f)
 
   cells_kept : (f : Frame) (k : ℕ) (v : ℤ) → IsWellFormed (with_cells (with_frame s n f) (with_cell s.cells k slot v))
   cells_kept f k v =
       let moved = moved_kept f in
-      record { linked = record { makers = moved.linked.makers; jobs = moved.linked.jobs; epoch = moved.linked.epoch }; stacked = moved.stacked; inside = moved.inside; limit = moved.limit; table = with_cell_kept s.cells k slot v is.table; slots = is.slots }
+      record { linked = record { makers = moved.linked.makers; jobs = moved.linked.jobs; epoch = moved.linked.epoch }; stacked = moved.stacked; inside = moved.inside; on_makers = moved.on_makers; marked = moved.marked; limit = moved.limit; table = with_cell_kept s.cells k slot v is.table; slots = is.slots }
 
   ended_kept : (f : Frame) (v : ℤ) → IsWellFormed (on_row s n (λ r. record r { frame = f; phase = Done v }))
   ended_kept f v =
       let low = live_low s.rows is.stacked n slot (height s.rows slot) top.live in
-      done_kept s n (λ r. record r { frame = f; phase = Done v }) top.from top.to refl refl slot top.live (record { on = λ t. refl; at = λ t h. refl }) refl low.0 is
+      done_kept s n (λ r. record r { frame = f; phase = Done v }) top.from top.to refl refl (is.marked n) slot top.live (record { on = λ t. refl; at = λ t h. refl }) refl low.0 is
 
   handed_kept : (f : Frame) (v : ℤ) (k : Kind) → (row s.rows n).kind ≡ k → IsWellFormed (hand_back (on_row s n (λ r. record r { frame = f; phase = Done v })) k v)
   handed_kept f v Root kind = ended_kept f v
@@ -108,25 +110,25 @@ module _ (s : State) (slot n : ℕ) (is : IsWellFormed s) (top : IsTop s slot n)
   handed_kept f v (Region m) kind =
       let t = on_row s n (λ r. record r { frame = f; phase = Done v }) in
       let maker : (1 ≤ m) × (m < n) = rw kind at (is.linked.makers n top.from top.to) in
-      on_row_kept t m (λ r. record r { frame = handed (instr_at (job t.jobs r.job).program r.frame) v r.frame }) maker.0 (omega (arith, maker, top.to, length-set s.rows (n - 1) (record (row s.rows n) { frame = f; phase = Done v }))) refl refl refl (ended_kept f v)
+      on_row_kept t m (λ r. record r { frame = handed (instr_at (job t.jobs r.job).program r.frame) v r.frame }) maker.0 (omega (arith, maker, top.to, length-set s.rows (n - 1) (record (row s.rows n) { frame = f; phase = Done v }))) refl refl ((ended_kept f v).marked m) refl (ended_kept f v)
 
   limited_kept : (r : Moved × State) → (open_rows s.rows < s.config.rows → Keeps r) → Keeps (if is_row_limit_met s then faults slot (row s.rows n).job fault.TaskLimit s else r)
   limited_kept r made = either (is_row_limit_met s) _ r (λ _. faults_kept slot (row s.rows n).job fault.TaskLimit s is) (λ unmet. made (grind (arith, unmet)))
 
   execute_kept : (f : Frame) (i : Instr) → Keeps (execute s slot n f i)
-  execute_kept f (Spawn g p a b) = limited_kept _ (λ room. ran_kept slot _ (spawned_kept (next_place f) (called f p a b) (Spawned n g) (Some slot) refl room))
-  execute_kept f (Post p a b) = limited_kept _ (λ room. ran_kept slot _ (spawned_kept (next_place f) (called f p a b) Posted None tt room))
+  execute_kept f (Spawn g p a b) = limited_kept _ (λ room. ran_kept slot _ (spawned_kept (next_place f) (called f p a b) (Spawned n g) (Some slot) refl refl room))
+  execute_kept f (Post p a b) = limited_kept _ (λ room. ran_kept slot _ (spawned_kept (next_place f) (called f p a b) Posted None refl tt room))
   execute_kept f (Isolate d p a b) =
       either (height s.rows slot == MAX_HEIGHT) _ _ (λ _. faults_kept slot (row s.rows n).job fault.TooDeep s is)
       (λ low. limited_kept _ (λ room. ran_kept slot _ (region_kept f (called f p a b) (grind (arith, low, is.stacked.low slot)) room)))
   execute_kept f (Wait d e g) = ran_kept slot _ (set_kept (λ r. record r {
     frame = with_register (record f { registers = slice_set f.registers d (total s.rows n g) }) e (group_status s n g);
     marks = slice_set r.marks g (record { rows = length s.rows; cancelled = false });
-  }) refl refl refl)
+  }) refl refl refl (mark_fits (row s.rows n).marks g (record { rows = length s.rows; cancelled = false }) (length s.rows) (omega arith) (is.marked n)))
   execute_kept f (Cancel g) = ran_kept slot _ (set_kept (λ r. record r {
     frame = next_place f;
     marks = slice_set r.marks g (record (mark s.rows n g) { cancelled = true });
-  }) refl refl refl)
+  }) refl refl refl (mark_fits (row s.rows n).marks g (record (mark s.rows n g) { cancelled = true }) (length s.rows) (is.marked n g) (is.marked n)))
   execute_kept f (Ask d) = ran_kept slot _ (moved_kept _)
   execute_kept f (Load d k) = ran_kept slot _ (cells_kept _ k _)
   execute_kept f (Store k a) = ran_kept slot _ (cells_kept _ k _)
@@ -216,6 +218,11 @@ empty_kept c slots = record {
     low = λ slot. omega arith;
   };
   inside = λ a b slot low high q a_live b_live le is_one within. let there = live_there [] a slot low a_live in absurd (omega (arith, there));
+  on_makers = record {
+    started = λ n m kind. no_row_waits n;
+    below = λ n m slot h kind live. let there = live_there [] n slot h live in absurd (omega (arith, there));
+  };
+  marked = AreMarked-none;
   limit = omega arith;
   table = no_cells_kept;
   slots = slots;

@@ -15,7 +15,7 @@ use Rattle.job_language.specs.declared.answers.Status.{Status}
 use Rattle.job_language.specs.declared.answers.Status.TheVariants.{Running, Canceled, Complete, Fault}
 use Rattle.tenant_model.specs.declared.rows.Phase.{Phase}
 use Rattle.tenant_model.specs.declared.rows.Phase.TheVariants.{Unstarted, Live}
-use Rattle.tenant_model.specs.declared.rows.Kind.TheVariants.{Root}
+use Rattle.tenant_model.specs.declared.rows.Kind.TheVariants.{Root, Region}
 use Rattle.tenant_model.specs.declared.rows.Row.{Row}
 use Rattle.tenant_model.specs.declared.works.Work.{Work}
 use Rattle.tenant_model.specs.declared.works.TheConstants.{MAX_JOBS}
@@ -32,8 +32,10 @@ use Rattle.tenant_model.proofs.Linked.{IsLinked-job, IsLinked-more_jobs}
 use Rattle.tenant_model.proofs.Stacking.{count-push, AreStacked-same, AreStacked-pushed}
 use Rattle.tenant_model.proofs.Stacked.{IsOff, AreSame-push, IsPushed-push}
 use Rattle.tenant_model.proofs.Parts.{AreInside-push, AreInside-push_first}
+use Rattle.tenant_model.proofs.Marked.{AreMarked-push}
+use Rattle.tenant_model.proofs.OnMakers.{StandOnMakers-push}
 use Rattle.tenant_model.proofs.Picks.{found_holds}
-use Rattle.tenant_model.proofs.Keeping.{one_at_most, settle_kept, entry_kept, on_job_kept}
+use Rattle.tenant_model.proofs.Keeping.{one_at_most, no_such_region, settle_kept, entry_kept, on_job_kept}
 
 pub with_cell_kept : (t : Table) (k slot : ℕ) (v : ℤ) → IsTable t → IsTable (with_cell t k slot v)
 with_cell_kept t k slot v is =
@@ -59,6 +61,9 @@ new_root s j phase = new_row Root (length s.jobs + 1) None (new_frame 0 (slice_i
 pub unstarted_off : IsOff Unstarted
 unstarted_off = record { on = λ slot. refl; at = λ slot h. refl }
 
+root_no_region : (m : ℕ) → Root ≡ Region m → ⊥
+root_no_region m is = no_such_region Root m refl is
+
 -- a new job with its root, not started or on an empty slot
 module _ (s : State) (j : Job) (room : open_rows s.rows < s.config.rows) where
   pub add_job_kept : IsWellFormed s → IsWellFormed (add_job s j Unstarted)
@@ -69,6 +74,8 @@ module _ (s : State) (j : Job) (room : open_rows s.rows < s.config.rows) where
         linked = linked;
         stacked = AreStacked-same s.rows _ (AreSame-push s.rows r unstarted_off) is.stacked;
         inside = AreInside-push s.rows r is.linked.makers linked.makers is.stacked unstarted_off is.inside;
+        on_makers = StandOnMakers-push s.rows r (λ m kind. absurd (root_no_region m kind)) (λ m slot h kind live. absurd (root_no_region m kind)) is.on_makers;
+        marked = AreMarked-push s.rows r refl is.marked;
         limit = omega (arith, room, count-push (λ (x : Row). is_open x.phase) s.rows r, one_at_most (is_open r.phase));
         table = is.table;
         slots = is.slots;
@@ -83,6 +90,8 @@ module _ (s : State) (j : Job) (room : open_rows s.rows < s.config.rows) where
         linked = linked;
         stacked = AreStacked-pushed s.rows _ slot (IsPushed-push s.rows r slot live) (omega (arith, free)) is.stacked;
         inside = AreInside-push_first s.rows r is.linked.makers linked.makers slot is.stacked refl free is.inside;
+        on_makers = StandOnMakers-push s.rows r (λ m kind. absurd (root_no_region m kind)) (λ m t h kind live. absurd (root_no_region m kind)) is.on_makers;
+        marked = AreMarked-push s.rows r refl is.marked;
         limit = omega (arith, room, count-push (λ (x : Row). is_open x.phase) s.rows r, one_at_most (is_open r.phase));
         table = is.table;
         slots = is.slots;
@@ -126,6 +135,8 @@ retired_kept s is = either (list_any (λ (r : Row). is_open r.phase) s.rows) _ _
       linked = record { makers = linked.makers; jobs = linked.jobs; epoch = omega (arith, is.linked.epoch) };
       stacked = is.stacked;
       inside = is.inside;
+      on_makers = is.on_makers;
+      marked = is.marked;
       limit = is.limit;
       table = no_cells_kept;
       slots = is.slots;

@@ -16,6 +16,8 @@ pub mod Parts
 pub mod Keeping
 pub mod KeptSteps
 pub mod Nesting
+mod Marked
+mod OnMakers
 pub mod KeptAdvances
 pub mod Touching
 pub mod RegionLaws

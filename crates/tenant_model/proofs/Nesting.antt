@@ -44,7 +44,7 @@ module _ (s : State) (slot m : ℕ) (is : IsWellFormed s) (picked : pick s slot 
   nest_first_kept empty =
       let its = pick_is s.config.isolation s.rows slot m picked in
       let off = unstarted_is_off (row s.rows m).phase its.2 in
-      nest_kept s m (λ r. record r { phase = Live slot (height s.rows slot + 1) }) its.0 its.1 refl refl slot off.0 off.1 refl (omega (arith, empty))
+      nest_kept s m (λ r. record r { phase = Live slot (height s.rows slot + 1) }) its.0 its.1 refl refl (is.marked m) slot off.0 off.1 refl (omega (arith, empty))
       (λ x low q live is_one within. let below = live_low s.rows is.stacked x slot low live in absurd (omega (arith, below, empty))) is
 
   -- on a waiting row
@@ -54,7 +54,7 @@ module _ (s : State) (slot m : ℕ) (is : IsWellFormed s) (picked : pick s slot 
       let off = unstarted_is_off (row s.rows m).phase its.2 in
       let waiter = top_is s.rows slot n top in
       let allowed : is_allowed s.config.isolation s.rows (region_of s.rows n) m ≡ true = rw top at its.3 in
-      nest_kept s m (λ r. record r { phase = Live slot (height s.rows slot + 1) }) its.0 its.1 refl refl slot off.0 off.1 refl room
+      nest_kept s m (λ r. record r { phase = Live slot (height s.rows slot + 1) }) its.0 its.1 refl refl (is.marked m) slot off.0 off.1 refl room
       (λ x low q live is_one within.
       let below = live_low s.rows is.stacked x slot low live in
       let above = is.inside x n slot low (height s.rows slot) q live waiter.2 below.1 is_one within in

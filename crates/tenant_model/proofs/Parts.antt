@@ -29,7 +29,7 @@ abbrev height_in : Phase → ℕ
 height_in (Live t h) = h
 height_in p = 0
 
-same_place : (slot h t k : ℕ) → Live slot h ≡ Live t k → (slot ≡ t) × (h ≡ k)
+pub same_place : (slot h t k : ℕ) → Live slot h ≡ Live t k → (slot ≡ t) × (h ≡ k)
 same_place slot h t k same = (ap slot_in same, ap height_in same)
 
 pub off_live : {p : Phase} {slot h : ℕ} → IsOff p → p ≡ Live slot h → ⊥

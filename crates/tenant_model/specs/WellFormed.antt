@@ -1,12 +1,13 @@
 -- What a tenant's rows keep, whatever steps it takes.
-use Rattle.std.specs.Prelude.{ℕ, ◌≡◌, ◌<◌, ◌≤◌, true, List, length, count_by, All}
+use Rattle.std.specs.Prelude.{ℕ, ◌≡◌, ◌-◌, ◌<◌, ◌≤◌, true, false, List, length, count_by, All}
 use Rattle.job_language.specs.declared.instructions.TheConstants.{KEYS}
 use Rattle.job_language.specs.declared.tenants.TheConstants.{MAX_SLOTS}
+use Rattle.tenant_model.specs.declared.rows.Kind.TheVariants.{Region}
 use Rattle.tenant_model.specs.declared.rows.Phase.TheVariants.{Live}
 use Rattle.tenant_model.specs.declared.rows.Row.{Row}
 use Rattle.tenant_model.specs.declared.rows.TheConstants.{MAX_HEIGHT}
 use Rattle.tenant_model.specs.State.{State, row}
-use Rattle.tenant_model.specs.Walks.{is_region, is_within, is_live_at, height}
+use Rattle.tenant_model.specs.Walks.{is_region, is_within, is_unstarted, is_live_at, mark, height}
 use Rattle.tenant_model.specs.Changes.{open_rows}
 use Rattle.tenant_model.specs.Cells.{Table}
 use Rattle.tenant_model.specs.Rows.{IsLinked}
@@ -28,6 +29,15 @@ AreInside rows =
     (a b slot low high q : ℕ) → (row rows a).phase ≡ Live slot low → (row rows b).phase ≡ Live slot high → low ≤ high → is_region (row rows q).kind ≡ true →
     is_within rows a q ≡ true → is_within rows b q ≡ true
 
+-- A region stands right above its maker while it is live, and never waits to be started.
+pub record StandOnMakers (rows : List Row) : Type 0 where
+  pub started : (n m : ℕ) → (row rows n).kind ≡ Region m → is_unstarted (row rows n).phase ≡ false
+  pub below : (n m slot h : ℕ) → (row rows n).kind ≡ Region m → (row rows n).phase ≡ Live slot h → (row rows m).phase ≡ Live slot (h - 1)
+
+-- No mark is past the last row: what is spawned into a group now is a member of it.
+abbrev pub AreMarked : List Row → Type 0
+AreMarked rows = (n g : ℕ) → (mark rows n g).rows ≤ length rows
+
 -- a table of a cell for each key and slot
 pub record IsTable (t : Table) : Type 0 where
   pub keys : length t ≡ KEYS
@@ -38,6 +48,8 @@ pub record IsWellFormed (s : State) : Type 0 where
   pub linked : IsLinked s
   pub stacked : AreStacked s.rows
   pub inside : AreInside s.rows
+  pub on_makers : StandOnMakers s.rows
+  pub marked : AreMarked s.rows
   pub limit : open_rows s.rows ≤ s.config.rows
   pub table : IsTable s.cells
   pub slots : s.config.slots ≤ MAX_SLOTS

@@ -1,6 +1,7 @@
 // Worked examples: steps and their answers.
 use super::{ANSWERS, STEPS, TENANT, joined, run};
 use crate::ScriptEnd;
+use std::alloc::Global;
 use std::test::Fail;
 
 #[test]
@@ -29,50 +30,64 @@ fn blank_lines_are_skipped(rt: HostRuntime) -> Result<(), Fail> {
     Ok(())
 }
 
+/// How the script of one step ends, and what it prints without its newline.
+fn stepped(alloc: Global, step: &str) -> Result<(ScriptEnd, Vec<u8>), Fail> {
+    let text = joined(alloc, &[TENANT, step, "\n"])?;
+    let (end, mut printed) = run(alloc, &[], text.as_str());
+    if printed.pop() != Some(b'\n') {
+        return Err(Fail::from("a newline"));
+    }
+    Ok((end, printed))
+}
+
 #[test]
 fn each_step_has_its_answer(rt: HostRuntime) -> Result<(), Fail> {
     let table = [
         (
-            "{\"request\":{\"op\":\"arena\"},\"step\":\"ask\"}",
-            "{\"priority\":\"normal\",\"reserved\":0,\"slots\":1}\n",
+            r#"{"request":{"op":"arena"},"step":"ask"}"#,
+            r#"{"priority":"normal","reserved":0,"slots":1}"#,
         ),
         (
-            " { \"step\" : \"ask\" , \"request\" : { \"op\" : \"cells\" , \"key\" : 7 } } ",
-            "{\"count\":0,\"key\":7,\"sum\":0}\n",
+            r#" { "step" : "ask" , "request" : { "op" : "cells" , "key" : 7 } } "#,
+            r#"{"count":0,"key":7,"sum":0}"#,
         ),
         (
-            "{\"request\":{\"job\":9,\"op\":\"poll\"},\"step\":\"ask\"}",
-            "{\"code\":6,\"error\":\"unknown_job\"}\n",
+            r#"{"request":{"job":9,"op":"poll"},"step":"ask"}"#,
+            r#"{"code":6,"error":"unknown_job"}"#,
         ),
-        ("{\"slot\":0,\"step\":\"arrive\"}", "{\"moved\":\"none\"}\n"),
+        (r#"{"slot":0,"step":"arrive"}"#, r#"{"moved":"none"}"#),
+        (r#"{"slot":0,"step":"advance"}"#, r#"{"moved":"left"}"#),
+    ];
+    for (step, answer) in table {
+        let (end, printed) = stepped(rt.alloc(), step)?;
+        assert_eq!(rt; end, ScriptEnd::Done, "{step}");
+        assert_eq!(rt; printed.as_slice(), answer.as_bytes(), "{step}");
+    }
+    Ok(())
+}
+
+#[test]
+fn a_request_that_is_none_has_its_error(rt: HostRuntime) -> Result<(), Fail> {
+    let bad_request = r#"{"code":3,"error":"bad_request"}"#;
+    let bad_program = r#"{"code":4,"error":"bad_program"}"#;
+    let table = [
         (
-            "{\"slot\":0,\"step\":\"advance\"}",
-            "{\"moved\":\"left\"}\n",
+            r#"{"request":{"op":"hello","tenant":"acme"},"step":"ask"}"#,
+            bad_request,
+        ),
+        (r#"{"request":{"op":"submit"},"step":"ask"}"#, bad_request),
+        (r#"{"request":7,"step":"ask"}"#, bad_request),
+        (
+            r#"{"request":{"job":{"args":[0,0],"fuel":1000,"procs":[[["jmp",1]]]},"op":"submit"},"step":"ask"}"#,
+            bad_program,
         ),
         (
-            "{\"request\":{\"op\":\"hello\",\"tenant\":\"acme\"},\"step\":\"ask\"}",
-            "{\"code\":3,\"error\":\"bad_request\"}\n",
-        ),
-        (
-            "{\"request\":{\"op\":\"submit\"},\"step\":\"ask\"}",
-            "{\"code\":3,\"error\":\"bad_request\"}\n",
-        ),
-        (
-            "{\"request\":7,\"step\":\"ask\"}",
-            "{\"code\":3,\"error\":\"bad_request\"}\n",
-        ),
-        (
-            "{\"request\":{\"job\":{\"args\":[0,0],\"fuel\":1000,\"procs\":[[[\"jmp\",1]]]},\"op\":\"submit\"},\"step\":\"ask\"}",
-            "{\"code\":4,\"error\":\"bad_program\"}\n",
-        ),
-        (
-            "{\"request\":{\"job\":7,\"op\":\"execute\"},\"step\":\"ask\"}",
-            "{\"code\":4,\"error\":\"bad_program\"}\n",
+            r#"{"request":{"job":7,"op":"execute"},"step":"ask"}"#,
+            bad_program,
         ),
     ];
     for (step, answer) in table {
-        let text = joined(rt.alloc(), &[TENANT, step, "\n"])?;
-        let (end, printed) = run(rt.alloc(), &[], text.as_str());
+        let (end, printed) = stepped(rt.alloc(), step)?;
         assert_eq!(rt; end, ScriptEnd::Done, "{step}");
         assert_eq!(rt; printed.as_slice(), answer.as_bytes(), "{step}");
     }

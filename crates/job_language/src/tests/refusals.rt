@@ -8,79 +8,43 @@ const HEAD: Option<Place> = Some(Place::Head);
 
 const FIRST: Option<Place> = Some(Place::At(0, 0));
 
+/// Jobs, at the ends of what is accepted.
+const ACCEPTED_JOBS: [&str; 4] = [
+    r#"{"args":[0,0],"fuel":1,"procs":[[["ret",0]]]}"#,
+    r#"{"args":[0,0],"fuel":1000000,"procs":[[["ret",0]]]}"#,
+    r#"{"args":[-9223372036854775808,9223372036854775807],"fuel":1,"procs":[[["ret",0]]]}"#,
+    r#"{"args":[0],"args":[0,0],"fuel":0,"fuel":1,"procs":[[["ret",0]]]}"#,
+];
+
+/// Values that are refused at the head of a job.
+const REFUSED_HEADS: [&str; 18] = [
+    r#"{"args":[0,0],"fuel":0,"procs":[[["ret",0]]]}"#,
+    r#"{"args":[0,0],"fuel":1000001,"procs":[[["ret",0]]]}"#,
+    r#"{"args":[0,0],"fuel":1.0,"procs":[[["ret",0]]]}"#,
+    r#"{"args":[0,0],"fuel":1e0,"procs":[[["ret",0]]]}"#,
+    r#"{"args":[0],"fuel":1,"procs":[[["ret",0]]]}"#,
+    r#"{"args":[0,0,0],"fuel":1,"procs":[[["ret",0]]]}"#,
+    r#"{"args":[0,"0"],"fuel":1,"procs":[[["ret",0]]]}"#,
+    r#"{"args":[0,9223372036854775808],"fuel":1,"procs":[[["ret",0]]]}"#,
+    r#"{"args":[-9223372036854775809,0],"fuel":1,"procs":[[["ret",0]]]}"#,
+    r#"{"args":[0,0],"fuel":1}"#,
+    r#"{"args":[0,0],"fuel":1,"procs":[[["ret",0]]],"rows":1}"#,
+    r#"{"args":[0,0],"fuel":1,"proc":[[["ret",0]]]}"#,
+    "[0,0]",
+    r#"{"args":[0,0],"fuel":1,"procs":[]}"#,
+    r#"{"args":[0,0],"fuel":1,"procs":{}}"#,
+    r#"{"args":[0,0],"fuel":1,"procs":[[]]}"#,
+    r#"{"args":[0,0],"fuel":1,"procs":[[["ret",9]],5]}"#,
+    r#"{"args":[0,0],"fuel":0,"procs":[[["ret",9]]]}"#,
+];
+
 #[test]
 fn the_head_is_refused_before_any_instruction(rt: HostRuntime) -> Result<(), Fail> {
-    let table = [
-        (
-            "{\"args\":[0,0],\"fuel\":0,\"procs\":[[[\"ret\",0]]]}",
-            HEAD,
-        ),
-        (
-            "{\"args\":[0,0],\"fuel\":1,\"procs\":[[[\"ret\",0]]]}",
-            None,
-        ),
-        (
-            "{\"args\":[0,0],\"fuel\":1000000,\"procs\":[[[\"ret\",0]]]}",
-            None,
-        ),
-        (
-            "{\"args\":[0,0],\"fuel\":1000001,\"procs\":[[[\"ret\",0]]]}",
-            HEAD,
-        ),
-        (
-            "{\"args\":[0,0],\"fuel\":1.0,\"procs\":[[[\"ret\",0]]]}",
-            HEAD,
-        ),
-        (
-            "{\"args\":[0,0],\"fuel\":1e0,\"procs\":[[[\"ret\",0]]]}",
-            HEAD,
-        ),
-        ("{\"args\":[0],\"fuel\":1,\"procs\":[[[\"ret\",0]]]}", HEAD),
-        (
-            "{\"args\":[0,0,0],\"fuel\":1,\"procs\":[[[\"ret\",0]]]}",
-            HEAD,
-        ),
-        (
-            "{\"args\":[0,\"0\"],\"fuel\":1,\"procs\":[[[\"ret\",0]]]}",
-            HEAD,
-        ),
-        (
-            "{\"args\":[-9223372036854775808,9223372036854775807],\"fuel\":1,\"procs\":[[[\"ret\",0]]]}",
-            None,
-        ),
-        (
-            "{\"args\":[0,9223372036854775808],\"fuel\":1,\"procs\":[[[\"ret\",0]]]}",
-            HEAD,
-        ),
-        (
-            "{\"args\":[-9223372036854775809,0],\"fuel\":1,\"procs\":[[[\"ret\",0]]]}",
-            HEAD,
-        ),
-        ("{\"args\":[0,0],\"fuel\":1}", HEAD),
-        (
-            "{\"args\":[0,0],\"fuel\":1,\"procs\":[[[\"ret\",0]]],\"rows\":1}",
-            HEAD,
-        ),
-        ("{\"args\":[0,0],\"fuel\":1,\"proc\":[[[\"ret\",0]]]}", HEAD),
-        ("[0,0]", HEAD),
-        ("{\"args\":[0,0],\"fuel\":1,\"procs\":[]}", HEAD),
-        ("{\"args\":[0,0],\"fuel\":1,\"procs\":{}}", HEAD),
-        ("{\"args\":[0,0],\"fuel\":1,\"procs\":[[]]}", HEAD),
-        (
-            "{\"args\":[0,0],\"fuel\":1,\"procs\":[[[\"ret\",9]],5]}",
-            HEAD,
-        ),
-        (
-            "{\"args\":[0,0],\"fuel\":0,\"procs\":[[[\"ret\",9]]]}",
-            HEAD,
-        ),
-        (
-            "{\"args\":[0],\"args\":[0,0],\"fuel\":0,\"fuel\":1,\"procs\":[[[\"ret\",0]]]}",
-            None,
-        ),
-    ];
-    for (text, place) in table {
-        assert_eq!(rt; place_of(rt.alloc(), text)?, place, "{text}");
+    for text in ACCEPTED_JOBS {
+        assert_eq!(rt; place_of(rt.alloc(), text)?, None, "{text}");
+    }
+    for text in REFUSED_HEADS {
+        assert_eq!(rt; place_of(rt.alloc(), text)?, Some(Place::Head), "{text}");
     }
     Ok(())
 }
@@ -88,33 +52,33 @@ fn the_head_is_refused_before_any_instruction(rt: HostRuntime) -> Result<(), Fai
 #[test]
 fn a_job_is_refused_at_its_first_fault(rt: HostRuntime) -> Result<(), Fail> {
     let table = [
-        ("[[[\"ret\",8]]]", FIRST),
-        ("[[[\"ret\",7]]]", None),
-        ("[[[\"set\",2,1]]]", FIRST),
-        ("[[[\"jmp\",1],[\"ret\",9]]]", Some(Place::At(0, 1))),
+        (r#"[[["ret",8]]]"#, FIRST),
+        (r#"[[["ret",7]]]"#, None),
+        (r#"[[["set",2,1]]]"#, FIRST),
+        (r#"[[["jmp",1],["ret",9]]]"#, Some(Place::At(0, 1))),
         (
-            "[[[\"ret\",0]],[[\"spawn\",0,2,0,0],[\"ret\",0]]]",
+            r#"[[["ret",0]],[["spawn",0,2,0,0],["ret",0]]]"#,
             Some(Place::At(1, 0)),
         ),
-        ("[[[\"spawn\",0,0,0,0],[\"ret\",0]]]", None),
-        ("[[[\"set\",2,1.0],[\"ret\",0]]]", FIRST),
-        ("[[[\"set\",2,9223372036854775808],[\"ret\",0]]]", FIRST),
-        ("[[[\"set\",2,-9223372036854775809],[\"ret\",0]]]", FIRST),
-        ("[[[\"jmp\",1]]]", FIRST),
-        ("[[[\"jmp\",0]]]", None),
-        ("[[[\"jz\",0,2],[\"ret\",0]]]", FIRST),
-        ("[[[\"cancel\",4],[\"ret\",0]]]", FIRST),
-        ("[[[\"load\",0,8],[\"ret\",0]]]", FIRST),
-        ("[[[\"load\",8,0],[\"ret\",0]]]", FIRST),
-        ("[[[\"ret\"]]]", FIRST),
-        ("[[[\"ret\",0,0]]]", FIRST),
-        ("[[[\"Ret\",0]]]", FIRST),
-        ("[[[0,\"ret\"]]]", FIRST),
+        (r#"[[["spawn",0,0,0,0],["ret",0]]]"#, None),
+        (r#"[[["set",2,1.0],["ret",0]]]"#, FIRST),
+        (r#"[[["set",2,9223372036854775808],["ret",0]]]"#, FIRST),
+        (r#"[[["set",2,-9223372036854775809],["ret",0]]]"#, FIRST),
+        (r#"[[["jmp",1]]]"#, FIRST),
+        (r#"[[["jmp",0]]]"#, None),
+        (r#"[[["jz",0,2],["ret",0]]]"#, FIRST),
+        (r#"[[["cancel",4],["ret",0]]]"#, FIRST),
+        (r#"[[["load",0,8],["ret",0]]]"#, FIRST),
+        (r#"[[["load",8,0],["ret",0]]]"#, FIRST),
+        (r#"[[["ret"]]]"#, FIRST),
+        (r#"[[["ret",0,0]]]"#, FIRST),
+        (r#"[[["Ret",0]]]"#, FIRST),
+        (r#"[[[0,"ret"]]]"#, FIRST),
         ("[[5]]", FIRST),
         ("[[[]]]", FIRST),
-        ("[[[\"ret\",-1]]]", FIRST),
+        (r#"[[["ret",-1]]]"#, FIRST),
         (
-            "[[[\"ret\",0],[\"ret\",0]],[[\"jmp\",1]]]",
+            r#"[[["ret",0],["ret",0]],[["jmp",1]]]"#,
             Some(Place::At(1, 0)),
         ),
     ];
@@ -140,103 +104,48 @@ fn a_program_has_16_procedures_of_256_instructions(rt: HostRuntime) -> Result<()
     Ok(())
 }
 
+/// Tenants, at the ends of what is accepted.
+const ACCEPTED_TENANTS: [&str; 6] = [
+    TENANT,
+    r#"{"name":"a","priority":"low","reserved":0,"rows":1,"slots":1,"steps":1}"#,
+    r#"{"name":"abcdefghijklmnopqrstuvwxyz-01239","priority":"high","reserved":16,"rows":4096,"slots":16,"steps":1048576}"#,
+    r#"{"isolation":"exact","name":"a","priority":"low","reserved":0,"rows":1,"slots":1,"steps":1}"#,
+    r#"{"isolation":"within","name":"a","priority":"low","reserved":0,"rows":1,"slots":1,"steps":1}"#,
+    r#"{"name":"a","name":"b","priority":"low","reserved":0,"rows":1,"slots":0,"slots":1,"steps":1}"#,
+];
+
+/// Values that are no tenant.
+const REFUSED_TENANTS: [&str; 18] = [
+    r#"{"isolation":"none","name":"a","priority":"low","reserved":0,"rows":1,"slots":1,"steps":1}"#,
+    r#"{"name":"","priority":"low","reserved":0,"rows":1,"slots":1,"steps":1}"#,
+    r#"{"name":"abcdefghijklmnopqrstuvwxyz-012399","priority":"low","reserved":0,"rows":1,"slots":1,"steps":1}"#,
+    r#"{"name":"Acme","priority":"low","reserved":0,"rows":1,"slots":1,"steps":1}"#,
+    r#"{"name":"a","priority":"middle","reserved":0,"rows":1,"slots":1,"steps":1}"#,
+    r#"{"name":"a","priority":"low","reserved":2,"rows":1,"slots":1,"steps":1}"#,
+    r#"{"name":"a","priority":"low","reserved":-1,"rows":1,"slots":1,"steps":1}"#,
+    r#"{"name":"a","priority":"low","reserved":0,"rows":0,"slots":1,"steps":1}"#,
+    r#"{"name":"a","priority":"low","reserved":0,"rows":4097,"slots":1,"steps":1}"#,
+    r#"{"name":"a","priority":"low","reserved":0,"rows":1,"slots":0,"steps":1}"#,
+    r#"{"name":"a","priority":"low","reserved":0,"rows":1,"slots":17,"steps":1}"#,
+    r#"{"name":"a","priority":"low","reserved":0,"rows":1,"slots":257,"steps":1}"#,
+    r#"{"name":"a","priority":"low","reserved":0,"rows":1,"slots":1,"steps":0}"#,
+    r#"{"name":"a","priority":"low","reserved":0,"rows":1,"slots":1,"steps":1048577}"#,
+    r#"{"name":"a","priority":"low","reserved":0,"rows":1,"slots":1}"#,
+    r#"{"name":"a","priority":"low","reserved":0,"rows":1,"slots":1,"steps":1,"x":1}"#,
+    r#"{"name":7,"priority":"low","reserved":0,"rows":1,"slots":1,"steps":1}"#,
+    "null",
+];
+
 #[test]
 fn a_tenant_has_its_members_and_ranges(rt: HostRuntime) -> Result<(), Fail> {
-    let table = [
-        (TENANT, true),
-        (
-            "{\"name\":\"a\",\"priority\":\"low\",\"reserved\":0,\"rows\":1,\"slots\":1,\"steps\":1}",
-            true,
-        ),
-        (
-            "{\"name\":\"abcdefghijklmnopqrstuvwxyz-01239\",\"priority\":\"high\",\"reserved\":16,\"rows\":4096,\"slots\":16,\"steps\":1048576}",
-            true,
-        ),
-        (
-            "{\"isolation\":\"exact\",\"name\":\"a\",\"priority\":\"low\",\"reserved\":0,\"rows\":1,\"slots\":1,\"steps\":1}",
-            true,
-        ),
-        (
-            "{\"isolation\":\"within\",\"name\":\"a\",\"priority\":\"low\",\"reserved\":0,\"rows\":1,\"slots\":1,\"steps\":1}",
-            true,
-        ),
-        (
-            "{\"isolation\":\"none\",\"name\":\"a\",\"priority\":\"low\",\"reserved\":0,\"rows\":1,\"slots\":1,\"steps\":1}",
-            false,
-        ),
-        (
-            "{\"name\":\"a\",\"name\":\"b\",\"priority\":\"low\",\"reserved\":0,\"rows\":1,\"slots\":0,\"slots\":1,\"steps\":1}",
-            true,
-        ),
-        (
-            "{\"name\":\"\",\"priority\":\"low\",\"reserved\":0,\"rows\":1,\"slots\":1,\"steps\":1}",
-            false,
-        ),
-        (
-            "{\"name\":\"abcdefghijklmnopqrstuvwxyz-012399\",\"priority\":\"low\",\"reserved\":0,\"rows\":1,\"slots\":1,\"steps\":1}",
-            false,
-        ),
-        (
-            "{\"name\":\"Acme\",\"priority\":\"low\",\"reserved\":0,\"rows\":1,\"slots\":1,\"steps\":1}",
-            false,
-        ),
-        (
-            "{\"name\":\"a\",\"priority\":\"middle\",\"reserved\":0,\"rows\":1,\"slots\":1,\"steps\":1}",
-            false,
-        ),
-        (
-            "{\"name\":\"a\",\"priority\":\"low\",\"reserved\":2,\"rows\":1,\"slots\":1,\"steps\":1}",
-            false,
-        ),
-        (
-            "{\"name\":\"a\",\"priority\":\"low\",\"reserved\":-1,\"rows\":1,\"slots\":1,\"steps\":1}",
-            false,
-        ),
-        (
-            "{\"name\":\"a\",\"priority\":\"low\",\"reserved\":0,\"rows\":0,\"slots\":1,\"steps\":1}",
-            false,
-        ),
-        (
-            "{\"name\":\"a\",\"priority\":\"low\",\"reserved\":0,\"rows\":4097,\"slots\":1,\"steps\":1}",
-            false,
-        ),
-        (
-            "{\"name\":\"a\",\"priority\":\"low\",\"reserved\":0,\"rows\":1,\"slots\":0,\"steps\":1}",
-            false,
-        ),
-        (
-            "{\"name\":\"a\",\"priority\":\"low\",\"reserved\":0,\"rows\":1,\"slots\":17,\"steps\":1}",
-            false,
-        ),
-        (
-            "{\"name\":\"a\",\"priority\":\"low\",\"reserved\":0,\"rows\":1,\"slots\":257,\"steps\":1}",
-            false,
-        ),
-        (
-            "{\"name\":\"a\",\"priority\":\"low\",\"reserved\":0,\"rows\":1,\"slots\":1,\"steps\":0}",
-            false,
-        ),
-        (
-            "{\"name\":\"a\",\"priority\":\"low\",\"reserved\":0,\"rows\":1,\"slots\":1,\"steps\":1048577}",
-            false,
-        ),
-        (
-            "{\"name\":\"a\",\"priority\":\"low\",\"reserved\":0,\"rows\":1,\"slots\":1}",
-            false,
-        ),
-        (
-            "{\"name\":\"a\",\"priority\":\"low\",\"reserved\":0,\"rows\":1,\"slots\":1,\"steps\":1,\"x\":1}",
-            false,
-        ),
-        (
-            "{\"name\":7,\"priority\":\"low\",\"reserved\":0,\"rows\":1,\"slots\":1,\"steps\":1}",
-            false,
-        ),
-        ("null", false),
-    ];
-    for (text, valid) in table {
-        let read = read_tenant(&value_of(rt.alloc(), text)?);
-        assert_eq!(rt; read.is_ok(), valid, "{text}");
+    for text in ACCEPTED_TENANTS {
+        assert!(rt; read_tenant(&value_of(rt.alloc(), text)?).is_ok(), "{text}");
+    }
+    for text in REFUSED_TENANTS {
+        assert!(rt;
+            read_tenant(&value_of(rt.alloc(), text)?).is_err(),
+            "{text}"
+        );
     }
     Ok(())
 }

@@ -16,22 +16,6 @@ fn each_reply_has_its_line(rt: HostRuntime) -> Result<(), Fail> {
         ),
         (Reply::Made(1), "{\"job\":1}\n"),
         (Reply::Placed(1, 0), "{\"job\":1,\"slot\":0}\n"),
-        (
-            Reply::Job(1, Status::Running),
-            "{\"job\":1,\"status\":\"running\"}\n",
-        ),
-        (
-            Reply::Job(1, Status::Canceled),
-            "{\"job\":1,\"status\":\"canceled\"}\n",
-        ),
-        (
-            Reply::Job(1, Status::Complete(55)),
-            "{\"job\":1,\"status\":\"complete\",\"value\":55}\n",
-        ),
-        (
-            Reply::Job(1, Status::Fault(JobFault::Fuel)),
-            "{\"fault\":2,\"job\":1,\"status\":\"fault\"}\n",
-        ),
         (Reply::Canceled(1, true), "{\"first\":true,\"job\":1}\n"),
         (Reply::Canceled(1, false), "{\"first\":false,\"job\":1}\n"),
         (
@@ -51,10 +35,6 @@ fn each_reply_has_its_line(rt: HostRuntime) -> Result<(), Fail> {
             Reply::Refused(Error::Busy),
             "{\"code\":12,\"error\":\"busy\"}\n",
         ),
-        (
-            Reply::Job(u64::MAX, Status::Complete(i64::MIN)),
-            "{\"job\":18446744073709551615,\"status\":\"complete\",\"value\":-9223372036854775808}\n",
-        ),
     ];
     for (reply, line) in table {
         if reply == Reply::Pending {
@@ -65,6 +45,35 @@ fn each_reply_has_its_line(rt: HostRuntime) -> Result<(), Fail> {
         assert_eq!(rt; written.text().len() + 1, line.len(), "{line}");
     }
     Ok(())
+}
+
+#[test]
+fn each_status_has_its_line(rt: HostRuntime) {
+    let table = [
+        (
+            Reply::Job(1, Status::Running),
+            "{\"job\":1,\"status\":\"running\"}\n",
+        ),
+        (
+            Reply::Job(1, Status::Canceled),
+            "{\"job\":1,\"status\":\"canceled\"}\n",
+        ),
+        (
+            Reply::Job(1, Status::Complete(55)),
+            "{\"job\":1,\"status\":\"complete\",\"value\":55}\n",
+        ),
+        (
+            Reply::Job(1, Status::Fault(JobFault::Fuel)),
+            "{\"fault\":2,\"job\":1,\"status\":\"fault\"}\n",
+        ),
+        (
+            Reply::Job(u64::MAX, Status::Complete(i64::MIN)),
+            "{\"job\":18446744073709551615,\"status\":\"complete\",\"value\":-9223372036854775808}\n",
+        ),
+    ];
+    for (reply, line) in table {
+        assert_eq!(rt; reply_line(&reply).line(), line.as_bytes(), "{line}");
+    }
 }
 
 #[test]
