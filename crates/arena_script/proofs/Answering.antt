@@ -3,11 +3,14 @@ use Rattle.std.proofs.Common.{◌≡◌, ◌≢◌, ℕ, List, [], ◌∷◌, �
 use Rattle.std.proofs.lemmas.List.{append-nil}
 use Rattle.std.specs.Io.KnownBytes.{Appends}
 use Rattle.job_language.specs.declared.answers.Answer.{Answer}
+use Rattle.reply_writer.specs.SerialText.{serial_text}
+use Rattle.reply_writer.specs.declared.serials.SerialAnswer.{SerialAnswer}
 use Rattle.request_reader.specs.Lines.{Line, newline}
 use Rattle.tenant_model.specs.State.{State}
 use Rattle.arena_script.specs.OwnAnswers.{told}
 use Rattle.arena_script.specs.ScriptAnswers.{TakesLine, AnswersAll}
 use Rattle.arena_script.specs.ScriptLines.{line_of, lines_read}
+use Rattle.arena_script.specs.SerialAnswers.{serial_answer, serial_answers}
 use Rattle.arena_script.specs.declared.inputs.Input.{Input}
 use Rattle.arena_script.specs.declared.inputs.Input.TheVariants as input
 
@@ -51,3 +54,11 @@ pub answers_end : (slots : ℕ) (i : Input) (text : List ℕ) (left left' : List
 answers_end slots i text left left' s known ended here none =
     let no_lines : left ≡ [] = here ∙ ap (λ e. lines_read (Ok e) text ++ left') ended ∙ none in
     subst (λ (ls : List Line). AnswersAll slots ls s known known s) (sym no_lines) (answers_none slots s known)
+
+-- The next input is answered with the serial value that it asks, and then the lines that are left.
+pub serial_step : (i : Input) (text text' : List ℕ) (left left' : List Line) (answer : SerialAnswer) (line : List ℕ) (before middle after : Option (List ℕ)) → text' ≡ text → i ≢ input.End → left ≡ lines_read (Ok i) text ++ left' → answer ≡ serial_answer (line_of i text') → line ≡ serial_text answer ++ newline ∷ [] → Appends before middle line → Appends middle after (serial_answers left') → Appends before after (serial_answers left)
+serial_step i text text' left left' answer line before middle after same_text going here answered told_as written others =
+    let told_here : line ≡ serial_text (serial_answer (line_of i text)) ++ newline ∷ [] = told_as ∙ ap (λ a. serial_text a ++ newline ∷ []) answered ∙ ap (λ t. serial_text (serial_answer (line_of i t)) ++ newline ∷ []) same_text in
+    let written_line : Appends before middle (serial_text (serial_answer (line_of i text)) ++ newline ∷ []) = subst (λ (t : List ℕ). Appends before middle t) told_here written in
+    let one_line : left ≡ line_of i text ∷ left' = here ∙ ap (λ ls. ls ++ left') (lines_read-line i text going) in
+    subst (λ (ls : List Line). Appends before after (serial_answers ls)) (sym one_line) (appends_two before middle after (serial_text (serial_answer (line_of i text))) (serial_answers left') written_line others)

@@ -1,5 +1,7 @@
 pub mod CheckEnds
+pub mod DumpData
 pub mod DumpLines
+pub mod DumpReads
 pub mod DumpReplies
 pub mod Ends
 pub mod OwnAnswers

@@ -17,9 +17,13 @@ is_filled too_long = true
 abbrev pub script_lines : Reading → Option (List ℕ) → List Line
 script_lines r known = filter is_filled (lines_left r (unwrap_or known []))
 
--- the lines that are not blank of all the bytes
+-- the lines of all the bytes
+abbrev pub lines_in : Option (List ℕ) → List Line
+lines_in known = lines_of MAX_SCRIPT_LINE (unwrap_or known [])
+
+-- those that are not blank
 abbrev pub all_lines : Option (List ℕ) → List Line
-all_lines known = filter is_filled (lines_of MAX_SCRIPT_LINE (unwrap_or known []))
+all_lines known = filter is_filled (lines_in known)
 
 -- the line that an input is, where this is the text that was read
 abbrev pub line_of : Input → List ℕ → Line

@@ -1,6 +1,8 @@
 // Checking a dump.
-ghost use Rattle.std.specs.Prelude.{◌≡◌, IfErr, IfOk, string_bytes};
+ghost use Rattle.std.specs.Prelude.{◌≡◌, Err, IsSome, IfErr, IfOk, OnOk, string_bytes};
 ghost use Rattle.arena_script.specs.CheckEnds.{IsCheckFault};
+ghost use Rattle.arena_script.specs.DumpData.{dump_of, TellsVerdict, TellsBadLine};
+ghost use Rattle.arena_script.specs.ScriptLines.{lines_in};
 ghost use Rattle.arena_script.specs.VerdictText.{verdict_text, bad_line_text};
 
 use crate::dumps::{DumpRead, read_dump};
@@ -16,7 +18,11 @@ pub(crate) fn check_dump<R: Read, W: Write>(
     reader: &mut R,
     writer: &mut W,
 ) -> Result<(), ScriptEnd>
-    ensures { IfErr result IsCheckFault }
+    ensures verdict { OnOk result (IsSome (R.remaining reader.old)
+        → TellsVerdict (dump_of (lines_in (R.remaining reader.old))) (W.contents writer.old) (W.contents writer.new)) }
+    ensures bad_line { result ≡ Err ScriptEnd.BadLine → IsSome (R.remaining reader.old)
+        → TellsBadLine (dump_of (lines_in (R.remaining reader.old))) (W.contents writer.old) (W.contents writer.new) }
+    ensures ends { IfErr result IsCheckFault }
 {
     match read_dump(alloc, reader)? {
         DumpRead::Whole(dump) => {

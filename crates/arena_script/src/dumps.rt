@@ -1,9 +1,13 @@
 // The lines of a dump: a tenant, and the entries of its history.
-ghost use Rattle.std.specs.Prelude.{◌≡◌, option_map, IfOk, IfErr};
+ghost use Rattle.std.specs.Prelude.{◌≡◌, [], option_map, unwrap_or, IsSome, IfOk, IfErr, OnOk};
+ghost use Rattle.request_reader.specs.Reading.{lines_left};
 ghost use Rattle.serde_json.specs.View.{view};
 ghost use Rattle.arena_script.specs.CheckEnds.{IsLost};
 ghost use Rattle.arena_script.specs.DumpLines.{said_by, said_in_value, step_word, asked, ask_said, recorded, arrived, arrival_of, arrival_said, advanced, advance_said, moved_word, moved_named, verdict_on};
+ghost use Rattle.arena_script.specs.DumpData.{with_said, read_on, dump_of};
+ghost use Rattle.arena_script.specs.DumpReads.{came_to, after_first};
 ghost use Rattle.arena_script.specs.OwnAnswers.{request_in};
+ghost use Rattle.arena_script.specs.ScriptLines.{lines_in};
 
 use crate::dump_replies::{natural, reply_in, small};
 use crate::ends::ScriptEnd;
@@ -16,6 +20,7 @@ use serde_json::Value;
 use solo_eval::{Verdict, check};
 use std::alloc::{AllocError, Global};
 use std::io::Read;
+use std::marker::Model;
 
 /// What a line of a dump says.
 #[derive(Drop)]
@@ -34,6 +39,14 @@ pub(crate) struct Dump {
     has_foreign: bool,
 }
 
+impl Model for Dump {
+    ghost use Rattle.arena_script.specs.DumpData.{DumpData};
+
+    ghost Value = { DumpData };
+
+    ghost view = { λ d. record { config = d.config; entries = d.entries.items; has_foreign = d.has_foreign } };
+}
+
 /// What reading a dump came to.
 #[derive(Drop)]
 pub(crate) enum DumpRead {
@@ -44,24 +57,15 @@ pub(crate) enum DumpRead {
 
 /// Reads a dump to its end, or to its first bad line.
 pub(crate) fn read_dump<R: Read>(alloc: Global, reader: &mut R) -> Result<DumpRead, ScriptEnd>
-    ensures { IfErr result IsLost }
+    ensures read { IfOk result (λ read. IsSome (R.remaining reader.old)
+        → dump_of (lines_in (R.remaining reader.old)) ≡ came_to read) }
+    ensures lost { IfErr result IsLost }
 {
     let mut lines = LineReader::new(alloc, MAX_SCRIPT_LINE)?;
-    let Some(mut dump) = read_first(alloc, &mut lines, reader)? else {
-        return Ok(DumpRead::BadLine(1));
-    };
-    for number in 2..u64::MAX {
-        match lines.read_line(reader) {
-            LineRead::Line => match said_by(alloc, lines.line())? {
-                Some(said) => dump.add(said)?,
-                None => return Ok(DumpRead::BadLine(number)),
-            },
-            LineRead::TooLong => return Ok(DumpRead::BadLine(number)),
-            LineRead::End => return Ok(DumpRead::Whole(dump)),
-            LineRead::ReadFault | LineRead::TurnLimit => return Err(ScriptEnd::Device),
-        }
+    match read_first(alloc, &mut lines, reader)? {
+        Some(dump) => read_on(alloc, dump, lines, reader),
+        None => Ok(DumpRead::BadLine(1)),
     }
-    Err(ScriptEnd::Device)
 }
 
 /// A dump with no entry yet, of the tenant that the first line names.
@@ -70,7 +74,11 @@ fn read_first<R: Read>(
     lines: &mut LineReader,
     reader: &mut R,
 ) -> Result<Option<Dump>, ScriptEnd>
-    ensures { IfErr result IsLost }
+    ensures first { IfOk result (λ first. IsSome (R.remaining reader.old)
+        → dump_of (lines_left lines.old (unwrap_or (R.remaining reader.old) []))
+        ≡ after_first first (lines_left lines.new (unwrap_or (R.remaining reader.new) []))) }
+    ensures known { IsSome (R.remaining reader.old) → IsSome (R.remaining reader.new) }
+    ensures lost { IfErr result IsLost }
 {
     match lines.read_line(reader) {
         LineRead::Line => {}
@@ -88,9 +96,36 @@ fn read_first<R: Read>(
     }
 }
 
+/// Reads the lines after the first.
+fn read_on<R: Read>(
+    alloc: Global,
+    mut dump: Dump,
+    mut lines: LineReader,
+    reader: &mut R,
+) -> Result<DumpRead, ScriptEnd>
+    ensures read { IfOk result (λ read. IsSome (R.remaining reader.old)
+        → read_on (lines_left lines (unwrap_or (R.remaining reader.old) [])) 2 dump ≡ came_to read) }
+    ensures lost { IfErr result IsLost }
+{
+    for number in 2..u64::MAX {
+        match lines.read_line(reader) {
+            LineRead::Line => match said_by(alloc, lines.line())? {
+                Some(said) => dump.add(said)?,
+                None => return Ok(DumpRead::BadLine(number)),
+            },
+            LineRead::TooLong => return Ok(DumpRead::BadLine(number)),
+            LineRead::End => return Ok(DumpRead::Whole(dump)),
+            LineRead::ReadFault | LineRead::TurnLimit => return Err(ScriptEnd::Device),
+        }
+    }
+    Err(ScriptEnd::Device)
+}
+
 impl Dump {
     /// Adds what the next line says.
-    fn add(&mut self, said: Said) -> Result<(), AllocError> {
+    fn add(&mut self, said: Said) -> Result<(), AllocError>
+        ensures { OnOk result (self.new ≡ with_said self.old said) }
+    {
         match said {
             Said::Foreign => self.has_foreign = true,
             Said::Entry(entry) => {
@@ -104,7 +139,7 @@ impl Dump {
 
     /// The verdict on its history, in which a foreign entry is never right.
     pub(crate) fn verdict(&self, alloc: Global) -> Result<Verdict, AllocError>
-        ensures { IfOk result (λ verdict. verdict ≡ verdict_on self.now.config self.now.entries.items self.now.has_foreign) }
+        ensures { IfOk result (λ verdict. verdict ≡ verdict_on self.now.config self.now.entries self.now.has_foreign) }
     {
         let verdict = check(alloc, self.config, self.entries.as_slice())?;
         if !self.has_foreign {

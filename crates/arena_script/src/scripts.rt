@@ -3,11 +3,13 @@ ghost use Rattle.std.specs.Prelude.{◌≡◌, ◌≢◌, true, false, Err, IsSo
 ghost use Rattle.std.specs.Io.KnownBytes.{Appends};
 ghost use Rattle.tenant_model.specs.State.{State};
 ghost use Rattle.arena_script.specs.CheckEnds.{are_check_words, IsCheckEnd};
+ghost use Rattle.arena_script.specs.DumpData.{dump_of, TellsVerdict, TellsBadLine};
 ghost use Rattle.arena_script.specs.KnownWords.{are_known_words};
 ghost use Rattle.arena_script.specs.OwnAnswers.{told};
 ghost use Rattle.arena_script.specs.OwnEnds.{are_own_words, IsFault, IsOwnEnd};
 ghost use Rattle.arena_script.specs.ScriptAnswers.{AnswersAll, AnswersScript, NamesNoTenant};
-ghost use Rattle.arena_script.specs.ScriptLines.{script_lines, all_lines};
+ghost use Rattle.arena_script.specs.ScriptLines.{script_lines, all_lines, lines_in};
+ghost use Rattle.arena_script.specs.SerialAnswers.{serial_answers};
 ghost use Rattle.arena_script.specs.SerialEnds.{are_serial_words, IsSerialEnd};
 
 use crate::checks::check_dump;
@@ -42,12 +44,18 @@ pub fn script<R: Read, W: Write>(
     ensures unwritten { result ≡ ScriptEnd.Words → writer.new ≡ writer.old }
     ensures no_answer { result ≡ ScriptEnd.Config → writer.new ≡ writer.old }
 
-    // Where the bytes are known, the answers to all lines are written.
+    // Where the bytes are known, the answers to all lines are written, or what a dump comes to.
     ensures no_tenant { result ≡ ScriptEnd.Config → IsSome (R.remaining reader.old)
         → NamesNoTenant (all_lines (R.remaining reader.old)) }
     ensures done { are_own_words words.now ≡ true → result ≡ ScriptEnd.Done → IsSome (R.remaining reader.old)
         → AnswersScript (all_lines (R.remaining reader.old))
         (W.contents writer.old) (W.contents writer.new) }
+    ensures verdict { are_check_words words.now ≡ true → result ≡ ScriptEnd.Done → IsSome (R.remaining reader.old)
+        → TellsVerdict (dump_of (lines_in (R.remaining reader.old))) (W.contents writer.old) (W.contents writer.new) }
+    ensures bad_line { are_check_words words.now ≡ true → result ≡ ScriptEnd.BadLine → IsSome (R.remaining reader.old)
+        → TellsBadLine (dump_of (lines_in (R.remaining reader.old))) (W.contents writer.old) (W.contents writer.new) }
+    ensures values { are_serial_words words.now ≡ true → result ≡ ScriptEnd.Done → IsSome (R.remaining reader.old)
+        → Appends (W.contents writer.old) (W.contents writer.new) (serial_answers (all_lines (R.remaining reader.old))) }
 {
     let ended = match words {
         ["check"] => check_dump(alloc, reader, writer),

@@ -1,8 +1,10 @@
 // The serial values of jobs, one on each line.
-ghost use Rattle.std.specs.Prelude.{◌≡◌, IfOk, IfErr};
+ghost use Rattle.std.specs.Prelude.{◌≡◌, IsSome, IfOk, IfErr, OnOk};
+ghost use Rattle.std.specs.Io.KnownBytes.{Appends};
 ghost use Rattle.serde_json.specs.View.{view};
 ghost use Rattle.job_language.specs.Job.{job_of};
-ghost use Rattle.arena_script.specs.SerialAnswers.{serial_in, serial_of_job, serial_of_read};
+ghost use Rattle.arena_script.specs.ScriptLines.{line_of, all_lines};
+ghost use Rattle.arena_script.specs.SerialAnswers.{serial_answer, serial_answers, serial_in, serial_of_job, serial_of_read};
 ghost use Rattle.arena_script.specs.SerialEnds.{IsSerialFault};
 
 use crate::ends::ScriptEnd;
@@ -23,20 +25,31 @@ pub(crate) fn serial_values<R: Read, W: Write>(
     reader: &mut R,
     writer: &mut W,
 ) -> Result<(), ScriptEnd>
-    ensures { IfErr result IsSerialFault }
+    ensures ends { IfErr result IsSerialFault }
+    ensures done { OnOk result (IsSome (R.remaining reader.old)
+        → Appends (W.contents writer.old) (W.contents writer.new) (serial_answers (all_lines (R.remaining reader.old)))) }
 {
     let mut lines = LineReader::new(alloc, MAX_SCRIPT_LINE)?;
     for _line in 0..u64::MAX {
-        match next_input(&mut lines, reader)? {
-            Input::Line => put(writer, serial_line(&serial_in(alloc, lines.line())?).line())?,
-            Input::TooLong => put(
-                writer,
-                serial_line(&SerialAnswer::Refused(Error::LineTooLong)).line(),
-            )?,
-            Input::End => return Ok(()),
+        let input = next_input(&mut lines, reader)?;
+        if input == Input::End {
+            return Ok(());
         }
+        let answer = serial_of_input(alloc, input, lines.line())?;
+        put(writer, serial_line(&answer).line())?;
     }
     Err(ScriptEnd::Device)
+}
+
+/// The answer to an input, whose text is that line.
+fn serial_of_input(alloc: Global, input: Input, line: &[u8]) -> Result<SerialAnswer, ScriptEnd>
+    ensures ok { IfOk result (λ answer. answer ≡ serial_answer (line_of input line.now)) }
+    ensures err { IfErr result (λ end. end ≡ ScriptEnd.Memory) }
+{
+    match input {
+        Input::Line => serial_in(alloc, line),
+        Input::TooLong | Input::End => Ok(SerialAnswer::Refused(Error::LineTooLong)),
+    }
 }
 
 /// The answer to the job that a line spells.

@@ -1,0 +1,50 @@
+-- What the lines of a dump come to: the history of a tenant, or the first line that is none of a dump's.
+use Rattle.std.specs.Prelude.{ℕ, ◌+◌, List, [], ◌∷◌, ◌++◌, Bool, false, true, if◌then◌else◌, Option, None, Result, Ok, Err}
+use Rattle.std.specs.Io.KnownBytes.{Appends}
+use Rattle.std.specs.Option.{option_map_or}
+use Rattle.job_language.specs.declared.steps.Entry.{Entry}
+use Rattle.job_language.specs.declared.tenants.Tenant.{Tenant}
+use Rattle.request_reader.specs.Lines.{Line, whole, too_long}
+use Rattle.arena_script.specs.declared.dumps.Said.{Said}
+use Rattle.arena_script.specs.declared.dumps.Said.TheVariants as said
+use Rattle.arena_script.specs.DumpLines.{said_by, verdict_on}
+use Rattle.arena_script.specs.ScriptAnswers.{tenant_in}
+use Rattle.arena_script.specs.VerdictText.{verdict_text, bad_line_text}
+
+-- a tenant, the entries before the first that is foreign, and whether there is one
+pub record DumpData : Type 0 where
+  pub config : Tenant
+  pub entries : List Entry
+  pub has_foreign : Bool
+
+abbrev pub new_dump : Tenant → DumpData
+new_dump tenant = record { config = tenant; entries = []; has_foreign = false }
+
+abbrev pub with_said : DumpData → Said → DumpData
+with_said dump (said.Entry entry) = if dump.has_foreign then dump else record dump { entries = dump.entries ++ entry ∷ [] }
+with_said dump said.Foreign = record dump { has_foreign = true }
+
+abbrev pub said_in : Line → Option Said
+said_in (whole text) = said_by text
+said_in too_long = None
+
+-- the dump with what the other lines say, of which the first has that number, or the number of the first bad one
+abbrev pub read_on : List Line → ℕ → DumpData → Result DumpData ℕ
+read_on [] number dump = Ok dump
+read_on (line ∷ lines) number dump = option_map_or (λ it. read_on lines (number + 1) (with_said dump it)) (said_in line) (Err number)
+
+-- the first line names the tenant
+abbrev pub dump_of : List Line → Result DumpData ℕ
+dump_of [] = Err 1
+dump_of (too_long ∷ lines) = Err 1
+dump_of (whole line ∷ lines) = option_map_or (λ tenant. read_on lines 2 (new_dump tenant)) (tenant_in line) (Err 1)
+
+-- The verdict on a dump is what a writer gets.
+abbrev pub TellsVerdict : Result DumpData ℕ → Option (List ℕ) → Option (List ℕ) → Type 0
+TellsVerdict (Ok dump) before after = Appends before after (verdict_text (verdict_on dump.config dump.entries dump.has_foreign))
+TellsVerdict (Err number) before after = ⊥
+
+-- The number of its first bad line is.
+abbrev pub TellsBadLine : Result DumpData ℕ → Option (List ℕ) → Option (List ℕ) → Type 0
+TellsBadLine (Ok dump) before after = ⊥
+TellsBadLine (Err number) before after = Appends before after (bad_line_text number)
