@@ -13,7 +13,7 @@ fn status_of(reply: &Reply) -> Option<Status> {
 }
 
 /// The outcome that the last of the steps tells, each taken again by the evaluator that refused it.
-pub fn stepped(alloc: Global) -> Option<Status> {
+pub(crate) fn stepped(alloc: Global) -> Option<Status> {
     let mut solo = Solo::new(alloc, tenant(alloc)?);
     let mut last = None;
     for step in &steps(alloc)? {
@@ -30,7 +30,7 @@ pub fn stepped(alloc: Global) -> Option<Status> {
 }
 
 /// The outcome that the last of the steps tells, where all are run at once.
-pub fn run_whole(alloc: Global) -> Option<Status> {
+pub(crate) fn run_whole(alloc: Global) -> Option<Status> {
     match answers(alloc, &steps(alloc)?)?.last()? {
         Answer::Replied(reply) => status_of(reply),
         Answer::Came(_) | Answer::Moved(_) => None,
@@ -47,7 +47,7 @@ fn answers(alloc: Global, steps: &[Step]) -> Option<Vec<Answer>> {
 }
 
 /// The verdict on what `run` answered.
-pub fn checked(alloc: Global) -> Option<Verdict> {
+pub(crate) fn checked(alloc: Global) -> Option<Verdict> {
     let config = tenant(alloc)?;
     let steps = steps(alloc)?;
     let entries = match entries(alloc, &steps) {
@@ -76,7 +76,7 @@ fn entries(alloc: Global, steps: &[Step]) -> Result<Option<Vec<Entry>>, AllocErr
 }
 
 /// The serial value of the job's program.
-pub fn serial_value(alloc: Global) -> Option<i64> {
+pub(crate) fn serial_value(alloc: Global) -> Option<i64> {
     let job = serial_job(alloc)?;
     if !job.program.is_serial() {
         return None;

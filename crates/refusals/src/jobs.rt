@@ -21,7 +21,7 @@ const ADVANCES_OF_ROOT: usize = 133;
 const ADVANCES_OF_POSTED: usize = 23;
 
 /// The tenant.
-pub fn tenant(alloc: Global) -> Option<TenantConfig> {
+pub(crate) fn tenant(alloc: Global) -> Option<TenantConfig> {
     match read_tenant_once(alloc) {
         Some(config) => Some(config),
         None => read_tenant_once(alloc),
@@ -34,7 +34,7 @@ fn read_tenant_once(alloc: Global) -> Option<TenantConfig> {
 }
 
 /// The job that has a serial value.
-pub fn serial_job(alloc: Global) -> Option<Job> {
+pub(crate) fn serial_job(alloc: Global) -> Option<Job> {
     match read(alloc, SERIAL) {
         Some(job) => Some(job),
         None => read(alloc, SERIAL),
@@ -47,7 +47,7 @@ fn read(alloc: Global, text: &str) -> Option<Job> {
 }
 
 /// The execute, the advances on both slots and the collect.
-pub fn steps(alloc: Global) -> Option<Vec<Step>> {
+pub(crate) fn steps(alloc: Global) -> Option<Vec<Step>> {
     match steps_once(alloc) {
         Some(steps) => Some(steps),
         None => steps_once(alloc),
