@@ -2,7 +2,7 @@ use Rattle.std.proofs.Common.{◌≡◌, get_or, ap, ◌∙◌, arith}
 use Rattle.std.specs.Prelude.{slice_set}
 use Rattle.tenant_model.specs.Asks.{retired_work}
 use Rattle.solo_eval.proofs.Mapped.{mapped-next, mapped-more}
-use Rattle.solo_eval.proofs.state.retire_jobs.Goals as goal
+use Rattle.solo_eval.proofs.state.jobs.retire_jobs.Goals as goal
 
 pub loop-work-preserved : goal.loop-work-preserved
 loop-work-preserved c =
