@@ -220,9 +220,9 @@ faulted_kept s slot is =
     let rows = map (faulted slot from) s.rows in
     let same = SameSources-map (faulted slot from) s.rows (λ r. refl) (λ r. refl) in
     let lives : (n t h : ℕ) → (row rows n).phase ≡ Live t h → (row s.rows n).phase ≡ Live t h = λ n t h live.
-        let there = live_there rows n t h live in
-        let to : n ≤ length s.rows = omega (arith, there, same.long) in
-        faulted_lives slot from (row s.rows n).phase t h (ap (λ (r : Row). r.phase) (sym (row-map (faulted slot from) s.rows n there.0 to)) ∙ live) in
+    let there = live_there rows n t h live in
+    let to : n ≤ length s.rows = omega (arith, there, same.long) in
+    faulted_lives slot from (row s.rows n).phase t h (ap (λ (r : Row). r.phase) (sym (row-map (faulted slot from) s.rows n there.0 to)) ∙ live) in
     record {
       linked = IsLinked-same s (record s { rows = rows }) same refl is.linked.epoch is.linked;
       stacked = AreStacked-cut s.rows rows slot from (IsCut-faults s.rows is.stacked slot) is.stacked;
