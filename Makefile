@@ -7,7 +7,7 @@ run: out/arena-script
 	@out/arena-script < examples/first_job.jsonl
 
 # Builds the program; each crate below it is proved on the way.
-out/arena-script: $(shell find crates -path '*/src/*.rt') crates.txt
+out/arena-script: $(shell find crates/*/src -name '*.rt') crates.txt
 	@mkdir -p out
 	@cd crates/script_program && rt run < ../../examples/first_job.jsonl > ../../out/build.log 2>&1 || { tail -n 40 ../../out/build.log; exit 1; }
 	@cp crates/script_program/out/script_program $@

@@ -1,17 +1,21 @@
 #!/bin/sh
 # Refuses each allocation of the program `refusals` in turn: what it prints must stay the same, since
 # each call of the evaluator that was refused memory is made again and then has its answer. It wants
-# `rt` and `cc` on the path. Its last line is `N passed, 0 failed`, a number for each allocation.
+# `rt` and `cc` on the path, and builds the program where a source is newer than it. Its last line is
+# `N passed, 0 failed`, one for each allocation.
 set -eu
 cd "$(dirname "$0")/../../crates/refusals"
-rt run > /dev/null 2>&1
+program=out/refusals
+if [ ! -x "$program" ] || [ -n "$(find ../*/src -newer "$program")" ]; then
+    rt run > /dev/null 2>&1
+fi
 work=$(mktemp -d)
 trap 'rm -rf "$work"' EXIT
 cc -shared -fPIC -O2 -o "$work/refuse.so" ../../checks/refusals/refuse.c
 number=1
 failed=0
 while
-    REFUSE=$number LD_PRELOAD="$work/refuse.so" out/refusals > "$work/printed" 2> "$work/said" || :
+    REFUSE=$number LD_PRELOAD="$work/refuse.so" "$program" > "$work/printed" 2> "$work/said" || :
     [ -s "$work/said" ]
 do
     if ! cmp -s "$work/printed" stdout; then
