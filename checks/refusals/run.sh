@@ -5,12 +5,12 @@
 # `N passed, 0 failed`, one for each allocation.
 set -eu
 cd "$(dirname "$0")/../../crates/refusals"
-program=out/refusals
-if [ ! -x "$program" ] || [ -n "$(find ../*/src -newer "$program")" ]; then
-    rt run > /dev/null 2>&1
-fi
 work=$(mktemp -d)
 trap 'rm -rf "$work"' EXIT
+program=out/refusals
+if [ ! -x "$program" ] || [ -n "$(find ../*/src -newer "$program")" ]; then
+    rt run > "$work/build.log" 2>&1 || { tail -n 40 "$work/build.log"; exit 1; }
+fi
 cc -shared -fPIC -O2 -o "$work/refuse.so" ../../checks/refusals/refuse.c
 number=1
 failed=0
