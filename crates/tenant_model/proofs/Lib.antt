@@ -16,8 +16,8 @@ pub mod Parts
 pub mod Keeping
 pub mod KeptSteps
 pub mod Nesting
-mod Marked
-mod OnMakers
+pub mod Marked
+pub mod OnMakers
 pub mod KeptAdvances
 pub mod Touching
 pub mod RegionLaws
@@ -27,3 +27,16 @@ pub mod UnstuckSteps
 mod SerialWorkedProofs
 mod WorkedProofs
 pub mod SerialRule
+pub mod SerialGiving
+pub mod SerialNow
+pub mod SerialMoves
+pub mod SerialMade
+pub mod SerialEnded
+pub mod SerialDone
+pub mod SerialFollows
+pub mod SerialFaults
+pub mod SerialOthers
+pub mod SerialOwn
+pub mod SerialAdvances
+pub mod SerialAsks
+pub mod SerialAnswers

@@ -59,7 +59,7 @@ first_holds : (P : Numbered → Type 0) (xs : List Numbered) (m : ℕ) → All P
 first_holds P [] m all is = absurd (grind (arith, ap is_some is))
 first_holds P (y ∷ ys) m all is = (y, all_head P y ys all, ap (λ o. unwrap_or o 0) is)
 
-live_is : (slot h : ℕ) (p : Phase) → is_live_at slot h p ≡ true → p ≡ Live slot h
+pub live_is : (slot h : ℕ) (p : Phase) → is_live_at slot h p ≡ true → p ≡ Live slot h
 live_is slot h Unstarted is = absurd (grind (arith, is))
 live_is slot h (Live t k) is =
     let on : t ≡ slot = grind (arith, is) in

@@ -290,7 +290,7 @@ numbered_there : (jobs : List Work) (n : ℕ) (w : Work) → numbered jobs n ≡
 numbered_there jobs zero w is = absurd (grind (arith, ap is_some is))
 numbered_there jobs (suc n) w is = (omega arith, slice_get_within jobs n w is)
 
-known_there : (jobs : List Work) (n : ℕ) (o : Option Work) (w : Work) → numbered jobs n ≡ o → option_and_then (λ (v : Work). if v.retired then None else Some v) o ≡ Some w → (1 ≤ n) × (n ≤ length jobs)
+pub known_there : (jobs : List Work) (n : ℕ) (o : Option Work) (w : Work) → numbered jobs n ≡ o → option_and_then (λ (v : Work). if v.retired then None else Some v) o ≡ Some w → (1 ≤ n) × (n ≤ length jobs)
 known_there jobs n None w is known = absurd (grind (arith, ap is_some known))
 known_there jobs n (Some v) w is known = numbered_there jobs n v is
 

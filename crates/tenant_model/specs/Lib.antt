@@ -15,3 +15,4 @@ pub mod SerialWorked
 pub mod SameAnswer
 pub mod Checked
 pub mod Worked
+pub mod SerialValues
