@@ -16,7 +16,7 @@ out/arena-script: $(shell find crates/*/src -name '*.rt') crates.txt
 # evaluator's calls with each allocation refused in turn.
 test:
 	rt ci
-	checks/refusals/run.sh
+	checks/failed_allocations/run.sh
 
 # Proves each crate over what earlier checks kept.
 check:

@@ -6,8 +6,8 @@
 set -e
 cd "$(dirname "$0")"
 turns="${1:-100000000}"
-built=../../crates/run_bench/out/run_bench
-(cd ../../crates/run_bench && rt run > /dev/null 2>&1)
+built=../../crates/private_run_bench/out/private_run_bench
+(cd ../../crates/private_run_bench && rt run > /dev/null 2>&1)
 work=$(mktemp -d)
 trap 'rm -rf "$work"' EXIT
 cc -O2 -o "$work/switch" switch.c

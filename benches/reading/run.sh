@@ -3,7 +3,7 @@
 # serde_json alone on the same lines. Speeds are in bytes a microsecond of processor time; the last
 # column is the time of reading as a percentage of serde_json's. It wants `rt` on the path.
 set -e
-cd "$(dirname "$0")/../../crates/read_bench"
+cd "$(dirname "$0")/../../crates/reading_bench"
 rt run > /dev/null 2>&1
 printf 'bytes at a call\trequests\tserde_json\tpercent of the time\n'
 for block in 4 16 256 4096 65536; do

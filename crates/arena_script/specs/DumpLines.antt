@@ -16,9 +16,9 @@ use Rattle.job_language.specs.declared.steps.Step.TheVariants as step
 use Rattle.job_language.specs.declared.tenants.Tenant.{Tenant}
 use Rattle.job_language.specs.Json.{◌>>=◌, has_members}
 use Rattle.request_reader.specs.LineAsks.{value_of}
-use Rattle.solo_eval.specs.declared.checking.Verdict.{Verdict}
-use Rattle.solo_eval.specs.declared.checking.Verdict.TheVariants.{Yes, No}
-use Rattle.solo_eval.specs.Verdicts.{verdict_of}
+use Rattle.history_check.specs.declared.checking.Verdict.{Verdict}
+use Rattle.history_check.specs.declared.checking.Verdict.TheVariants.{Yes, No}
+use Rattle.history_check.specs.Verdicts.{verdict_of}
 use Rattle.arena_script.specs.declared.dumps.Said.{Said}
 use Rattle.arena_script.specs.declared.dumps.Said.TheVariants as said
 use Rattle.arena_script.specs.DumpReplies.{natural, small, reply_in}

@@ -8,7 +8,7 @@ use Rattle.job_language.specs.declared.answers.Reply.{Reply}
 use Rattle.job_language.specs.declared.answers.Reply.TheVariants.{Made, Placed, Job, Cells, Arena, Epoch, Refused}
 use Rattle.job_language.specs.declared.answers.Reply.TheVariants as reply
 use Rattle.job_language.specs.declared.answers.Status.{Status}
-use Rattle.job_language.specs.declared.answers.Status.TheVariants.{Running, Canceled, Complete, Fault}
+use Rattle.job_language.specs.declared.answers.Status.TheVariants.{Running, Cancelled, Complete, Fault}
 use Rattle.job_language.specs.declared.errors.Error.{Error}
 use Rattle.job_language.specs.declared.errors.Error.TheVariants.{LineTooLong, BadJson, BadRequest, BadProgram, UnknownTenant, UnknownJob, JobLimit, HistoryFull, NoMemory, TaskLimit, NoTenant, Busy}
 use Rattle.job_language.specs.declared.errors.JobFault.{JobFault}
@@ -72,7 +72,7 @@ abbrev pub placed : Option ℕ → Option ℕ → Option Reply
 placed job slot = job >>= λ j. slot >>= λ s. Some (Placed j s)
 
 abbrev pub canceled : Option ℕ → Bool → Option Reply
-canceled job first = job >>= λ j. Some (reply.Canceled j first)
+canceled job first = job >>= λ j. Some (reply.Cancelled j first)
 
 abbrev pub status_of : Option ℕ → Option Status → Option Reply
 status_of job status = job >>= λ j. status >>= λ s. Some (Job j s)
@@ -112,7 +112,7 @@ single d =
 abbrev pub bare_status : List ℕ → Option ℕ → Option (Option Reply)
 bare_status word job =
     if bytes_eq word (codes "running") then Some (status_of job (Some Running))
-    else if bytes_eq word (codes "canceled") then Some (status_of job (Some Canceled))
+    else if bytes_eq word (codes "canceled") then Some (status_of job (Some Cancelled))
     else None
 
 -- an error, or a job with a slot, with `first` or with a status that says no more

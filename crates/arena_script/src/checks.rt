@@ -8,7 +8,7 @@ ghost use Rattle.arena_script.specs.VerdictText.{verdict_text, bad_line_text};
 use crate::dumps::{DumpRead, read_dump};
 use crate::ends::ScriptEnd;
 use crate::scripts::put;
-use solo_eval::Verdict;
+use history_check::Verdict;
 use std::alloc::{AllocError, Global};
 use std::io::{Read, Write};
 

@@ -64,7 +64,7 @@ fn bare_status(word: &str, job: Option<u64>) -> Option<Option<Reply>>
 {
     match word {
         "running" => Some(status_of(job, Some(Status::Running))),
-        "canceled" => Some(status_of(job, Some(Status::Canceled))),
+        "canceled" => Some(status_of(job, Some(Status::Cancelled))),
         _ => None,
     }
 }
@@ -120,7 +120,7 @@ fn placed(job: Option<u64>, slot: Option<u8>) -> Option<Reply>
 fn canceled(job: Option<u64>, first: bool) -> Option<Reply>
     ensures { result ≡ canceled job first }
 {
-    Some(Reply::Canceled(job?, first))
+    Some(Reply::Cancelled(job?, first))
 }
 
 fn status_of(job: Option<u64>, status: Option<Status>) -> Option<Reply>

@@ -14,7 +14,7 @@ use job_language::{Error, Job, Refused, read_job};
 use reply_writer::{SerialAnswer, serial_line};
 use request_reader::{LineReader, value_of};
 use serde_json::Value;
-use solo_eval::serial;
+use serial_eval::serial;
 use std::alloc::{AllocError, Global};
 use std::io::{Read, Write};
 

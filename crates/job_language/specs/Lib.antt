@@ -11,6 +11,7 @@ pub mod Operation
 pub mod Outline
 pub mod PaddedName
 pub mod Program
+pub mod Recorded
 pub mod Reads
 pub mod Refused
 pub mod Serial

@@ -1,4 +1,7 @@
 // What a tenant's arena answers to requests, arrivals and advances.
+ghost use Rattle.std.specs.Prelude.{◌≡◌};
+ghost use Rattle.job_language.specs.Recorded.{is_entry, is_recorded_reply};
+
 use crate::errors::{Error, JobFault};
 use crate::instructions::Key;
 use crate::names::TenantName;
@@ -8,7 +11,7 @@ use crate::tenants::Level;
 #[derive(Clone, Copy, Debug, PartialEq, Eq)]
 pub enum Status {
     Running,
-    Canceled,
+    Cancelled,
     /// It completed, with its root's value.
     Complete(i64),
     Fault(JobFault),
@@ -26,7 +29,7 @@ pub enum Reply {
     /// How far the job is.
     Job(u64, Status),
     /// Whether this was the first cancel of a job that had no outcome.
-    Canceled(u64, bool),
+    Cancelled(u64, bool),
     /// The number of the key's cells, and their sum.
     Cells(Key, u64, i64),
     /// The priority, the number of reserved slots and the number of slots.
@@ -36,6 +39,19 @@ pub enum Reply {
     Refused(Error),
     /// The job has no outcome yet. It is never written.
     Pending,
+}
+
+impl Reply {
+    /// Whether an ask with this reply is recorded in the tenant's history.
+    pub fn is_recorded(&self) -> bool
+        ensures { result ≡ is_recorded_reply self.now }
+    {
+        match self {
+            Reply::Bound(_) | Reply::Pending => false,
+            Reply::Refused(error) => error.is_recorded(),
+            _ => true,
+        }
+    }
 }
 
 /// What an advance of a slot did.
@@ -51,7 +67,7 @@ pub enum Moved {
     Left,
     /// Nothing can run now.
     Idle,
-    /// What was to be recorded does not start where the slot is.
+    /// A commit whose run started from a frame that is no longer the slot's.
     Stale,
     /// The history is at its limit.
     Full,
@@ -73,4 +89,20 @@ pub enum Answer {
     Replied(Reply),
     Came(Came),
     Moved(Moved),
+}
+
+impl Answer {
+    /// Whether a step with this answer is an entry of the tenant's history. A step that is not has
+    /// changed nothing.
+    pub fn is_entry(&self) -> bool
+        ensures { result ≡ is_entry self.now }
+    {
+        match self {
+            Answer::Replied(reply) => reply.is_recorded(),
+            Answer::Came(Came::At(_)) => true,
+            Answer::Came(Came::Nothing | Came::Full) => false,
+            Answer::Moved(Moved::Ran | Moved::Nested(_) | Moved::Freed) => true,
+            Answer::Moved(Moved::Left | Moved::Idle | Moved::Stale | Moved::Full) => false,
+        }
+    }
 }

@@ -1,6 +1,7 @@
 // What a request may be refused with, and what may end a job.
 ghost use Rattle.std.specs.Prelude.{◌≡◌};
 ghost use Rattle.job_language.specs.ErrorCodes.{code_of, name_of, fault_code_of};
+ghost use Rattle.job_language.specs.Recorded.{is_recorded_error};
 ghost use Rattle.job_language.specs.Refused.{IsMemory};
 ghost use Rattle.job_language.specs.declared.errors.Error.TheVariants.{NoMemory};
 
@@ -10,7 +11,7 @@ use thiserror::Error as DeriveError;
 /// Why a request was refused. A code and its name always go together.
 #[derive(Clone, Copy, Debug, PartialEq, Eq)]
 pub enum Error {
-    /// The line is longer than 65,536 bytes.
+    /// The line is longer than the limit of its reader.
     LineTooLong,
     /// The line is no JSON.
     BadJson,
@@ -26,7 +27,7 @@ pub enum Error {
     JobLimit,
     /// The tenant's history is at its limit.
     HistoryFull,
-    /// A growth was refused for memory.
+    /// An allocation failed.
     NoMemory,
     /// No open row is left for a root.
     TaskLimit,
@@ -55,6 +56,16 @@ impl Error {
             Error::NoTenant => 11,
             Error::Busy => 12,
         }
+    }
+
+    /// Whether an ask that the arena refused so is recorded in the tenant's history.
+    pub fn is_recorded(self) -> bool
+        ensures { result ≡ is_recorded_error self }
+    {
+        matches!(
+            self,
+            Error::UnknownJob | Error::JobLimit | Error::TaskLimit | Error::Busy
+        )
     }
 
     /// Its name in a reply.

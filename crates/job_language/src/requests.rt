@@ -1,5 +1,5 @@
 // What is asked of a tenant's arena.
-ghost use Rattle.std.specs.Prelude.{◌≡◌, option_map, IfOk};
+ghost use Rattle.std.specs.Prelude.{◌≡◌, option_map, IfOk, IsSome, OnErr};
 ghost use Rattle.job_language.specs.Brought.{job_of, BringsValid};
 
 use crate::instructions::Key;
@@ -32,9 +32,10 @@ pub enum Request {
 }
 
 impl Request {
-    /// The same request. It fails only where `Program::try_clone` does.
+    /// The same request. It fails only if it brings a job, as `Program::try_clone` does.
     pub fn try_clone(&self) -> Result<Request, AllocError>
-        ensures { IfOk result (λ request. request ≡ self.now) }
+        ensures ok { IfOk result (λ request. request ≡ self.now) }
+        ensures brings { OnErr result (IsSome (job_of self.now)) }
     {
         match self {
             Request::Hello(name) => Ok(Request::Hello(*name)),

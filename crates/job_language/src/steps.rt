@@ -1,5 +1,6 @@
 // The steps of a tenant, and the entries of its history.
-ghost use Rattle.std.specs.Prelude.{◌≡◌, IfOk};
+ghost use Rattle.std.specs.Prelude.{◌≡◌, IfOk, OnErr};
+ghost use Rattle.job_language.specs.Brought.{StepBrings};
 
 use crate::answers::Answer;
 use crate::requests::Request;
@@ -14,9 +15,10 @@ pub enum Step {
 }
 
 impl Step {
-    /// The same step. It fails only where `Program::try_clone` does.
+    /// The same step. It fails only if it brings a job, as `Program::try_clone` does.
     pub fn try_clone(&self) -> Result<Step, AllocError>
-        ensures { IfOk result (λ step. step ≡ self.now) }
+        ensures ok { IfOk result (λ step. step ≡ self.now) }
+        ensures brings { OnErr result (StepBrings self.now) }
     {
         match self {
             Step::Ask(request) => Ok(Step::Ask(request.try_clone()?)),

@@ -8,7 +8,8 @@ use Rattle.job_language.specs.Program.{IsValidProc, IsInRange, is_last}
 use Rattle.job_language.specs.declared.instructions.Instr.{Instr}
 use Rattle.job_step.specs.declared.frames.Frame.{Frame}
 use Rattle.job_step.specs.declared.runs.Stop.TheVariants.{Shared, Yield, Fault}
-use Rattle.job_step.specs.Frame.{instr_at, Moves, DividesByZero, IsShared, effect}
+use Rattle.job_step.specs.declared.effects.Effect.TheVariants.{Moves, DividesByZero, IsShared}
+use Rattle.job_step.specs.Frame.{instr_at, effect}
 use Rattle.job_step.specs.Run.{run_for, run_of}
 
 -- one more turn is left

@@ -3,6 +3,8 @@ use Rattle.std.specs.Prelude.{ℕ, zero, suc, ◌+◌, ℤ, pos, int_lt, Bool, t
 use Rattle.std.specs.Int.{int_wrapping_add, int_wrapping_sub, int_wrapping_mul, int_wrapping_div, w64}
 use Rattle.job_language.specs.declared.instructions.Instr.{Instr}
 use Rattle.job_language.specs.declared.instructions.Instr.TheVariants.{Set, Add, Sub, Mul, Div, Lt, Jz, Jmp, Slot, Width}
+use Rattle.job_step.specs.declared.effects.Effect.{Effect}
+use Rattle.job_step.specs.declared.effects.Effect.TheVariants.{Moves, DividesByZero, IsShared}
 use Rattle.job_step.specs.declared.frames.Frame.{Frame}
 
 abbrev pub new_frame : (procedure : ℕ) (first second : ℤ) → Frame
@@ -20,30 +22,24 @@ abbrev pub at_place : Frame → ℕ → Frame
 at_place f t = record f { place = t }
 
 -- the frame at the next place, with one register changed
-abbrev pub with_register : Frame → ℕ → ℤ → Frame
-with_register f d v = record f { place = f.place + 1; registers = slice_set f.registers d v }
+abbrev pub write_and_step : Frame → ℕ → ℤ → Frame
+write_and_step f d v = record f { place = f.place + 1; registers = slice_set f.registers d v }
 
 abbrev pub is_zero : ℤ → Bool
 is_zero (pos zero) = true
 is_zero (pos (suc n)) = false
 is_zero z = false
 
--- what an instruction does
-pub data Effect : Type 0 where
-  Moves : Frame → Effect
-  DividesByZero : Effect
-  IsShared : Effect
-
--- on a slot, in an arena of so many slots
+-- what an instruction does to a frame by itself, on a slot, in an arena of that width
 abbrev pub effect : Instr → (slot width : ℕ) → Frame → Effect
-effect (Set d n) slot width f = Moves (with_register f d n)
-effect (Add d a b) slot width f = Moves (with_register f d (int_wrapping_add w64 (register f a) (register f b)))
-effect (Sub d a b) slot width f = Moves (with_register f d (int_wrapping_sub w64 (register f a) (register f b)))
-effect (Mul d a b) slot width f = Moves (with_register f d (int_wrapping_mul w64 (register f a) (register f b)))
-effect (Div d a b) slot width f = if is_zero (register f b) then DividesByZero else Moves (with_register f d (int_wrapping_div w64 (register f a) (register f b)))
-effect (Lt d a b) slot width f = Moves (with_register f d (if int_lt (register f a) (register f b) then pos 1 else pos 0))
+effect (Set d n) slot width f = Moves (write_and_step f d n)
+effect (Add d a b) slot width f = Moves (write_and_step f d (int_wrapping_add w64 (register f a) (register f b)))
+effect (Sub d a b) slot width f = Moves (write_and_step f d (int_wrapping_sub w64 (register f a) (register f b)))
+effect (Mul d a b) slot width f = Moves (write_and_step f d (int_wrapping_mul w64 (register f a) (register f b)))
+effect (Div d a b) slot width f = if is_zero (register f b) then DividesByZero else Moves (write_and_step f d (int_wrapping_div w64 (register f a) (register f b)))
+effect (Lt d a b) slot width f = Moves (write_and_step f d (if int_lt (register f a) (register f b) then pos 1 else pos 0))
 effect (Jz a t) slot width f = Moves (at_place f (if is_zero (register f a) then t else f.place + 1))
 effect (Jmp t) slot width f = Moves (at_place f t)
-effect (Slot d) slot width f = Moves (with_register f d (pos slot))
-effect (Width d) slot width f = Moves (with_register f d (pos width))
+effect (Slot d) slot width f = Moves (write_and_step f d (pos slot))
+effect (Width d) slot width f = Moves (write_and_step f d (pos width))
 effect i slot width f = IsShared

@@ -1,4 +1,3 @@
-pub mod Execution
+pub mod InsideRun
 pub mod Frame
 pub mod Run
-pub mod Single

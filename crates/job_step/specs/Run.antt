@@ -5,7 +5,9 @@ use Rattle.job_step.specs.declared.frames.Frame.{Frame}
 use Rattle.job_step.specs.declared.runs.Run.{Run}
 use Rattle.job_step.specs.declared.runs.Stop.{Stop}
 use Rattle.job_step.specs.declared.runs.Stop.TheVariants.{Shared, Yield, Fault}
-use Rattle.job_step.specs.Frame.{instr_at, Effect, Moves, DividesByZero, IsShared, effect}
+use Rattle.job_step.specs.declared.effects.Effect.{Effect}
+use Rattle.job_step.specs.declared.effects.Effect.TheVariants.{Moves, DividesByZero, IsShared}
+use Rattle.job_step.specs.Frame.{instr_at, effect}
 
 -- the effect of the next instruction; a frame past its procedure's end has none
 abbrev pub effect_at : Option Instr → (slot width : ℕ) → Frame → Effect

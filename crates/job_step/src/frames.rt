@@ -1,7 +1,7 @@
 // Frames of work.
 ghost use Rattle.std.specs.Prelude.{◌≡◌, ◌+◌, ◌<◌, false, IfSome};
 ghost use Rattle.job_language.specs.Program.{is_last};
-ghost use Rattle.job_step.specs.Frame.{at_place, instr_at, new_frame, with_register};
+ghost use Rattle.job_step.specs.Frame.{at_place, instr_at, new_frame, write_and_step};
 
 use job_language::{Instr, Program, REGISTERS, Register};
 
@@ -41,9 +41,9 @@ impl Frame {
     }
 
     /// The frame at the next place of its procedure, with one register changed.
-    pub fn with_register(&self, register: Register, value: i64) -> Frame
+    pub fn write_and_step(&self, register: Register, value: i64) -> Frame
         requires { self.now.place < 255 }
-        ensures { result ≡ with_register self.now register value }
+        ensures { result ≡ write_and_step self.now register value }
     {
         let mut registers = self.registers;
         registers[register.index()] = value;

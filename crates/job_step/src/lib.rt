@@ -5,6 +5,6 @@ mod effects;
 mod frames;
 mod runs;
 
-pub use effects::{Single, effect_on};
+pub use effects::{Effect, effect_on};
 pub use frames::Frame;
 pub use runs::{RUN_LIMIT, Run, Stop, run_private};

@@ -4,7 +4,7 @@ ghost use Rattle.job_language.specs.declared.instructions.Instr.{Instr};
 ghost use Rattle.job_language.specs.Program.{IsValidProc, IsInRange, is_last};
 ghost use Rattle.job_step.specs.Frame.{effect};
 ghost use Rattle.job_step.specs.Run.{run_of};
-ghost use Rattle.job_step.specs.Execution.{framed, outcome, GoesWithin};
+ghost use Rattle.job_step.specs.InsideRun.{frame_of, effect_of, GoesWithin};
 
 use crate::frames::Frame;
 use job_language::{Instr, Program, REGISTERS};
@@ -33,16 +33,15 @@ pub struct Run {
     pub stop: Stop,
 }
 
-/// What an instruction does by itself.
+/// Where a frame stands after an instruction that it executes by itself.
 #[derive(Clone, Copy)]
-pub(crate) enum Effect {
-    /// The frame goes on at a place.
-    Goes(u8),
+pub(crate) enum Next {
+    Place(u8),
     DividesByZero,
     IsShared,
 }
 
-/// The private run of a frame on a slot, in an arena of so many slots. A frame that names no
+/// The private run of a frame on a slot, in an arena of `width` slots. A frame that names no
 /// instruction of the program has the run of no instruction that ends in a yield.
 pub fn run_private(program: &Program, start: Frame, slot: u8, width: u8) -> Run
     ensures run { result ≡ run_of program.now slot width start }
@@ -73,6 +72,23 @@ impl Run {
             stop: Stop::Yield,
         }
     }
+
+    /// The run that left a frame at a place of its procedure, with these registers.
+    fn ended(start: Frame, place: u8, registers: [i64; REGISTERS], count: u32, stop: Stop) -> Run
+        ensures { result ≡ record { start = start; end = frame_of start.procedure place registers; count = count; stop = stop } }
+    {
+        let procedure = start.procedure;
+        Run {
+            start,
+            end: Frame {
+                procedure,
+                place,
+                registers,
+            },
+            count,
+            stop,
+        }
+    }
 }
 
 fn run_in(instrs: &[Instr], start: Frame, slot: u8, width: u8) -> Run
@@ -88,46 +104,16 @@ fn run_in(instrs: &[Instr], start: Frame, slot: u8, width: u8) -> Run
     for count in 0..RUN_LIMIT {
         let instr = &instrs[usize::from(place)];
         match execute(instr, slot, width, procedure, place, &mut registers) {
-            Effect::Goes(next) => place = next,
-            Effect::DividesByZero => {
-                let end = Frame {
-                    procedure,
-                    place,
-                    registers,
-                };
-                return Run {
-                    start,
-                    end,
-                    count: count + 1,
-                    stop: Stop::Fault,
-                };
+            Next::Place(next) => place = next,
+            Next::DividesByZero => {
+                return Run::ended(start, place, registers, count + 1, Stop::Fault);
             }
-            Effect::IsShared => {
-                let end = Frame {
-                    procedure,
-                    place,
-                    registers,
-                };
-                return Run {
-                    start,
-                    end,
-                    count,
-                    stop: Stop::Shared(*instr),
-                };
+            Next::IsShared => {
+                return Run::ended(start, place, registers, count, Stop::Shared(*instr));
             }
         }
     }
-    let end = Frame {
-        procedure,
-        place,
-        registers,
-    };
-    Run {
-        start,
-        end,
-        count: RUN_LIMIT,
-        stop: Stop::Yield,
-    }
+    Run::ended(start, place, registers, RUN_LIMIT, Stop::Yield)
 }
 
 #[inline(always)]
@@ -138,12 +124,12 @@ pub(crate) fn execute(
     procedure: u8,
     place: u8,
     registers: &mut [i64; REGISTERS],
-) -> Effect
+) -> Next
     requires { is_last instr.now ≡ false → place + 1 < 256 }
-    ensures effect { effect instr.now slot width (framed procedure place registers.old)
-        ≡ outcome procedure result registers.new }
-    ensures shared { result ≡ Effect.IsShared → registers.new ≡ registers.old }
-    ensures divides { result ≡ Effect.DividesByZero → registers.new ≡ registers.old }
+    ensures effect { effect instr.now slot width (frame_of procedure place registers.old)
+        ≡ effect_of procedure result registers.new }
+    ensures shared { result ≡ Next.IsShared → registers.new ≡ registers.old }
+    ensures divides { result ≡ Next.DividesByZero → registers.new ≡ registers.old }
     ensures within { (instrs : ℕ) → IsInRange instrs instr.now → (is_last instr.now ≡ false → place + 1 < instrs)
         → GoesWithin instrs result }
 {
@@ -160,7 +146,7 @@ pub(crate) fn execute(
         }
         Instr::Div(d, a, b) => {
             if registers[b.index()] == 0 {
-                return Effect::DividesByZero;
+                return Next::DividesByZero;
             }
             registers[d.index()] = registers[a.index()].wrapping_div(registers[b.index()]);
         }
@@ -168,16 +154,16 @@ pub(crate) fn execute(
             registers[d.index()] = i64::from(registers[a.index()] < registers[b.index()]);
         }
         Instr::Jz(a, t) => {
-            return Effect::Goes(if registers[a.index()] == 0 {
+            return Next::Place(if registers[a.index()] == 0 {
                 t
             } else {
                 place + 1
             });
         }
-        Instr::Jmp(t) => return Effect::Goes(t),
+        Instr::Jmp(t) => return Next::Place(t),
         Instr::Slot(d) => registers[d.index()] = i64::from(slot),
         Instr::Width(d) => registers[d.index()] = i64::from(width),
-        _ => return Effect::IsShared,
+        _ => return Next::IsShared,
     }
-    Effect::Goes(place + 1)
+    Next::Place(place + 1)
 }

@@ -2,7 +2,7 @@
 use Rattle.std.specs.Prelude.{ℕ, List, [], ◌++◌, Bool, true, false, codes, decimal}
 use Rattle.std.specs.Fmt.{signed_decimal}
 use Rattle.job_language.specs.declared.answers.Reply.{Reply}
-use Rattle.job_language.specs.declared.answers.Reply.TheVariants.{Bound, Made, Placed, Job, Canceled, Cells, Arena, Epoch, Refused, Pending}
+use Rattle.job_language.specs.declared.answers.Reply.TheVariants.{Bound, Made, Placed, Job, Cancelled, Cells, Arena, Epoch, Refused, Pending}
 use Rattle.job_language.specs.declared.answers.Status.{Status}
 use Rattle.job_language.specs.declared.answers.Status.TheVariants as status
 use Rattle.job_language.specs.ErrorCodes.{code_of, name_of, fault_code_of}
@@ -10,7 +10,7 @@ use Rattle.job_language.specs.TenantWords.{level_word}
 
 abbrev pub job_text : ℕ → Status → List ℕ
 job_text job status.Running = codes "{\"job\":" ++ decimal job ++ codes ",\"status\":\"running\"}"
-job_text job status.Canceled = codes "{\"job\":" ++ decimal job ++ codes ",\"status\":\"canceled\"}"
+job_text job status.Cancelled = codes "{\"job\":" ++ decimal job ++ codes ",\"status\":\"canceled\"}"
 job_text job (status.Complete value) = codes "{\"job\":" ++ decimal job ++ codes ",\"status\":\"complete\",\"value\":" ++ signed_decimal value ++ codes "}"
 job_text job (status.Fault fault) = codes "{\"fault\":" ++ decimal (fault_code_of fault) ++ codes ",\"job\":" ++ decimal job ++ codes ",\"status\":\"fault\"}"
 
@@ -24,7 +24,7 @@ reply_text (Bound name) = codes "{\"tenant\":\"" ++ name ++ codes "\"}"
 reply_text (Made job) = codes "{\"job\":" ++ decimal job ++ codes "}"
 reply_text (Placed job slot) = codes "{\"job\":" ++ decimal job ++ codes ",\"slot\":" ++ decimal slot ++ codes "}"
 reply_text (Job job s) = job_text job s
-reply_text (Canceled job first) = codes "{\"first\":" ++ bool_text first ++ codes ",\"job\":" ++ decimal job ++ codes "}"
+reply_text (Cancelled job first) = codes "{\"first\":" ++ bool_text first ++ codes ",\"job\":" ++ decimal job ++ codes "}"
 reply_text (Cells key count sum) = codes "{\"count\":" ++ decimal count ++ codes ",\"key\":" ++ decimal key ++ codes ",\"sum\":" ++ signed_decimal sum ++ codes "}"
 reply_text (Arena level reserved slots) = codes "{\"priority\":\"" ++ level_word level ++ codes "\",\"reserved\":" ++ decimal reserved ++ codes ",\"slots\":" ++ decimal slots ++ codes "}"
 reply_text (Epoch epoch) = codes "{\"epoch\":" ++ decimal epoch ++ codes "}"

@@ -17,7 +17,7 @@ pub fn reply_line(reply: &Reply) -> ReplyBuf
         Reply::Made(job) => ReplyBuf::of(made(job)),
         Reply::Placed(job, slot) => ReplyBuf::of(placed(job, slot)),
         Reply::Job(job, status) => ReplyBuf::of(job_status(job, status)),
-        Reply::Canceled(job, first) => ReplyBuf::of(canceled(job, first)),
+        Reply::Cancelled(job, first) => ReplyBuf::of(canceled(job, first)),
         Reply::Cells(key, count, sum) => ReplyBuf::of(cells(key, count, sum)),
         Reply::Arena(level, reserved, slots) => ReplyBuf::of(arena(level, reserved, slots)),
         Reply::Epoch(epoch) => ReplyBuf::of(epoch_text(epoch)),
@@ -67,7 +67,7 @@ fn job_status(job: u64, status: Status) -> ArrayString<MAX_LINE>
 {
     match status {
         Status::Running => job_then(job, ",\"status\":\"running\"}"),
-        Status::Canceled => job_then(job, ",\"status\":\"canceled\"}"),
+        Status::Cancelled => job_then(job, ",\"status\":\"canceled\"}"),
         Status::Complete(value) => complete(job, value),
         Status::Fault(fault) => faulted(job, fault),
     }
@@ -113,7 +113,7 @@ fn faulted(job: u64, fault: JobFault) -> ArrayString<MAX_LINE>
 }
 
 fn canceled(job: u64, first: bool) -> ArrayString<MAX_LINE>
-    ensures text { result.bytes ≡ reply_text (Reply.Canceled job first) }
+    ensures text { result.bytes ≡ reply_text (Reply.Cancelled job first) }
     ensures room { array_string_len result < MAX_LINE }
 {
     let mut text = ArrayString::new();

@@ -1,3 +1,2 @@
 mod Mapped
-mod Nests
 mod Holding

@@ -1,7 +1,15 @@
--- How the code executes shared instructions.
-use Rattle.std.specs.Prelude.{Bool, true, false}
+-- How the code executes shared instructions, and which advances make a row.
+use Rattle.std.specs.Prelude.{ℕ, ◌≡◌, Bool, true, false, Option, Some, None, IsSome}
 use Rattle.job_language.specs.declared.instructions.Instr.{Instr}
 use Rattle.job_language.specs.declared.instructions.Instr.TheVariants.{Spawn, Post, Isolate}
+use Rattle.job_language.specs.Brought.{job_of}
+use Rattle.job_language.specs.declared.steps.Step.{Step}
+use Rattle.job_language.specs.declared.steps.Step.TheVariants as step
+use Rattle.job_step.specs.declared.runs.Stop.{Stop}
+use Rattle.job_step.specs.declared.runs.Stop.TheVariants.{Shared, Yield, Fault}
+use Rattle.tenant_model.specs.State.{State}
+use Rattle.tenant_model.specs.Walks.{top}
+use Rattle.tenant_model.specs.Advance.{run_on}
 
 -- does it make a row?
 abbrev pub makes_row : Instr → Bool
@@ -9,3 +17,23 @@ makes_row (Spawn g p a b) = true
 makes_row (Post p a b) = true
 makes_row (Isolate d p a b) = true
 makes_row i = false
+
+-- a run stops at an instruction that makes a row
+abbrev pub StopsToMake : Stop → Type 0
+StopsToMake (Shared i) = makes_row i ≡ true
+StopsToMake Yield = ⊥
+StopsToMake Fault = ⊥
+
+abbrev pub TopMakesRow : State → (slot : ℕ) → Option ℕ → Type 0
+TopMakesRow s slot None = ⊥
+TopMakesRow s slot (Some n) = StopsToMake (run_on s slot n).stop
+
+-- An advance of the slot makes a row: only then does it take memory.
+abbrev pub MakesRow : State → (slot : ℕ) → Type 0
+MakesRow s slot = TopMakesRow s slot (top s.rows slot)
+
+-- The step brings a job or makes a row: no other takes memory.
+abbrev pub TakesMemory : State → Step → Type 0
+TakesMemory s (step.Ask r) = IsSome (job_of r)
+TakesMemory s (step.Arrive slot) = ⊥
+TakesMemory s (step.Advance slot) = MakesRow s slot

@@ -2,10 +2,11 @@
 ghost use Rattle.std.specs.Prelude.{◌≡◌, ◌+◌, ◌<◌, ◌≤◌, ◌==◌, ◌&&◌, length, false, true, OnErr, IfOk, IfSome, Some};
 ghost use Rattle.job_language.specs.declared.instructions.Instr.{Instr};
 ghost use Rattle.job_language.specs.Program.{is_last};
+ghost use Rattle.solo_eval.specs.Execution.{MakesRow, StopsToMake};
 ghost use Rattle.tenant_model.specs.State.{row};
 ghost use Rattle.tenant_model.specs.Walks.{top, pick};
 ghost use Rattle.tenant_model.specs.Changes.{is_full};
-ghost use Rattle.tenant_model.specs.Advance.{advance, arrive, after_run, advance_run, blocked, begin, is_blocked, is_stuck, move_on, is_open_to_workers, run_on, unless_full};
+ghost use Rattle.tenant_model.specs.Advance.{advance, arrive, after_run, advance_run, nest_pick, begin, is_blocked, is_idle_wait, move_on, is_open_to_workers, run_on, unless_full};
 
 use crate::groups::is_pending;
 use crate::stacks::{height, pick, top};
@@ -38,7 +39,7 @@ impl TenantState {
 
     /// Records what the topmost row of a slot did in a run.
     fn record(&mut self, slot: u8, number: u64, run: &Run) -> Result<Moved, AllocError>
-        requires full { is_full self.old ≡ false }
+        requires room { is_full self.old ≡ false }
         requires from { 1 ≤ number }
         requires to { number ≤ length self.old.rows }
         requires slot { slot < 16 }
@@ -47,6 +48,7 @@ impl TenantState {
         ensures ok { IfOk result (λ moved. after_run self.old slot number run.now.count run.now.end run.now.stop
             ≡ (moved, self.new)) }
         ensures err { OnErr result (self.new ≡ self.old) }
+        ensures makes { OnErr result (StopsToMake run.now.stop) }
     {
         let cost = u64::from(run.count);
         match run.stop {
@@ -71,7 +73,7 @@ impl TenantState {
 
     /// Moves the frame of the topmost row on by a run.
     fn move_on(&mut self, slot: u8, number: u64, run: &Run) -> Moved
-        requires full { is_full self.old ≡ false }
+        requires room { is_full self.old ≡ false }
         requires from { 1 ≤ number }
         requires to { number ≤ length self.old.rows }
         ensures { move_on self.old slot number run.now.count run.now.end ≡ (result, self.new) }
@@ -82,14 +84,14 @@ impl TenantState {
         }
         self.pay(number, cost);
         self.set_frame(number, run.end);
-        self.ran(slot)
+        self.finish_step(slot)
     }
 
     /// Whether a row stands at a wait for pending members and ran nothing before it.
-    fn is_stuck(&self, number: u64, run: &Run) -> bool
+    fn is_idle_wait(&self, number: u64, run: &Run) -> bool
         requires from { 1 ≤ number }
         requires to { number ≤ length self.now.rows }
-        ensures { result ≡ is_stuck self.now number run.now.count run.now.stop }
+        ensures { result ≡ is_idle_wait self.now number run.now.count run.now.stop }
     {
         match run.stop {
             Stop::Shared(instr) => self.is_blocked(number, &instr) && run.count == 0,
@@ -102,7 +104,7 @@ impl TenantState {
     fn nest_pick(&mut self, slot: u8, number: u64) -> Moved
         requires from { 1 ≤ number }
         requires to { number ≤ length self.old.rows }
-        ensures { unless_full self.old (blocked self.old slot number (pick self.old slot)) ≡ (result, self.new) }
+        ensures { unless_full self.old (nest_pick self.old slot number (pick self.old slot)) ≡ (result, self.new) }
     {
         let Some(picked) = self.pick(slot) else {
             return Moved::Idle;
@@ -150,11 +152,12 @@ impl TenantState {
         ensures ok { IfOk result (λ moved. unless_full self.old
             (advance_run self.old slot number (run_on self.old slot number)) ≡ (moved, self.new)) }
         ensures err { OnErr result (self.new ≡ self.old) }
+        ensures makes { OnErr result (StopsToMake (run_on self.old slot number).stop) }
     {
         let frame = self.row(number).frame;
         let slots = self.config().slots;
         let run = run_private(&self.job_of(number).program, frame, slot, slots);
-        if self.is_stuck(number, &run) {
+        if self.is_idle_wait(number, &run) {
             return Ok(self.nest_pick(slot, number));
         }
         if self.is_full() {
@@ -167,6 +170,7 @@ impl TenantState {
     pub(crate) fn advance(&mut self, slot: u8) -> Result<Moved, AllocError>
         ensures ok { IfOk result (λ moved. advance self.old slot ≡ (moved, self.new)) }
         ensures err { OnErr result (self.new ≡ self.old) }
+        ensures makes { OnErr result (MakesRow self.old slot) }
     {
         if slot >= self.config().slots {
             return Ok(Moved::Idle);

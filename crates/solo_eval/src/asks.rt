@@ -1,10 +1,11 @@
 // What a tenant asks, and what it is answered.
-ghost use Rattle.std.specs.Prelude.{◌≡◌, ◌+◌, ◌<◌, ◌≤◌, ◌==◌, length, false, OnErr, IfOk, count_by, not};
+ghost use Rattle.std.specs.Prelude.{◌≡◌, ◌+◌, ◌<◌, ◌≤◌, ◌==◌, length, false, OnErr, IfOk, IsSome, count_by, not};
+ghost use Rattle.job_language.specs.Brought.{job_of};
 ghost use Rattle.tenant_model.specs.Changes.{is_full};
 ghost use Rattle.tenant_model.specs.Walks.{is_job_cancelled};
 ghost use Rattle.std.specs.Option.{option_map};
 ghost use Rattle.solo_eval.specs.Limits.{limit_of};
-ghost use Rattle.tenant_model.specs.Asks.{ask, cancelled, collected, current_jobs, executed, free_slot, has_outcome, known_job, outcome, reply_to, retired, status, submitted, unless_limit};
+ghost use Rattle.tenant_model.specs.Asks.{ask, cancel_by_request, collect, current_jobs, submit_placed, free_slot, has_outcome, known_job, outcome, reply_to, retire, status, submit, unless_limit};
 
 use crate::stacks::{any_open, has_outcome, height};
 use crate::state::TenantState;
@@ -17,6 +18,7 @@ impl TenantState {
     pub(crate) fn ask(&mut self, request: Request) -> Result<Reply, AllocError>
         ensures ok { IfOk result (λ reply. ask self.old request ≡ (reply, self.new)) }
         ensures err { OnErr result (self.new ≡ self.old) }
+        ensures brings { OnErr result (IsSome (job_of request)) }
     {
         if let Request::Hello(_name) = request {
             return Ok(Reply::Refused(Error::BadRequest));
@@ -39,7 +41,7 @@ impl TenantState {
 
     fn submit(&mut self, job: Job) -> Result<Reply, AllocError>
         requires { is_full self.old ≡ false }
-        ensures ok { IfOk result (λ reply. unless_limit self.old (submitted self.old job) ≡ (reply, self.new)) }
+        ensures ok { IfOk result (λ reply. unless_limit self.old (submit self.old job) ≡ (reply, self.new)) }
         ensures err { OnErr result (self.new ≡ self.old) }
     {
         if let Some(error) = self.limit() {
@@ -55,7 +57,7 @@ impl TenantState {
     /// Makes a job, and places its root on a free reserved slot where there is one.
     fn submit_placed(&mut self, job: Job) -> Result<Reply, AllocError>
         requires { is_full self.old ≡ false }
-        ensures ok { IfOk result (λ reply. unless_limit self.old (executed self.old job (free_slot self.old))
+        ensures ok { IfOk result (λ reply. unless_limit self.old (submit_placed self.old job (free_slot self.old))
             ≡ (reply, self.new)) }
         ensures err { OnErr result (self.new ≡ self.old) }
     {
@@ -156,11 +158,11 @@ impl TenantState {
         };
         if work.is_cancelled() || has_outcome(self.rows(), number) {
             self.enter();
-            return Reply::Canceled(number, false);
+            return Reply::Cancelled(number, false);
         }
         self.cancel_job(number);
         self.enter();
-        Reply::Canceled(number, true)
+        Reply::Cancelled(number, true)
     }
 
     fn cells_of(&mut self, key: Key) -> Reply

@@ -3,7 +3,7 @@ ghost use Rattle.std.specs.Prelude.{◌≡◌, ◌<◌, ◌≤◌, length, find,
 ghost use Rattle.std.specs.List.{list_any};
 ghost use Rattle.tenant_model.specs.State.{row};
 ghost use Rattle.tenant_model.specs.Walks.{maker_of, is_region, is_within, region_of, is_group_cancelled, mark, chain};
-ghost use Rattle.tenant_model.specs.Rows.{MakersPrecede};
+ghost use Rattle.tenant_model.specs.Linked.{MakersPrecede};
 
 use tenant_model::{Kind, Mark, Row};
 

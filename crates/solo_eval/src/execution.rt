@@ -1,11 +1,12 @@
 // Executing what a private run of the topmost row of a slot stops at.
 ghost use Rattle.std.specs.Prelude.{◌≡◌, ◌+◌, ◌<◌, ◌≤◌, length, false, true, OnErr, IfOk, IfSome, Some, if◌then◌else◌};
 ghost use Rattle.job_language.specs.Program.{is_last};
+ghost use Rattle.solo_eval.specs.Execution.{makes_row};
 ghost use Rattle.tenant_model.specs.State.{row};
 ghost use Rattle.tenant_model.specs.Walks.{maker_of};
-ghost use Rattle.tenant_model.specs.Advance.{pay, is_poor, paid};
-ghost use Rattle.tenant_model.specs.Changes.{is_full, is_row_limit_met, ran, faults, add_row, new_row, with_frame};
-ghost use Rattle.tenant_model.specs.Shared.{execute, isolate_at, called};
+ghost use Rattle.tenant_model.specs.Advance.{pay, is_poor, with_fuel_paid};
+ghost use Rattle.tenant_model.specs.Changes.{is_full, is_row_limit_met, finish_step, faults, add_row, new_row, with_frame};
+ghost use Rattle.tenant_model.specs.Shared.{execute, isolate_at, called_frame};
 
 use crate::stacks::height;
 use crate::state::TenantState;
@@ -33,13 +34,13 @@ impl TenantState {
         cost: u64,
         made: NewRow,
     ) -> Result<Moved, AllocError>
-        requires full { is_full self.old ≡ false }
+        requires room { is_full self.old ≡ false }
         requires from { 1 ≤ number }
         requires to { number ≤ length self.old.rows }
         requires maker { IfSome (maker_of made.kind) (λ m. (1 ≤ m) × (m ≤ length self.old.rows)) }
         ensures ok { IfOk result (λ moved. pay self.old slot number cost (λ t.
             if is_row_limit_met t then faults slot (row t.rows number).job JobFault.TaskLimit t
-            else ran slot (add_row (with_frame t number frame) (new_row made.kind (row t.rows number).job made.made_on made.frame made.phase))) ≡ (moved, self.new)) }
+            else finish_step slot (add_row (with_frame t number frame) (new_row made.kind (row t.rows number).job made.made_on made.frame made.phase))) ≡ (moved, self.new)) }
         ensures err { OnErr result (self.new ≡ self.old) }
     {
         if self.is_poor(number, cost) {
@@ -53,7 +54,7 @@ impl TenantState {
         self.add_row(made.kind, job, made.made_on, made.frame, made.phase)?;
         self.pay(number, cost);
         self.set_frame(number, frame);
-        Ok(self.ran(slot))
+        Ok(self.finish_step(slot))
     }
 
     /// Executes a shared instruction of the topmost row, whose frame stands at it, for a cost.
@@ -65,20 +66,21 @@ impl TenantState {
         instr: &Instr,
         cost: u64,
     ) -> Result<Moved, AllocError>
-        requires full { is_full self.old ≡ false }
+        requires room { is_full self.old ≡ false }
         requires from { 1 ≤ number }
         requires to { number ≤ length self.old.rows }
         requires slot { slot < 16 }
         requires place { is_last instr.now ≡ false → frame.place < 255 }
         ensures ok { IfOk result (λ moved. pay self.old slot number cost (λ t. execute t slot number frame instr.now) ≡ (moved, self.new)) }
         ensures err { OnErr result (self.new ≡ self.old) }
+        ensures makes { OnErr result (makes_row instr.now ≡ true) }
     {
         match *instr {
             Instr::Spawn(group, procedure, first, second) => {
                 let made = NewRow {
                     kind: Kind::Spawned(number, group),
                     made_on: Some(slot),
-                    frame: called(frame, procedure, first, second),
+                    frame: called_frame(frame, procedure, first, second),
                     phase: Phase::Unstarted,
                 };
                 self.make(slot, number, frame.next(), cost, made)
@@ -87,14 +89,14 @@ impl TenantState {
                 let made = NewRow {
                     kind: Kind::Posted,
                     made_on: None,
-                    frame: called(frame, procedure, first, second),
+                    frame: called_frame(frame, procedure, first, second),
                     phase: Phase::Unstarted,
                 };
                 self.make(slot, number, frame.next(), cost, made)
             }
             Instr::Isolate(_, procedure, first, second) => {
-                let called = called(frame, procedure, first, second);
-                self.isolate(slot, number, frame, cost, called)
+                let called_frame = called_frame(frame, procedure, first, second);
+                self.isolate(slot, number, frame, cost, called_frame)
             }
             _ => {
                 if self.is_poor(number, cost) {
@@ -113,12 +115,12 @@ impl TenantState {
         number: u64,
         frame: Frame,
         cost: u64,
-        called: Frame,
+        called_frame: Frame,
     ) -> Result<Moved, AllocError>
-        requires full { is_full self.old ≡ false }
+        requires room { is_full self.old ≡ false }
         requires from { 1 ≤ number }
         requires to { number ≤ length self.old.rows }
-        ensures ok { IfOk result (λ moved. pay self.old slot number cost (λ t. isolate_at t slot number frame called) ≡ (moved, self.new)) }
+        ensures ok { IfOk result (λ moved. pay self.old slot number cost (λ t. isolate_at t slot number frame called_frame) ≡ (moved, self.new)) }
         ensures err { OnErr result (self.new ≡ self.old) }
     {
         let height = height(self.rows(), slot);
@@ -133,7 +135,7 @@ impl TenantState {
         let made = NewRow {
             kind: Kind::Region(number),
             made_on: Some(slot),
-            frame: called,
+            frame: called_frame,
             phase: Phase::Live(slot, height + 1),
         };
         self.make(slot, number, frame, cost, made)
@@ -141,8 +143,8 @@ impl TenantState {
 }
 
 /// A new frame at a procedure, with the values of two registers.
-fn called(frame: Frame, procedure: u8, first: Register, second: Register) -> Frame
-    ensures { result ≡ called frame procedure first second }
+fn called_frame(frame: Frame, procedure: u8, first: Register, second: Register) -> Frame
+    ensures { result ≡ called_frame frame procedure first second }
 {
     let first = frame.registers[first.index()];
     let second = frame.registers[second.index()];

@@ -5,15 +5,11 @@ mod advances;
 mod asks;
 mod cells;
 mod chains;
-mod checking;
 mod execution;
 mod groups;
-mod serials;
 mod shared;
 mod solo;
 mod stacks;
 mod state;
 
-pub use checking::{Verdict, check};
-pub use serials::serial;
 pub use solo::Solo;

@@ -4,10 +4,10 @@ ghost use Rattle.job_language.specs.Program.{is_last};
 ghost use Rattle.solo_eval.specs.Execution.{makes_row};
 ghost use Rattle.tenant_model.specs.State.{row};
 ghost use Rattle.tenant_model.specs.Walks.{height, is_context_cancelled, maker_of};
-ghost use Rattle.tenant_model.specs.Advance.{is_poor, paid, with_fuel, pay};
-ghost use Rattle.tenant_model.specs.Changes.{is_full, ran, faults, add_row, with_frame};
+ghost use Rattle.tenant_model.specs.Advance.{is_poor, with_fuel_paid, with_fuel, pay};
+ghost use Rattle.tenant_model.specs.Changes.{is_full, finish_step, faults, add_row, with_frame};
 ghost use Rattle.tenant_model.specs.Shared as shared;
-ghost use Rattle.tenant_model.specs.Shared.{called, group_status, hand_back, handed, has_used_group};
+ghost use Rattle.tenant_model.specs.Shared.{called_frame, group_status, hand_back, handed_frame, has_used_group};
 
 use crate::groups::{is_used, total};
 use crate::state::TenantState;
@@ -31,7 +31,7 @@ impl TenantState {
         requires from { 1 ≤ number }
         requires to { number ≤ length self.old.rows }
         requires rich { is_poor self.old number cost ≡ false }
-        ensures { self.new ≡ paid self.old number cost }
+        ensures { self.new ≡ with_fuel_paid self.old number cost }
     {
         let fuel = self.job_of(number).fuel - cost;
         let job = self.row(number).job;
@@ -40,7 +40,7 @@ impl TenantState {
 
     /// What a row's job meets whose fuel does not suffice.
     pub(crate) fn run_dry(&mut self, slot: u8, number: u64) -> Moved
-        requires full { is_full self.old ≡ false }
+        requires room { is_full self.old ≡ false }
         requires from { 1 ≤ number }
         requires to { number ≤ length self.old.rows }
         ensures { faults slot (row self.old.rows number).job JobFault.Fuel (with_fuel self.old number 0) ≡ (result, self.new) }
@@ -72,7 +72,7 @@ impl TenantState {
         status_to: Register,
         group: Group,
     ) -> Moved
-        requires full { is_full self.old ≡ false }
+        requires room { is_full self.old ≡ false }
         requires from { 1 ≤ number }
         requires to { number ≤ length self.old.rows }
         requires place { frame.place < 255 }
@@ -80,19 +80,19 @@ impl TenantState {
     {
         let mut waited = frame;
         waited.registers[total_to.index()] = total(self.rows(), number, group.index());
-        let waited = waited.with_register(status_to, self.group_status(number, group));
+        let waited = waited.write_and_step(status_to, self.group_status(number, group));
         let mark = Mark {
             rows: self.rows().len() as u64,
             cancelled: false,
         };
         self.set_mark(number, group, mark, waited);
-        self.ran(slot)
+        self.finish_step(slot)
     }
 }
 
 impl TenantState {
     fn cancel(&mut self, slot: u8, number: u64, frame: Frame, group: Group) -> Moved
-        requires full { is_full self.old ≡ false }
+        requires room { is_full self.old ≡ false }
         requires from { 1 ≤ number }
         requires to { number ≤ length self.old.rows }
         requires place { frame.place < 255 }
@@ -104,23 +104,23 @@ impl TenantState {
             cancelled: true,
         };
         self.set_mark(number, group, cancelled, frame.next());
-        self.ran(slot)
+        self.finish_step(slot)
     }
 
     /// Writes a register of the topmost row.
     fn learn(&mut self, slot: u8, number: u64, frame: Frame, to: Register, value: i64) -> Moved
-        requires full { is_full self.old ≡ false }
+        requires room { is_full self.old ≡ false }
         requires from { 1 ≤ number }
         requires to { number ≤ length self.old.rows }
         requires place { frame.place < 255 }
-        ensures { shared.learns self.old slot number frame to value ≡ (result, self.new) }
+        ensures { shared.write_register self.old slot number frame to value ≡ (result, self.new) }
     {
-        self.set_frame(number, frame.with_register(to, value));
-        self.ran(slot)
+        self.set_frame(number, frame.write_and_step(to, value));
+        self.finish_step(slot)
     }
 
     fn load(&mut self, slot: u8, number: u64, frame: Frame, to: Register, key: Key) -> Moved
-        requires full { is_full self.old ≡ false }
+        requires room { is_full self.old ≡ false }
         requires from { 1 ≤ number }
         requires to { number ≤ length self.old.rows }
         requires place { frame.place < 255 }
@@ -128,13 +128,13 @@ impl TenantState {
         ensures { shared.load self.old slot number frame to key ≡ (result, self.new) }
     {
         let value = self.cells().get(key, slot).unwrap_or(0);
-        self.set_frame(number, frame.with_register(to, value));
+        self.set_frame(number, frame.write_and_step(to, value));
         self.set_cell(key, slot, value);
-        self.ran(slot)
+        self.finish_step(slot)
     }
 
     fn store(&mut self, slot: u8, number: u64, frame: Frame, key: Key, from: Register) -> Moved
-        requires full { is_full self.old ≡ false }
+        requires room { is_full self.old ≡ false }
         requires from { 1 ≤ number }
         requires to { number ≤ length self.old.rows }
         requires place { frame.place < 255 }
@@ -143,7 +143,7 @@ impl TenantState {
     {
         self.set_frame(number, frame.next());
         self.set_cell(key, slot, frame.registers[from.index()]);
-        self.ran(slot)
+        self.finish_step(slot)
     }
 
     fn has_used_group(&self, number: u64) -> bool
@@ -165,7 +165,7 @@ impl TenantState {
         if let Kind::Region(maker) = *kind {
             let frame = self.row(maker).frame;
             if let Some(instr) = frame.instr_in(&self.job_of(maker).program) {
-                self.set_frame(maker, handed(&instr, frame, value));
+                self.set_frame(maker, handed_frame(&instr, frame, value));
             } else {
                 self.set_frame(maker, frame);
             }
@@ -173,7 +173,7 @@ impl TenantState {
     }
 
     fn ret(&mut self, slot: u8, number: u64, frame: Frame, from: Register) -> Moved
-        requires full { is_full self.old ≡ false }
+        requires room { is_full self.old ≡ false }
         requires from { 1 ≤ number }
         requires to { number ≤ length self.old.rows }
         ensures { shared.ret self.old slot number frame from ≡ (result, self.new) }
@@ -185,7 +185,7 @@ impl TenantState {
         let value = frame.registers[from.index()];
         self.end_row(number, frame, value);
         self.hand_back(&row.kind, value);
-        self.ran(slot)
+        self.finish_step(slot)
     }
 
     /// Executes a shared instruction that makes no row.
@@ -196,7 +196,7 @@ impl TenantState {
         frame: Frame,
         instr: &Instr,
     ) -> Moved
-        requires full { is_full self.old ≡ false }
+        requires room { is_full self.old ≡ false }
         requires from { 1 ≤ number }
         requires to { number ≤ length self.old.rows }
         requires slot { slot < 16 }
@@ -226,19 +226,19 @@ impl TenantState {
             Instr::Ret(from) => self.ret(slot, number, frame, from),
             _ => {
                 self.set_frame(number, frame);
-                self.ran(slot)
+                self.finish_step(slot)
             }
         }
     }
 }
 
 /// The frame that stands at an isolate, with the value of its region.
-fn handed(instr: &Instr, frame: Frame, value: i64) -> Frame
+fn handed_frame(instr: &Instr, frame: Frame, value: i64) -> Frame
     requires { is_last instr.now ≡ false → frame.place < 255 }
-    ensures { result ≡ handed (Some instr.now) value frame }
+    ensures { result ≡ handed_frame (Some instr.now) value frame }
 {
     match *instr {
-        Instr::Isolate(to, _procedure, _first, _second) => frame.with_register(to, value),
+        Instr::Isolate(to, _procedure, _first, _second) => frame.write_and_step(to, value),
         _ => frame,
     }
 }

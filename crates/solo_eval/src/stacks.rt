@@ -3,8 +3,8 @@ ghost use Rattle.std.specs.Prelude.{◌≡◌, ◌≤◌, ◌==◌, ◌&&◌, le
 ghost use Rattle.tenant_model.specs.Walks.{is_open, height, top, is_allowed, pick_of, region_on};
 ghost use Rattle.std.specs.List.{list_any};
 ghost use Rattle.tenant_model.specs.Asks.{has_outcome};
-ghost use Rattle.tenant_model.specs.Rows.{MakersPrecede};
-ghost use Rattle.tenant_model.specs.Changes.{open_rows, task_height, task_height_of, faulted, faulted_phase};
+ghost use Rattle.tenant_model.specs.Linked.{MakersPrecede};
+ghost use Rattle.tenant_model.specs.Changes.{open_rows, task_height, task_height_of, faulted_row, faulted_phase};
 
 use crate::chains::{is_within, region_of};
 use job_language::Isolation;
@@ -148,8 +148,8 @@ fn faulted_phase(phase: &Phase, slot: u8, from: u64) -> Phase
 }
 
 /// The row after that fault.
-fn faulted(row: &Row, slot: u8, from: u64) -> Row
-    ensures { result ≡ faulted slot from row.now }
+fn faulted_row(row: &Row, slot: u8, from: u64) -> Row
+    ensures { result ≡ faulted_row slot from row.now }
 {
     let phase = faulted_phase(&row.phase, slot, from);
     Row { phase, ..*row }
@@ -157,9 +157,9 @@ fn faulted(row: &Row, slot: u8, from: u64) -> Row
 
 /// Ends the rows on a slot from a height on.
 pub(crate) fn fault_rows(rows: &mut [Row], slot: u8, from: u64)
-    ensures { rows.new ≡ map (faulted slot from) rows.old }
+    ensures { rows.new ≡ map (faulted_row slot from) rows.old }
 {
     for row in rows.iter_mut() {
-        *row = faulted(row, slot, from);
+        *row = faulted_row(row, slot, from);
     }
 }

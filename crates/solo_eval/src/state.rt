@@ -27,7 +27,7 @@ impl Model for TenantState {
 
     ghost Value = { State };
 
-    ghost use Rattle.tenant_model.specs.Rows.{IsLinked};
+    ghost use Rattle.tenant_model.specs.Linked.{IsLinked};
     ghost use Rattle.solo_eval.specs.TenantState.{shown};
 
     ghost view = { shown };
@@ -40,7 +40,7 @@ impl TenantState {
     ghost use Rattle.tenant_model.specs.State.{empty};
     ghost use Rattle.tenant_model.specs.Cells.{with_cell};
     ghost use Rattle.job_language.specs.Tenant.{IsValidTenant};
-    ghost use Rattle.tenant_model.specs.Changes.{ran, faults, with_cells, entry, is_full};
+    ghost use Rattle.tenant_model.specs.Changes.{finish_step, faults, with_cells, entry, is_full};
 
     /// A tenant that has done nothing yet.
     pub(crate) fn new(alloc: Global, config: TenantConfig) -> TenantState
@@ -74,9 +74,9 @@ impl TenantState {
     }
 
     /// Counts an entry after a step that ran. A reserved slot is freed where nothing is left on it.
-    pub(crate) fn ran(&mut self, slot: u8) -> Moved
+    pub(crate) fn finish_step(&mut self, slot: u8) -> Moved
         requires { is_full self.old ≡ false }
-        ensures { ran slot self.old ≡ (result, self.new) }
+        ensures { finish_step slot self.old ≡ (result, self.new) }
     {
         let freed = slot < self.config().reserved && height(self.rows(), slot) == 0;
         self.enter();
@@ -86,7 +86,7 @@ impl TenantState {
     /// Ends the topmost row of a slot and those below it, down to and with the first that is no
     /// region, for a fault of a job.
     pub(crate) fn fault(&mut self, slot: u8, job: u64, fault: JobFault) -> Moved
-        requires full { is_full self.old ≡ false }
+        requires room { is_full self.old ≡ false }
         requires from { 1 ≤ job }
         requires to { job ≤ length self.old.jobs }
         ensures { faults slot job fault self.old ≡ (result, self.new) }
@@ -94,7 +94,7 @@ impl TenantState {
         let from = task_height(self.rows(), slot);
         self.fault_rows(slot, from);
         self.set_fault(job, fault);
-        self.ran(slot)
+        self.finish_step(slot)
     }
 
     /// The cells.

@@ -5,7 +5,7 @@ use Rattle.std.proofs.lemmas.Option.{IfSome_then}
 use Rattle.tenant_model.specs.declared.rows.Row.{Row}
 use Rattle.tenant_model.specs.State.{row}
 use Rattle.tenant_model.specs.Walks.{maker_of, with_makers, chain_for, chain}
-use Rattle.tenant_model.specs.Rows.{MakersPrecede}
+use Rattle.tenant_model.specs.Linked.{MakersPrecede}
 
 with_makers-agree : (n : ℕ) (o : Option ℕ) (f g : ℕ → List ℕ) → IfSome o (λ m. f m ≡ g m) → with_makers n o f ≡ with_makers n o g
 with_makers-agree n None f g same = refl

@@ -14,36 +14,36 @@ use Rattle.job_step.specs.declared.runs.Stop.TheVariants.{Shared, Yield, Fault}
 use Rattle.tenant_model.specs.declared.rows.TheConstants.{MAX_HEIGHT}
 use Rattle.tenant_model.specs.State.{State, row}
 use Rattle.tenant_model.specs.Walks.{height}
-use Rattle.tenant_model.specs.Changes.{is_full, is_row_limit_met, ran, faults, with_frame}
+use Rattle.tenant_model.specs.Changes.{is_full, is_row_limit_met, finish_step, faults, with_frame}
 use Rattle.tenant_model.specs.Shared.{execute, has_used_group}
-use Rattle.tenant_model.specs.Advance.{is_entry, unless_full, pay, is_poor, with_fuel, paid, is_blocked, move_on, after_run}
+use Rattle.tenant_model.specs.Advance.{would_be_recorded, unless_full, pay, is_poor, with_fuel, with_fuel_paid, is_blocked, move_on, after_run}
 
 -- a step is as it is where the history has room
 pub unless_full-room : (s : State) (r : Moved × State) → is_full s ≡ false → unless_full s r ≡ r
-unless_full-room s r room = rw (room, and_right (is_entry r.0) false refl) refl
+unless_full-room s r room = rw (room, and_right (would_be_recorded r.0) false refl) refl
 
 -- an entry at a full history
-pub unless_full-full : (s : State) (r : Moved × State) → is_entry r.0 ≡ true → is_full s ≡ true → unless_full s r ≡ (Full, s)
+pub unless_full-full : (s : State) (r : Moved × State) → would_be_recorded r.0 ≡ true → is_full s ≡ true → unless_full s r ≡ (Full, s)
 unless_full-full s r entry full = rw (entry, full) refl
 
 abbrev IsEntry : Moved × State → Type 0
-IsEntry r = is_entry r.0 ≡ true
+IsEntry r = would_be_recorded r.0 ≡ true
 
 either : (b : Bool) (r q : Moved × State) → IsEntry r → IsEntry q → IsEntry (if b then r else q)
 either b r q yes_then yes_else = cond_both b r q IsEntry (λ _. yes_then) (λ _. yes_else)
 
-freed_or_ran : (b : Bool) → is_entry (if b then Freed else Ran) ≡ true
+freed_or_ran : (b : Bool) → would_be_recorded (if b then Freed else Ran) ≡ true
 freed_or_ran true = refl
 freed_or_ran false = refl
 
-ran_enters : (slot : ℕ) (s : State) → IsEntry (ran slot s)
+ran_enters : (slot : ℕ) (s : State) → IsEntry (finish_step slot s)
 ran_enters slot s = freed_or_ran (nat_lt slot s.config.reserved && (height s.rows slot == 0))
 
 faults_enters : (slot j : ℕ) (f : JobFault) (s : State) → IsEntry (faults slot j f s)
 faults_enters slot j f s = search freed_or_ran
 
 pay_enters : (s : State) (slot n cost : ℕ) (next : State → Moved × State) → ((t : State) → IsEntry (next t)) → IsEntry (pay s slot n cost next)
-pay_enters s slot n cost next enters = either (is_poor s n cost) _ _ (faults_enters slot (row s.rows n).job fault.Fuel (with_fuel s n 0)) (enters (paid s n cost))
+pay_enters s slot n cost next enters = either (is_poor s n cost) _ _ (faults_enters slot (row s.rows n).job fault.Fuel (with_fuel s n 0)) (enters (with_fuel_paid s n cost))
 
 limited : (s : State) (slot n : ℕ) (r : Moved × State) → IsEntry r → IsEntry (if is_row_limit_met s then faults slot (row s.rows n).job fault.TaskLimit s else r)
 limited s slot n r enters = either (is_row_limit_met s) _ r (faults_enters slot (row s.rows n).job fault.TaskLimit s) enters
@@ -73,9 +73,9 @@ execute_enters s slot n f (Slot d) = search freed_or_ran
 execute_enters s slot n f (Width d) = search freed_or_ran
 
 move_on_enters : (s : State) (slot n count : ℕ) (f : Frame) → IsEntry (move_on s slot n count f)
-move_on_enters s slot n count f = pay_enters s slot n count (λ t. ran slot (with_frame t n f)) (λ t. ran_enters slot (with_frame t n f))
+move_on_enters s slot n count f = pay_enters s slot n count (λ t. finish_step slot (with_frame t n f)) (λ t. ran_enters slot (with_frame t n f))
 
-pub after_run_enters : (s : State) (slot n count : ℕ) (f : Frame) (stop : Stop) → is_entry (after_run s slot n count f stop).0 ≡ true
+pub after_run_enters : (s : State) (slot n count : ℕ) (f : Frame) (stop : Stop) → would_be_recorded (after_run s slot n count f stop).0 ≡ true
 after_run_enters s slot n count f Yield = move_on_enters s slot n count f
 after_run_enters s slot n count f Fault = pay_enters s slot n count (λ t. faults slot (row t.rows n).job fault.Division t) (λ t. faults_enters slot (row t.rows n).job fault.Division t)
 after_run_enters s slot n count f (Shared i) =

@@ -6,19 +6,19 @@ use Rattle.tenant_model.specs.declared.rows.Phase.{Phase}
 use Rattle.tenant_model.specs.declared.rows.Phase.TheVariants.{Unstarted, Live, Done, Dropped, Faulted}
 use Rattle.tenant_model.specs.declared.rows.Row.{Row}
 use Rattle.tenant_model.specs.State.{State}
-use Rattle.tenant_model.specs.Walks.{is_live_on, is_live_at, is_context_cancelled, height, settled, settle}
-use Rattle.tenant_model.specs.Changes.{task_height_of, task_height, faulted_phase, faulted}
+use Rattle.tenant_model.specs.Walks.{is_live_on, is_live_at, is_context_cancelled, height, settled_row, settle}
+use Rattle.tenant_model.specs.Changes.{task_height_of, task_height, faulted_phase, faulted_row}
 use Rattle.tenant_model.specs.WellFormed.{rows_at, AreStacked}
 use Rattle.tenant_model.proofs.Stacking.{one_if, count-cons, count-split, count-map, AreSame, IsCut}
 
-settled_on : (slot : ℕ) (r : Row) (b : Bool) (p : Phase) → r.phase ≡ p → is_live_on slot (settled r b).phase ≡ is_live_on slot r.phase
+settled_on : (slot : ℕ) (r : Row) (b : Bool) (p : Phase) → r.phase ≡ p → is_live_on slot (settled_row r b).phase ≡ is_live_on slot r.phase
 settled_on slot r b Unstarted is = rw is (grind arith)
 settled_on slot r b (Live t h) is = rw is refl
 settled_on slot r b (Done v) is = rw is refl
 settled_on slot r b Dropped is = rw is refl
 settled_on slot r b Faulted is = rw is refl
 
-settled_at : (slot h : ℕ) (r : Row) (b : Bool) (p : Phase) → r.phase ≡ p → is_live_at slot h (settled r b).phase ≡ is_live_at slot h r.phase
+settled_at : (slot h : ℕ) (r : Row) (b : Bool) (p : Phase) → r.phase ≡ p → is_live_at slot h (settled_row r b).phase ≡ is_live_at slot h r.phase
 settled_at slot h r b Unstarted is = rw is (grind arith)
 settled_at slot h r b (Live t k) is = rw is refl
 settled_at slot h r b (Done v) is = rw is refl
@@ -28,8 +28,8 @@ settled_at slot h r b Faulted is = rw is refl
 -- Settling leaves the stacks as they are.
 pub AreSame-settle : (s : State) → AreSame s.rows (settle s).rows
 AreSame-settle s = record {
-  on = λ slot. count-map (λ (r : Row). is_live_on slot r.phase) (λ p. settled p.1 (is_context_cancelled s p.0)) (λ n r. settled_on slot r (is_context_cancelled s n) r.phase refl) 1 s.rows;
-  at = λ slot h. count-map (λ (r : Row). is_live_at slot h r.phase) (λ p. settled p.1 (is_context_cancelled s p.0)) (λ n r. settled_at slot h r (is_context_cancelled s n) r.phase refl) 1 s.rows;
+  on = λ slot. count-map (λ (r : Row). is_live_on slot r.phase) (λ p. settled_row p.1 (is_context_cancelled s p.0)) (λ n r. settled_on slot r (is_context_cancelled s n) r.phase refl) 1 s.rows;
+  at = λ slot h. count-map (λ (r : Row). is_live_at slot h r.phase) (λ p. settled_row p.1 (is_context_cancelled s p.0)) (λ n r. settled_at slot h r (is_context_cancelled s n) r.phase refl) 1 s.rows;
 }
 
 -- A count of mapped rows counts the rows by another test.
@@ -138,15 +138,15 @@ faulted_at_others slot from t h Dropped other = refl
 faulted_at_others slot from t h Faulted other = refl
 
 -- A fault takes the rows of its slot from the topmost one that is no region.
-pub IsCut-faults : (rows : List Row) → AreStacked rows → (slot : ℕ) → IsCut rows (map (faulted slot (task_height rows slot)) rows) slot (task_height rows slot)
+pub IsCut-faults : (rows : List Row) → AreStacked rows → (slot : ℕ) → IsCut rows (map (faulted_row slot (task_height rows slot)) rows) slot (task_height rows slot)
 IsCut-faults rows stacked slot =
     let from = task_height rows slot in
     let low = task_height-le rows stacked slot in
     record {
       within = omega (arith, low);
-      on = count-mapped (λ (r : Row). is_live_on slot r.phase) (λ (r : Row). is_below slot from r.phase) (faulted slot from) (λ r. faulted_on slot from r.phase) rows ∙ count_below rows stacked slot from (omega (arith, low));
-      on_others = λ t other. count-mapped (λ (r : Row). is_live_on t r.phase) (λ (r : Row). is_live_on t r.phase) (faulted slot from) (λ r. faulted_on_others slot from t r.phase other) rows;
-      kept = λ h below. count-mapped (λ (r : Row). is_live_at slot h r.phase) (λ (r : Row). is_live_at slot h r.phase) (faulted slot from) (λ r. faulted_kept slot from h r.phase below) rows;
-      gone = λ h above. count-mapped (λ (r : Row). is_live_at slot h r.phase) (λ (r : Row). false) (faulted slot from) (λ r. faulted_gone slot from h r.phase above) rows ∙ count-none rows;
-      at_others = λ t h other. count-mapped (λ (r : Row). is_live_at t h r.phase) (λ (r : Row). is_live_at t h r.phase) (faulted slot from) (λ r. faulted_at_others slot from t h r.phase other) rows;
+      on = count-mapped (λ (r : Row). is_live_on slot r.phase) (λ (r : Row). is_below slot from r.phase) (faulted_row slot from) (λ r. faulted_on slot from r.phase) rows ∙ count_below rows stacked slot from (omega (arith, low));
+      on_others = λ t other. count-mapped (λ (r : Row). is_live_on t r.phase) (λ (r : Row). is_live_on t r.phase) (faulted_row slot from) (λ r. faulted_on_others slot from t r.phase other) rows;
+      kept = λ h below. count-mapped (λ (r : Row). is_live_at slot h r.phase) (λ (r : Row). is_live_at slot h r.phase) (faulted_row slot from) (λ r. faulted_kept slot from h r.phase below) rows;
+      gone = λ h above. count-mapped (λ (r : Row). is_live_at slot h r.phase) (λ (r : Row). false) (faulted_row slot from) (λ r. faulted_gone slot from h r.phase above) rows ∙ count-none rows;
+      at_others = λ t h other. count-mapped (λ (r : Row). is_live_at t h r.phase) (λ (r : Row). is_live_at t h r.phase) (faulted_row slot from) (λ r. faulted_at_others slot from t h r.phase other) rows;
     }

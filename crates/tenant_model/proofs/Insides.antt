@@ -6,7 +6,7 @@ use Rattle.tenant_model.specs.declared.rows.Row.{Row}
 use Rattle.tenant_model.specs.State.{row}
 use Rattle.tenant_model.specs.Walks.{is_region, is_within, is_live_at, height}
 use Rattle.tenant_model.specs.WellFormed.{rows_at, AreStacked, AreInside}
-use Rattle.tenant_model.specs.Rows.{MakersPrecede}
+use Rattle.tenant_model.specs.Linked.{MakersPrecede}
 use Rattle.tenant_model.proofs.Changed.{row-past}
 use Rattle.tenant_model.proofs.Stacking.{one_if, count-with}
 use Rattle.tenant_model.proofs.Within.{is_within-kinds, within_above}

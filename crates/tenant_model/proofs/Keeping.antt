@@ -8,9 +8,9 @@ use Rattle.tenant_model.specs.declared.rows.Phase.TheVariants.{Unstarted, Live, 
 use Rattle.tenant_model.specs.declared.rows.Row.{Row}
 use Rattle.tenant_model.specs.declared.rows.TheConstants.{MAX_HEIGHT}
 use Rattle.tenant_model.specs.declared.works.Work.{Work}
-use Rattle.tenant_model.specs.State.{State, no_marks, row, job, with_numbered}
+use Rattle.tenant_model.specs.State.{State, no_marks, row, job, with_at_number}
 use Rattle.tenant_model.specs.Walks.{maker_of, is_region, is_within, is_unstarted, is_open, is_live_at, height, settle}
-use Rattle.tenant_model.specs.Changes.{open_rows, on_row, on_job, add_row, entry, task_height, faulted, faulted_phase}
+use Rattle.tenant_model.specs.Changes.{open_rows, on_row, on_job, add_row, entry, task_height, faulted_row, faulted_phase}
 use Rattle.tenant_model.specs.WellFormed.{IsWellFormed}
 use Rattle.tenant_model.proofs.Within.{either_way}
 use Rattle.tenant_model.proofs.Changed.{row-map}
@@ -76,7 +76,7 @@ entry_kept s is = settle_kept (record s { entries = s.entries + 1 }) (record {
 -- a job changed
 pub on_job_kept : (s : State) (j : ℕ) (f : Work → Work) → IsWellFormed s → IsWellFormed (on_job s j f)
 on_job_kept s j f is = record {
-  linked = IsLinked-more_jobs s (with_numbered s.jobs j (f (job s.jobs j))) (omega (arith, length-set s.jobs (j - 1) (f (job s.jobs j)))) is.linked;
+  linked = IsLinked-more_jobs s (with_at_number s.jobs j (f (job s.jobs j))) (omega (arith, length-set s.jobs (j - 1) (f (job s.jobs j)))) is.linked;
   stacked = is.stacked;
   inside = is.inside;
   on_makers = is.on_makers;
@@ -207,22 +207,22 @@ faulted_open slot from (Done v) = omega arith
 faulted_open slot from Dropped = omega arith
 faulted_open slot from Faulted = omega arith
 
-faulted_fewer : (slot from : ℕ) (rows : List Row) → open_rows (map (faulted slot from) rows) ≤ open_rows rows
+faulted_fewer : (slot from : ℕ) (rows : List Row) → open_rows (map (faulted_row slot from) rows) ≤ open_rows rows
 faulted_fewer slot from [] = omega arith
 faulted_fewer slot from (x ∷ xs) =
     let p : Row → Bool = λ r. is_open r.phase in
-    omega (arith, count-cons p (faulted slot from x) (map (faulted slot from) xs), count-cons p x xs, faulted_open slot from x.phase, faulted_fewer slot from xs)
+    omega (arith, count-cons p (faulted_row slot from x) (map (faulted_row slot from) xs), count-cons p x xs, faulted_open slot from x.phase, faulted_fewer slot from xs)
 
 -- a slot's rows down to the first that is no region are faulted
-pub faulted_kept : (s : State) (slot : ℕ) → IsWellFormed s → IsWellFormed (record s { rows = map (faulted slot (task_height s.rows slot)) s.rows })
+pub faulted_kept : (s : State) (slot : ℕ) → IsWellFormed s → IsWellFormed (record s { rows = map (faulted_row slot (task_height s.rows slot)) s.rows })
 faulted_kept s slot is =
     let from = task_height s.rows slot in
-    let rows = map (faulted slot from) s.rows in
-    let same = SameSources-map (faulted slot from) s.rows (λ r. refl) (λ r. refl) in
+    let rows = map (faulted_row slot from) s.rows in
+    let same = SameSources-map (faulted_row slot from) s.rows (λ r. refl) (λ r. refl) in
     let lives : (n t h : ℕ) → (row rows n).phase ≡ Live t h → (row s.rows n).phase ≡ Live t h = λ n t h live.
     let there = live_there rows n t h live in
     let to : n ≤ length s.rows = omega (arith, there, same.long) in
-    faulted_lives slot from (row s.rows n).phase t h (ap (λ (r : Row). r.phase) (sym (row-map (faulted slot from) s.rows n there.0 to)) ∙ live) in
+    faulted_lives slot from (row s.rows n).phase t h (ap (λ (r : Row). r.phase) (sym (row-map (faulted_row slot from) s.rows n there.0 to)) ∙ live) in
     record {
       linked = IsLinked-same s (record s { rows = rows }) same refl is.linked.epoch is.linked;
       stacked = AreStacked-cut s.rows rows slot from (IsCut-faults s.rows is.stacked slot) is.stacked;
@@ -233,7 +233,7 @@ faulted_kept s slot is =
           | inl before ↦ before
           | inr started ↦
               let there = waits_there rows n waits in
-              let here = row-map (faulted slot from) s.rows n there.0 (omega (arith, there, same.long)) in
+              let here = row-map (faulted_row slot from) s.rows n there.0 (omega (arith, there, same.long)) in
               absurd (grind (arith, waits, faulted_started slot from (row s.rows n).phase started, ap (λ (r : Row). is_unstarted r.phase) here))
         ];
         lives = lives;
@@ -241,10 +241,10 @@ faulted_kept s slot is =
             let there = live_there s.rows m t (h - 1) below in
             let before = lives n t h live in
             let there_n = live_there s.rows n t h before in
-            let kept : faulted_phase slot from (Live t h) ≡ Live t h = ap (faulted_phase slot from) (sym before) ∙ ap (λ (r : Row). r.phase) (sym (row-map (faulted slot from) s.rows n there_n.0 there_n.1)) ∙ live in
-            ap (λ (r : Row). r.phase) (row-map (faulted slot from) s.rows m there.0 there.1) ∙ ap (faulted_phase slot from) below ∙ faulted_below slot from t h kept;
+            let kept : faulted_phase slot from (Live t h) ≡ Live t h = ap (faulted_phase slot from) (sym before) ∙ ap (λ (r : Row). r.phase) (sym (row-map (faulted_row slot from) s.rows n there_n.0 there_n.1)) ∙ live in
+            ap (λ (r : Row). r.phase) (row-map (faulted_row slot from) s.rows m there.0 there.1) ∙ ap (faulted_phase slot from) below ∙ faulted_below slot from t h kept;
       }) is.on_makers;
-      marked = AreMarked-map (faulted slot from) s.rows (λ r. refl) is.marked;
+      marked = AreMarked-map (faulted_row slot from) s.rows (λ r. refl) is.marked;
       limit = omega (arith, faulted_fewer slot from s.rows, is.limit);
       table = is.table;
       slots = is.slots;

@@ -14,7 +14,7 @@ use Rattle.job_language.specs.declared.steps.Step.TheVariants as step
 use Rattle.job_language.specs.declared.tenants.Tenant.{Tenant}
 use Rattle.job_language.specs.declared.tenants.TheConstants.{MAX_SLOTS}
 use Rattle.job_step.specs.declared.frames.Frame.{Frame}
-use Rattle.job_step.specs.Frame.{register, with_register, instr_at}
+use Rattle.job_step.specs.Frame.{register, write_and_step, instr_at}
 use Rattle.job_step.specs.declared.runs.Run.{Run}
 use Rattle.job_step.specs.declared.runs.Stop.{Stop}
 use Rattle.job_step.specs.declared.runs.Stop.TheVariants.{Shared, Yield, Fault}
@@ -25,10 +25,10 @@ use Rattle.tenant_model.specs.declared.rows.Row.{Row}
 use Rattle.tenant_model.specs.declared.rows.TheConstants.{MAX_HEIGHT}
 use Rattle.tenant_model.specs.State.{State, row, job, empty}
 use Rattle.tenant_model.specs.Walks.{maker_of, is_region, mark, total, height, top, pick}
-use Rattle.tenant_model.specs.Changes.{on_row, new_row, add_row, is_row_limit_met, is_full, open_rows, with_frame, with_cells, ran, faults, task_height, faulted, first_fault}
+use Rattle.tenant_model.specs.Changes.{on_row, new_row, add_row, is_row_limit_met, is_full, open_rows, with_frame, with_cells, finish_step, faults, task_height, faulted_row, first_fault}
 use Rattle.tenant_model.specs.Cells.{with_cell}
-use Rattle.tenant_model.specs.Shared.{next_place, called, group_status, execute, has_used_group, handed, hand_back}
-use Rattle.tenant_model.specs.Advance.{begin, blocked, is_poor, with_fuel, pay, move_on, is_blocked, after_run, is_stuck, run_on, advance_run, advance_top, is_entry, advance, arrive_at, is_open_to_workers, arrive}
+use Rattle.tenant_model.specs.Shared.{next_place, called_frame, group_status, execute, has_used_group, handed_frame, hand_back}
+use Rattle.tenant_model.specs.Advance.{begin, nest_pick, is_poor, with_fuel, pay, move_on, is_blocked, after_run, is_idle_wait, run_on, advance_run, advance_top, would_be_recorded, advance, arrive_at, is_open_to_workers, arrive}
 use Rattle.tenant_model.specs.Solo.{step, after}
 use Rattle.tenant_model.specs.WellFormed.{IsWellFormed}
 use Rattle.tenant_model.proofs.Changed.{row-with_same}
@@ -49,12 +49,12 @@ Keeps r = IsWellFormed r.1
 either : (b : Bool) (r q : Moved × State) → (b ≡ true → Keeps r) → (b ≡ false → Keeps q) → Keeps (if b then r else q)
 either b r q if_true if_false = cond_both b r q Keeps if_true if_false
 
-ran_kept : (slot : ℕ) (s : State) → IsWellFormed s → Keeps (ran slot s)
+ran_kept : (slot : ℕ) (s : State) → IsWellFormed s → Keeps (finish_step slot s)
 ran_kept slot s is = entry_kept s is
 
 faults_kept : (slot j : ℕ) (f : JobFault) (s : State) → IsWellFormed s → Keeps (faults slot j f s)
 faults_kept slot j f s is =
-    let t = record s { rows = map (faulted slot (task_height s.rows slot)) s.rows } in
+    let t = record s { rows = map (faulted_row slot (task_height s.rows slot)) s.rows } in
     entry_kept _ (on_job_kept t j (λ w. record w { fault = first_fault w.fault f }) (faulted_kept s slot is))
 
 -- row n is on top of the slot
@@ -110,19 +110,19 @@ module _ (s : State) (slot n : ℕ) (is : IsWellFormed s) (top : IsTop s slot n)
   handed_kept f v (Region m) kind =
       let t = on_row s n (λ r. record r { frame = f; phase = Done v }) in
       let maker : (1 ≤ m) × (m < n) = rw kind at (is.linked.makers n top.from top.to) in
-      on_row_kept t m (λ r. record r { frame = handed (instr_at (job t.jobs r.job).program r.frame) v r.frame }) maker.0 (omega (arith, maker, top.to, length-set s.rows (n - 1) (record (row s.rows n) { frame = f; phase = Done v }))) refl refl ((ended_kept f v).marked m) refl (ended_kept f v)
+      on_row_kept t m (λ r. record r { frame = handed_frame (instr_at (job t.jobs r.job).program r.frame) v r.frame }) maker.0 (omega (arith, maker, top.to, length-set s.rows (n - 1) (record (row s.rows n) { frame = f; phase = Done v }))) refl refl ((ended_kept f v).marked m) refl (ended_kept f v)
 
   limited_kept : (r : Moved × State) → (open_rows s.rows < s.config.rows → Keeps r) → Keeps (if is_row_limit_met s then faults slot (row s.rows n).job fault.TaskLimit s else r)
   limited_kept r made = either (is_row_limit_met s) _ r (λ _. faults_kept slot (row s.rows n).job fault.TaskLimit s is) (λ unmet. made (grind (arith, unmet)))
 
   execute_kept : (f : Frame) (i : Instr) → Keeps (execute s slot n f i)
-  execute_kept f (Spawn g p a b) = limited_kept _ (λ room. ran_kept slot _ (spawned_kept (next_place f) (called f p a b) (Spawned n g) (Some slot) refl refl room))
-  execute_kept f (Post p a b) = limited_kept _ (λ room. ran_kept slot _ (spawned_kept (next_place f) (called f p a b) Posted None refl tt room))
+  execute_kept f (Spawn g p a b) = limited_kept _ (λ room. ran_kept slot _ (spawned_kept (next_place f) (called_frame f p a b) (Spawned n g) (Some slot) refl refl room))
+  execute_kept f (Post p a b) = limited_kept _ (λ room. ran_kept slot _ (spawned_kept (next_place f) (called_frame f p a b) Posted None refl tt room))
   execute_kept f (Isolate d p a b) =
       either (height s.rows slot == MAX_HEIGHT) _ _ (λ _. faults_kept slot (row s.rows n).job fault.TooDeep s is)
-      (λ low. limited_kept _ (λ room. ran_kept slot _ (region_kept f (called f p a b) (grind (arith, low, is.stacked.low slot)) room)))
+      (λ low. limited_kept _ (λ room. ran_kept slot _ (region_kept f (called_frame f p a b) (grind (arith, low, is.stacked.low slot)) room)))
   execute_kept f (Wait d e g) = ran_kept slot _ (set_kept (λ r. record r {
-    frame = with_register (record f { registers = slice_set f.registers d (total s.rows n g) }) e (group_status s n g);
+    frame = write_and_step (record f { registers = slice_set f.registers d (total s.rows n g) }) e (group_status s n g);
     marks = slice_set r.marks g (record { rows = length s.rows; cancelled = false });
   }) refl refl refl (mark_fits (row s.rows n).marks g (record { rows = length s.rows; cancelled = false }) (length s.rows) (omega arith) (is.marked n)))
   execute_kept f (Cancel g) = ran_kept slot _ (set_kept (λ r. record r {
@@ -157,19 +157,19 @@ module _ (s : State) (slot n : ℕ) (is : IsWellFormed s) (on_top : IsTop s slot
   fueled_top f = record { from = on_top.from; to = on_top.to; live = on_top.live }
 
   move_on_kept : (count : ℕ) (f : Frame) → Keeps (move_on s slot n count f)
-  move_on_kept count f = pay_kept s slot n is on_top count (λ t. ran slot (with_frame t n f)) (λ fuel. ran_kept slot _ (moved_kept (with_fuel s n fuel) slot n (fueled fuel) (fueled_top fuel) f))
+  move_on_kept count f = pay_kept s slot n is on_top count (λ t. finish_step slot (with_frame t n f)) (λ fuel. ran_kept slot _ (moved_kept (with_fuel s n fuel) slot n (fueled fuel) (fueled_top fuel) f))
 
   after_run_kept : (count : ℕ) (f : Frame) (stop : Stop) → Keeps (after_run s slot n count f stop)
   after_run_kept count f Yield = move_on_kept count f
   after_run_kept count f Fault = pay_kept s slot n is on_top count (λ t. faults slot (row t.rows n).job fault.Division t) (λ fuel. faults_kept slot (row s.rows n).job fault.Division (with_fuel s n fuel) (fueled fuel))
   after_run_kept count f (Shared i) = either (is_blocked s n i) _ _ (λ _. move_on_kept count f) (λ _. pay_kept s slot n is on_top (count + 1) (λ t. execute t slot n f i) (λ fuel. execute_kept (with_fuel s n fuel) slot n (fueled fuel) (fueled_top fuel) f i))
 
-  blocked_kept : (o : Option ℕ) → pick s slot ≡ o → top s.rows slot ≡ Some n → Keeps (blocked s slot n o)
+  blocked_kept : (o : Option ℕ) → pick s slot ≡ o → top s.rows slot ≡ Some n → Keeps (nest_pick s slot n o)
   blocked_kept None picked top = is
   blocked_kept (Some m) picked top = either (height s.rows slot == MAX_HEIGHT) _ _ (λ _. faults_kept slot (row s.rows n).job fault.TooDeep s is) (λ low. entry_kept _ (nest_top_kept s slot m is picked n top (grind (arith, low, is.stacked.low slot))))
 
   run_kept : (r : Run) → top s.rows slot ≡ Some n → Keeps (advance_run s slot n r)
-  run_kept r top = either (is_stuck s n r.count r.stop) _ _ (λ _. blocked_kept (pick s slot) refl top) (λ _. after_run_kept r.count r.end r.stop)
+  run_kept r top = either (is_idle_wait s n r.count r.stop) _ _ (λ _. blocked_kept (pick s slot) refl top) (λ _. after_run_kept r.count r.end r.stop)
 
 begin_kept : (s : State) (slot : ℕ) (o : Option ℕ) → IsWellFormed s → pick s slot ≡ o → height s.rows slot ≡ 0 → Keeps (begin s slot o)
 begin_kept s slot None is picked empty = is
@@ -186,7 +186,7 @@ pub advance_kept : (s : State) (slot : ℕ) → IsWellFormed s → IsWellFormed 
 advance_kept s slot is =
     either (nat_lt slot s.config.slots) _ _ (λ _.
     let r = advance_top s slot (top s.rows slot) in
-    either (is_entry r.0 && is_full s) _ r (λ _. is) (λ _. top_kept s slot (top s.rows slot) is refl)) (λ _. is)
+    either (would_be_recorded r.0 && is_full s) _ r (λ _. is) (λ _. top_kept s slot (top s.rows slot) is refl)) (λ _. is)
 
 arrived_kept : (s : State) (slot : ℕ) (o : Option ℕ) → IsWellFormed s → pick s slot ≡ o → height s.rows slot ≡ 0 → IsWellFormed (arrive_at s slot o).1
 arrived_kept s slot None is picked empty = is

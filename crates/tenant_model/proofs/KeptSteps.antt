@@ -12,7 +12,7 @@ use Rattle.job_language.specs.declared.requests.Request.{Request}
 use Rattle.job_language.specs.declared.requests.Request.TheVariants.{Hello, Submit, Execute, Poll, Collect, Cancel, Cells, Arena, Retire}
 use Rattle.job_language.specs.declared.answers.Reply.{Reply}
 use Rattle.job_language.specs.declared.answers.Status.{Status}
-use Rattle.job_language.specs.declared.answers.Status.TheVariants.{Running, Canceled, Complete, Fault}
+use Rattle.job_language.specs.declared.answers.Status.TheVariants.{Running, Cancelled, Complete, Fault}
 use Rattle.tenant_model.specs.declared.rows.Phase.{Phase}
 use Rattle.tenant_model.specs.declared.rows.Phase.TheVariants.{Unstarted, Live}
 use Rattle.tenant_model.specs.declared.rows.Kind.TheVariants.{Root, Region}
@@ -26,7 +26,7 @@ use Rattle.tenant_model.specs.Walks.{height, is_open}
 use Rattle.tenant_model.specs.Changes.{open_rows, is_row_limit_met, new_row, on_job, is_full}
 use Rattle.tenant_model.specs.Cells.{Table, with_cell, no_cells}
 use Rattle.tenant_model.specs.WellFormed.{IsTable, IsWellFormed}
-use Rattle.tenant_model.specs.Asks.{add_job, new_job, free_slot, unless_limit, submitted, executed, collected, cancelled, retired, retired_work, reply_to, ask, is_hello, known_job, has_outcome, current_jobs, status}
+use Rattle.tenant_model.specs.Asks.{add_job, new_job, free_slot, unless_limit, submit, submit_placed, collect, cancel_by_request, retire, retired_work, reply_to, ask, is_hello, known_job, has_outcome, current_jobs, status}
 use Rattle.tenant_model.specs.Walks.{is_job_cancelled}
 use Rattle.tenant_model.proofs.Linked.{IsLinked-job, IsLinked-more_jobs}
 use Rattle.tenant_model.proofs.Stacking.{count-push, AreStacked-same, AreStacked-pushed}
@@ -104,10 +104,10 @@ Keeps r = IsWellFormed r.1
 either : (b : Bool) (r q : Reply × State) → (b ≡ true → Keeps r) → (b ≡ false → Keeps q) → Keeps (if b then r else q)
 either b r q if_true if_false = cond_both b r q Keeps if_true if_false
 
-submitted_kept : (s : State) (j : Job) → open_rows s.rows < s.config.rows → IsWellFormed s → Keeps (submitted s j)
+submitted_kept : (s : State) (j : Job) → open_rows s.rows < s.config.rows → IsWellFormed s → Keeps (submit s j)
 submitted_kept s j room is = entry_kept (add_job s j Unstarted) (add_job_kept s j room is)
 
-executed_kept : (s : State) (j : Job) (o : Option ℕ) → free_slot s ≡ o → open_rows s.rows < s.config.rows → IsWellFormed s → Keeps (executed s j o)
+executed_kept : (s : State) (j : Job) (o : Option ℕ) → free_slot s ≡ o → open_rows s.rows < s.config.rows → IsWellFormed s → Keeps (submit_placed s j o)
 executed_kept s j None free room is = submitted_kept s j room is
 executed_kept s j (Some slot) free room is =
     let test : ℕ → Bool = λ t. height s.rows t == 0 in
@@ -121,13 +121,13 @@ of_job_kept : (s : State) (o : Option Work) (next : Work → Reply × State) (r 
 of_job_kept s None next r none some = none
 of_job_kept s (Some w) next r none some = some w
 
-collected_kept : (s : State) (j : ℕ) (status : Status) → IsWellFormed s → Keeps (collected s j status)
+collected_kept : (s : State) (j : ℕ) (status : Status) → IsWellFormed s → Keeps (collect s j status)
 collected_kept s j Running is = is
-collected_kept s j Canceled is = entry_kept s is
+collected_kept s j Cancelled is = entry_kept s is
 collected_kept s j (Complete v) is = entry_kept s is
 collected_kept s j (Fault f) is = entry_kept s is
 
-retired_kept : (s : State) → IsWellFormed s → Keeps (retired s)
+retired_kept : (s : State) → IsWellFormed s → Keeps (retire s)
 retired_kept s is = either (list_any (λ (r : Row). is_open r.phase) s.rows) _ _ (λ _. entry_kept s is) (λ _.
     let jobs = map retired_work s.jobs in
     let linked = IsLinked-more_jobs s jobs (omega (arith, length-map s.jobs retired_work)) is.linked in
@@ -142,7 +142,7 @@ retired_kept s is = either (list_any (λ (r : Row). is_open r.phase) s.rows) _ _
       slots = is.slots;
     }))
 
-cancelled_kept : (s : State) (j : ℕ) (w : Work) → IsWellFormed s → Keeps (cancelled s j w)
+cancelled_kept : (s : State) (j : ℕ) (w : Work) → IsWellFormed s → Keeps (cancel_by_request s j w)
 cancelled_kept s j w is = either (is_job_cancelled w || has_outcome s.rows j) _ _ (λ _. entry_kept s is) (λ _. entry_kept (on_job s j (λ v. record v { cancelled = true })) (on_job_kept s j (λ v. record v { cancelled = true }) is))
 
 reply_kept : (s : State) (r : Request) → IsWellFormed s → Keeps (reply_to s r)

@@ -27,16 +27,3 @@ pub mod UnstuckSteps
 mod SerialWorkedProofs
 mod WorkedProofs
 pub mod SerialRule
-pub mod SerialGiving
-pub mod SerialNow
-pub mod SerialMoves
-pub mod SerialMade
-pub mod SerialEnded
-pub mod SerialDone
-pub mod SerialFollows
-pub mod SerialFaults
-pub mod SerialOthers
-pub mod SerialOwn
-pub mod SerialAdvances
-pub mod SerialAsks
-pub mod SerialAnswers

@@ -7,9 +7,9 @@ use Rattle.std.proofs.lemmas.List.{length_push, length-map}
 use Rattle.tenant_model.specs.declared.rows.Kind.TheVariants.{Root}
 use Rattle.tenant_model.specs.declared.works.Work.{Work}
 use Rattle.tenant_model.specs.declared.rows.Row.{Row}
-use Rattle.tenant_model.specs.State.{State, row, with_numbered}
+use Rattle.tenant_model.specs.State.{State, row, with_at_number}
 use Rattle.tenant_model.specs.Walks.{maker_of}
-use Rattle.tenant_model.specs.Rows.{IsLinked}
+use Rattle.tenant_model.specs.Linked.{IsLinked}
 use Rattle.tenant_model.proofs.Changed.{row-with_same, row-with_other, row-push_old, row-push_new, row-past, row-map}
 
 -- the rows of two lists have the same makers and jobs
@@ -26,7 +26,7 @@ IsLinked-same s t same jobs epoch linked = record {
 }
 
 -- a row changed, with the same maker and job
-pub SameSources-set : (rows : List Row) (n : ℕ) (r : Row) → 1 ≤ n → n ≤ length rows → r.kind ≡ (row rows n).kind → r.job ≡ (row rows n).job → SameSources rows (with_numbered rows n r)
+pub SameSources-set : (rows : List Row) (n : ℕ) (r : Row) → 1 ≤ n → n ≤ length rows → r.kind ≡ (row rows n).kind → r.job ≡ (row rows n).job → SameSources rows (with_at_number rows n r)
 SameSources-set rows n r from to kind job = record {
   long = length-set rows (n - 1) r;
   kinds = λ m. elim (cases_eq m n) [
@@ -60,7 +60,7 @@ IsLinked-push s r linked maker job =
     }
 
 -- a row changed, with the same maker and job
-pub IsLinked-set : (s : State) (n : ℕ) (r : Row) → 1 ≤ n → n ≤ length s.rows → r.kind ≡ (row s.rows n).kind → r.job ≡ (row s.rows n).job → IsLinked s → IsLinked (record s { rows = with_numbered s.rows n r })
+pub IsLinked-set : (s : State) (n : ℕ) (r : Row) → 1 ≤ n → n ≤ length s.rows → r.kind ≡ (row s.rows n).kind → r.job ≡ (row s.rows n).job → IsLinked s → IsLinked (record s { rows = with_at_number s.rows n r })
 IsLinked-set s n r from to kind job linked = IsLinked-same s _ (SameSources-set s.rows n r from to kind job) refl linked.epoch linked
 
 -- all rows changed, with the same makers and jobs

@@ -7,7 +7,7 @@ use Rattle.std.proofs.lemmas.List.{length_push, length-map}
 use Rattle.std.proofs.lemmas.List.FromFn.{length-enumerate_from}
 use Rattle.tenant_model.specs.declared.rows.Mark.{Mark}
 use Rattle.tenant_model.specs.declared.rows.Row.{Row}
-use Rattle.tenant_model.specs.State.{State, no_marks, row, with_numbered}
+use Rattle.tenant_model.specs.State.{State, no_marks, row, with_at_number}
 use Rattle.tenant_model.specs.Walks.{mark, settle}
 use Rattle.tenant_model.specs.WellFormed.{AreMarked}
 use Rattle.tenant_model.proofs.Changed.{row-past, row-with_same, row-with_other, row-push_old, row-push_new, row-map}
@@ -48,15 +48,15 @@ AreMarked-settle s is = marked_there (settle s).rows (λ n g from to.
     omega (arith, same, long, is n g))
 
 -- a row changed
-pub AreMarked-set : (rows : List Row) (n : ℕ) (r : Row) → 1 ≤ n → n ≤ length rows → ((g : ℕ) → (mark_in r.marks g).rows ≤ length rows) → AreMarked rows → AreMarked (with_numbered rows n r)
+pub AreMarked-set : (rows : List Row) (n : ℕ) (r : Row) → 1 ≤ n → n ≤ length rows → ((g : ℕ) → (mark_in r.marks g).rows ≤ length rows) → AreMarked rows → AreMarked (with_at_number rows n r)
 AreMarked-set rows n r from to fits is m g =
     let long = length-set rows (n - 1) r in
     elim (cases_eq m n) [
       | inl same ↦
-          let new : (mark (with_numbered rows n r) m g).rows ≡ (mark_in r.marks g).rows = ap (λ (x : Row). (mark_in x.marks g).rows) (ap (row (with_numbered rows n r)) same ∙ row-with_same rows n r from to) in
+          let new : (mark (with_at_number rows n r) m g).rows ≡ (mark_in r.marks g).rows = ap (λ (x : Row). (mark_in x.marks g).rows) (ap (row (with_at_number rows n r)) same ∙ row-with_same rows n r from to) in
           omega (arith, new, long, fits g)
       | inr other ↦
-          let old : (mark (with_numbered rows n r) m g).rows ≡ (mark rows m g).rows = ap (λ (x : Row). (mark_in x.marks g).rows) (row-with_other rows n m r from other) in
+          let old : (mark (with_at_number rows n r) m g).rows ≡ (mark rows m g).rows = ap (λ (x : Row). (mark_in x.marks g).rows) (row-with_other rows n m r from other) in
           omega (arith, old, long, is m g)
     ]
 

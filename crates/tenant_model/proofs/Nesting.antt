@@ -9,7 +9,7 @@ use Rattle.tenant_model.specs.declared.rows.TheConstants.{MAX_HEIGHT}
 use Rattle.tenant_model.specs.State.{State, row}
 use Rattle.tenant_model.specs.Walks.{is_region, is_within, region_of, same_region, is_allowed, is_unstarted, is_open, height, top, pick}
 use Rattle.tenant_model.specs.Changes.{nest}
-use Rattle.tenant_model.specs.Rows.{MakersPrecede}
+use Rattle.tenant_model.specs.Linked.{MakersPrecede}
 use Rattle.tenant_model.specs.WellFormed.{IsWellFormed}
 use Rattle.tenant_model.proofs.Stacked.{IsOff}
 use Rattle.tenant_model.proofs.Within.{region_within, region_inside, within_further, no_region_outside}

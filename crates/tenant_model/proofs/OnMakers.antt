@@ -6,8 +6,8 @@ use Rattle.tenant_model.specs.declared.rows.Kind.TheVariants.{Region}
 use Rattle.tenant_model.specs.declared.rows.Phase.{Phase}
 use Rattle.tenant_model.specs.declared.rows.Phase.TheVariants.{Unstarted, Live, Done, Dropped, Faulted}
 use Rattle.tenant_model.specs.declared.rows.Row.{Row}
-use Rattle.tenant_model.specs.State.{State, row, with_numbered}
-use Rattle.tenant_model.specs.Walks.{is_unstarted, is_context_cancelled, height, settled, settle}
+use Rattle.tenant_model.specs.State.{State, row, with_at_number}
+use Rattle.tenant_model.specs.Walks.{is_unstarted, is_context_cancelled, height, settled_row, settle}
 use Rattle.tenant_model.specs.WellFormed.{AreStacked, StandOnMakers}
 use Rattle.tenant_model.proofs.Within.{either_way}
 use Rattle.tenant_model.proofs.Changed.{row-past, row-with_same, row-with_other, row-push_old, row-push_new}
@@ -34,14 +34,14 @@ StandOnMakers-fewer a b fewer is = record {
   below = λ n m slot h kind live. fewer.stays n m slot h live (is.below n m slot h (sym (fewer.kinds n) ∙ kind) (fewer.lives n slot h live));
 }
 
-settled_waits : (r : Row) (b : Bool) (p : Phase) → r.phase ≡ p → is_unstarted (settled r b).phase ≡ true → is_unstarted p ≡ true
+settled_waits : (r : Row) (b : Bool) (p : Phase) → r.phase ≡ p → is_unstarted (settled_row r b).phase ≡ true → is_unstarted p ≡ true
 settled_waits r b Unstarted is waits = refl
 settled_waits r b (Live t h) is waits = rw is at waits
 settled_waits r b (Done v) is waits = rw is at waits
 settled_waits r b Dropped is waits = rw is at waits
 settled_waits r b Faulted is waits = rw is at waits
 
-settled_stays : (r : Row) (b : Bool) (slot h : ℕ) → r.phase ≡ Live slot h → (settled r b).phase ≡ Live slot h
+settled_stays : (r : Row) (b : Bool) (slot h : ℕ) → r.phase ≡ Live slot h → (settled_row r b).phase ≡ Live slot h
 settled_stays r b slot h live = rw live refl
 
 pub no_row_waits : (n : ℕ) → is_unstarted (row [] n).phase ≡ false
@@ -75,7 +75,7 @@ StartFewer-settle s =
 
 module _ (rows : List Row) (n : ℕ) (r : Row) (from : 1 ≤ n) (to : n ≤ length rows) (kind : r.kind ≡ (row rows n).kind) where
   abbrev pub changed : List Row
-  changed = with_numbered rows n r
+  changed = with_at_number rows n r
 
   here : (m : ℕ) → m ≡ n → row changed m ≡ r
   here m same = ap (row changed) same ∙ row-with_same rows n r from to

@@ -8,10 +8,10 @@ use Rattle.std.proofs.lemmas.List.FromFn.{length-enumerate_from}
 use Rattle.tenant_model.specs.declared.rows.Phase.{Phase}
 use Rattle.tenant_model.specs.declared.rows.Phase.TheVariants.{Unstarted, Live, Done, Dropped, Faulted}
 use Rattle.tenant_model.specs.declared.rows.Row.{Row}
-use Rattle.tenant_model.specs.State.{State, row, with_numbered}
-use Rattle.tenant_model.specs.Walks.{maker_of, is_region, is_within, is_open, is_live_at, is_context_cancelled, height, settled, settle}
+use Rattle.tenant_model.specs.State.{State, row, with_at_number}
+use Rattle.tenant_model.specs.Walks.{maker_of, is_region, is_within, is_open, is_live_at, is_context_cancelled, height, settled_row, settle}
 use Rattle.tenant_model.specs.Changes.{open_rows}
-use Rattle.tenant_model.specs.Rows.{MakersPrecede}
+use Rattle.tenant_model.specs.Linked.{MakersPrecede}
 use Rattle.tenant_model.specs.WellFormed.{AreStacked, AreInside}
 use Rattle.tenant_model.proofs.Changed.{row-get_or, row-past, row-with_same, row-with_other, row-push_old, row-push_new}
 use Rattle.tenant_model.proofs.Linked.{SameSources}
@@ -38,12 +38,12 @@ off_live {p} {slot} {h} off live =
     grind (arith, off.at slot h, here)
 
 -- a row of the settled rows
-pub row-settle : (s : State) (n : ℕ) → 1 ≤ n → n ≤ length s.rows → row (settle s).rows n ≡ settled (row s.rows n) (is_context_cancelled s n)
+pub row-settle : (s : State) (n : ℕ) → 1 ≤ n → n ≤ length s.rows → row (settle s).rows n ≡ settled_row (row s.rows n) (is_context_cancelled s n)
 row-settle s n from to =
     let long : length (settle s).rows ≡ length s.rows = length-map (enumerate_from 1 s.rows) _ ∙ length-enumerate_from 1 s.rows in
     let place : n - 1 + 1 ≡ n = omega arith in
     ap (row (settle s).rows) (sym place) ∙ sym (row-get_or (settle s).rows (n - 1) (row [] 0) (omega (arith, long))) ∙ settle-get_or s (n - 1) (row [] 0) (omega arith) ∙
-    ap (λ m. settled (row s.rows m) (is_context_cancelled s m)) place
+    ap (λ m. settled_row (row s.rows m) (is_context_cancelled s m)) place
 
 pub SameSources-settle : (s : State) → SameSources s.rows (settle s).rows
 SameSources-settle s =
@@ -66,10 +66,10 @@ SameSources-settle s =
       ];
     }
 
-settled_lives : (r : Row) (b : Bool) (slot h : ℕ) (p : Phase) → r.phase ≡ p → (settled r b).phase ≡ Live slot h → p ≡ Live slot h
+settled_lives : (r : Row) (b : Bool) (slot h : ℕ) (p : Phase) → r.phase ≡ p → (settled_row r b).phase ≡ Live slot h → p ≡ Live slot h
 settled_lives r b slot h Unstarted is live =
-    let no : is_live_at slot h (settled r b).phase ≡ false = rw is (grind arith) in
-    let here : is_live_at slot h (settled r b).phase ≡ true = rw live (grind arith) in
+    let no : is_live_at slot h (settled_row r b).phase ≡ false = rw is (grind arith) in
+    let here : is_live_at slot h (settled_row r b).phase ≡ true = rw live (grind arith) in
     absurd (grind (arith, no, here))
 settled_lives r b slot h (Live t k) is live = rw is at live
 settled_lives r b slot h (Done v) is live = rw is at live
@@ -81,7 +81,7 @@ settle-lives s n slot h live =
     let there = live_there (settle s).rows n slot h live in
     let same = SameSources-settle s in
     let to : n ≤ length s.rows = omega (arith, there, same.long) in
-    let here : (settled (row s.rows n) (is_context_cancelled s n)).phase ≡ Live slot h = ap (λ (r : Row). r.phase) (sym (row-settle s n there.0 to)) ∙ live in
+    let here : (settled_row (row s.rows n) (is_context_cancelled s n)).phase ≡ Live slot h = ap (λ (r : Row). r.phase) (sym (row-settle s n there.0 to)) ∙ live in
     settled_lives (row s.rows n) (is_context_cancelled s n) slot h (row s.rows n).phase refl here
 
 -- Not more rows are open.
@@ -89,7 +89,7 @@ count-fewer : (p : Row → Bool) (f : ℕ × Row → Row) → ((n : ℕ) (r : Ro
 count-fewer p f fewer k [] = omega arith
 count-fewer p f fewer k (x ∷ xs) = omega (arith, count-cons p (f (k, x)) (map f (enumerate_from (k + 1) xs)), count-cons p x xs, fewer k x, count-fewer p f fewer (k + 1) xs)
 
-settled_open : (r : Row) (b : Bool) (p : Phase) → r.phase ≡ p → one_if (is_open (settled r b).phase) ≤ one_if (is_open r.phase)
+settled_open : (r : Row) (b : Bool) (p : Phase) → r.phase ≡ p → one_if (is_open (settled_row r b).phase) ≤ one_if (is_open r.phase)
 settled_open r b Unstarted is = rw is (grind arith)
 settled_open r b (Live t h) is = rw is (omega arith)
 settled_open r b (Done v) is = rw is (omega arith)
@@ -97,41 +97,41 @@ settled_open r b Dropped is = rw is (omega arith)
 settled_open r b Faulted is = rw is (omega arith)
 
 pub open-settle : (s : State) → open_rows (settle s).rows ≤ open_rows s.rows
-open-settle s = count-fewer (λ (r : Row). is_open r.phase) (λ p. settled p.1 (is_context_cancelled s p.0)) (λ n r. settled_open r (is_context_cancelled s n) r.phase refl) 1 s.rows
+open-settle s = count-fewer (λ (r : Row). is_open r.phase) (λ p. settled_row p.1 (is_context_cancelled s p.0)) (λ n r. settled_open r (is_context_cancelled s n) r.phase refl) 1 s.rows
 
 module _ (rows : List Row) (n : ℕ) (r : Row) (from : 1 ≤ n) (to : n ≤ length rows) (kind : r.kind ≡ (row rows n).kind) where
-  kinds_set : (m : ℕ) → (row (with_numbered rows n r) m).kind ≡ (row rows m).kind
+  kinds_set : (m : ℕ) → (row (with_at_number rows n r) m).kind ≡ (row rows m).kind
   kinds_set m = elim (cases_eq m n) [
     | inl same ↦ rw same (ap (λ (q : Row). q.kind) (row-with_same rows n r from to) ∙ kind)
     | inr other ↦ ap (λ (q : Row). q.kind) (row-with_other rows n m r from other)
   ]
 
   -- a row that is live no more, or where it was
-  pub AreInside-set : ((slot h : ℕ) → r.phase ≡ Live slot h → (row rows n).phase ≡ Live slot h) → AreInside rows → AreInside (with_numbered rows n r)
-  AreInside-set lives inside = AreInside-fewer rows (with_numbered rows n r) kinds_set (λ m slot h live. elim (cases_eq m n) [
+  pub AreInside-set : ((slot h : ℕ) → r.phase ≡ Live slot h → (row rows n).phase ≡ Live slot h) → AreInside rows → AreInside (with_at_number rows n r)
+  AreInside-set lives inside = AreInside-fewer rows (with_at_number rows n r) kinds_set (λ m slot h live. elim (cases_eq m n) [
     | inl same ↦
-        let here : r.phase ≡ Live slot h = ap (λ (q : Row). q.phase) (sym (ap (row (with_numbered rows n r)) same ∙ row-with_same rows n r from to)) ∙ live in
+        let here : r.phase ≡ Live slot h = ap (λ (q : Row). q.phase) (sym (ap (row (with_at_number rows n r)) same ∙ row-with_same rows n r from to)) ∙ live in
         rw same (lives slot h here)
     | inr other ↦ ap (λ (q : Row). q.phase) (sym (row-with_other rows n m r from other)) ∙ live
   ]) inside
 
   -- a row that stands on top now
   pub AreInside-set_top : (slot : ℕ) → MakersPrecede rows → AreStacked rows → r.phase ≡ Live slot (height rows slot + 1) →
-      ((x low q : ℕ) → (row rows x).phase ≡ Live slot low → is_region (row rows q).kind ≡ true → is_within rows x q ≡ true → is_within rows n q ≡ true) → AreInside rows → AreInside (with_numbered rows n r)
-  AreInside-set_top slot precede stacked on_top fits inside = AreInside-top rows (with_numbered rows n r) slot n precede stacked (record {
+      ((x low q : ℕ) → (row rows x).phase ≡ Live slot low → is_region (row rows q).kind ≡ true → is_within rows x q ≡ true → is_within rows n q ≡ true) → AreInside rows → AreInside (with_at_number rows n r)
+  AreInside-set_top slot precede stacked on_top fits inside = AreInside-top rows (with_at_number rows n r) slot n precede stacked (record {
     kinds = λ q least most. kinds_set q;
-    withins = λ x q least most. is_within-kinds rows (with_numbered rows n r) kinds_set x q;
+    withins = λ x q least most. is_within-kinds rows (with_at_number rows n r) kinds_set x q;
     lives = λ x t h live. elim (cases_eq x n) [
       | inl same ↦
-          let here : Live slot (height rows slot + 1) ≡ Live t h = sym on_top ∙ ap (λ (q : Row). q.phase) (sym (ap (row (with_numbered rows n r)) same ∙ row-with_same rows n r from to)) ∙ live in
+          let here : Live slot (height rows slot + 1) ≡ Live t h = sym on_top ∙ ap (λ (q : Row). q.phase) (sym (ap (row (with_at_number rows n r)) same ∙ row-with_same rows n r from to)) ∙ live in
           let both = same_place slot (height rows slot + 1) t h here in
           inl (same, sym both.0, sym both.1)
       | inr other ↦ inr (ap (λ (q : Row). q.phase) (sym (row-with_other rows n x r from other)) ∙ live)
     ];
-    fits = λ x low q live is_one within. is_within-kinds rows (with_numbered rows n r) kinds_set n q ∙ fits x low q live is_one within;
+    fits = λ x low q live is_one within. is_within-kinds rows (with_at_number rows n r) kinds_set n q ∙ fits x low q live is_one within;
   }) inside
 
-  pub open-set : one_if (is_open r.phase) ≤ one_if (is_open (row rows n).phase) → open_rows (with_numbered rows n r) ≤ open_rows rows
+  pub open-set : one_if (is_open r.phase) ≤ one_if (is_open (row rows n).phase) → open_rows (with_at_number rows n r) ≤ open_rows rows
   open-set fewer = omega (arith, fewer, count-with (λ (q : Row). is_open q.phase) rows n r from to)
 
 module _ (rows : List Row) (r : Row) (precede : MakersPrecede rows) (all : MakersPrecede (rows ++ r ∷ [])) where

@@ -14,7 +14,7 @@ use Rattle.job_language.specs.declared.requests.Request.TheVariants.{Hello, Subm
 use Rattle.job_language.specs.declared.answers.Reply.{Reply}
 use Rattle.job_language.specs.declared.answers.Came.{Came}
 use Rattle.job_language.specs.declared.answers.Status.{Status}
-use Rattle.job_language.specs.declared.answers.Status.TheVariants.{Running, Canceled, Complete, Fault}
+use Rattle.job_language.specs.declared.answers.Status.TheVariants.{Running, Cancelled, Complete, Fault}
 use Rattle.job_language.specs.declared.steps.Step.{Step}
 use Rattle.job_language.specs.declared.steps.Step.TheVariants.{Ask, Arrive, Advance}
 use Rattle.tenant_model.specs.declared.rows.Phase.{Phase}
@@ -26,11 +26,11 @@ use Rattle.tenant_model.specs.State.{State, row}
 use Rattle.tenant_model.specs.Walks.{is_live_on, is_open, is_job_cancelled, height, top, pick}
 use Rattle.tenant_model.specs.Changes.{is_full, is_row_limit_met}
 use Rattle.tenant_model.specs.Cells.{Table, with_cell}
-use Rattle.tenant_model.specs.Asks.{free_slot, unless_limit, executed, collected, reply_to, ask, is_hello, known_job, has_outcome, current_jobs, status}
+use Rattle.tenant_model.specs.Asks.{free_slot, unless_limit, submit_placed, collect, reply_to, ask, is_hello, known_job, has_outcome, current_jobs, status}
 use Rattle.tenant_model.specs.Advance.{arrive, arrive_at, is_open_to_workers}
 use Rattle.tenant_model.specs.Solo.{step, after}
 use Rattle.tenant_model.specs.WellFormed.{IsTable, IsWellFormed}
-use Rattle.tenant_model.specs.Regions.{Touch, cells_on, touched, touch, touch_at, touches, IsInterval, IsolatesRows, AdvancesWithin, CellsFollowTouches, EqualTouchesEqualCells, KeepsRegions}
+use Rattle.tenant_model.specs.Regions.{Touch, cells_on, cells_after, touch, touch_at, touches, IsInterval, IsolatesRows, AdvancesWithin, CellsFollowTouches, EqualTouchesEqualCells, KeepsRegions}
 use Rattle.tenant_model.proofs.Changed.{row-get_or}
 use Rattle.tenant_model.proofs.Within.{either_way, within_itself}
 use Rattle.tenant_model.proofs.Insides.{live_there, live_low}
@@ -85,7 +85,7 @@ advances_within s is slot r n is_one live top =
     isolates_rows s is slot r n its.0 (height s.rows slot) is_one its.1 high.2 low.1
 
 -- A table after a touch, seen from a slot.
-cells_on-touch : (t : Table) (slot other : ℕ) (o : Option Touch) → IsTable t → slot < MAX_SLOTS → cells_on (with_touch t other o) slot ≡ touched (cells_on t slot) (option_to_list (if other == slot then o else None))
+cells_on-touch : (t : Table) (slot other : ℕ) (o : Option Touch) → IsTable t → slot < MAX_SLOTS → cells_on (with_touch t other o) slot ≡ cells_after (cells_on t slot) (option_to_list (if other == slot then o else None))
 cells_on-touch t slot other None is low = elim (either_way (other == slot)) [
   | inl same ↦ rw same refl
   | inr apart ↦ rw apart refl
@@ -112,7 +112,7 @@ Leaves t r = r.1.cells ≡ t
 either : (t : Table) (b : Bool) (r q : Reply × State) → (b ≡ true → Leaves t r) → (b ≡ false → Leaves t q) → Leaves t (if b then r else q)
 either t b r q if_true if_false = cond_both b r q (Leaves t) if_true if_false
 
-executed_cells : (s : State) (j : Job) (o : Option ℕ) → Leaves s.cells (executed s j o)
+executed_cells : (s : State) (j : Job) (o : Option ℕ) → Leaves s.cells (submit_placed s j o)
 executed_cells s j None = refl
 executed_cells s j (Some slot) = refl
 
@@ -123,9 +123,9 @@ of_job_cells : (t : Table) (o : Option Work) (next : Work → Reply × State) (r
 of_job_cells t None next r none some = none
 of_job_cells t (Some w) next r none some = some w
 
-collected_cells : (s : State) (j : ℕ) (status : Status) → Leaves s.cells (collected s j status)
+collected_cells : (s : State) (j : ℕ) (status : Status) → Leaves s.cells (collect s j status)
 collected_cells s j Running = refl
-collected_cells s j Canceled = refl
+collected_cells s j Cancelled = refl
 collected_cells s j (Complete v) = refl
 collected_cells s j (Fault f) = refl
 
@@ -174,7 +174,7 @@ untouched s slot t is past same =
     let no : nat_lt t s.config.slots ≡ false = grind (arith, is.slots, past, same) in
     rw no refl
 
-advance_cells_on : (s : State) (slot t : ℕ) → IsWellFormed s → cells_on (with_touch s.cells t (touch s t)) slot ≡ touched (cells_on s.cells slot) (option_to_list (if t == slot then touch s t else None))
+advance_cells_on : (s : State) (slot t : ℕ) → IsWellFormed s → cells_on (with_touch s.cells t (touch s t)) slot ≡ cells_after (cells_on s.cells slot) (option_to_list (if t == slot then touch s t else None))
 advance_cells_on s slot t is = elim (cases_lt slot MAX_SLOTS) [
   | inl low ↦ cells_on-touch s.cells slot t (touch s t) is.table low
   | inr past ↦ elim (cases_eq t slot) [
@@ -189,7 +189,7 @@ advance_cells_on s slot t is = elim (cases_lt slot MAX_SLOTS) [
 
 -- A step while some row is live on a slot: the slot's cells change by its touch.
 step_cells : (s : State) (slot r : ℕ) (x : Step) → IsWellFormed s → is_live_on slot (row s.rows r).phase ≡ true →
-    cells_on (step s x).1.cells slot ≡ touched (cells_on s.cells slot) (option_to_list (touch_at s slot x))
+    cells_on (step s x).1.cells slot ≡ cells_after (cells_on s.cells slot) (option_to_list (touch_at s slot x))
 step_cells s slot r (Ask q) is live = ap (λ t. cells_on t slot) (ask_cells s (live_busy s.rows slot r live) q)
 step_cells s slot r (Arrive t) is live = ap (λ t. cells_on t slot) (arrive_cells s t)
 step_cells s slot r (Advance t) is live = ap (λ u. cells_on u slot) (advance_cells s t) ∙ advance_cells_on s slot t is
@@ -202,13 +202,13 @@ cells_follow_touches s (x ∷ xs) is slot r interval =
     let rest : IsInterval (step s x).1 slot r xs = λ k within. interval (suc k) (omega arith) in
     let later = cells_follow_touches (step s x).1 xs (step_kept s x is) slot r rest in
     let set : List (Option ℤ) → Touch → List (Option ℤ) = λ now t. slice_set now t.0 (Some t.1) in
-    later ∙ ap (λ cells. touched cells (touches (step s x).1 slot xs)) (step_cells s slot r x is first) ∙
+    later ∙ ap (λ cells. cells_after cells (touches (step s x).1 slot xs)) (step_cells s slot r x is first) ∙
     sym (fold-append set (cells_on s.cells slot) (option_to_list (touch_at s slot x)) (touches (step s x).1 slot xs))
 
 -- Equal cells and equal touches give equal cells.
 pub equal_touches : (s : State) (xs : List Step) → IsWellFormed s → EqualTouchesEqualCells s xs
 equal_touches s xs is slot r interval t ys slot' r' is' interval' cells same =
-    cells_follow_touches t ys is' slot' r' interval' ∙ ap (λ now. touched now (touches t slot' ys)) cells ∙ ap (touched (cells_on s.cells slot)) same ∙ sym (cells_follow_touches s xs is slot r interval)
+    cells_follow_touches t ys is' slot' r' interval' ∙ ap (λ now. cells_after now (touches t slot' ys)) cells ∙ ap (cells_after (cells_on s.cells slot)) same ∙ sym (cells_follow_touches s xs is slot r interval)
 
 -- What regions protect, at each moment of a run and in each part of it.
 pub keeps_regions : (s : State) (xs : List Step) → IsWellFormed s → KeepsRegions s xs

@@ -4,7 +4,7 @@ use Rattle.std.proofs.lemmas.Bool.{cases_eq}
 use Rattle.tenant_model.specs.declared.rows.Phase.{Phase}
 use Rattle.tenant_model.specs.declared.rows.Phase.TheVariants.{Live}
 use Rattle.tenant_model.specs.declared.rows.Row.{Row}
-use Rattle.tenant_model.specs.State.{row, with_numbered}
+use Rattle.tenant_model.specs.State.{row, with_at_number}
 use Rattle.tenant_model.specs.Walks.{is_live_on, is_live_at, height}
 use Rattle.tenant_model.specs.WellFormed.{rows_at, AreStacked}
 use Rattle.tenant_model.proofs.Stacking.{one_if, count-with, count-push, AreSame, IsPushed, IsCut}
@@ -16,14 +16,14 @@ pub record IsOff (p : Phase) : Type 0 where
 
 module _ (rows : List Row) (n : ℕ) (r : Row) (from : 1 ≤ n) (to : n ≤ length rows) where
   -- the phase stays as it is
-  pub AreSame-set : r.phase ≡ (row rows n).phase → AreSame rows (with_numbered rows n r)
+  pub AreSame-set : r.phase ≡ (row rows n).phase → AreSame rows (with_at_number rows n r)
   AreSame-set same = record {
     on = λ slot. let change = count-with (λ (x : Row). is_live_on slot x.phase) rows n r from to in let e : one_if (is_live_on slot r.phase) ≡ one_if (is_live_on slot (row rows n).phase) = ap (λ q. one_if (is_live_on slot q)) same in omega (arith, change, e);
     at = λ slot h. let change = count-with (λ (x : Row). is_live_at slot h x.phase) rows n r from to in let e : one_if (is_live_at slot h r.phase) ≡ one_if (is_live_at slot h (row rows n).phase) = ap (λ q. one_if (is_live_at slot h q)) same in omega (arith, change, e);
   }
 
   -- a row that was on no slot stands on top of one
-  pub IsPushed-set : (slot : ℕ) → IsOff (row rows n).phase → r.phase ≡ Live slot (height rows slot + 1) → IsPushed rows (with_numbered rows n r) slot
+  pub IsPushed-set : (slot : ℕ) → IsOff (row rows n).phase → r.phase ≡ Live slot (height rows slot + 1) → IsPushed rows (with_at_number rows n r) slot
   IsPushed-set slot off live =
       let on_change = λ (t : ℕ). count-with (λ (x : Row). is_live_on t x.phase) rows n r from to in
       let at_change = λ (t : ℕ) (h : ℕ). count-with (λ (x : Row). is_live_at t h x.phase) rows n r from to in
@@ -36,7 +36,7 @@ module _ (rows : List Row) (n : ℕ) (r : Row) (from : 1 ≤ n) (to : n ≤ leng
       }
 
   -- the topmost row leaves its slot
-  pub IsCut-set : (slot : ℕ) → (row rows n).phase ≡ Live slot (height rows slot) → IsOff r.phase → 1 ≤ height rows slot → AreStacked rows → IsCut rows (with_numbered rows n r) slot (height rows slot)
+  pub IsCut-set : (slot : ℕ) → (row rows n).phase ≡ Live slot (height rows slot) → IsOff r.phase → 1 ≤ height rows slot → AreStacked rows → IsCut rows (with_at_number rows n r) slot (height rows slot)
   IsCut-set slot live off some stacked =
       let on_change = λ (t : ℕ). count-with (λ (x : Row). is_live_on t x.phase) rows n r from to in
       let at_change = λ (t : ℕ) (h : ℕ). count-with (λ (x : Row). is_live_at t h x.phase) rows n r from to in

@@ -6,7 +6,7 @@ use Rattle.std.proofs.lemmas.Bool.{cases_eq, cases_lt}
 use Rattle.std.proofs.lemmas.List.Sums.{sum_by-set, sum_by-append}
 use Rattle.tenant_model.specs.declared.rows.Row.{Row}
 use Rattle.tenant_model.specs.declared.rows.TheConstants.{MAX_HEIGHT}
-use Rattle.tenant_model.specs.State.{row, with_numbered}
+use Rattle.tenant_model.specs.State.{row, with_at_number}
 use Rattle.tenant_model.specs.Walks.{height}
 use Rattle.tenant_model.specs.WellFormed.{rows_at, AreStacked}
 use Rattle.tenant_model.proofs.Changed.{row-get_or}
@@ -17,13 +17,13 @@ one_if b = if b then 1 else 0
 
 module _ (p : Row → Bool) (rows : List Row) where
   -- A row changed changes a count by itself alone.
-  pub count-with : (n : ℕ) (r : Row) → 1 ≤ n → n ≤ length rows → count_by p (with_numbered rows n r) + one_if (p (row rows n)) ≡ count_by p rows + one_if (p r)
+  pub count-with : (n : ℕ) (r : Row) → 1 ≤ n → n ≤ length rows → count_by p (with_at_number rows n r) + one_if (p (row rows n)) ≡ count_by p rows + one_if (p r)
   count-with n r from to =
       let here : n - 1 < length rows = omega arith in
       let place : n - 1 + 1 ≡ n = omega arith in
       let found : get_or rows (n - 1) r ≡ row rows n = row-get_or rows (n - 1) r here ∙ ap (row rows) place in
       let set = sum_by-set (λ x. one_if (p x)) rows (n - 1) r r here in
-      ap (λ x. count_by p (with_numbered rows n r) + one_if (p x)) (sym found) ∙ set
+      ap (λ x. count_by p (with_at_number rows n r) + one_if (p x)) (sym found) ∙ set
 
   -- A new row adds itself.
   pub count-push : (r : Row) → count_by p (rows ++ r ∷ []) ≡ count_by p rows + one_if (p r)

@@ -10,7 +10,9 @@ use Rattle.job_step.specs.declared.frames.Frame.{Frame}
 use Rattle.job_step.specs.declared.runs.Run.{Run}
 use Rattle.job_step.specs.declared.runs.Stop.{Stop}
 use Rattle.job_step.specs.declared.runs.Stop.TheVariants.{Shared, Yield, Fault}
-use Rattle.job_step.specs.Frame.{instr_at, at_place, with_register, register, new_frame, is_zero, Effect, Moves, DividesByZero, IsShared, effect}
+use Rattle.job_step.specs.declared.effects.Effect.{Effect}
+use Rattle.job_step.specs.declared.effects.Effect.TheVariants.{Moves, DividesByZero, IsShared}
+use Rattle.job_step.specs.Frame.{instr_at, at_place, write_and_step, register, new_frame, is_zero, effect}
 use Rattle.job_step.specs.Run.{stop_at, run_on, run_for, run_of}
 use Rattle.job_step.proofs.RunSteps.{follows, IsInRange-found}
 use Rattle.tenant_model.specs.Naming.{Stands}
@@ -43,7 +45,7 @@ module _ (procs : List (List Instr)) (valid : IsValidProgram procs) where
   pub stands_at : (f : Frame) (k : ℕ) → Stands procs f → k < length (slice_index_or procs f.procedure []) → Stands procs (at_place f k)
   stands_at f k stands within = record { procedure = stands.procedure; place = within }
 
-  pub stands_next : (f : Frame) (i : Instr) (d : ℕ) (v : ℤ) → Stands procs f → instr_at procs f ≡ Some i → is_last i ≡ false → Stands procs (with_register f d v)
+  pub stands_next : (f : Frame) (i : Instr) (d : ℕ) (v : ℤ) → Stands procs f → instr_at procs f ≡ Some i → is_last i ≡ false → Stands procs (write_and_step f d v)
   stands_next f i d v stands at goes_on =
       let its = standing f stands in
       let same : its.0 ≡ i = ap (λ o. unwrap_or o i) (sym its.1 ∙ at) in

@@ -20,7 +20,7 @@ use Rattle.tenant_model.specs.Walks.{height, top, pick}
 use Rattle.tenant_model.specs.Changes.{is_full, is_row_limit_met, faults}
 use Rattle.tenant_model.specs.Cells.{Table, cell, with_cell}
 use Rattle.tenant_model.specs.Shared.{execute, has_used_group, hand_back}
-use Rattle.tenant_model.specs.Advance.{begin, blocked, is_poor, paid, move_on, is_blocked, after_run, is_stuck, run_on, advance_run, advance_top, is_entry, unless_full, advance}
+use Rattle.tenant_model.specs.Advance.{begin, nest_pick, is_poor, with_fuel_paid, move_on, is_blocked, after_run, is_idle_wait, run_on, advance_run, advance_top, would_be_recorded, unless_full, advance}
 use Rattle.tenant_model.specs.Regions.{Touch, touch_of, touch_after, touch_by, touch}
 use Rattle.tenant_model.proofs.Within.{either_way}
 use Rattle.tenant_model.proofs.Entries.{unless_full-room, unless_full-full, after_run_enters}
@@ -89,7 +89,7 @@ after_run_cells s slot n count f (Shared i) = elim (either_way (is_blocked s n i
   | inl waits ↦ rw waits (move_on_cells s slot n count f)
   | inr goes ↦ elim (either_way (is_poor s n (count + 1))) [
     | inl poor ↦ rw (goes, poor) refl
-    | inr rich ↦ rw (goes, rich) (execute_cells (paid s n (count + 1)) slot n f i)
+    | inr rich ↦ rw (goes, rich) (execute_cells (with_fuel_paid s n (count + 1)) slot n f i)
   ]
 ]
 
@@ -97,12 +97,12 @@ begin_cells : (s : State) (slot : ℕ) (o : Option ℕ) → Leaves s.cells (begi
 begin_cells s slot None = refl
 begin_cells s slot (Some m) = either s.cells (nat_lt slot s.config.reserved) _ _ (λ _. refl) (λ _. refl)
 
-blocked_cells : (s : State) (slot n : ℕ) (o : Option ℕ) → Leaves s.cells (blocked s slot n o)
+blocked_cells : (s : State) (slot n : ℕ) (o : Option ℕ) → Leaves s.cells (nest_pick s slot n o)
 blocked_cells s slot n None = refl
 blocked_cells s slot n (Some m) = either s.cells (height s.rows slot == MAX_HEIGHT) _ _ (λ _. refl) (λ _. refl)
 
 -- A row that is stuck touches nothing.
-stuck_touch : (s : State) (slot n count : ℕ) (f : Frame) (stop : Stop) → is_stuck s n count stop ≡ true → touch_after s slot n count f stop ≡ None
+stuck_touch : (s : State) (slot n count : ℕ) (f : Frame) (stop : Stop) → is_idle_wait s n count stop ≡ true → touch_after s slot n count f stop ≡ None
 stuck_touch s slot n count f Yield stuck = refl
 stuck_touch s slot n count f Fault stuck = refl
 stuck_touch s slot n count f (Shared i) stuck =
@@ -110,7 +110,7 @@ stuck_touch s slot n count f (Shared i) stuck =
     rw waits refl
 
 run_cells : (s : State) (slot n : ℕ) (r : Run) → Leaves (with_touch s.cells slot (touch_after s slot n r.count r.end r.stop)) (advance_run s slot n r)
-run_cells s slot n r = elim (either_way (is_stuck s n r.count r.stop)) [
+run_cells s slot n r = elim (either_way (is_idle_wait s n r.count r.stop)) [
   | inl stuck ↦ rw (stuck, stuck_touch s slot n r.count r.end r.stop stuck) (blocked_cells s slot n (pick s slot))
   | inr goes ↦ rw goes (after_run_cells s slot n r.count r.end r.stop)
 ]
@@ -123,14 +123,14 @@ top_cells s slot (Some n) = run_cells s slot n (run_on s slot n)
 run_full : (s : State) (slot n : ℕ) (r : Run) → Leaves s.cells (unless_full s (advance_run s slot n r)) ⊎ (is_full s ≡ false)
 run_full s slot n r = elim (either_way (is_full s)) [
   | inr room ↦ inr room
-  | inl full ↦ inl (elim (either_way (is_stuck s n r.count r.stop)) [
-    | inl stuck ↦ rw stuck (either s.cells (is_entry (blocked s slot n (pick s slot)).0 && is_full s) _ _ (λ _. refl) (λ _. blocked_cells s slot n (pick s slot)))
+  | inl full ↦ inl (elim (either_way (is_idle_wait s n r.count r.stop)) [
+    | inl stuck ↦ rw stuck (either s.cells (would_be_recorded (nest_pick s slot n (pick s slot)).0 && is_full s) _ _ (λ _. refl) (λ _. blocked_cells s slot n (pick s slot)))
     | inr goes ↦ rw goes (ap (λ (q : Moved × State). q.1.cells) (unless_full-full s (after_run s slot n r.count r.end r.stop) (after_run_enters s slot n r.count r.end r.stop) full))
   ])
 ]
 
 top_full : (s : State) (slot : ℕ) (o : Option ℕ) → is_full s ≡ true → Leaves s.cells (unless_full s (advance_top s slot o))
-top_full s slot None full = either s.cells (is_entry (begin s slot (pick s slot)).0 && is_full s) _ _ (λ _. refl) (λ _. begin_cells s slot (pick s slot))
+top_full s slot None full = either s.cells (would_be_recorded (begin s slot (pick s slot)).0 && is_full s) _ _ (λ _. refl) (λ _. begin_cells s slot (pick s slot))
 top_full s slot (Some n) full = elim (run_full s slot n (run_on s slot n)) [
   | inl leaves ↦ leaves
   | inr room ↦ absurd (grind (arith, full, room))

@@ -13,13 +13,13 @@ use Rattle.tenant_model.specs.declared.rows.Kind.TheVariants.{Root}
 use Rattle.tenant_model.specs.declared.rows.Phase.{Phase}
 use Rattle.tenant_model.specs.declared.rows.Row.{Row}
 use Rattle.tenant_model.specs.declared.works.Work.{Work}
-use Rattle.tenant_model.specs.State.{State, row, job, with_numbered}
+use Rattle.tenant_model.specs.State.{State, row, job, with_at_number}
 use Rattle.tenant_model.specs.Walks.{settle}
-use Rattle.tenant_model.specs.Changes.{on_row, on_job, add_row, entry, new_row, faulted}
+use Rattle.tenant_model.specs.Changes.{on_row, on_job, add_row, entry, new_row, faulted_row}
 use Rattle.tenant_model.specs.Asks.{add_job, new_job, retired_work}
-use Rattle.tenant_model.specs.Rows.{IsLinked}
+use Rattle.tenant_model.specs.Linked.{IsLinked}
 use Rattle.tenant_model.specs.Naming.{Stands, IsUnstuck}
-use Rattle.tenant_model.proofs.Changed.{row-with_same, row-with_other, row-push_old, row-push_new, row-map, numbered-with_same, numbered-with_other, numbered-push_old, numbered-push_new}
+use Rattle.tenant_model.proofs.Changed.{row-with_same, row-with_other, row-push_old, row-push_new, row-map, at_number-with_same, at_number-with_other, at_number-push_old, at_number-push_new}
 use Rattle.tenant_model.proofs.Parts.{SameSources-settle, row-settle}
 use Rattle.tenant_model.proofs.Standing.{stands_new}
 
@@ -42,9 +42,9 @@ entry_unstuck s is = settle_unstuck (record s { entries = s.entries + 1 }) (reco
 -- a job changed, with the same program
 pub on_job_unstuck : (s : State) (j : ℕ) (f : Work → Work) → 1 ≤ j → j ≤ length s.jobs → (f (job s.jobs j)).program ≡ (job s.jobs j).program → IsUnstuck s → IsUnstuck (on_job s j f)
 on_job_unstuck s j f from to same is =
-    let programs : (k : ℕ) → (job (with_numbered s.jobs j (f (job s.jobs j))) k).program ≡ (job s.jobs k).program = λ k. elim (cases_eq k j) [
-      | inl here ↦ rw here (ap (λ (w : Work). w.program) (numbered-with_same s.jobs _ j (f (job s.jobs j)) from to) ∙ same)
-      | inr other ↦ ap (λ (w : Work). w.program) (numbered-with_other s.jobs _ j k (f (job s.jobs j)) from other)
+    let programs : (k : ℕ) → (job (with_at_number s.jobs j (f (job s.jobs j))) k).program ≡ (job s.jobs k).program = λ k. elim (cases_eq k j) [
+      | inl here ↦ rw here (ap (λ (w : Work). w.program) (at_number-with_same s.jobs _ j (f (job s.jobs j)) from to) ∙ same)
+      | inr other ↦ ap (λ (w : Work). w.program) (at_number-with_other s.jobs _ j k (f (job s.jobs j)) from other)
     ] in
     record {
       programs = λ k least most. rw (programs k) (is.programs k least (omega (arith, most, length-set s.jobs (j - 1) (f (job s.jobs j)))));
@@ -76,12 +76,12 @@ add_row_unstuck s r stands is = record {
 }
 
 -- rows faulted
-pub faulted_unstuck : (s : State) (slot from : ℕ) → IsUnstuck s → IsUnstuck (record s { rows = map (faulted slot from) s.rows })
+pub faulted_unstuck : (s : State) (slot from : ℕ) → IsUnstuck s → IsUnstuck (record s { rows = map (faulted_row slot from) s.rows })
 faulted_unstuck s slot from is = record {
   programs = is.programs;
   frames = λ n least most.
-      let within : n ≤ length s.rows = omega (arith, most, length-map s.rows (faulted slot from)) in
-      rw (row-map (faulted slot from) s.rows n least within) (is.frames n least within);
+      let within : n ≤ length s.rows = omega (arith, most, length-map s.rows (faulted_row slot from)) in
+      rw (row-map (faulted_row slot from) s.rows n least within) (is.frames n least within);
 }
 
 -- a new job, with its root
@@ -89,16 +89,16 @@ pub add_job_unstuck : (s : State) (j : Job) (phase : Phase) → IsLinked s → I
 add_job_unstuck s j phase linked valid is =
     let w = new_job s j in
     let jobs = s.jobs ++ w ∷ [] in
-    let new : job jobs (length s.jobs + 1) ≡ w = numbered-push_new s.jobs _ (length s.jobs + 1) w refl in
+    let new : job jobs (length s.jobs + 1) ≡ w = at_number-push_new s.jobs _ (length s.jobs + 1) w refl in
     let t = record s { jobs = jobs } in
     let more : IsUnstuck t = record {
       programs = λ k least most. elim (cases_lt (length s.jobs) k) [
         | inl after ↦
-            let here : job jobs k ≡ w = numbered-push_new s.jobs _ k w (omega (arith, after, most, length_push s.jobs w)) in
+            let here : job jobs k ≡ w = at_number-push_new s.jobs _ k w (omega (arith, after, most, length_push s.jobs w)) in
             rw here valid
-        | inr before ↦ rw (numbered-push_old s.jobs _ k w before) (is.programs k least before)
+        | inr before ↦ rw (at_number-push_old s.jobs _ k w before) (is.programs k least before)
       ];
-      frames = λ n least most. rw (numbered-push_old s.jobs _ (row s.rows n).job w (linked.jobs n least most).1) (is.frames n least most);
+      frames = λ n least most. rw (at_number-push_old s.jobs _ (row s.rows n).job w (linked.jobs n least most).1) (is.frames n least most);
     } in
     add_row_unstuck t (new_row Root (length s.jobs + 1) None (new_frame 0 (slice_index_or j.args 0 (pos 0)) (slice_index_or j.args 1 (pos 0))) phase) (rw new (stands_new j.program valid 0 _ _ valid.some)) more
 

@@ -23,7 +23,7 @@ use Rattle.job_language.specs.declared.steps.Step.{Step}
 use Rattle.job_language.specs.declared.steps.Step.TheVariants as steps
 use Rattle.job_language.specs.declared.tenants.Tenant.{Tenant}
 use Rattle.job_step.specs.declared.frames.Frame.{Frame}
-use Rattle.job_step.specs.Frame.{register, with_register, instr_at}
+use Rattle.job_step.specs.Frame.{register, write_and_step, instr_at}
 use Rattle.job_step.specs.declared.runs.Stop.{Stop}
 use Rattle.job_step.specs.declared.runs.Stop.TheVariants.{Shared, Yield, Fault}
 use Rattle.tenant_model.specs.declared.rows.Kind.{Kind}
@@ -34,18 +34,18 @@ use Rattle.tenant_model.specs.declared.rows.Row.{Row}
 use Rattle.tenant_model.specs.declared.rows.TheConstants.{MAX_HEIGHT}
 use Rattle.tenant_model.specs.declared.works.Work.{Work}
 use Rattle.tenant_model.specs.declared.works.TheConstants.{MAX_JOBS}
-use Rattle.tenant_model.specs.State.{State, row, job, numbered, with_numbered, empty}
+use Rattle.tenant_model.specs.State.{State, row, job, at_number, with_at_number, empty}
 use Rattle.tenant_model.specs.Walks.{mark, total, is_open, is_job_cancelled, height, top, pick}
-use Rattle.tenant_model.specs.Changes.{on_row, new_row, add_row, is_row_limit_met, is_full, with_frame, nest, with_cells, ran, faults, task_height, faulted, first_fault}
+use Rattle.tenant_model.specs.Changes.{on_row, new_row, add_row, is_row_limit_met, is_full, with_frame, nest, with_cells, finish_step, faults, task_height, faulted_row, first_fault}
 use Rattle.tenant_model.specs.Cells.{Table, no_cells}
-use Rattle.tenant_model.specs.Shared.{next_place, called, group_status, execute, has_used_group, handed, hand_to, hand_back}
-use Rattle.tenant_model.specs.Advance.{begin, blocked, is_poor, with_fuel, pay, move_on, is_blocked, after_run, is_stuck, run_on, advance_run, advance_top, is_entry, advance, arrive_at, is_open_to_workers, arrive}
-use Rattle.tenant_model.specs.Asks.{ask, free_slot, unless_limit, executed, collected, cancelled, retired, retired_work, reply_to, is_hello, known_job, has_outcome, current_jobs}
+use Rattle.tenant_model.specs.Shared.{next_place, called_frame, group_status, execute, has_used_group, handed_frame, hand_to, hand_back}
+use Rattle.tenant_model.specs.Advance.{begin, nest_pick, is_poor, with_fuel, pay, move_on, is_blocked, after_run, is_idle_wait, run_on, advance_run, advance_top, would_be_recorded, advance, arrive_at, is_open_to_workers, arrive}
+use Rattle.tenant_model.specs.Asks.{ask, free_slot, unless_limit, submit_placed, collect, cancel_by_request, retire, retired_work, reply_to, is_hello, known_job, has_outcome, current_jobs}
 use Rattle.tenant_model.specs.Solo.{step, after}
-use Rattle.tenant_model.specs.Rows.{IsLinked}
+use Rattle.tenant_model.specs.Linked.{IsLinked}
 use Rattle.tenant_model.specs.WellFormed.{IsWellFormed}
 use Rattle.tenant_model.specs.Naming.{Stands, IsUnstuck, StepBringsValid}
-use Rattle.tenant_model.proofs.Changed.{numbered-with_same}
+use Rattle.tenant_model.proofs.Changed.{at_number-with_same}
 use Rattle.tenant_model.proofs.Linked.{IsLinked-set, IsLinked-more_jobs}
 use Rattle.tenant_model.proofs.Picks.{top_is, pick_is}
 use Rattle.tenant_model.proofs.Standing.{standing, in_range, stands_at, stands_next, stands_new, run_ends, EndsWell}
@@ -71,7 +71,7 @@ module _ (s : State) (n : ℕ) (there : IsThere s n) (is : IsUnstuck s) where
   faults_unstuck : (slot : ℕ) (f : JobFault) → Keeps (faults slot (row s.rows n).job f s)
   faults_unstuck slot f =
       let job = there.linked.jobs n there.from there.to in
-      entry_unstuck _ (on_job_unstuck (record s { rows = map (faulted slot (task_height s.rows slot)) s.rows }) (row s.rows n).job (λ w. record w { fault = first_fault w.fault f }) job.0 job.1 refl (faulted_unstuck s slot (task_height s.rows slot) is))
+      entry_unstuck _ (on_job_unstuck (record s { rows = map (faulted_row slot (task_height s.rows slot)) s.rows }) (row s.rows n).job (λ w. record w { fault = first_fault w.fault f }) job.0 job.1 refl (faulted_unstuck s slot (task_height s.rows slot) is))
 
   set_unstuck : (f : Row → Row) → (f (row s.rows n)).job ≡ (row s.rows n).job → Stands (program_of s n) (f (row s.rows n)).frame → IsUnstuck (on_row s n f)
   set_unstuck f same stands = on_row_unstuck s n f there.from there.to same stands is
@@ -84,14 +84,14 @@ module _ (s : State) (n : ℕ) (there : IsThere s n) (is : IsUnstuck s) where
 
   -- the frame f of row n stands at instruction i
   module _ (slot : ℕ) (f : Frame) (i : Instr) (stands : Stands (program_of s n) f) (at : instr_at (program_of s n) f ≡ Some i) where
-    followed : is_last i ≡ false → (d : ℕ) (v : ℤ) → Stands (program_of s n) (with_register f d v)
+    followed : is_last i ≡ false → (d : ℕ) (v : ℤ) → Stands (program_of s n) (write_and_step f d v)
     followed goes_on d v = stands_next (program_of s n) valid_program f i d v stands at goes_on
 
     next_stands : is_last i ≡ false → Stands (program_of s n) (next_place f)
     next_stands goes_on = stands_at (program_of s n) valid_program f (f.place + 1) stands ((in_range (program_of s n) valid_program f i stands at).2 goes_on)
 
 -- a frame that was handed a value
-handed_stands : (procs : List (List Instr)) → IsValidProgram procs → (f : Frame) (i : Instr) (v : ℤ) → Stands procs f → instr_at procs f ≡ Some i → Stands procs (handed (Some i) v f)
+handed_stands : (procs : List (List Instr)) → IsValidProgram procs → (f : Frame) (i : Instr) (v : ℤ) → Stands procs f → instr_at procs f ≡ Some i → Stands procs (handed_frame (Some i) v f)
 handed_stands procs valid f (Isolate d p a b) v stands at = stands_next procs valid f (Isolate d p a b) d v stands at refl
 handed_stands procs valid f (Set d x) v stands at = stands
 handed_stands procs valid f (Add d a b) v stands at = stands
@@ -121,8 +121,8 @@ handed_to t m v there is =
     let f = (row t.rows m).frame in
     let stands = is.frames m there.from there.to in
     let its = standing procs valid f stands in
-    let goes : Stands procs (handed (instr_at procs f) v f) = rw its.1 (handed_stands procs valid f its.0 v stands its.1) in
-    set_unstuck t m there is (λ r. record r { frame = handed (instr_at (job t.jobs r.job).program r.frame) v r.frame }) refl goes
+    let goes : Stands procs (handed_frame (instr_at procs f) v f) = rw its.1 (handed_stands procs valid f its.0 v stands its.1) in
+    set_unstuck t m there is (λ r. record r { frame = handed_frame (instr_at (job t.jobs r.job).program r.frame) v r.frame }) refl goes
 
 module _ (s : State) (n : ℕ) (there : IsThere s n) (is : IsUnstuck s) where
   ended : (f : Frame) (v : ℤ) → Stands (program_of s n) f → IsUnstuck (on_row s n (λ r. record r { frame = f; phase = Done v }))
@@ -147,26 +147,26 @@ module _ (s : State) (n : ℕ) (there : IsThere s n) (is : IsUnstuck s) where
       record { programs = moved.programs; frames = moved.frames }
 
   made_unstuck : (slot : ℕ) (f g : Frame) (k : Kind) (made_on : Option ℕ) (phase : Phase) → Stands (program_of s n) f → Stands (program_of s n) g →
-      Keeps (ran slot (add_row (with_frame s n f) (new_row k (row s.rows n).job made_on g phase)))
+      Keeps (finish_step slot (add_row (with_frame s n f) (new_row k (row s.rows n).job made_on g phase)))
   made_unstuck slot f g k made_on phase stands new = entry_unstuck _ (add_row_unstuck (with_frame s n f) (new_row k (row s.rows n).job made_on g phase) new (moved_unstuck s n there is f stands))
 
-  learned : (slot : ℕ) (f : Frame) → Stands (program_of s n) f → Keeps (ran slot (with_frame s n f))
+  learned : (slot : ℕ) (f : Frame) → Stands (program_of s n) f → Keeps (finish_step slot (with_frame s n f))
   learned slot f stands = entry_unstuck _ (moved_unstuck s n there is f stands)
 
-  called_stands : (f : Frame) (p a b : ℕ) → p < length (program_of s n) → Stands (program_of s n) (called f p a b)
+  called_stands : (f : Frame) (p a b : ℕ) → p < length (program_of s n) → Stands (program_of s n) (called_frame f p a b)
   called_stands f p a b low = stands_new (program_of s n) (valid_program s n there is) p _ _ low
 
   calls : (f : Frame) (i : Instr) → Stands (program_of s n) f → instr_at (program_of s n) f ≡ Some i → Calls (length (program_of s n)) i
   calls f i stands at = (in_range (program_of s n) (valid_program s n there is) f i stands at).1
 
   execute_unstuck : (slot : ℕ) (f : Frame) (i : Instr) → Stands (program_of s n) f → instr_at (program_of s n) f ≡ Some i → Keeps (execute s slot n f i)
-  execute_unstuck slot f (Spawn g p a b) stands at = limited_unstuck s n there is slot _ (made_unstuck slot (next_place f) (called f p a b) (Spawned n g) (Some slot) Unstarted (next_stands s n there is slot f (Spawn g p a b) stands at refl) (called_stands f p a b (calls f (Spawn g p a b) stands at)))
-  execute_unstuck slot f (Post p a b) stands at = limited_unstuck s n there is slot _ (made_unstuck slot (next_place f) (called f p a b) Posted None Unstarted (next_stands s n there is slot f (Post p a b) stands at refl) (called_stands f p a b (calls f (Post p a b) stands at)))
+  execute_unstuck slot f (Spawn g p a b) stands at = limited_unstuck s n there is slot _ (made_unstuck slot (next_place f) (called_frame f p a b) (Spawned n g) (Some slot) Unstarted (next_stands s n there is slot f (Spawn g p a b) stands at refl) (called_stands f p a b (calls f (Spawn g p a b) stands at)))
+  execute_unstuck slot f (Post p a b) stands at = limited_unstuck s n there is slot _ (made_unstuck slot (next_place f) (called_frame f p a b) Posted None Unstarted (next_stands s n there is slot f (Post p a b) stands at refl) (called_stands f p a b (calls f (Post p a b) stands at)))
   execute_unstuck slot f (Isolate d p a b) stands at =
       either (height s.rows slot == MAX_HEIGHT) _ _ (λ _. faults_unstuck s n there is slot fault.TooDeep)
-      (λ _. limited_unstuck s n there is slot _ (made_unstuck slot f (called f p a b) (Region n) (Some slot) (Live slot (height s.rows slot + 1)) stands (called_stands f p a b (calls f (Isolate d p a b) stands at))))
+      (λ _. limited_unstuck s n there is slot _ (made_unstuck slot f (called_frame f p a b) (Region n) (Some slot) (Live slot (height s.rows slot + 1)) stands (called_stands f p a b (calls f (Isolate d p a b) stands at))))
   execute_unstuck slot f (Wait d e g) stands at = entry_unstuck _ (set_unstuck s n there is (λ r. record r {
-    frame = with_register (record f { registers = slice_set f.registers d (total s.rows n g) }) e (group_status s n g);
+    frame = write_and_step (record f { registers = slice_set f.registers d (total s.rows n g) }) e (group_status s n g);
     marks = slice_set r.marks g (record { rows = length s.rows; cancelled = false });
   }) refl (let next = next_stands s n there is slot f (Wait d e g) stands at refl in record { procedure = next.procedure; place = next.place }))
   execute_unstuck slot f (Cancel g) stands at = entry_unstuck _ (set_unstuck s n there is (λ r. record r {
@@ -197,18 +197,18 @@ module _ (s : State) (n : ℕ) (there : IsThere s n) (is : IsUnstuck s) where
       on_job_unstuck s (row s.rows n).job (λ w. record w { fuel = fuel }) job.0 job.1 refl is
 
   fueled_there : (fuel : ℕ) → IsThere (with_fuel s n fuel) n
-  fueled_there fuel = record { from = there.from; to = there.to; linked = IsLinked-more_jobs s (with_numbered s.jobs (row s.rows n).job (record (job s.jobs (row s.rows n).job) { fuel = fuel })) (omega (arith, length-set s.jobs ((row s.rows n).job - 1) (record (job s.jobs (row s.rows n).job) { fuel = fuel }))) there.linked }
+  fueled_there fuel = record { from = there.from; to = there.to; linked = IsLinked-more_jobs s (with_at_number s.jobs (row s.rows n).job (record (job s.jobs (row s.rows n).job) { fuel = fuel })) (omega (arith, length-set s.jobs ((row s.rows n).job - 1) (record (job s.jobs (row s.rows n).job) { fuel = fuel }))) there.linked }
 
   same_program : (fuel : ℕ) → program_of (with_fuel s n fuel) n ≡ program_of s n
   same_program fuel =
       let job_there = there.linked.jobs n there.from there.to in
-      ap (λ (w : Work). w.program) (numbered-with_same s.jobs _ (row s.rows n).job (record (job s.jobs (row s.rows n).job) { fuel = fuel }) job_there.0 job_there.1)
+      ap (λ (w : Work). w.program) (at_number-with_same s.jobs _ (row s.rows n).job (record (job s.jobs (row s.rows n).job) { fuel = fuel }) job_there.0 job_there.1)
 
   pay_unstuck : (slot cost : ℕ) (next : State → Moved × State) → ((fuel : ℕ) → Keeps (next (with_fuel s n fuel))) → Keeps (pay s slot n cost next)
   pay_unstuck slot cost next kept = either (is_poor s n cost) _ _ (λ _. faults_unstuck (with_fuel s n 0) n (fueled_there 0) (fueled 0) slot fault.Fuel) (λ _. kept _)
 
   move_on_unstuck : (slot count : ℕ) (f : Frame) → Stands (program_of s n) f → Keeps (move_on s slot n count f)
-  move_on_unstuck slot count f stands = pay_unstuck slot count (λ t. ran slot (with_frame t n f)) (λ fuel. let stands_too : Stands (program_of (with_fuel s n fuel) n) f = rw (same_program fuel) stands in entry_unstuck _ (moved_unstuck (with_fuel s n fuel) n (fueled_there fuel) (fueled fuel) f stands_too))
+  move_on_unstuck slot count f stands = pay_unstuck slot count (λ t. finish_step slot (with_frame t n f)) (λ fuel. let stands_too : Stands (program_of (with_fuel s n fuel) n) f = rw (same_program fuel) stands in entry_unstuck _ (moved_unstuck (with_fuel s n fuel) n (fueled_there fuel) (fueled fuel) f stands_too))
 
   after_run_unstuck : (slot count : ℕ) (f : Frame) (stop : Stop) → Stands (program_of s n) f → ((i : Instr) → stop ≡ Shared i → instr_at (program_of s n) f ≡ Some i) → Keeps (after_run s slot n count f stop)
   after_run_unstuck slot count f Yield stands at = move_on_unstuck slot count f stands
@@ -223,7 +223,7 @@ module _ (s : State) (n : ℕ) (there : IsThere s n) (is : IsUnstuck s) where
 nest_unstuck : (s : State) (slot m : ℕ) → 1 ≤ m → m ≤ length s.rows → IsUnstuck s → IsUnstuck (nest s slot m)
 nest_unstuck s slot m from to is = on_row_unstuck s m (λ r. record r { phase = Live slot (height s.rows slot + 1) }) from to refl (is.frames m from to) is
 
-blocked_unstuck : (s : State) (slot n : ℕ) (o : Option ℕ) → IsThere s n → IsUnstuck s → pick s slot ≡ o → Keeps (blocked s slot n o)
+blocked_unstuck : (s : State) (slot n : ℕ) (o : Option ℕ) → IsThere s n → IsUnstuck s → pick s slot ≡ o → Keeps (nest_pick s slot n o)
 blocked_unstuck s slot n None there is picked = is
 blocked_unstuck s slot n (Some m) there is picked =
     let its = pick_is s.config.isolation s.rows slot m picked in
@@ -239,7 +239,7 @@ run_unstuck : (s : State) (slot n : ℕ) → IsThere s n → IsUnstuck s → Kee
 run_unstuck s slot n there is =
     let r = run_on s slot n in
     let ends : EndsWell (program_of s n) (valid_program s n there is) r = run_ends (program_of s n) (valid_program s n there is) slot s.config.slots (row s.rows n).frame (is.frames n there.from there.to) in
-    either (is_stuck s n r.count r.stop) _ _ (λ _. blocked_unstuck s slot n (pick s slot) there is refl) (λ _. after_run_unstuck s n there is slot r.count r.end r.stop ends.end ends.stop)
+    either (is_idle_wait s n r.count r.stop) _ _ (λ _. blocked_unstuck s slot n (pick s slot) there is refl) (λ _. after_run_unstuck s n there is slot r.count r.end r.stop ends.end ends.stop)
 
 top_unstuck : (s : State) (slot : ℕ) (o : Option ℕ) → IsLinked s → IsUnstuck s → top s.rows slot ≡ o → Keeps (advance_top s slot o)
 top_unstuck s slot None linked is none = begin_unstuck s slot (pick s slot) is refl
@@ -251,7 +251,7 @@ pub advance_unstuck : (s : State) (slot : ℕ) → IsLinked s → IsUnstuck s �
 advance_unstuck s slot linked is =
     either (nat_lt slot s.config.slots) _ _ (λ _.
     let r = advance_top s slot (top s.rows slot) in
-    either (is_entry r.0 && is_full s) _ r (λ _. is) (λ _. top_unstuck s slot (top s.rows slot) linked is refl)) (λ _. is)
+    either (would_be_recorded r.0 && is_full s) _ r (λ _. is) (λ _. top_unstuck s slot (top s.rows slot) linked is refl)) (λ _. is)
 
 arrived_unstuck : (s : State) (slot : ℕ) (o : Option ℕ) → IsUnstuck s → pick s slot ≡ o → IsUnstuck (arrive_at s slot o).1
 arrived_unstuck s slot None is picked = is
@@ -271,7 +271,7 @@ either_reply b r q if_true if_false = cond_both b r q KeepsReply if_true if_fals
 limited_reply : (s : State) (r : Reply × State) → IsUnstuck s → KeepsReply r → KeepsReply (unless_limit s r)
 limited_reply s r is made = either_reply (nat_le MAX_JOBS (current_jobs s)) _ _ (λ _. entry_unstuck s is) (λ _. either_reply (is_row_limit_met s) _ r (λ _. entry_unstuck s is) (λ _. made))
 
-executed_unstuck : (s : State) (j : Job) (o : Option ℕ) → IsLinked s → IsValidProgram j.program → IsUnstuck s → KeepsReply (executed s j o)
+executed_unstuck : (s : State) (j : Job) (o : Option ℕ) → IsLinked s → IsValidProgram j.program → IsUnstuck s → KeepsReply (submit_placed s j o)
 executed_unstuck s j None linked valid is = entry_unstuck _ (add_job_unstuck s j Unstarted linked valid is)
 executed_unstuck s j (Some slot) linked valid is = entry_unstuck _ (add_job_unstuck s j (Live slot 1) linked valid is)
 
@@ -279,27 +279,27 @@ of_job_unstuck : (o : Option Work) (next : Work → Reply × State) (r : Reply �
 of_job_unstuck None next r none some = none
 of_job_unstuck (Some w) next r none some = some w refl
 
-collected_unstuck : (s : State) (j : ℕ) (how : Status) → IsUnstuck s → KeepsReply (collected s j how)
+collected_unstuck : (s : State) (j : ℕ) (how : Status) → IsUnstuck s → KeepsReply (collect s j how)
 collected_unstuck s j status.Running is = is
-collected_unstuck s j status.Canceled is = entry_unstuck s is
+collected_unstuck s j status.Cancelled is = entry_unstuck s is
 collected_unstuck s j (status.Complete v) is = entry_unstuck s is
 collected_unstuck s j (status.Fault f) is = entry_unstuck s is
 
 -- The number of a job that is known is in range.
-numbered_there : (jobs : List Work) (n : ℕ) (w : Work) → numbered jobs n ≡ Some w → (1 ≤ n) × (n ≤ length jobs)
+numbered_there : (jobs : List Work) (n : ℕ) (w : Work) → at_number jobs n ≡ Some w → (1 ≤ n) × (n ≤ length jobs)
 numbered_there jobs zero w is = absurd (grind (arith, ap is_some is))
 numbered_there jobs (suc n) w is = (omega arith, slice_get_within jobs n w is)
 
-pub known_there : (jobs : List Work) (n : ℕ) (o : Option Work) (w : Work) → numbered jobs n ≡ o → option_and_then (λ (v : Work). if v.retired then None else Some v) o ≡ Some w → (1 ≤ n) × (n ≤ length jobs)
+pub known_there : (jobs : List Work) (n : ℕ) (o : Option Work) (w : Work) → at_number jobs n ≡ o → option_and_then (λ (v : Work). if v.retired then None else Some v) o ≡ Some w → (1 ≤ n) × (n ≤ length jobs)
 known_there jobs n None w is known = absurd (grind (arith, ap is_some known))
 known_there jobs n (Some v) w is known = numbered_there jobs n v is
 
-cancelled_unstuck : (s : State) (j : ℕ) (w : Work) → known_job s j ≡ Some w → IsUnstuck s → KeepsReply (cancelled s j w)
+cancelled_unstuck : (s : State) (j : ℕ) (w : Work) → known_job s j ≡ Some w → IsUnstuck s → KeepsReply (cancel_by_request s j w)
 cancelled_unstuck s j w known is =
-    let there = known_there s.jobs j (numbered s.jobs j) w refl known in
+    let there = known_there s.jobs j (at_number s.jobs j) w refl known in
     either_reply (is_job_cancelled w || has_outcome s.rows j) _ _ (λ _. entry_unstuck s is) (λ _. entry_unstuck _ (on_job_unstuck s j (λ v. record v { cancelled = true }) there.0 there.1 refl is))
 
-retired_reply : (s : State) → IsUnstuck s → KeepsReply (retired s)
+retired_reply : (s : State) → IsUnstuck s → KeepsReply (retire s)
 retired_reply s is = either_reply (list_any (λ (r : Row). is_open r.phase) s.rows) _ _ (λ _. entry_unstuck s is) (λ _.
     let done = retired_unstuck s is in
     entry_unstuck (record s { jobs = map retired_work s.jobs; cells = no_cells; epoch = s.epoch + 1 }) (record { programs = done.programs; frames = done.frames }))

@@ -7,7 +7,7 @@ use Rattle.std.proofs.lemmas.List.{length_push}
 use Rattle.tenant_model.specs.declared.rows.Row.{Row}
 use Rattle.tenant_model.specs.State.{row}
 use Rattle.tenant_model.specs.Walks.{maker_of, with_makers, chain_for, is_within, is_region, region_of}
-use Rattle.tenant_model.specs.Rows.{MakersPrecede}
+use Rattle.tenant_model.specs.Linked.{MakersPrecede}
 use Rattle.tenant_model.proofs.Chains.{chain_goes_on, chain_ends}
 use Rattle.tenant_model.proofs.Changed.{row-push_old}
 

@@ -16,7 +16,7 @@ use Rattle.tenant_model.specs.declared.rows.TheConstants.{MAX_HEIGHT}
 use Rattle.tenant_model.specs.declared.works.Work.{Work}
 use Rattle.tenant_model.specs.State.{State, row, job}
 use Rattle.tenant_model.specs.Walks.{is_pending, height, top, pick}
-use Rattle.tenant_model.specs.Changes.{on_job, with_frame, nest, entry, is_full, ran, faults}
+use Rattle.tenant_model.specs.Changes.{on_job, with_frame, nest, entry, is_full, finish_step, faults}
 use Rattle.tenant_model.specs.Shared.{execute}
 
 -- on an empty stack: a worker's slot takes the pick
@@ -25,9 +25,9 @@ begin s slot None = (if nat_lt slot s.config.reserved then Idle else Left, s)
 begin s slot (Some n) = if nat_lt slot s.config.reserved then (Idle, s) else (Nested n, entry (nest s slot n))
 
 -- a wait for pending members, before which nothing was run
-abbrev pub blocked : State → (slot n : ℕ) → Option ℕ → Moved × State
-blocked s slot n None = (Idle, s)
-blocked s slot n (Some m) = if height s.rows slot == MAX_HEIGHT then faults slot (row s.rows n).job fault.TooDeep s else (Nested m, entry (nest s slot m))
+abbrev pub nest_pick : State → (slot n : ℕ) → Option ℕ → Moved × State
+nest_pick s slot n None = (Idle, s)
+nest_pick s slot n (Some m) = if height s.rows slot == MAX_HEIGHT then faults slot (row s.rows n).job fault.TooDeep s else (Nested m, entry (nest s slot m))
 
 abbrev pub job_of : State → ℕ → Work
 job_of s n = job s.jobs (row s.rows n).job
@@ -40,14 +40,14 @@ abbrev pub with_fuel : State → (n fuel : ℕ) → State
 with_fuel s n fuel = on_job s (row s.rows n).job (λ w. record w { fuel = fuel })
 
 -- its job after it paid
-abbrev pub paid : State → (n cost : ℕ) → State
-paid s n cost = with_fuel s n ((job_of s n).fuel - cost)
+abbrev pub with_fuel_paid : State → (n cost : ℕ) → State
+with_fuel_paid s n cost = with_fuel s n ((job_of s n).fuel - cost)
 
 -- The job pays for what row n executed. Where its fuel does not suffice, that is the fault.
 abbrev pub pay : State → (slot n cost : ℕ) → (State → Moved × State) → Moved × State
 pay s slot n cost next =
     if is_poor s n cost then faults slot (row s.rows n).job fault.Fuel (with_fuel s n 0)
-    else next (paid s n cost)
+    else next (with_fuel_paid s n cost)
 
 abbrev pub is_blocked : State → ℕ → Instr → Bool
 is_blocked s n (Wait d e g) = is_pending s.rows n g
@@ -55,7 +55,7 @@ is_blocked s n i = false
 
 -- the frame of row n moved on, and what it executed paid
 abbrev pub move_on : State → (slot n count : ℕ) → Frame → Moved × State
-move_on s slot n count f = pay s slot n count (λ t. ran slot (with_frame t n f))
+move_on s slot n count f = pay s slot n count (λ t. finish_step slot (with_frame t n f))
 
 -- what a private run of row n, of so many instructions, leads to
 abbrev pub after_run : State → (slot n count : ℕ) → Frame → Stop → Moved × State
@@ -66,29 +66,29 @@ after_run s slot n count f (Shared i) =
     else pay s slot n (count + 1) (λ t. execute t slot n f i)
 
 -- Did the row stand at a wait for pending members, and run nothing before it?
-abbrev pub is_stuck : State → (n count : ℕ) → Stop → Bool
-is_stuck s n count Yield = false
-is_stuck s n count Fault = false
-is_stuck s n count (Shared i) = is_blocked s n i && (count == 0)
+abbrev pub is_idle_wait : State → (n count : ℕ) → Stop → Bool
+is_idle_wait s n count Yield = false
+is_idle_wait s n count Fault = false
+is_idle_wait s n count (Shared i) = is_blocked s n i && (count == 0)
 
 abbrev pub run_on : State → (slot n : ℕ) → Run
 run_on s slot n = run_of (job s.jobs (row s.rows n).job).program slot s.config.slots (row s.rows n).frame
 
 abbrev pub advance_run : State → (slot n : ℕ) → Run → Moved × State
-advance_run s slot n r = if is_stuck s n r.count r.stop then blocked s slot n (pick s slot) else after_run s slot n r.count r.end r.stop
+advance_run s slot n r = if is_idle_wait s n r.count r.stop then nest_pick s slot n (pick s slot) else after_run s slot n r.count r.end r.stop
 
 abbrev pub advance_top : State → ℕ → Option ℕ → Moved × State
 advance_top s slot None = begin s slot (pick s slot)
 advance_top s slot (Some n) = advance_run s slot n (run_on s slot n)
 
-abbrev pub is_entry : Moved → Bool
-is_entry Left = false
-is_entry Idle = false
-is_entry m = true
+abbrev pub would_be_recorded : Moved → Bool
+would_be_recorded Left = false
+would_be_recorded Idle = false
+would_be_recorded m = true
 
 -- A step that would be an entry of a full history changes nothing.
 abbrev pub unless_full : State → Moved × State → Moved × State
-unless_full s r = if is_entry r.0 && is_full s then (Full, s) else r
+unless_full s r = if would_be_recorded r.0 && is_full s then (Full, s) else r
 
 abbrev pub advance : State → ℕ → Moved × State
 advance s slot = if nat_lt slot s.config.slots then unless_full s (advance_top s slot (top s.rows slot)) else (Idle, s)

@@ -9,7 +9,7 @@ use Rattle.job_language.specs.declared.requests.Request.TheVariants.{Hello, Subm
 use Rattle.job_language.specs.declared.answers.Reply.{Reply}
 use Rattle.job_language.specs.declared.answers.Reply.TheVariants as reply
 use Rattle.job_language.specs.declared.answers.Status.{Status}
-use Rattle.job_language.specs.declared.answers.Status.TheVariants.{Running, Canceled, Complete, Fault}
+use Rattle.job_language.specs.declared.answers.Status.TheVariants.{Running, Cancelled, Complete, Fault}
 use Rattle.job_step.specs.Frame.{new_frame}
 use Rattle.tenant_model.specs.declared.rows.Kind.TheVariants.{Root}
 use Rattle.tenant_model.specs.declared.rows.Phase.{Phase}
@@ -17,7 +17,7 @@ use Rattle.tenant_model.specs.declared.rows.Phase.TheVariants.{Unstarted, Live}
 use Rattle.tenant_model.specs.declared.rows.Row.{Row}
 use Rattle.tenant_model.specs.declared.works.TheConstants.{MAX_JOBS}
 use Rattle.tenant_model.specs.declared.works.Work.{Work}
-use Rattle.tenant_model.specs.State.{State, numbered, row}
+use Rattle.tenant_model.specs.State.{State, at_number, row}
 use Rattle.tenant_model.specs.Walks.{is_open, is_job_cancelled, value_in, height}
 use Rattle.tenant_model.specs.Changes.{on_job, new_row, add_row, is_row_limit_met, is_full, entry}
 use Rattle.tenant_model.specs.Cells.{no_cells, cell_sum, cell_count}
@@ -27,14 +27,14 @@ abbrev pub has_outcome : List Row → ℕ → Bool
 has_outcome rows j = not (list_any (λ (r : Row). (r.job == j) && is_open r.phase) rows)
 
 abbrev pub outcome : List Row → Work → Status
-outcome rows w = option_map_or (λ f. Fault f) w.fault (if w.cancelled then Canceled else Complete (value_in (row rows w.root).phase))
+outcome rows w = option_map_or (λ f. Fault f) w.fault (if w.cancelled then Cancelled else Complete (value_in (row rows w.root).phase))
 
 abbrev pub status : List Row → ℕ → Work → Status
 status rows j w = if has_outcome rows j then outcome rows w else Running
 
 -- the job of a number, unless it is retired
 abbrev pub known_job : State → ℕ → Option Work
-known_job s j = option_and_then (λ (w : Work). if w.retired then None else Some w) (numbered s.jobs j)
+known_job s j = option_and_then (λ (w : Work). if w.retired then None else Some w) (at_number s.jobs j)
 
 -- how many jobs are not retired
 abbrev pub current_jobs : State → ℕ
@@ -59,47 +59,47 @@ unless_limit s made =
     if nat_le MAX_JOBS (current_jobs s) then (reply.Refused JobLimit, entry s)
     else if is_row_limit_met s then (reply.Refused TaskLimit, entry s) else made
 
-abbrev pub submitted : State → Job → Reply × State
-submitted s j = (reply.Made (length s.jobs + 1), entry (add_job s j Unstarted))
+abbrev pub submit : State → Job → Reply × State
+submit s j = (reply.Made (length s.jobs + 1), entry (add_job s j Unstarted))
 
 -- placed on a free slot, where there is one
-abbrev pub executed : State → Job → Option ℕ → Reply × State
-executed s j None = submitted s j
-executed s j (Some slot) = (reply.Placed (length s.jobs + 1) slot, entry (add_job s j (Live slot 1)))
+abbrev pub submit_placed : State → Job → Option ℕ → Reply × State
+submit_placed s j None = submit s j
+submit_placed s j (Some slot) = (reply.Placed (length s.jobs + 1) slot, entry (add_job s j (Live slot 1)))
 
 abbrev pub of_job : State → ℕ → (Work → Reply × State) → Reply × State
 of_job s j next = option_map_or next (known_job s j) (reply.Refused UnknownJob, entry s)
 
-abbrev pub collected : State → ℕ → Status → Reply × State
-collected s j Running = (reply.Pending, s)
-collected s j status = (reply.Job j status, entry s)
+abbrev pub collect : State → ℕ → Status → Reply × State
+collect s j Running = (reply.Pending, s)
+collect s j status = (reply.Job j status, entry s)
 
 -- A cancel is the first where the job's context was not cancelled and it has no outcome.
-abbrev pub cancelled : State → ℕ → Work → Reply × State
-cancelled s j w =
-    if is_job_cancelled w || has_outcome s.rows j then (reply.Canceled j false, entry s)
-    else (reply.Canceled j true, entry (on_job s j (λ v. record v { cancelled = true })))
+abbrev pub cancel_by_request : State → ℕ → Work → Reply × State
+cancel_by_request s j w =
+    if is_job_cancelled w || has_outcome s.rows j then (reply.Cancelled j false, entry s)
+    else (reply.Cancelled j true, entry (on_job s j (λ v. record v { cancelled = true })))
 
 abbrev pub retired_work : Work → Work
 retired_work w = record w { retired = true }
 
 -- Nothing is retired while a row is open, which is while a job has no outcome.
-abbrev pub retired : State → Reply × State
-retired s =
+abbrev pub retire : State → Reply × State
+retire s =
     if list_any (λ (r : Row). is_open r.phase) s.rows then (reply.Refused Busy, entry s)
     else (reply.Epoch (s.epoch + 1), entry (record s { jobs = map retired_work s.jobs; cells = no_cells; epoch = s.epoch + 1 }))
 
 -- an ask while the history has room
 abbrev pub reply_to : State → Request → Reply × State
 reply_to s (Hello name) = (reply.Refused BadRequest, s)
-reply_to s (Submit j) = unless_limit s (submitted s j)
-reply_to s (Execute j) = unless_limit s (executed s j (free_slot s))
+reply_to s (Submit j) = unless_limit s (submit s j)
+reply_to s (Execute j) = unless_limit s (submit_placed s j (free_slot s))
 reply_to s (Poll j) = of_job s j (λ w. (reply.Job j (status s.rows j w), entry s))
-reply_to s (Collect j) = of_job s j (λ w. collected s j (status s.rows j w))
-reply_to s (Cancel j) = of_job s j (cancelled s j)
+reply_to s (Collect j) = of_job s j (λ w. collect s j (status s.rows j w))
+reply_to s (Cancel j) = of_job s j (cancel_by_request s j)
 reply_to s (Cells k) = (reply.Cells k (cell_count s.cells k) (cell_sum s.cells k), entry s)
 reply_to s Arena = (reply.Arena s.config.priority s.config.reserved s.config.slots, entry s)
-reply_to s Retire = retired s
+reply_to s Retire = retire s
 
 abbrev pub is_hello : Request → Bool
 is_hello (Hello name) = true

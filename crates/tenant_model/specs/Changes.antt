@@ -9,17 +9,17 @@ use Rattle.tenant_model.specs.declared.rows.Phase.{Phase}
 use Rattle.tenant_model.specs.declared.rows.Phase.TheVariants.{Live, Faulted}
 use Rattle.tenant_model.specs.declared.rows.Row.{Row}
 use Rattle.tenant_model.specs.declared.works.Work.{Work}
-use Rattle.tenant_model.specs.State.{State, no_marks, with_numbered, row, job}
+use Rattle.tenant_model.specs.State.{State, no_marks, with_at_number, row, job}
 use Rattle.tenant_model.specs.Cells.{Table}
 use Rattle.tenant_model.specs.Walks.{is_region, is_open, is_live_on, height, settle}
 
 -- a row changed
 abbrev pub on_row : State → ℕ → (Row → Row) → State
-on_row s n f = record s { rows = with_numbered s.rows n (f (row s.rows n)) }
+on_row s n f = record s { rows = with_at_number s.rows n (f (row s.rows n)) }
 
 -- a job changed
 abbrev pub on_job : State → ℕ → (Work → Work) → State
-on_job s n f = record s { jobs = with_numbered s.jobs n (f (job s.jobs n)) }
+on_job s n f = record s { jobs = with_at_number s.jobs n (f (job s.jobs n)) }
 
 abbrev pub new_row : Kind → (job : ℕ) → (made_on : Option ℕ) → Frame → Phase → Row
 new_row kind job made_on frame phase = record { kind = kind; job = job; made_on = made_on; frame = frame; phase = phase; marks = no_marks }
@@ -53,8 +53,8 @@ abbrev pub with_cells : State → Table → State
 with_cells s cells = record s { cells = cells }
 
 -- a step that ran: a reserved slot is freed where nothing is left on it
-abbrev pub ran : ℕ → State → Moved × State
-ran slot s = (if nat_lt slot s.config.reserved && (height s.rows slot == 0) then Freed else Ran, entry s)
+abbrev pub finish_step : ℕ → State → Moved × State
+finish_step slot s = (if nat_lt slot s.config.reserved && (height s.rows slot == 0) then Freed else Ran, entry s)
 
 abbrev pub height_of : Phase → ℕ
 height_of (Live t h) = h
@@ -72,8 +72,8 @@ abbrev pub faulted_phase : (slot from : ℕ) → Phase → Phase
 faulted_phase slot from (Live t h) = if (t == slot) && nat_le from h then Faulted else Live t h
 faulted_phase slot from p = p
 
-abbrev pub faulted : (slot from : ℕ) → Row → Row
-faulted slot from r = record r { phase = faulted_phase slot from r.phase }
+abbrev pub faulted_row : (slot from : ℕ) → Row → Row
+faulted_row slot from r = record r { phase = faulted_phase slot from r.phase }
 
 -- the first fault of a job stays
 abbrev pub first_fault : Option JobFault → JobFault → Option JobFault
@@ -83,4 +83,4 @@ first_fault (Some f) fault = Some f
 -- A fault ends the topmost row and those below it, down to and with the first that is no region.
 abbrev pub faults : (slot job : ℕ) → JobFault → State → Moved × State
 faults slot j fault s =
-    ran slot (on_job (record s { rows = map (faulted slot (task_height s.rows slot)) s.rows }) j (λ w. record w { fault = first_fault w.fault fault }))
+    finish_step slot (on_job (record s { rows = map (faulted_row slot (task_height s.rows slot)) s.rows }) j (λ w. record w { fault = first_fault w.fault fault }))

@@ -2,7 +2,7 @@ pub mod State
 pub mod Walks
 pub mod Cells
 pub mod Changes
-pub mod Rows
+pub mod Linked
 pub mod WellFormed
 pub mod Regions
 pub mod Naming
@@ -12,7 +12,4 @@ pub mod Asks
 pub mod Solo
 pub mod Serial
 pub mod SerialWorked
-pub mod SameAnswer
-pub mod Checked
 pub mod Worked
-pub mod SerialValues

@@ -26,8 +26,8 @@ abbrev pub cells_on : Table → ℕ → List (Option ℤ)
 cells_on t slot = map (λ cells. slice_index_or cells slot None) t
 
 -- cells after touches, one after another
-abbrev pub touched : List (Option ℤ) → List Touch → List (Option ℤ)
-touched cells ts = fold (λ now (t : Touch). slice_set now t.0 (Some t.1)) cells ts
+abbrev pub cells_after : List (Option ℤ) → List Touch → List (Option ℤ)
+cells_after cells ts = fold (λ now (t : Touch). slice_set now t.0 (Some t.1)) cells ts
 
 -- the cell that an instruction makes or sets
 abbrev pub touch_of : Table → (slot : ℕ) → Frame → Instr → Option Touch
@@ -75,7 +75,7 @@ AdvancesWithin s =
 -- The cells of a slot after an interval are those before it, with the touches of the slot's advances.
 abbrev pub CellsFollowTouches : State → List Step → Type 0
 CellsFollowTouches s xs =
-    (slot r : ℕ) → IsInterval s slot r xs → cells_on (after s xs).cells slot ≡ touched (cells_on s.cells slot) (touches s slot xs)
+    (slot r : ℕ) → IsInterval s slot r xs → cells_on (after s xs).cells slot ≡ cells_after (cells_on s.cells slot) (touches s slot xs)
 
 -- Two intervals that begin with equal cells and have equal touches end with equal cells, of whatever tenants they are.
 abbrev pub EqualTouchesEqualCells : State → List Step → Type 0

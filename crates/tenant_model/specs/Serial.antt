@@ -7,14 +7,16 @@ use Rattle.job_language.specs.declared.instructions.Instr.{Instr}
 use Rattle.job_language.specs.declared.instructions.Instr.TheVariants.{Spawn, Wait, Isolate, Ret}
 use Rattle.job_language.specs.declared.instructions.TheConstants.{GROUPS}
 use Rattle.job_step.specs.declared.frames.Frame.{Frame}
-use Rattle.job_step.specs.Frame.{new_frame, register, with_register, instr_at, Effect, Moves, DividesByZero, IsShared, effect}
+use Rattle.job_step.specs.declared.effects.Effect.{Effect}
+use Rattle.job_step.specs.declared.effects.Effect.TheVariants.{Moves, DividesByZero, IsShared}
+use Rattle.job_step.specs.Frame.{new_frame, register, write_and_step, instr_at, effect}
 use Rattle.tenant_model.specs.declared.serials.SerialTask.{SerialTask}
 use Rattle.tenant_model.specs.declared.serials.ValueTo.{ValueTo}
 use Rattle.tenant_model.specs.declared.serials.ValueTo.TheVariants as to
 use Rattle.tenant_model.specs.declared.serials.SerialMaker.{SerialMaker}
 use Rattle.tenant_model.specs.declared.serials.SerialTurn.{SerialTurn}
 use Rattle.tenant_model.specs.declared.serials.SerialTurn.TheVariants.{Goes, Makes, Gives, Fails}
-use Rattle.tenant_model.specs.Shared.{next_place, called}
+use Rattle.tenant_model.specs.Shared.{next_place, called_frame}
 
 -- a task that begins, with nothing in its groups
 abbrev pub begun : Frame → SerialTask
@@ -37,12 +39,12 @@ abbrev pub with_value : SerialMaker → ℤ → SerialTask
 with_value m v = with_value_to m.to m.task v
 
 abbrev pub making : SerialTask → (p a b : ℕ) → ValueTo → SerialTurn
-making t p a b to = Makes (begun (called t.frame p a b)) (record { task = record t { frame = next_place t.frame }; to = to })
+making t p a b to = Makes (begun (called_frame t.frame p a b)) (record { task = record t { frame = next_place t.frame }; to = to })
 
 -- the task behind a wait: nothing was cancelled, so the status is 1
 abbrev pub waited : SerialTask → (d e g : ℕ) → SerialTask
 waited t d e g = record {
-  frame = with_register (record t.frame { registers = slice_set t.frame.registers d (sum_of t g) }) e (pos 1);
+  frame = write_and_step (record t.frame { registers = slice_set t.frame.registers d (sum_of t g) }) e (pos 1);
   sums = slice_set t.sums g None;
 }
 

@@ -27,18 +27,18 @@ abbrev pub empty : Tenant → State
 empty c = record { config = c; rows = []; jobs = []; cells = no_cells; entries = 0; epoch = 0 }
 
 -- the item of a number, counted from 1
-abbrev pub numbered : {A : Type 0} → List A → ℕ → Option A
-numbered xs zero = None
-numbered xs (suc n) = slice_get xs n
+abbrev pub at_number : {A : Type 0} → List A → ℕ → Option A
+at_number xs zero = None
+at_number xs (suc n) = slice_get xs n
 
 -- the list with another item at a number
-abbrev pub with_numbered : {A : Type 0} → List A → ℕ → A → List A
-with_numbered xs n x = slice_set xs (n - 1) x
+abbrev pub with_at_number : {A : Type 0} → List A → ℕ → A → List A
+with_at_number xs n x = slice_set xs (n - 1) x
 
 -- the row of a number, or where there is none a row that does nothing
 abbrev pub row : List Row → ℕ → Row
-row rows n = unwrap_or (numbered rows n) (record { kind = Root; job = 0; made_on = None; frame = new_frame 0 (pos 0) (pos 0); phase = Dropped; marks = no_marks })
+row rows n = unwrap_or (at_number rows n) (record { kind = Root; job = 0; made_on = None; frame = new_frame 0 (pos 0) (pos 0); phase = Dropped; marks = no_marks })
 
 -- the job of a number, or where there is none a job without a program
 abbrev pub job : List Work → ℕ → Work
-job jobs n = unwrap_or (numbered jobs n) (record { program = []; fuel = 0; root = 0; cancelled = false; fault = None; retired = false })
+job jobs n = unwrap_or (at_number jobs n) (record { program = []; fuel = 0; root = 0; cancelled = false; fault = None; retired = false })

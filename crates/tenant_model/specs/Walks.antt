@@ -15,10 +15,10 @@ use Rattle.tenant_model.specs.declared.works.Work.{Work}
 use Rattle.tenant_model.specs.State.{State, row, job}
 
 -- a row with its number
-abbrev pub Numbered : Type 0
-Numbered = ℕ × Row
+abbrev pub NumberedRow : Type 0
+NumberedRow = ℕ × Row
 
-abbrev pub numbered_rows : List Row → List Numbered
+abbrev pub numbered_rows : List Row → List NumberedRow
 numbered_rows rows = enumerate_from 1 rows
 
 abbrev pub maker_of : Kind → Option ℕ
@@ -67,18 +67,18 @@ abbrev pub mark : List Row → ℕ → ℕ → Mark
 mark rows f g = slice_index_or (row rows f).marks g (record { rows = 0; cancelled = false })
 
 -- the members of group g of row f: the rows spawned into it since its last passed wait
-abbrev pub members : List Row → ℕ → ℕ → List Numbered
+abbrev pub members : List Row → ℕ → ℕ → List NumberedRow
 members rows f g = filter (λ p. is_spawned_by f g p.1.kind && nat_lt (mark rows f g).rows p.0) (numbered_rows rows)
 
 abbrev pub is_pending : List Row → ℕ → ℕ → Bool
-is_pending rows f g = list_any (λ (p : Numbered). is_open p.1.phase) (members rows f g)
+is_pending rows f g = list_any (λ (p : NumberedRow). is_open p.1.phase) (members rows f g)
 
 abbrev pub value_in : Phase → ℤ
 value_in (Done v) = v
 value_in p = pos 0
 
 abbrev pub total : List Row → ℕ → ℕ → ℤ
-total rows f g = fold (λ sum (p : Numbered). int_wrapping_add w64 sum (value_in p.1.phase)) (pos 0) (members rows f g)
+total rows f g = fold (λ sum (p : NumberedRow). int_wrapping_add w64 sum (value_in p.1.phase)) (pos 0) (members rows f g)
 
 abbrev pub is_used : List Row → ℕ → ℕ → Bool
 is_used rows f g = nat_lt 0 (length (members rows f g))
@@ -110,7 +110,7 @@ height rows slot = count_by (λ (r : Row). is_live_on slot r.phase) rows
 
 -- the number of the highest row on a slot's stack
 abbrev pub top : List Row → ℕ → Option ℕ
-top rows slot = option_map (λ (p : Numbered). p.0) (find (λ (p : Numbered). is_live_at slot (height rows slot) p.1.phase) (numbered_rows rows))
+top rows slot = option_map (λ (p : NumberedRow). p.0) (find (λ (p : NumberedRow). is_live_at slot (height rows slot) p.1.phase) (numbered_rows rows))
 
 abbrev pub same_region : Option ℕ → Option ℕ → Bool
 same_region None None = true
@@ -128,31 +128,31 @@ region_on rows None = None
 region_on rows (Some n) = region_of rows n
 
 -- the rows that the slot may take, oldest first
-abbrev pub eligible : Isolation → List Row → ℕ → List Numbered
-eligible mode rows slot = filter (λ (p : Numbered). is_unstarted p.1.phase && is_allowed mode rows (region_on rows (top rows slot)) p.0) (numbered_rows rows)
+abbrev pub eligible : Isolation → List Row → ℕ → List NumberedRow
+eligible mode rows slot = filter (λ (p : NumberedRow). is_unstarted p.1.phase && is_allowed mode rows (region_on rows (top rows slot)) p.0) (numbered_rows rows)
 
 abbrev pub is_made_on : ℕ → Option ℕ → Bool
 is_made_on slot None = false
 is_made_on slot (Some t) = t == slot
 
-abbrev pub first_of : List Numbered → Option ℕ
+abbrev pub first_of : List NumberedRow → Option ℕ
 first_of [] = None
 first_of (p ∷ ps) = Some p.0
 
-abbrev pub last_or : Option ℕ → List Numbered → Option ℕ
+abbrev pub last_or : Option ℕ → List NumberedRow → Option ℕ
 last_or n [] = n
 last_or n (p ∷ ps) = last_or (Some p.0) ps
 
 -- the newest row that the slot may take and that was made on it; where there is none, the oldest that it may take
 abbrev pub pick_of : Isolation → List Row → ℕ → Option ℕ
-pick_of mode rows slot = last_or (first_of (eligible mode rows slot)) (filter (λ (p : Numbered). is_made_on slot p.1.made_on) (eligible mode rows slot))
+pick_of mode rows slot = last_or (first_of (eligible mode rows slot)) (filter (λ (p : NumberedRow). is_made_on slot p.1.made_on) (eligible mode rows slot))
 
 abbrev pub pick : State → ℕ → Option ℕ
 pick s slot = pick_of s.config.isolation s.rows slot
 
 -- A row that is not started is dropped where its context is cancelled.
-abbrev pub settled : Row → (is_cancelled : Bool) → Row
-settled r is_cancelled = record r { phase = if is_unstarted r.phase && is_cancelled then Dropped else r.phase }
+abbrev pub settled_row : Row → (is_cancelled : Bool) → Row
+settled_row r is_cancelled = record r { phase = if is_unstarted r.phase && is_cancelled then Dropped else r.phase }
 
 abbrev pub settle : State → State
-settle s = record s { rows = map (λ (p : Numbered). settled p.1 (is_context_cancelled s p.0)) (numbered_rows s.rows) }
+settle s = record s { rows = map (λ (p : NumberedRow). settled_row p.1 (is_context_cancelled s p.0)) (numbered_rows s.rows) }

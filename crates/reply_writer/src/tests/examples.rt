@@ -16,8 +16,8 @@ fn each_reply_has_its_line(rt: HostRuntime) -> Result<(), Fail> {
         ),
         (Reply::Made(1), "{\"job\":1}\n"),
         (Reply::Placed(1, 0), "{\"job\":1,\"slot\":0}\n"),
-        (Reply::Canceled(1, true), "{\"first\":true,\"job\":1}\n"),
-        (Reply::Canceled(1, false), "{\"first\":false,\"job\":1}\n"),
+        (Reply::Cancelled(1, true), "{\"first\":true,\"job\":1}\n"),
+        (Reply::Cancelled(1, false), "{\"first\":false,\"job\":1}\n"),
         (
             Reply::Cells(key, 2, 7),
             "{\"count\":2,\"key\":0,\"sum\":7}\n",
@@ -55,7 +55,7 @@ fn each_status_has_its_line(rt: HostRuntime) {
             "{\"job\":1,\"status\":\"running\"}\n",
         ),
         (
-            Reply::Job(1, Status::Canceled),
+            Reply::Job(1, Status::Cancelled),
             "{\"job\":1,\"status\":\"canceled\"}\n",
         ),
         (

@@ -55,7 +55,7 @@ impl TenantState {
             return Status::Fault(fault);
         }
         if work.cancelled {
-            return Status::Canceled;
+            return Status::Cancelled;
         }
         Status::Complete(value_of(self.rows.as_slice(), work.root))
     }

@@ -12,10 +12,10 @@ use tenant_model::{Kind, Mark, Phase, Row};
 
 impl TenantState {
     ghost use Rattle.std.specs.Prelude.{slice_set};
-    ghost use Rattle.tenant_model.specs.State.{with_numbered};
-    ghost use Rattle.tenant_model.specs.Walks.{maker_of, is_context_cancelled, settled, settle};
-    ghost use Rattle.tenant_model.specs.Rows.{MakersPrecede};
-    ghost use Rattle.tenant_model.specs.Changes.{on_row, faulted, add_row, new_row, with_frame, nest, is_row_limit_met};
+    ghost use Rattle.tenant_model.specs.State.{with_at_number};
+    ghost use Rattle.tenant_model.specs.Walks.{maker_of, is_context_cancelled, settled_row, settle};
+    ghost use Rattle.tenant_model.specs.Linked.{MakersPrecede};
+    ghost use Rattle.tenant_model.specs.Changes.{on_row, faulted_row, add_row, new_row, with_frame, nest, is_row_limit_met};
 
     /// All rows, in order of their numbers.
     pub(crate) fn rows(&self) -> &[Row]
@@ -42,7 +42,7 @@ impl TenantState {
         requires to { number ≤ length self.old.rows }
         requires kind { changed.kind ≡ (row self.old.rows number).kind }
         requires job { changed.job ≡ (row self.old.rows number).job }
-        ensures { self.new ≡ record self.old { rows = with_numbered self.old.rows number changed } }
+        ensures { self.new ≡ record self.old { rows = with_at_number self.old.rows number changed } }
     {
         self.rows[number as usize - 1] = changed;
     }
@@ -139,7 +139,7 @@ impl TenantState {
 
     /// Ends the rows on a slot from a height on.
     pub(crate) fn fault_rows(&mut self, slot: u8, from: u64)
-        ensures { self.new ≡ record self.old { rows = map (faulted slot from) self.old.rows } }
+        ensures { self.new ≡ record self.old { rows = map (faulted_row slot from) self.old.rows } }
     {
         fault_rows(self.rows.as_mut_slice(), slot, from);
     }
@@ -158,8 +158,8 @@ impl TenantState {
         requires from { 1 ≤ number }
         requires to { number ≤ length self.old.rows }
         ensures { self.new ≡ record self.old {
-          rows = with_numbered self.old.rows number
-              (settled (row self.old.rows number) (is_context_cancelled self.old number));
+          rows = with_at_number self.old.rows number
+              (settled_row (row self.old.rows number) (is_context_cancelled self.old number));
         } }
     {
         let row = self.row(number);

@@ -1,33 +1,33 @@
 use Rattle.std.proofs.Common.{◌≡◌, Some, refl, sym, ◌∙◌, arith}
 use Rattle.job_step.specs.Frame.{instr_at}
-use Rattle.job_step.specs.Execution.{framed}
+use Rattle.job_step.specs.InsideRun.{frame_of}
 use Rattle.job_step.proofs.RunSteps.{run_for-moves, run_for-divides, run_for-shared, run_for-end, instr_at-found, IsInRange-found, follows}
 use Rattle.job_step.proofs.runs.run_in.Goals as goal
 
 pub returns-in-DividesByZero-clause-run : goal.returns-in-DividesByZero-clause-run
 returns-in-DividesByZero-clause-run c procs here =
-    let f = framed c.args.start.procedure c.loop-count.place c.loop-count.registers in
+    let f = frame_of c.args.start.procedure c.loop-count.place c.loop-count.registers in
     let next : instr_at procs f ≡ Some c.index-instrs-from.result = instr_at-found procs _ f _ _ here c.from.ensures (omega arith) c.index-instrs-from.is in
-    rw (c.in-DividesByZero.ensures.divides refl) (sym (run_for-divides 1000 procs _ _ _ _ f _ c.loop-count-test.true next c.in-DividesByZero.ensures.effect) ∙ c.loop-count.invariant.run procs here)
+    c.ended.ensures ∙ rw (c.in-DividesByZero.ensures.divides refl) (sym (run_for-divides 1000 procs _ _ _ _ f _ c.loop-count-test.true next c.in-DividesByZero.ensures.effect) ∙ c.loop-count.invariant.run procs here)
 
 pub returns-in-IsShared-clause-run : goal.returns-in-IsShared-clause-run
 returns-in-IsShared-clause-run c procs here =
-    let f = framed c.args.start.procedure c.loop-count.place c.loop-count.registers in
+    let f = frame_of c.args.start.procedure c.loop-count.place c.loop-count.registers in
     let next : instr_at procs f ≡ Some c.index-instrs-from.result = instr_at-found procs _ f _ _ here c.from.ensures (omega arith) c.index-instrs-from.is in
-    rw (c.in-IsShared.ensures.shared refl) (sym (run_for-shared 1000 procs _ _ _ _ f _ c.loop-count-test.true next c.in-IsShared.ensures.effect) ∙ c.loop-count.invariant.run procs here)
+    c.ended-in-IsShared.ensures ∙ rw (c.in-IsShared.ensures.shared refl) (sym (run_for-shared 1000 procs _ _ _ _ f _ c.loop-count-test.true next c.in-IsShared.ensures.effect) ∙ c.loop-count.invariant.run procs here)
 
 pub loop-count-preserved : goal.loop-count-preserved
 loop-count-preserved c = record {
   place =
       let is = c.args.instrs.now in
       let i = c.index-instrs-from in
-      c.in-Goes.ensures.within _ (IsInRange-found is c.from.result i.result c.requires.valid (omega arith) i.is)
+      c.in-Place.ensures.within _ (IsInRange-found is c.from.result i.result c.requires.valid (omega arith) i.is)
       (λ on. omega (arith, follows is c.from.result i.result c.requires.valid (omega arith) i.is on));
   run = λ procs here.
-      let f = framed c.args.start.procedure c.loop-count.place c.loop-count.registers in
+      let f = frame_of c.args.start.procedure c.loop-count.place c.loop-count.registers in
       let next : instr_at procs f ≡ Some c.index-instrs-from.result = instr_at-found procs _ f _ _ here c.from.ensures (omega arith) c.index-instrs-from.is in
-      sym (run_for-moves 1000 procs _ _ _ _ f _ c.loop-count-test.true next _ c.in-Goes.ensures.effect) ∙ c.loop-count.invariant.run procs here;
+      sym (run_for-moves 1000 procs _ _ _ _ f _ c.loop-count-test.true next _ c.in-Place.ensures.effect) ∙ c.loop-count.invariant.run procs here;
 }
 
 pub returns-clause-run : goal.returns-clause-run
-returns-clause-run c procs here = sym (run_for-end 1000 procs _ _ _ c.loop-count.count _ (omega arith)) ∙ c.loop-count.invariant.run procs here
+returns-clause-run c procs here = c.ended-2.ensures ∙ sym (run_for-end 1000 procs _ _ _ c.loop-count.count _ (omega arith)) ∙ c.loop-count.invariant.run procs here

@@ -1,6 +1,6 @@
 use Rattle.std.proofs.Common.{◌≡◌, true, false, sym, ◌∙◌}
 use Rattle.tenant_model.specs.Changes.{is_full}
-use Rattle.tenant_model.specs.Advance.{after_run, is_stuck, run_on}
+use Rattle.tenant_model.specs.Advance.{after_run, is_idle_wait, run_on}
 use Rattle.tenant_model.proofs.Entries.{unless_full-full, after_run_enters}
 use Rattle.solo_eval.proofs.state.TenantState.advance_row.Goals as goal
 
@@ -10,6 +10,6 @@ returns-then-is_full-clause-ok c =
     let n = c.args.number in
     let r = c.run_private-run.result in
     let run : r ≡ run_on s c.args.slot n = rw (← c.job_of.ensures, ← c.config.ensures.value, ← c.row.ensures.value) c.run_private-run.ensures.run in
-    let moves : is_stuck s n r.count r.stop ≡ false = sym c.is_stuck.ensures ∙ c.if-is_stuck.false in
+    let moves : is_idle_wait s n r.count r.stop ≡ false = sym c.is_idle_wait.ensures ∙ c.if-is_idle_wait.false in
     let full : is_full s ≡ true = sym c.is_full.ensures ∙ c.if-is_full.true in
     rw (← run, moves) (unless_full-full s (after_run s c.args.slot n r.count r.end r.stop) (after_run_enters s c.args.slot n r.count r.end r.stop) full)

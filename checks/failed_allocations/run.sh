@@ -1,0 +1,30 @@
+#!/bin/sh
+# Refuses each allocation of the program `refusals` in turn: what it prints must stay the same, since
+# each call of the evaluator that was refused memory is made again and then has its answer. It wants
+# `rt` and `cc` on the path, and builds the program where a source is newer than it. Its last line is
+# `N passed, 0 failed`, one for each allocation.
+set -eu
+cd "$(dirname "$0")/../../crates/failed_allocations"
+work=$(mktemp -d)
+trap 'rm -rf "$work"' EXIT
+program=out/failed_allocations
+if [ ! -x "$program" ] || [ -n "$(find ../*/src -newer "$program")" ]; then
+    rt run > "$work/build.log" 2>&1 || { tail -n 40 "$work/build.log"; exit 1; }
+fi
+cc -shared -fPIC -O2 -o "$work/fail.so" ../../checks/failed_allocations/fail.c
+number=1
+failed=0
+while
+    FAIL=$number LD_PRELOAD="$work/fail.so" "$program" > "$work/printed" 2> "$work/said" || :
+    [ -s "$work/said" ]
+do
+    if ! cmp -s "$work/printed" stdout; then
+        echo "allocation $number refused:"
+        cat "$work/printed"
+        failed=$((failed + 1))
+    fi
+    number=$((number + 1))
+done
+cmp "$work/printed" stdout
+echo "$((number - 1 - failed)) passed, $failed failed"
+[ "$failed" -eq 0 ] && [ "$number" -gt 100 ]

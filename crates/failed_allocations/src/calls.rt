@@ -1,0 +1,90 @@
+// The calls, each made again where memory was refused.
+use crate::jobs::{serial_job, steps, tenant};
+use history_check::{Verdict, check};
+use job_language::{Answer, Entry, Reply, Status, Step};
+use serial_eval::serial;
+use solo_eval::Solo;
+use std::alloc::{AllocError, Global};
+
+/// What a reply tells of a job.
+fn status_of(reply: &Reply) -> Option<Status> {
+    match reply {
+        Reply::Job(_, status) => Some(*status),
+        _ => None,
+    }
+}
+
+/// The outcome that the last of the steps tells, each taken again by the evaluator that refused it.
+pub(crate) fn stepped(alloc: Global) -> Option<Status> {
+    let mut solo = Solo::new(alloc, tenant(alloc)?);
+    let mut last = None;
+    for step in &steps(alloc)? {
+        let answer = match solo.step(step) {
+            Ok(answer) => answer,
+            Err(_) => solo.step(step).ok()?,
+        };
+        last = match answer {
+            Answer::Replied(reply) => status_of(&reply),
+            Answer::Came(_) | Answer::Moved(_) => None,
+        };
+    }
+    last
+}
+
+/// The outcome that the last of the steps tells, where all are run at once.
+pub(crate) fn run_whole(alloc: Global) -> Option<Status> {
+    match answers(alloc, &steps(alloc)?)?.last()? {
+        Answer::Replied(reply) => status_of(reply),
+        Answer::Came(_) | Answer::Moved(_) => None,
+    }
+}
+
+/// The answers of a new evaluator to the steps.
+fn answers(alloc: Global, steps: &[Step]) -> Option<Vec<Answer>> {
+    let config = tenant(alloc)?;
+    match Solo::new(alloc, config).run(alloc, steps) {
+        Ok(answers) => Some(answers),
+        Err(_) => Solo::new(alloc, config).run(alloc, steps).ok(),
+    }
+}
+
+/// The verdict on what `run` answered.
+pub(crate) fn checked(alloc: Global) -> Option<Verdict> {
+    let config = tenant(alloc)?;
+    let steps = steps(alloc)?;
+    let entries = match entries(alloc, &steps) {
+        Ok(entries) => entries?,
+        Err(_) => entries(alloc, &steps).ok()??,
+    };
+    match check(alloc, config, &entries) {
+        Ok(verdict) => Some(verdict),
+        Err(_) => check(alloc, config, &entries).ok(),
+    }
+}
+
+/// The history of an evaluator that took the steps.
+fn entries(alloc: Global, steps: &[Step]) -> Result<Option<Vec<Entry>>, AllocError> {
+    let Some(answers) = answers(alloc, steps) else {
+        return Ok(None);
+    };
+    let mut entries = Vec::new(alloc);
+    for (step, answer) in steps.iter().zip(answers) {
+        entries.push(Entry {
+            step: step.try_clone()?,
+            answer,
+        })?;
+    }
+    Ok(Some(entries))
+}
+
+/// The serial value of the job's program.
+pub(crate) fn serial_value(alloc: Global) -> Option<i64> {
+    let job = serial_job(alloc)?;
+    if !job.program.is_serial() {
+        return None;
+    }
+    match serial(alloc, &job.program, job.args, 1000) {
+        Ok(value) => value,
+        Err(_) => serial(alloc, &job.program, job.args, 1000).ok()?,
+    }
+}

@@ -1,0 +1,197 @@
+// The serial value of a program: each task runs as soon as it is made, and to its end.
+ghost use Rattle.std.specs.Prelude.{◌≡◌, ◌<◌, true, false, IfOk};
+ghost use Rattle.job_language.specs.Program.{is_last};
+ghost use Rattle.job_language.specs.Serial.{is_serial};
+ghost use Rattle.job_step.specs.Frame.{effect, instr_at};
+ghost use Rattle.tenant_model.specs.Serial.{begun, is_owing, making, root_task, serial_value, sum_of, turn_at, turn_by, turn_of, waited, with_value_to};
+ghost use Rattle.serial_eval.specs.InsideNest.{Turns};
+
+use job_language::{GROUPS, Group, Instr, Program, Register};
+use job_step::{Effect, Frame, effect_on};
+use std::alloc::{AllocError, Global};
+use tenant_model::{SerialMaker, SerialTask, SerialTurn, ValueTo};
+
+/// The task at work, and those that wait: each for the next, and the last for the one at work.
+#[derive(Drop)]
+struct Nest {
+    makers: Vec<SerialMaker>,
+    task: SerialTask,
+}
+
+/// What a turn came to.
+#[derive(Clone, Copy)]
+enum Turned {
+    GoesOn,
+    /// The root ended with that value, or some task without one.
+    Ends(Option<i64>),
+}
+
+/// The serial value of a program with its two arguments: what its root gives where no more than
+/// `n` instructions are executed, each task as soon as it is made. There is none where more are
+/// needed, at a divisor of 0, and where a task ends that did not wait for a group.
+pub fn serial(
+    alloc: Global,
+    program: &Program,
+    args: [i64; 2],
+    n: u64,
+) -> Result<Option<i64>, AllocError>
+    requires { is_serial program.now ≡ true }
+    ensures { IfOk result (λ value. value ≡ serial_value program.now args n) }
+{
+    let mut nest = Nest {
+        makers: Vec::new(alloc),
+        task: root_task(args),
+    };
+    for _executed in 0..n {
+        if let Turned::Ends(value) = nest.turn(program)? {
+            return Ok(value);
+        }
+    }
+    Ok(None)
+}
+
+impl Nest {
+    /// Executes the next instruction. Where a growth was refused the nest is as before.
+    fn turn(&mut self, program: &Program) -> Result<Turned, AllocError>
+        ensures { IfOk result (λ turned. Turns program.now self.old turned self.new) }
+    {
+        match turn_at(program, &self.task) {
+            SerialTurn::Goes(task) => self.task = task,
+            SerialTurn::Makes(task, maker) => {
+                self.makers.push(maker)?;
+                self.task = task;
+            }
+            SerialTurn::Gives(value) => match self.makers.pop() {
+                Some(SerialMaker { task, to }) => self.task = with_value(task, to, value),
+                None => return Ok(Turned::Ends(Some(value))),
+            },
+            SerialTurn::Fails => return Ok(Turned::Ends(None)),
+        }
+        Ok(Turned::GoesOn)
+    }
+}
+
+/// The root of a program.
+fn root_task(args: [i64; 2]) -> SerialTask
+    ensures { result ≡ root_task args }
+{
+    begun(Frame::new(0, args[0], args[1]))
+}
+
+/// A task that begins.
+fn begun(frame: Frame) -> SerialTask
+    ensures { result ≡ begun frame }
+{
+    SerialTask {
+        frame,
+        sums: [None; GROUPS],
+    }
+}
+
+/// What a task does by its next instruction.
+fn turn_at(program: &Program, task: &SerialTask) -> SerialTurn
+    ensures { result ≡ turn_at (instr_at program.now task.now.frame) task.now }
+{
+    match task.frame.instr_in(program) {
+        Some(instr) => turn_of(&instr, task),
+        None => SerialTurn::Fails,
+    }
+}
+
+fn turn_of(instr: &Instr, task: &SerialTask) -> SerialTurn
+    requires { is_last instr.now ≡ false → task.now.frame.place < 255 }
+    ensures { result ≡ turn_of instr.now task.now }
+{
+    match *instr {
+        Instr::Spawn(group, procedure, first, second) => {
+            making(task, procedure, first, second, ValueTo::Group(group))
+        }
+        Instr::Isolate(to, procedure, first, second) => {
+            making(task, procedure, first, second, ValueTo::Register(to))
+        }
+        Instr::Wait(total_to, status_to, group) => {
+            SerialTurn::Goes(waited(task, total_to, status_to, group))
+        }
+        Instr::Ret(_) if is_owing(task) => SerialTurn::Fails,
+        Instr::Ret(from) => SerialTurn::Gives(task.frame.registers[from.index()]),
+        _ => turn_alone(instr, task),
+    }
+}
+
+/// What a task does by a private instruction. No other is left in a serial program.
+fn turn_alone(instr: &Instr, task: &SerialTask) -> SerialTurn
+    requires { is_last instr.now ≡ false → task.now.frame.place < 255 }
+    ensures { result ≡ turn_by task.now (effect instr.now 0 0 task.now.frame) }
+{
+    match effect_on(&task.frame, instr, 0, 0) {
+        Effect::Moves(frame) => {
+            let sums = task.sums;
+            SerialTurn::Goes(SerialTask { frame, sums })
+        }
+        Effect::DividesByZero | Effect::IsShared => SerialTurn::Fails,
+    }
+}
+
+fn making(
+    task: &SerialTask,
+    procedure: u8,
+    first: Register,
+    second: Register,
+    to: ValueTo,
+) -> SerialTurn
+    requires { task.now.frame.place < 255 }
+    ensures { result ≡ making task.now procedure first second to }
+{
+    let registers = &task.frame.registers;
+    let frame = Frame::new(
+        procedure,
+        registers[first.index()],
+        registers[second.index()],
+    );
+    let task = SerialTask {
+        frame: task.frame.next(),
+        sums: task.sums,
+    };
+    SerialTurn::Makes(begun(frame), SerialMaker { task, to })
+}
+
+/// The task behind a wait for a group.
+fn waited(task: &SerialTask, total_to: Register, status_to: Register, group: Group) -> SerialTask
+    requires { task.now.frame.place < 255 }
+    ensures { result ≡ waited task.now total_to status_to group }
+{
+    let mut waited = *task;
+    waited.frame.registers[total_to.index()] = sum_of(task, group);
+    waited.frame = waited.frame.write_and_step(status_to, 1);
+    waited.sums[group.index()] = None;
+    waited
+}
+
+/// The maker of a task, with that task's value.
+fn with_value(maker: SerialTask, to: ValueTo, value: i64) -> SerialTask
+    ensures { result ≡ with_value_to to maker value }
+{
+    let mut task = maker;
+    match to {
+        ValueTo::Group(group) => {
+            let sum = sum_of(&task, group).wrapping_add(value);
+            task.sums[group.index()] = Some(sum);
+        }
+        ValueTo::Register(to) => task.frame.registers[to.index()] = value,
+    }
+    task
+}
+
+/// The sum of a group so far.
+fn sum_of(task: &SerialTask, group: Group) -> i64
+    ensures { result ≡ sum_of task.now group }
+{
+    task.sums[group.index()].unwrap_or(0)
+}
+
+/// Was a group given a value since its last wait?
+fn is_owing(task: &SerialTask) -> bool
+    ensures { result ≡ is_owing task.now }
+{
+    task.sums.iter().any(|sum| sum.is_some())
+}

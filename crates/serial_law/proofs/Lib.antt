@@ -1,0 +1,13 @@
+pub mod SerialGiving
+pub mod SerialNow
+pub mod SerialMoves
+pub mod SerialMade
+pub mod SerialEnded
+pub mod SerialDone
+pub mod SerialFollows
+pub mod SerialFaults
+pub mod SerialOthers
+pub mod SerialOwn
+pub mod SerialAdvances
+pub mod SerialAsks
+pub mod SerialAnswers

@@ -1,0 +1,195 @@
+-- A fault reaches rows of one job alone.
+use Rattle.std.proofs.Common.{◌≡◌, ◌≢◌, ℕ, zero, suc, ◌+◌, ◌-◌, ◌==◌, ◌≤◌, List, [], ◌∷◌, length, Option, Some, None, max, Bool, true, false, ◌&&◌, refl, sym, ap, ◌∙◌, arith, inl, inr, map, length-set}
+use Rattle.std.specs.Prelude.{count_by, fold, nat_le, is_some, ◌||◌}
+use Rattle.std.proofs.lemmas.Bool.{cases_eq}
+use Rattle.job_language.specs.declared.errors.JobFault.{JobFault}
+use Rattle.tenant_model.specs.declared.rows.Kind.{Kind}
+use Rattle.tenant_model.specs.declared.rows.Kind.TheVariants.{Root, Posted, Spawned, Region}
+use Rattle.tenant_model.specs.declared.rows.Phase.{Phase}
+use Rattle.tenant_model.specs.declared.rows.Phase.TheVariants.{Unstarted, Live, Done, Dropped, Faulted}
+use Rattle.tenant_model.specs.declared.rows.Row.{Row}
+use Rattle.tenant_model.specs.declared.works.Work.{Work}
+use Rattle.tenant_model.specs.State.{State, row, job, with_at_number}
+use Rattle.tenant_model.specs.Walks.{is_region, is_open, is_live_at, is_job_cancelled, value_in, height}
+use Rattle.tenant_model.specs.Changes.{on_job, task_height_of, task_height, faulted_phase, faulted_row, first_fault, faults}
+use Rattle.tenant_model.specs.WellFormed.{rows_at, AreStacked, StandOnMakers}
+use Rattle.tenant_model.proofs.Within.{either_way}
+use Rattle.tenant_model.proofs.Changed.{at_number-with_same, at_number-with_other, row-with_other, row-map}
+use Rattle.tenant_model.proofs.Linked.{SameSources-map, IsLinked-same, IsLinked-more_jobs}
+use Rattle.tenant_model.proofs.Stacking.{one_if, count-cons, count-with}
+use Rattle.tenant_model.proofs.Insides.{live_there, live_low}
+use Rattle.tenant_model.proofs.Picks.{live_is}
+use Rattle.serial_law.proofs.SerialMoves.{SameJob}
+use Rattle.serial_law.proofs.SerialFollows.{Origin, OneJob, Good, OneJob-same, SameWork, Follows-same, entry_good}
+
+pub row-cons : (x : Row) (xs : List Row) (k : ℕ) → 1 ≤ k → row (x ∷ xs) (suc k) ≡ row xs k
+row-cons x xs zero from = absurd (omega (arith, from))
+row-cons x xs (suc k) from = refl
+
+-- a row that is counted is there
+pub counted_there : (p : Row → Bool) (rows : List Row) → 1 ≤ count_by p rows → (k : ℕ) × (1 ≤ k) × (k ≤ length rows) × (p (row rows k) ≡ true)
+counted_there p [] some = absurd (omega (arith, some))
+counted_there p (x ∷ xs) some = elim (either_way (p x)) [
+  | inl here ↦ (1, omega arith, omega arith, here)
+  | inr not_here ↦
+      let none : one_if (p x) ≡ 0 = rw not_here refl in
+      let later = counted_there p xs (omega (arith, some, count-cons p x xs, none)) in
+      (suc later.0, omega arith, omega (arith, later.2), rw (row-cons x xs later.0 later.1) later.3)
+]
+
+-- no two rows stand at one place
+pub one_there : (rows : List Row) → AreStacked rows → (x y slot h : ℕ) → (row rows x).phase ≡ Live slot h → (row rows y).phase ≡ Live slot h → x ≡ y
+one_there rows stacked x y slot h x_live y_live = elim (cases_eq x y) [
+  | inl same ↦ same
+  | inr apart ↦
+      let p : Row → Bool = λ r. is_live_at slot h r.phase in
+      let x_there = live_there rows x slot h x_live in
+      let y_there = live_there rows y slot h y_live in
+      let low = live_low rows stacked x slot h x_live in
+      let rest = with_at_number rows x (row [] 0) in
+      let first = count-with p rows x (row [] 0) x_there.0 x_there.1 in
+      let second = count-with p rest y (row [] 0) y_there.0 (omega (arith, y_there, length-set rows (x - 1) (row [] 0))) in
+      let same : row rest y ≡ row rows y = row-with_other rows x y (row [] 0) x_there.0 (λ e. apart (sym e)) in
+      let x_counts : one_if (p (row rows x)) ≡ 1 = rw x_live (grind arith) in
+      let y_counts : one_if (p (row rest y)) ≡ 1 = rw (same, y_live) (grind arith) in
+      absurd (omega (arith, first, second, x_counts, y_counts, stacked.one_at_each slot h low.0 low.1))
+]
+
+highest_so_far : (slot : ℕ) (rows : List Row) (so_far : ℕ) → so_far ≤ fold (λ most r. max most (task_height_of slot r)) so_far rows
+highest_so_far slot [] so_far = omega arith
+highest_so_far slot (x ∷ xs) so_far = let rest = highest_so_far slot xs (max so_far (task_height_of slot x)) in omega (arith, rest)
+
+highest_of_all : (slot : ℕ) (rows : List Row) (so_far k : ℕ) → 1 ≤ k → k ≤ length rows → task_height_of slot (row rows k) ≤ fold (λ most r. max most (task_height_of slot r)) so_far rows
+highest_of_all slot [] so_far k from to = absurd (omega (arith, from, to))
+highest_of_all slot (x ∷ xs) so_far zero from to = absurd (omega (arith, from))
+highest_of_all slot (x ∷ xs) so_far (suc k) from to = elim (cases_eq k 0) [
+  | inl first ↦ let rest = highest_so_far slot xs (max so_far (task_height_of slot x)) in rw first (omega (arith, rest))
+  | inr later ↦ rw (row-cons x xs k (omega (arith, later))) (highest_of_all slot xs (max so_far (task_height_of slot x)) k (omega (arith, later)) (omega (arith, to)))
+]
+
+region_is : (k : Kind) → is_region k ≡ true → (m : ℕ) × (k ≡ Region m)
+region_is Root is = absurd (grind (arith, is))
+region_is Posted is = absurd (grind (arith, is))
+region_is (Spawned m g) is = absurd (grind (arith, is))
+region_is (Region m) is = (m, refl)
+
+module _ (rows : List Row) (stacked : AreStacked rows) (on_makers : StandOnMakers rows) (one : OneJob rows) (slot n : ℕ) (top : (row rows n).phase ≡ Live slot (height rows slot)) where
+  -- the rows that a fault ends are of the topmost row's job
+  same_job : (d k h : ℕ) → (row rows k).phase ≡ Live slot h → task_height rows slot ≤ h → h + d ≡ height rows slot → (row rows k).job ≡ (row rows n).job
+  same_job zero k h live above level =
+      let e : h ≡ height rows slot = omega (arith, level) in
+      let same = one_there rows stacked k n slot h live (rw e top) in
+      rw same refl
+  same_job (suc d) k h live above level =
+      let next : rows_at rows slot (h + 1) ≡ 1 = stacked.one_at_each slot (h + 1) (omega arith) (omega (arith, level)) in
+      let q = counted_there (λ (r : Row). is_live_at slot (h + 1) r.phase) rows (omega (arith, next)) in
+      let q_live = live_is slot (h + 1) (row rows q.0).phase q.3 in
+      let task_low = highest_of_all slot rows 0 q.0 q.1 q.2 in
+      elim (either_way (is_region (row rows q.0).kind)) [
+        | inl is_one ↦
+            let its = region_is (row rows q.0).kind is_one in
+            let back : h + 1 - 1 ≡ h = omega arith in
+            let below : (row rows its.0).phase ≡ Live slot h = rw back at (on_makers.below q.0 its.0 slot (h + 1) its.1 q_live) in
+            let same = one_there rows stacked its.0 k slot h below live in
+            let made : (row rows its.0).job ≡ (row rows q.0).job = rw its.1 at (one q.0 q.1 q.2) in
+            rw (sym same) (made ∙ same_job d q.0 (h + 1) q_live (omega (arith, above)) (omega (arith, level)))
+        | inr is_none ↦
+            let self : (slot == slot) ≡ true = grind arith in
+            let at : task_height_of slot (row rows q.0) ≡ h + 1 = rw (q_live, is_none, self) refl in
+            absurd (omega (arith, task_low, at, above))
+      ]
+
+  other_stays : (k : ℕ) (p : Phase) → (row rows k).phase ≡ p → (row rows k).job ≢ (row rows n).job → faulted_phase slot (task_height rows slot) p ≡ p
+  other_stays k Unstarted is other = refl
+  other_stays k (Live t h) is other = elim (either_way ((t == slot) && nat_le (task_height rows slot) h)) [
+    | inl gone ↦
+        let here : t ≡ slot = grind (arith, gone) in
+        let above : task_height rows slot ≤ h = grind (arith, gone) in
+        let live : (row rows k).phase ≡ Live slot h = rw here at is in
+        let low = live_low rows stacked k slot h live in
+        absurd (other (same_job (height rows slot - h) k h live above (omega (arith, low))))
+    | inr kept ↦ rw kept refl
+  ]
+  other_stays k (Done v) is other = refl
+  other_stays k Dropped is other = refl
+  other_stays k Faulted is other = refl
+
+  pub other_job : (j : ℕ) → (row rows n).job ≢ j → SameJob j rows (map (faulted_row slot (task_height rows slot)) rows)
+  other_job j other =
+      let f = faulted_row slot (task_height rows slot) in
+      let same = SameSources-map f rows (λ r. refl) (λ r. refl) in
+      let phases : (k : ℕ) → 1 ≤ k → k ≤ length rows → (row rows k).job ≡ j → (row (map f rows) k).phase ≡ (row rows k).phase = λ k from to own.
+      ap (λ (r : Row). r.phase) (row-map f rows k from to) ∙ other_stays k (row rows k).phase refl (λ e. other (sym e ∙ own)) in
+      record {
+        long = omega (arith, same.long);
+        kinds = λ k from to. same.kinds k;
+        jobs = λ k from to. same.jobs k;
+        frames = λ k from to own. ap (λ (r : Row). r.frame) (row-map f rows k from to);
+        marks = λ k from to own. ap (λ (r : Row). r.marks) (row-map f rows k from to);
+        opens = λ k from to own. ap is_open (phases k from to own);
+        values = λ k from to own. ap value_in (phases k from to own);
+        news = λ k after to. absurd (omega (arith, after, to, same.long));
+      }
+
+pub has_fault : (w : Work) (f : JobFault) → is_job_cancelled (record w { fault = first_fault w.fault f }) ≡ true
+has_fault w f = go w.fault
+  where
+    go : (o : Option JobFault) → (w.cancelled || is_some (first_fault o f)) ≡ true
+    go None = grind arith
+    go (Some g) = grind arith
+
+-- less is owed
+pub Good-less : (o : Origin) (s : State) (debt less : ℕ) → less ≤ debt → Good o s debt → Good o s less
+Good-less o s debt less le is = record {
+  linked = is.linked;
+  one = is.one;
+  follows = record {
+    to = is.follows.to;
+    program = is.follows.program;
+    root = is.follows.root;
+    follows = λ some clear.
+        let its = is.follows.follows some clear in
+        record { from = its.from; to = its.to; own = its.own; marks = its.marks; groups = its.groups; spent = its.spent; fuel = omega (arith, its.fuel, le); leads = its.leads };
+  };
+}
+
+-- what a change of one job leaves of another
+pub other_work : (jobs : List Work) (i j : ℕ) (w : Work) → 1 ≤ i → j ≢ i → SameWork (job jobs j) (job (with_at_number jobs i w) j)
+other_work jobs i j w from other =
+    let same : job (with_at_number jobs i w) j ≡ job jobs j = at_number-with_other jobs _ i j w from other in
+    record { program = ap (λ (v : Work). v.program) same; root = ap (λ (v : Work). v.root) same; goes_on = λ clear. ap is_job_cancelled (sym same) ∙ clear; fuel = λ clear. ap (λ (v : Work). v.fuel) same }
+
+pub faults_good : (o : Origin) (s : State) (slot n debt : ℕ) (f : JobFault) → 1 ≤ n → n ≤ length s.rows → (row s.rows n).phase ≡ Live slot (height s.rows slot) → AreStacked s.rows → StandOnMakers s.rows →
+    Good o s debt → Good o (faults slot (row s.rows n).job f s).1 0
+faults_good o s slot n debt f from to top stacked on_makers is =
+    let fault = faulted_row slot (task_height s.rows slot) in
+    let rows = map fault s.rows in
+    let i = (row s.rows n).job in
+    let there = is.linked.jobs n from to in
+    let same = SameSources-map fault s.rows (λ r. refl) (λ r. refl) in
+    let change : Work → Work = λ w. record w { fault = first_fault w.fault f } in
+    let w = change (job s.jobs i) in
+    let jobs = with_at_number s.jobs i w in
+    let long = length-set s.jobs (i - 1) w in
+    let t = record s { rows = rows } in
+    let linked = IsLinked-more_jobs t jobs (omega (arith, long)) (IsLinked-same s t same refl is.linked.epoch is.linked) in
+    let one = OneJob-same s.rows rows same is.linked.makers is.one in
+    entry_good o (on_job t i change) 0 (record {
+      linked = linked;
+      one = one;
+      follows = elim (cases_eq o.number i) [
+        | inl own ↦
+            let here : job jobs o.number ≡ w = ap (job jobs) own ∙ at_number-with_same s.jobs _ i w there.0 there.1 in
+            record {
+              to = omega (arith, is.follows.to, long);
+              program = ap (λ (v : Work). v.program) here ∙ ap (λ k. (job s.jobs k).program) (sym own) ∙ is.follows.program;
+              root = ap (λ (v : Work). v.root) here ∙ ap (λ k. (job s.jobs k).root) (sym own) ∙ is.follows.root;
+              follows = λ some clear.
+                  let no : is_job_cancelled w ≡ false = ap is_job_cancelled (sym here) ∙ clear in
+                  absurd (grind (arith, no, has_fault (job s.jobs i) f));
+            }
+        | inr other ↦
+            Follows-same o s.rows rows s.jobs jobs 0 (omega (arith, long)) (other_work s.jobs i o.number w there.0 other)
+            (λ clear before. other_job s.rows stacked on_makers is.one slot n top o.number (λ e. other (sym e))) (Good-less o s debt 0 (omega arith) is).follows
+      ];
+    })
