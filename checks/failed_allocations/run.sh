@@ -1,8 +1,8 @@
 #!/bin/sh
-# Refuses each allocation of the program `refusals` in turn: what it prints must stay the same, since
-# each call of the evaluator that was refused memory is made again and then has its answer. It wants
-# `rt` and `cc` on the path, and builds the program where a source is newer than it. Its last line is
-# `N passed, 0 failed`, one for each allocation.
+# Fails each allocation of the program `failed_allocations` in turn: what it prints must stay the same,
+# since each call of the evaluator that failed is made again and then has its answer. It wants `rt` and
+# `cc` on the path, and builds the program if a source is newer than it. Its last line is `N passed,
+# 0 failed`, one for each allocation.
 set -eu
 cd "$(dirname "$0")/../../crates/failed_allocations"
 work=$(mktemp -d)
@@ -19,7 +19,7 @@ while
     [ -s "$work/said" ]
 do
     if ! cmp -s "$work/printed" stdout; then
-        echo "allocation $number refused:"
+        echo "with allocation $number failed:"
         cat "$work/printed"
         failed=$((failed + 1))
     fi

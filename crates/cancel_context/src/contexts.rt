@@ -16,6 +16,8 @@ pub const CONTEXTS_PER_ROW: usize = 5;
 /// How many rows there may be.
 pub const MAX_ROWS: usize = 4_096;
 
+const _: () = prove!(BASE_CONTEXTS == 256 && CONTEXTS_PER_ROW == 5 && MAX_ROWS == 4_096);
+
 /// Contexts that are bound to one another. A context is cancelled where it has a cancel request of
 /// its own, or one that it is bound to is cancelled.
 #[derive(Drop)]

@@ -21,6 +21,6 @@ by_mode : (isolation : Isolation) (name : List ℕ) (level : Level) (slots reser
 by_mode Exact name level slots reserved rows steps n a b c d e f g h = simp (n, a, b, c, d, e, f, g, h, level_named-word level)
 by_mode Within name level slots reserved rows steps n a b c d e f g h = simp (n, a, b, c, d, e, f, g, h, level_named-word level)
 
-pub tenant_of-tenant_data : (t : Tenant) → IsValidTenant t → is_name t.name ≡ true → tenant_of (tenant_data t) ≡ Some t
-tenant_of-tenant_data t v named =
-    by_mode t.isolation t.name t.priority t.slots t.reserved t.rows t.steps named (le-leb _ _ v.some_slot) (le-leb _ _ v.most_slots) (le-leb _ _ (omega arith)) (le-leb _ _ v.reserved) (le-leb _ _ v.some_row) (le-leb _ _ v.most_rows) (le-leb _ _ v.some_step) (le-leb _ _ v.most_steps)
+pub tenant_of-tenant_data : (t : Tenant) → IsValidTenant t → tenant_of (tenant_data t) ≡ Some t
+tenant_of-tenant_data t v =
+    by_mode t.isolation t.name t.priority t.slots t.reserved t.rows t.steps v.name (le-leb _ _ v.some_slot) (le-leb _ _ v.most_slots) (le-leb _ _ (omega arith)) (le-leb _ _ v.reserved) (le-leb _ _ v.some_row) (le-leb _ _ v.most_rows) (le-leb _ _ v.some_step) (le-leb _ _ v.most_steps)

@@ -6,6 +6,7 @@ mod configs;
 mod errors;
 mod instructions;
 mod jobs;
+mod limits;
 mod names;
 mod operations;
 mod programs;

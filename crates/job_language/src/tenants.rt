@@ -122,6 +122,8 @@ impl TenantConfig {
     pub fn new(tenant: Tenant) -> Option<TenantConfig>
         ensures { result ≡ (if is_valid_tenant tenant then Some tenant else None) }
     {
+        // Proof hint: the name is valid by its type.
+        let _ = tenant.name.as_bytes();
         let valid = 1 <= tenant.slots
             && tenant.slots <= MAX_SLOTS
             && tenant.reserved <= tenant.slots

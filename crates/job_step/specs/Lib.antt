@@ -1,3 +1,4 @@
 pub mod InsideRun
 pub mod Frame
 pub mod Run
+pub mod Least

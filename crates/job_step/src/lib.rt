@@ -3,8 +3,10 @@
 
 mod effects;
 mod frames;
+mod laws;
 mod runs;
 
 pub use effects::{Effect, effect_on};
 pub use frames::Frame;
+pub use laws::runs_are_least;
 pub use runs::{RUN_LIMIT, Run, Stop, run_private};

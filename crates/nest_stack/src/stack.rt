@@ -10,6 +10,8 @@ use std::marker::Model;
 /// How many rows may be live on a slot, regions among them.
 pub const MAX_HEIGHT: usize = 128;
 
+const _: () = prove!(MAX_HEIGHT == 128);
+
 /// A row on the stack of a slot.
 #[derive(Clone, Copy, Debug, PartialEq, Eq)]
 pub struct Nested {

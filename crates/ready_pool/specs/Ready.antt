@@ -1,5 +1,5 @@
 -- The rows that wait to be started, and the pick of a slot among them.
-use Rattle.std.specs.Prelude.{ℕ, ◌==◌, Bool, true, false, List, [], ◌∷◌, ◌++◌, Option, Some, None, filter, not}
+use Rattle.std.specs.Prelude.{ℕ, ◌<◌, ◌==◌, Bool, true, false, List, [], ◌∷◌, ◌++◌, Option, Some, None, filter, not, AllPairs}
 use Rattle.std.specs.List.{list_any}
 use Rattle.std.specs.Option.{ForSome}
 use Rattle.job_language.specs.declared.tenants.Isolation.{Isolation}
@@ -14,6 +14,10 @@ pub record Ready : Type 0 where
   pub limit : ℕ
   pub slots : ℕ
   pub rows : List Waiting
+
+-- Later rows have greater numbers.
+abbrev pub AreRising : List Waiting → Type 0
+AreRising rows = AllPairs (λ (w v : Waiting). w.row.number < v.row.number) rows
 
 -- a pool in which nothing waits
 abbrev pub empty : Isolation → (limit slots : ℕ) → Ready

@@ -1,7 +1,7 @@
 // The pool of the rows that wait.
 ghost use Rattle.std.specs.Prelude.{◌≡◌, ◌≢◌, ◌<◌, ◌≤◌, ◌==◌, All, Any, IfOk, IfSome, length};
 ghost use Rattle.std.specs.Option.{ForSome};
-ghost use Rattle.ready_pool.specs.Ready.{empty, with_row, is_waiting, without, IsRegionEntered, is_allowed, is_made_on, pick};
+ghost use Rattle.ready_pool.specs.Ready.{AreRising, empty, with_row, is_waiting, without, IsRegionEntered, is_allowed, is_made_on, pick};
 
 use job_language::{Isolation, MAX_ROWS, MAX_SLOTS};
 use region_tag::{Regions, RowId};
@@ -29,13 +29,13 @@ pub struct Pool {
 
 impl Model for Pool {
     ghost use Rattle.std.specs.Prelude.{◌≤◌, vec_capacity};
-    ghost use Rattle.ready_pool.specs.Ready.{Ready};
+    ghost use Rattle.ready_pool.specs.Ready.{Ready, AreRising};
 
     ghost Value = { Ready };
 
     ghost view = { λ p. record { isolation = p.isolation; limit = p.limit; slots = p.slots; rows = p.rows.items } };
 
-    ghost invariant = { λ p. p.limit ≤ vec_capacity p.rows };
+    ghost invariant = { λ p. (p.limit ≤ vec_capacity p.rows) × AreRising p.rows.items };
 }
 
 impl Pool {
@@ -90,11 +90,13 @@ impl Pool {
     }
 
     /// The row that a slot takes next, of those that it may take while its topmost row is in that
-    /// region: the newest one made on the slot, and where there is none the oldest.
+    /// region: the newest one made on the slot, which has the greatest number, and where there is none
+    /// the oldest, which has the least.
     pub fn pick(&self, slot: usize, region: Option<RowId>, regions: &Regions) -> Option<RowId>
         requires { slot < self.now.slots }
         ensures value { result ≡ pick self.now regions.now slot region }
         ensures there { IfSome result (λ row. Any (λ w. w.row ≡ row) self.now.rows) }
+        ensures rising { AreRising self.now.rows }
     {
         let mut oldest = None;
         let mut newest = None;

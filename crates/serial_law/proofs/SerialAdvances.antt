@@ -30,7 +30,8 @@ use Rattle.tenant_model.proofs.Changed.{at_number-with_same, row-with_same, row-
 use Rattle.tenant_model.proofs.Linked.{SameSources-set, IsLinked-set, IsLinked-more_jobs}
 use Rattle.tenant_model.proofs.Picks.{top_is, pick_is}
 use Rattle.tenant_model.proofs.Unstuck.{program_of}
-use Rattle.serial_law.proofs.SerialGiving.{GoesBack, is_fault, serial_at, run_back, run_stops, NamesGroups}
+use Rattle.serial_law.proofs.SerialGiving.{GoesBack, is_fault, serial_at, run_back, run_stops}
+use Rattle.tenant_model.proofs.Running.{NamesGroups}
 use Rattle.serial_law.proofs.SerialMoves.{SameJob}
 use Rattle.serial_law.proofs.SerialFollows.{Origin, Good, OneJob-same, Follows-same, same_work, entry_good}
 use Rattle.serial_law.proofs.SerialFaults.{faults_good, other_work}

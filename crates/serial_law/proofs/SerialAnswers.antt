@@ -18,19 +18,21 @@ use Rattle.job_language.specs.declared.tenants.Tenant.{Tenant}
 use Rattle.job_language.specs.declared.tenants.TheConstants.{MAX_SLOTS}
 use Rattle.tenant_model.specs.declared.rows.Row.{Row}
 use Rattle.tenant_model.specs.Serial.{Given, given_of, root_task, serial_value}
-use Rattle.serial_law.specs.SerialValues.{OneJob, SharesJobs, number_made, KeepsSerialValues}
+use Rattle.serial_law.specs.SerialValues.{number_made, KeepsSerialValues}
+use Rattle.tenant_model.specs.Sound.{ShareJobs, IsSound}
+use Rattle.tenant_model.proofs.Tended.{no_row_made}
 use Rattle.tenant_model.specs.State.{State, row, job, empty}
-use Rattle.tenant_model.specs.Walks.{is_open, value_in}
+use Rattle.tenant_model.specs.Walks.{maker_of, is_open, value_in}
 use Rattle.tenant_model.specs.Advance.{advance, arrive}
 use Rattle.tenant_model.specs.Asks.{ask, has_outcome, outcome, status}
 use Rattle.tenant_model.specs.Solo.{step, after}
 use Rattle.tenant_model.specs.WellFormed.{IsWellFormed}
 use Rattle.tenant_model.proofs.Within.{either_way}
 use Rattle.tenant_model.proofs.KeptAdvances.{step_kept, empty_kept}
-use Rattle.serial_law.proofs.SerialGiving.{NamesGroups, names_groups}
+use Rattle.tenant_model.proofs.Running.{NamesGroups, names_groups}
 use Rattle.serial_law.proofs.SerialNow.{fold_to-rest, Values, Counts, cost_of, cost_for, AreGiven}
-use Rattle.serial_law.proofs.SerialFollows.{Origin, Good}
-use Rattle.serial_law.proofs.SerialFaults.{row-cons}
+use Rattle.serial_law.proofs.SerialFollows.{OneJob, one_of, Origin, Good}
+use Rattle.tenant_model.proofs.Together.{row-cons}
 use Rattle.serial_law.proofs.SerialAdvances.{advance_good, arrive_good}
 use Rattle.serial_law.proofs.SerialAsks.{origin_of, ask_good, ask_bears}
 
@@ -62,18 +64,6 @@ nobody_names f i at = absurd (grind (arith, ap is_some at))
 -- what a row makes is of its job, whatever the step
 pub step_one : (s : State) (x : Step) → IsWellFormed s → OneJob s.rows → OneJob (step s x).1.rows
 step_one s x well one = (step_good nobody refl nobody_names s x well (nobody_good s well one)).one
-
-pub empty_one : (c : Tenant) → SharesJobs (empty c)
-empty_one c = record { one = λ n from to. absurd (omega (arith, from, to)) }
-
-pub ask_one : (s : State) (r : Request) → IsWellFormed s → SharesJobs s → SharesJobs (ask s r).1
-ask_one s r well is = record { one = step_one s (steps.Ask r) well is.one }
-
-pub arrive_one : (s : State) (slot : ℕ) → IsWellFormed s → SharesJobs s → SharesJobs (arrive s slot).1
-arrive_one s slot well is = record { one = step_one s (steps.Arrive slot) well is.one }
-
-pub advance_one : (s : State) (slot : ℕ) → IsWellFormed s → SharesJobs s → SharesJobs (advance s slot).1
-advance_one s slot well is = record { one = step_one s (steps.Advance slot) well is.one }
 
 abbrev value_of : Status → ℤ
 value_of (Complete v) = v
@@ -144,10 +134,13 @@ gives_from s [] zs r b j v well one brings valid made serial complete =
 gives_from s (y ∷ ys) zs r b j v well one brings valid made serial complete =
     gives_from (step s y).1 ys zs r b j v (step_kept s y well) (step_one s y well one) brings valid made serial complete
 
--- A serial job gives its serial value by whatever steps.
-pub keeps_serial_values : (s : State) (xs : List Step) → IsWellFormed s → SharesJobs s → KeepsSerialValues s xs
-keeps_serial_values s xs well is = record { values = λ ys zs ws r b j v parts brings valid made serial complete. gives_from s ys zs r b j v well is.one brings valid made serial complete }
+-- A serial job gives its serial value, for every sequence of steps.
+pub keeps_serial_values : (s : State) (xs : List Step) → IsWellFormed s → ShareJobs s.rows → KeepsSerialValues s xs
+keeps_serial_values s xs well is = record { values = λ ys zs ws r b j v parts brings valid made serial complete. gives_from s ys zs r b j v well (one_of s.rows is) brings valid made serial complete }
+
+pub sound_serial_values : (s : State) (xs : List Step) → IsSound s → KeepsSerialValues s xs
+sound_serial_values s xs is = keeps_serial_values s xs is.well_formed is.tended.shared
 
 -- from the beginning
 pub serial_from_empty : (c : Tenant) (xs : List Step) → c.slots ≤ MAX_SLOTS → KeepsSerialValues (empty c) xs
-serial_from_empty c xs slots = keeps_serial_values (empty c) xs (empty_kept c slots) (empty_one c)
+serial_from_empty c xs slots = keeps_serial_values (empty c) xs (empty_kept c slots) (λ n m made. absurd (no_row_made n m made))

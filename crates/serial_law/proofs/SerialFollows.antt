@@ -1,4 +1,4 @@
--- What is kept of a serial job, whatever steps its tenant takes.
+-- What is kept of a serial job by every step of its tenant.
 use Rattle.std.proofs.Common.{◌≡◌, ◌≢◌, ℕ, zero, suc, ◌+◌, ◌-◌, ◌<◌, ◌≤◌, List, [], ◌∷◌, ◌++◌, length, Option, Some, None, Bool, true, false, refl, sym, ap, ◌∙◌, arith, inl, inr, ℤ, length-set}
 use Rattle.std.specs.Prelude.{slice_index_or, IfSome}
 use Rattle.std.specs.List.{list_any}
@@ -12,16 +12,33 @@ use Rattle.tenant_model.specs.declared.rows.Mark.{Mark}
 use Rattle.tenant_model.specs.declared.rows.Row.{Row}
 use Rattle.tenant_model.specs.declared.works.Work.{Work}
 use Rattle.tenant_model.specs.Serial.{root_task}
-pub use Rattle.serial_law.specs.SerialValues.{OneJob}
 use Rattle.tenant_model.specs.State.{State, row, job, with_at_number}
 use Rattle.tenant_model.specs.Walks.{maker_of, with_makers, chain_for, is_open, is_unstarted, mark, value_in, is_job_cancelled, is_group_cancelled, is_context_cancelled, settled_row, settle}
 use Rattle.tenant_model.specs.Changes.{entry}
 use Rattle.tenant_model.specs.Linked.{MakersPrecede, IsLinked}
+use Rattle.tenant_model.specs.Sound.{ShareJobs}
 use Rattle.tenant_model.proofs.Changed.{row-with_same, row-with_other, row-push_old, row-push_new}
 use Rattle.tenant_model.proofs.Linked.{SameSources, IsLinked-same}
 use Rattle.tenant_model.proofs.Parts.{row-settle, SameSources-settle}
+use Rattle.tenant_model.proofs.Tending.{made_there}
 use Rattle.serial_law.proofs.SerialNow.{Leads}
 use Rattle.serial_law.proofs.SerialMoves.{SameJob, Leads-same}
+
+-- what a row made is of its job, by what made each row
+abbrev pub OneJob : List Row → Type 0
+OneJob rows = (n : ℕ) → 1 ≤ n → n ≤ length rows → IfSome (maker_of (row rows n).kind) (λ m. (row rows m).job ≡ (row rows n).job)
+
+pub one_of : (rows : List Row) → ShareJobs rows → OneJob rows
+one_of rows shared n from to = go (maker_of (row rows n).kind) (λ m made. sym (shared n m made))
+  where
+    go : (o : Option ℕ) → ((m : ℕ) → o ≡ Some m → (row rows m).job ≡ (row rows n).job) → IfSome o (λ m. (row rows m).job ≡ (row rows n).job)
+    go None same = tt
+    go (Some m) same = same m refl
+
+pub shared_of : (s : State) → IsLinked s → OneJob s.rows → ShareJobs s.rows
+shared_of s linked one n m made =
+    let there = made_there s linked n m made in
+    sym (rw made at (one n there.0 there.1))
 
 -- a job as it came, with its number and that of its root
 pub record Origin : Type 0 where

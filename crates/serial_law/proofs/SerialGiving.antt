@@ -22,6 +22,7 @@ use Rattle.tenant_model.specs.declared.serials.SerialTask.{SerialTask}
 use Rattle.tenant_model.specs.declared.serials.SerialMaker.{SerialMaker}
 use Rattle.tenant_model.specs.declared.serials.SerialTurn.TheVariants as turn
 use Rattle.tenant_model.specs.Serial.{Given, given_then, given_by, given_of, turn_by, turn_of, turn_at, with_value}
+use Rattle.tenant_model.proofs.Running.{run_ends_at}
 use Rattle.tenant_model.proofs.SerialRule.{given_of-suc}
 
 -- A task gives v by so many instructions, however many more are left.
@@ -147,41 +148,9 @@ module _ (procs : List (List Instr)) (serial : is_serial procs ≡ true) where
       let e : (run_of procs slot width f).count ≡ back.0 = omega (arith, back.1) in
       rw e back.2
 
-abbrev stopped_at : Stop → Option Instr
-stopped_at (Shared i) = Some i
-stopped_at stop = None
-
 -- A run that stops at an instruction ends there.
 abbrev Stops : List (List Instr) → Run → Type 0
 Stops procs r = (i : Instr) → r.stop ≡ Shared i → instr_at procs r.end ≡ Some i
 
-module _ (procs : List (List Instr)) where
-  one_stops : (start f : Frame) (c : ℕ) (i : Instr) (e : Effect) (next : Frame → Run) → instr_at procs f ≡ Some i → ((g : Frame) → Stops procs (next g)) → Stops procs (run_on start f c e (Some i) next)
-  one_stops start f c i (Moves g) next at goes_on = goes_on g
-  one_stops start f c i DividesByZero next at goes_on = λ j same. absurd (grind (arith, ap (λ stop. is_some (stopped_at stop)) same))
-  one_stops start f c i IsShared next at goes_on = λ j same. at ∙ ap stopped_at same
-
-  run_for_stops : (left slot width : ℕ) (start : Frame) (c : ℕ) (f : Frame) (o : Option Instr) → instr_at procs f ≡ o → Stops procs (run_for left procs slot width start c f)
-  unfolding run_for
-  run_for_stops zero slot width start c f o at = λ j same. absurd (grind (arith, ap (λ stop. is_some (stopped_at stop)) same))
-  run_for_stops (suc left) slot width start c f None at = rw at (λ j same. absurd (grind (arith, ap (λ stop. is_some (stopped_at stop)) same)))
-  run_for_stops (suc left) slot width start c f (Some i) at = rw at (one_stops start f c i (effect i slot width f) (run_for left procs slot width start (c + 1)) at (λ g. run_for_stops left slot width start (c + 1) g (instr_at procs g) refl))
-
-  pub run_stops : (slot width : ℕ) (f : Frame) → Stops procs (run_of procs slot width f)
-  run_stops slot width f = run_for_stops 1000 slot width f 0 f (instr_at procs f) refl
-
--- Each group that an instruction names is there.
-abbrev pub NamesGroups : List (List Instr) → Type 0
-NamesGroups procs = (f : Frame) (i : Instr) → instr_at procs f ≡ Some i → IfSome (group_of i) (λ g. g < GROUPS)
-
-pub names_groups : (procs : List (List Instr)) → IsValidProgram procs → NamesGroups procs
-names_groups procs valid f i at = elim (cases_lt f.procedure (length procs)) [
-  | inl there ↦
-      let proc = slice_index_or procs f.procedure [] in
-      let within : f.place < length proc = slice_get_within proc f.place i at in
-      let found : get_or proc f.place i ≡ i = ap (λ o. unwrap_or o i) (sym (slice_get-get_or proc f.place i within) ∙ at) in
-      let its : IsInRange (length proc) (get_or proc f.place i) = (valid.each f.procedure [] there).each f.place i within in
-      let own : IsInRange (length proc) i = rw found at its in
-      own.group
-  | inr past ↦ absurd (grind (arith, ap is_some (sym (instr_at-past_procs procs f past) ∙ at)))
-]
+pub run_stops : (procs : List (List Instr)) (slot width : ℕ) (f : Frame) → Stops procs (run_of procs slot width f)
+run_stops procs slot width f = (run_ends_at procs slot width f).stop

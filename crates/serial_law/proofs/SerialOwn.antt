@@ -31,7 +31,7 @@ use Rattle.serial_law.proofs.SerialMade.{HasMade, Leads-spawned, Leads-isolated}
 use Rattle.serial_law.proofs.SerialEnded.{HasChildren, Leads-waited}
 use Rattle.serial_law.proofs.SerialDone.{HasEnded, Leads-ended}
 use Rattle.serial_law.proofs.SerialFollows.{Origin, OneJob, IsFollowed, Good, OneJob-same, OneJob-push, context_clear}
-use Rattle.serial_law.proofs.SerialFaults.{one_there}
+use Rattle.tenant_model.proofs.Together.{one_there}
 use Rattle.serial_law.proofs.SerialOthers.{OnTop}
 
 region_by_is : (n : ℕ) (k : Kind) → is_region_by n k ≡ true → k ≡ Region n

@@ -8,6 +8,8 @@ use std::marker::Model;
 /// How many task groups a frame has. They are numbered from 0.
 pub const GROUPS: usize = 4;
 
+const _: () = prove!(GROUPS == 4);
+
 /// One group: its members are the rows that joined it since its last passed wait.
 #[derive(Clone, Copy, Debug)]
 struct Group {

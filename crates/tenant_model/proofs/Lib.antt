@@ -27,3 +27,15 @@ pub mod UnstuckSteps
 mod SerialWorkedProofs
 mod WorkedProofs
 pub mod SerialRule
+pub mod Running
+pub mod Invariance
+pub mod Tending
+pub mod Tended
+pub mod Together
+pub mod Attended
+pub mod AttendedSteps
+pub mod Later
+pub mod LaterSteps
+pub mod SoundSteps
+pub mod Leaving
+pub mod Advancing

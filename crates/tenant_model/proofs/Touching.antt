@@ -1,6 +1,7 @@
 -- What an advance does to the cells.
 use Rattle.std.proofs.Common.{◌≡◌, ℕ, ◌+◌, ◌==◌, [], Option, Some, None, Bool, true, false, ◌&&◌, nat_lt, refl, sym, ap, ◌∙◌, arith, inl, inr, ◌⊎◌, ℤ, pos}
 use Rattle.std.specs.Prelude.{if◌then◌else◌, slice_set, slice_index_or, unwrap_or, is_some}
+use Rattle.std.specs.Option.{option_map}
 use Rattle.std.proofs.lemmas.Bool.{cond_both}
 use Rattle.std.proofs.lemmas.List.{set-get_or}
 use Rattle.job_language.specs.declared.errors.JobFault.TheVariants as fault
@@ -21,14 +22,18 @@ use Rattle.tenant_model.specs.Changes.{is_full, is_row_limit_met, faults}
 use Rattle.tenant_model.specs.Cells.{Table, cell, with_cell}
 use Rattle.tenant_model.specs.Shared.{execute, has_used_group, hand_back}
 use Rattle.tenant_model.specs.Advance.{begin, nest_pick, is_poor, with_fuel_paid, move_on, is_blocked, after_run, is_idle_wait, run_on, advance_run, advance_top, would_be_recorded, unless_full, advance}
-use Rattle.tenant_model.specs.Regions.{Touch, touch_of, touch_after, touch_by, touch}
+use Rattle.tenant_model.specs.Regions.{Change, Touch, change_of, change_after, touch_by, touch}
 use Rattle.tenant_model.proofs.Within.{either_way}
 use Rattle.tenant_model.proofs.Entries.{unless_full-room, unless_full-full, after_run_enters}
 
--- a table after a touch
-abbrev pub with_touch : Table → ℕ → Option Touch → Table
-with_touch t slot None = t
-with_touch t slot (Some x) = with_cell t x.0 slot x.1
+-- the change of a touch
+abbrev pub change_in : Option Touch → Option Change
+change_in o = option_map (λ (t : Touch). t.1) o
+
+-- a table after a change
+abbrev pub with_change : Table → ℕ → Option Change → Table
+with_change t slot None = t
+with_change t slot (Some x) = with_cell t x.0 slot x.1
 
 -- a cell set to what it is
 with_cell-same : (t : Table) (k slot : ℕ) (v : ℤ) → cell t k slot ≡ Some v → with_cell t k slot v ≡ t
@@ -36,7 +41,7 @@ with_cell-same t k slot v is =
     let row : slice_set (slice_index_or t k []) slot (Some v) ≡ slice_index_or t k [] = ap (slice_set (slice_index_or t k []) slot) (sym is) ∙ set-get_or (slice_index_or t k []) slot None in
     ap (slice_set t k) row ∙ set-get_or t k []
 
-loaded : (t : Table) (k slot : ℕ) (o : Option ℤ) → cell t k slot ≡ o → with_cell t k slot (unwrap_or (cell t k slot) (pos 0)) ≡ with_touch t slot (if is_some (cell t k slot) then None else Some (k, pos 0))
+loaded : (t : Table) (k slot : ℕ) (o : Option ℤ) → cell t k slot ≡ o → with_cell t k slot (unwrap_or (cell t k slot) (pos 0)) ≡ with_change t slot (if is_some (cell t k slot) then None else Some (k, pos 0))
 loaded t k slot None is = rw is refl
 loaded t k slot (Some v) is = rw is (with_cell-same t k slot v is)
 
@@ -56,7 +61,7 @@ handed_back s Posted v = refl
 handed_back s (Spawned m g) v = refl
 handed_back s (Region m) v = refl
 
-execute_cells : (s : State) (slot n : ℕ) (f : Frame) (i : Instr) → (execute s slot n f i).1.cells ≡ with_touch s.cells slot (touch_of s.cells slot f i)
+execute_cells : (s : State) (slot n : ℕ) (f : Frame) (i : Instr) → (execute s slot n f i).1.cells ≡ with_change s.cells slot (change_of s.cells slot f i)
 execute_cells s slot n f (Spawn g p a b) = limited s slot _ _ refl
 execute_cells s slot n f (Post p a b) = limited s slot _ _ refl
 execute_cells s slot n f (Isolate d p a b) = either s.cells (height s.rows slot == MAX_HEIGHT) _ _ (λ _. refl) (λ _. limited s slot _ _ refl)
@@ -82,7 +87,7 @@ execute_cells s slot n f (Width d) = refl
 move_on_cells : (s : State) (slot n count : ℕ) (f : Frame) → Leaves s.cells (move_on s slot n count f)
 move_on_cells s slot n count f = either s.cells (is_poor s n count) _ _ (λ _. refl) (λ _. refl)
 
-after_run_cells : (s : State) (slot n count : ℕ) (f : Frame) (stop : Stop) → Leaves (with_touch s.cells slot (touch_after s slot n count f stop)) (after_run s slot n count f stop)
+after_run_cells : (s : State) (slot n count : ℕ) (f : Frame) (stop : Stop) → Leaves (with_change s.cells slot (change_after s slot n count f stop)) (after_run s slot n count f stop)
 after_run_cells s slot n count f Yield = move_on_cells s slot n count f
 after_run_cells s slot n count f Fault = either s.cells (is_poor s n count) _ _ (λ _. refl) (λ _. refl)
 after_run_cells s slot n count f (Shared i) = elim (either_way (is_blocked s n i)) [
@@ -101,23 +106,29 @@ blocked_cells : (s : State) (slot n : ℕ) (o : Option ℕ) → Leaves s.cells (
 blocked_cells s slot n None = refl
 blocked_cells s slot n (Some m) = either s.cells (height s.rows slot == MAX_HEIGHT) _ _ (λ _. refl) (λ _. refl)
 
--- A row that is stuck touches nothing.
-stuck_touch : (s : State) (slot n count : ℕ) (f : Frame) (stop : Stop) → is_idle_wait s n count stop ≡ true → touch_after s slot n count f stop ≡ None
-stuck_touch s slot n count f Yield stuck = refl
-stuck_touch s slot n count f Fault stuck = refl
-stuck_touch s slot n count f (Shared i) stuck =
+-- A row that is stuck changes nothing.
+stuck_change : (s : State) (slot n count : ℕ) (f : Frame) (stop : Stop) → is_idle_wait s n count stop ≡ true → change_after s slot n count f stop ≡ None
+stuck_change s slot n count f Yield stuck = refl
+stuck_change s slot n count f Fault stuck = refl
+stuck_change s slot n count f (Shared i) stuck =
     let waits : is_blocked s n i ≡ true = grind (arith, stuck) in
     rw waits refl
 
-run_cells : (s : State) (slot n : ℕ) (r : Run) → Leaves (with_touch s.cells slot (touch_after s slot n r.count r.end r.stop)) (advance_run s slot n r)
+run_cells : (s : State) (slot n : ℕ) (r : Run) → Leaves (with_change s.cells slot (change_after s slot n r.count r.end r.stop)) (advance_run s slot n r)
 run_cells s slot n r = elim (either_way (is_idle_wait s n r.count r.stop)) [
-  | inl stuck ↦ rw (stuck, stuck_touch s slot n r.count r.end r.stop stuck) (blocked_cells s slot n (pick s slot))
+  | inl stuck ↦ rw (stuck, stuck_change s slot n r.count r.end r.stop stuck) (blocked_cells s slot n (pick s slot))
   | inr goes ↦ rw goes (after_run_cells s slot n r.count r.end r.stop)
 ]
 
-top_cells : (s : State) (slot : ℕ) (o : Option ℕ) → Leaves (with_touch s.cells slot (touch_by s slot o)) (advance_top s slot o)
+tagged_change : (n : ℕ) (o : Option Change) → change_in (option_map (λ (c : Change). (n, c)) o) ≡ o
+tagged_change n None = refl
+tagged_change n (Some c) = refl
+
+top_cells : (s : State) (slot : ℕ) (o : Option ℕ) → Leaves (with_change s.cells slot (change_in (touch_by s slot o))) (advance_top s slot o)
 top_cells s slot None = begin_cells s slot (pick s slot)
-top_cells s slot (Some n) = run_cells s slot n (run_on s slot n)
+top_cells s slot (Some n) =
+    let r = run_on s slot n in
+    run_cells s slot n r ∙ sym (ap (with_change s.cells slot) (tagged_change n (change_after s slot n r.count r.end r.stop)))
 
 -- At a full history what is no entry has left the cells as they were.
 run_full : (s : State) (slot n : ℕ) (r : Run) → Leaves s.cells (unless_full s (advance_run s slot n r)) ⊎ (is_full s ≡ false)
@@ -137,17 +148,17 @@ top_full s slot (Some n) full = elim (run_full s slot n (run_on s slot n)) [
 ]
 
 -- An advance changes the cells by its touch alone.
-pub advance_cells : (s : State) (slot : ℕ) → (advance s slot).1.cells ≡ with_touch s.cells slot (touch s slot)
+pub advance_cells : (s : State) (slot : ℕ) → (advance s slot).1.cells ≡ with_change s.cells slot (change_in (touch s slot))
 advance_cells s slot = elim (either_way (nat_lt slot s.config.slots)) [
   | inr past ↦ rw past refl
   | inl there ↦ elim (either_way (is_full s)) [
     | inl full ↦
         let moved : advance s slot ≡ unless_full s (advance_top s slot (top s.rows slot)) = rw there refl in
         let none : touch s slot ≡ None = rw (there, full) refl in
-        ap (λ (q : Moved × State). q.1.cells) moved ∙ top_full s slot (top s.rows slot) full ∙ sym (ap (with_touch s.cells slot) none)
+        ap (λ (q : Moved × State). q.1.cells) moved ∙ top_full s slot (top s.rows slot) full ∙ sym (ap (λ o. with_change s.cells slot (change_in o)) none)
     | inr room ↦
         let moved : advance s slot ≡ unless_full s (advance_top s slot (top s.rows slot)) = rw there refl in
         let some : touch s slot ≡ touch_by s slot (top s.rows slot) = rw (there, room) refl in
-        ap (λ (q : Moved × State). q.1.cells) (moved ∙ unless_full-room s (advance_top s slot (top s.rows slot)) room) ∙ top_cells s slot (top s.rows slot) ∙ sym (ap (with_touch s.cells slot) some)
+        ap (λ (q : Moved × State). q.1.cells) (moved ∙ unless_full-room s (advance_top s slot (top s.rows slot)) room) ∙ top_cells s slot (top s.rows slot) ∙ sym (ap (λ o. with_change s.cells slot (change_in o)) some)
   ]
 ]

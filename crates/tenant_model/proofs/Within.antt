@@ -16,7 +16,7 @@ maker_cases : (o : Option ℕ) → (o ≡ None) ⊎ ((m : ℕ) × (o ≡ Some m)
 maker_cases None = inl refl
 maker_cases (Some m) = inr (m, refl)
 
-with_makers-cong : (n : ℕ) (o p : Option ℕ) (f g : ℕ → List ℕ) → o ≡ p → ((m : ℕ) → f m ≡ g m) → with_makers n o f ≡ with_makers n p g
+pub with_makers-cong : (n : ℕ) (o p : Option ℕ) (f g : ℕ → List ℕ) → o ≡ p → ((m : ℕ) → f m ≡ g m) → with_makers n o f ≡ with_makers n p g
 with_makers-cong n None p f g same each = rw (sym same) refl
 with_makers-cong n (Some m) p f g same each = rw (sym same) (ap (λ ms. n ∷ ms) (each m))
 

@@ -4,12 +4,15 @@ pub mod Cells
 pub mod Changes
 pub mod Linked
 pub mod WellFormed
+pub mod Sound
+pub mod Later
 pub mod Regions
 pub mod Naming
 pub mod Shared
 pub mod Advance
 pub mod Asks
 pub mod Solo
+pub mod Told
 pub mod Serial
 pub mod SerialWorked
 pub mod Worked

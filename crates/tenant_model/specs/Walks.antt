@@ -154,5 +154,8 @@ pick s slot = pick_of s.config.isolation s.rows slot
 abbrev pub settled_row : Row → (is_cancelled : Bool) → Row
 settled_row r is_cancelled = record r { phase = if is_unstarted r.phase && is_cancelled then Dropped else r.phase }
 
+abbrev pub has_unstarted : State → Bool
+has_unstarted s = list_any (λ (r : Row). is_unstarted r.phase) s.rows
+
 abbrev pub settle : State → State
 settle s = record s { rows = map (λ (p : NumberedRow). settled_row p.1 (is_context_cancelled s p.0)) (numbered_rows s.rows) }

@@ -8,6 +8,8 @@ use job_step::Frame;
 /// How many rows may be live on a slot, regions among them.
 pub const MAX_HEIGHT: u64 = 128;
 
+const _: () = prove!(MAX_HEIGHT == 128);
+
 /// What made a row, and what for. Rows are numbered from 1.
 #[derive(Clone, Copy, Debug, PartialEq, Eq)]
 pub enum Kind {

@@ -7,6 +7,8 @@ use job_language::{JobFault, Program};
 /// How many jobs a tenant may have that are not retired.
 pub const MAX_JOBS: usize = 256;
 
+const _: () = prove!(MAX_JOBS == 256);
+
 /// A job of a tenant.
 #[derive(Drop)]
 pub struct Work {

@@ -11,6 +11,8 @@ pub const KEYS: usize = 8;
 /// How many slots there are. They are numbered from 0.
 pub const SLOTS: usize = 16;
 
+const _: () = prove!(KEYS == 8 && SLOTS == 16);
+
 /// A cell for each key on each slot, where one has been made.
 #[derive(Clone, Copy, Debug)]
 pub struct Cells {

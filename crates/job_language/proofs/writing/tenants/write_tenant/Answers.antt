@@ -1,9 +1,7 @@
-use Rattle.std.proofs.Common.{◌≡◌, subst, true}
-use Rattle.job_language.specs.Name.{is_name}
 use Rattle.job_language.proofs.RoundTripTenant.{tenant_of-tenant_data}
 use Rattle.job_language.proofs.writing.tenants.write_tenant.Goals as goal
 
 pub returns-clause-reads_back : goal.returns-clause-reads_back
 returns-clause-reads_back c =
     let e = c.in_ok-value.ensures in
-    rw (e.value, c.tenant.ensures.value) (tenant_of-tenant_data c.args.config.now c.tenant.ensures.valid (subst (λ t. is_name t.name ≡ true) c.tenant.ensures.value e.named))
+    rw (e.value, c.tenant.ensures.value) (tenant_of-tenant_data c.args.config.now c.tenant.ensures.valid)

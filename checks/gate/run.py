@@ -1,0 +1,85 @@
+#!/usr/bin/env python3
+"""Runs `rt ci`, passes its lines on as they come, each with the minutes since the start, and prints at the end how
+many processor minutes each crate took: for its proofs, for its tests, and for its must-fail edits.
+
+usage: checks/gate/run.py, at the top of the repository. It exits as `rt ci` does.
+"""
+import os
+import re
+import subprocess
+import sys
+import threading
+import time
+
+TICKS = os.sysconf("SC_CLK_TCK")
+
+
+def checks_now():
+    """Yields (process, crate, kind, processor seconds) for each running check of a crate."""
+    for name in os.listdir("/proc"):
+        if not name.isdigit():
+            continue
+        try:
+            with open(f"/proc/{name}/cmdline", "rb") as it:
+                words = it.read().decode(errors="replace").split("\0")
+            if os.path.basename(words[0]) != "rattle" or "--crate-name" not in words:
+                continue
+            with open(f"/proc/{name}/stat") as it:
+                fields = it.read().rpartition(")")[2].split()
+            folder = os.readlink(f"/proc/{name}/cwd")
+        except (OSError, IndexError):
+            continue
+        if "/rt-edit-" in folder:
+            kind = "edits"
+        else:
+            kind = "tests" if "--test" in words else "proofs"
+        crate = words[words.index("--crate-name") + 1]
+        yield name, crate, kind, (int(fields[11]) + int(fields[12])) / TICKS
+
+
+def watch(spent, is_over):
+    """Keeps in `spent` what each check has used of the processors, until the run is over."""
+    while not is_over.is_set():
+        for process, crate, kind, seconds in checks_now():
+            spent[process, crate, kind] = seconds
+        is_over.wait(0.5)
+
+
+def table(spent):
+    """Returns the lines of the table, the dearest crate first."""
+    kinds = ("proofs", "tests", "edits")
+    sums = {}
+    for (_, crate, kind), seconds in spent.items():
+        row = sums.setdefault(crate, dict.fromkeys(kinds, 0))
+        row[kind] += seconds / 60
+    rows = sorted(sums.items(), key=lambda it: -sum(it[1].values()))
+    total = {kind: sum(row[kind] for _, row in rows) for kind in kinds}
+    yield "| Crate | Proofs | Tests | Edits | Processor minutes |"
+    yield "|---|---|---|---|---|"
+    for crate, row in [*rows, ("all", total)]:
+        parts = " | ".join(f"{row[kind]:.1f}" for kind in kinds)
+        yield f"| {crate} | {parts} | {sum(row.values()):.1f} |"
+
+
+def main():
+    start, spent, is_over = time.monotonic(), {}, threading.Event()
+    watcher = threading.Thread(target=watch, args=(spent, is_over))
+    watcher.start()
+    last = ""
+    with subprocess.Popen(["rt", "ci"], stdout=subprocess.PIPE, stderr=subprocess.STDOUT, text=True, errors="replace") as run:
+        for line in run.stdout:
+            last = line.rstrip("\n")
+            # what a check says of each library and function it reads is left out
+            if re.match(r"(rt: |== |\d+ passed|error|note: .*may be false|fn .*no proof)", last):
+                print(f"{(time.monotonic() - start) / 60:6.1f}  {last}", flush=True)
+    is_over.set()
+    watcher.join()
+    print()
+    for line in table(spent):
+        print(line)
+    print(f"\n{(time.monotonic() - start) / 60:.1f} minutes on {len(os.sched_getaffinity(0))} processors")
+    print(last)
+    return run.returncode
+
+
+sys.exit(main())
