@@ -42,7 +42,7 @@ use Rattle.tenant_model.proofs.Tending.{EndsSome}
 use Rattle.tenant_model.proofs.Tended.{EndsSome-settle, EndsSome-faulted, entry_tended, tended_advances, tended_asks, no_row_made}
 use Rattle.tenant_model.proofs.Attended.{KeepFaults, Both, MakersStay-jobs, MakersStay-beside, MakersStay-ends, MakersStay-set, MakersStay-push, kept_at, framed_kept, made_kept, over_kept, done_kept_by, faulted_of}
 
-KeepFaults-set : (jobs : List Work) (j : ℕ) (w : Work) → 1 ≤ j → j ≤ length jobs → (IsSome (job jobs j).fault → IsSome w.fault) → KeepFaults jobs (with_at_number jobs j w)
+pub KeepFaults-set : (jobs : List Work) (j : ℕ) (w : Work) → 1 ≤ j → j ≤ length jobs → (IsSome (job jobs j).fault → IsSome w.fault) → KeepFaults jobs (with_at_number jobs j w)
 KeepFaults-set jobs j w from to keeps = record {
   faults = λ k fault. elim (cases_eq k j) [
     | inl same ↦
@@ -61,7 +61,7 @@ no_fault jobs (suc k) past fault =
     let its : job jobs (suc k) ≡ job [] (suc k) = ap (λ o. unwrap_or o (job [] 0)) (slice_get_past jobs k (omega (arith, past))) in
     absurd (let no : is_some (job jobs (suc k)).fault ≡ false = ap (λ (w : Work). is_some w.fault) its in grind (arith, no, fault))
 
-KeepFaults-push : (jobs : List Work) (w : Work) → KeepFaults jobs (jobs ++ w ∷ [])
+pub KeepFaults-push : (jobs : List Work) (w : Work) → KeepFaults jobs (jobs ++ w ∷ [])
 KeepFaults-push jobs w = record {
   faults = λ k fault. elim (cases_lt (length jobs) k) [
     | inl past ↦ absurd (no_fault jobs k past fault)
@@ -69,7 +69,7 @@ KeepFaults-push jobs w = record {
   ];
 }
 
-KeepFaults-retired : (jobs : List Work) → KeepFaults jobs (map retired_work jobs)
+pub KeepFaults-retired : (jobs : List Work) → KeepFaults jobs (map retired_work jobs)
 KeepFaults-retired jobs = record { faults = retired_faults jobs }
   where
     same_fault : (o : Option Work) → (unwrap_or (option_map retired_work o) (job [] 0)).fault ≡ (unwrap_or o (job [] 0)).fault
@@ -131,7 +131,7 @@ entry_stays s is =
 framed_well : (s : State) (slot n : ℕ) → IsAt s slot n → (f : Frame) → IsWellFormed (with_frame s n f)
 framed_well s slot n at f = on_row_kept s n (λ r. record r { frame = f }) at.from at.to refl refl (at.well.marked n) refl at.well
 
-nested_stays : (s : State) (slot m : ℕ) → IsWellFormed s → pick s slot ≡ Some m → Both s → MakersStay (nest s slot m)
+pub nested_stays : (s : State) (slot m : ℕ) → IsWellFormed s → pick s slot ≡ Some m → Both s → MakersStay (nest s slot m)
 nested_stays s slot m well picked is =
     let its = pick_is s.config.isolation s.rows slot m picked in
     MakersStay-set s m (record (row s.rows m) { phase = Live slot (height s.rows slot + 1) }) its.0 its.1 refl refl (λ opened. waits_open (row s.rows m).phase its.2) (λ closed x opened made. absurd (let no : true ≡ false = closed in grind (arith, no))) is.1
@@ -143,23 +143,23 @@ nested_stays s slot m well picked is =
     waits_open Dropped waits = absurd (grind (arith, waits))
     waits_open Faulted waits = absurd (grind (arith, waits))
 
-added_stay : (s : State) (j : Job) (phase : Phase) → IsWellFormed s → Both s → MakersStay (add_job s j phase)
+pub added_stay : (s : State) (j : Job) (phase : Phase) → IsWellFormed s → Both s → MakersStay (add_job s j phase)
 added_stay s j phase well is =
     let r = new_row Root (length s.jobs + 1) None (new_frame 0 (slice_index_or j.args 0 (pos 0)) (slice_index_or j.args 1 (pos 0))) phase in
     let pushed = MakersStay-push s r well (λ m made. absurd (let no : None ≡ Some m = made in cc)) (λ m g kind. absurd (let no : None ≡ Some m = ap maker_of kind in cc)) is.1 in
     MakersStay-jobs (record s { rows = s.rows ++ r ∷ [] }) (s.jobs ++ new_job s j ∷ []) (KeepFaults-push s.jobs (new_job s j)) pushed
 
-same_number : (n m : ℕ) → Some n ≡ Some m → m ≡ n
+pub same_number : (n m : ℕ) → Some n ≡ Some m → m ≡ n
 same_number n m same = grind (arith, same)
 
 abbrev group_or_0 : Kind → ℕ
 group_or_0 (Spawned m g) = g
 group_or_0 k = 0
 
-spawned_group : (n g : ℕ) → g < GROUPS → (m h : ℕ) → Spawned n g ≡ Spawned m h → h < GROUPS
+pub spawned_group : (n g : ℕ) → g < GROUPS → (m h : ℕ) → Spawned n g ≡ Spawned m h → h < GROUPS
 spawned_group n g low m h same = let e : g ≡ h = ap group_or_0 same in omega (arith, e, low)
 
-no_region : (n m g : ℕ) → Region n ≡ Spawned m g → ⊥
+pub no_region : (n m g : ℕ) → Region n ≡ Spawned m g → ⊥
 no_region n m g same = let no : true ≡ false = ap is_region same in grind (arith, no)
 
 attended_advances : (slot : ℕ) → KeepsAdvances IsUnstuck Both Both slot
@@ -173,7 +173,7 @@ attended_advances slot =
           (tended.fuel s n f at tt is.0, MakersStay-jobs s (with_at_number s.jobs (row s.rows n).job w) (KeepFaults-set s.jobs (row s.rows n).job w there.0 there.1 (λ fault. fault)) is.1);
       fault = λ s n e at p is. (tended.fault s n e at tt is.0, faulted_stay s slot n e at is);
       frame = λ s n f at p same is. (tended.frame s n f at tt same is.0, framed_kept s slot n at is f);
-      cells = λ s t is. (tended.cells s t is.0, MakersStay-beside s s.entries s.epoch t is.1);
+      cells = λ s t table is. (tended.cells s t table is.0, MakersStay-beside s s.entries s.epoch t is.1);
       spawn = λ s n f g q a b at p same here room is. (
         tended.spawn s n f g q a b at tt same here room is.0,
         let there = at.well.linked.jobs n at.from at.to in

@@ -1,5 +1,5 @@
 -- Each step is a few changes and then an entry: what all of these keep, every step keeps.
-use Rattle.std.proofs.Common.{◌≡◌, ℕ, ◌+◌, ◌-◌, ◌==◌, ◌<◌, ◌≤◌, [], ◌∷◌, length, Option, Some, None, Bool, true, false, ◌&&◌, ◌||◌, refl, sym, ap, ◌∙◌, arith, nat_lt, length-set, map, List, IsSome}
+use Rattle.std.proofs.Common.{◌≡◌, ℕ, ◌+◌, ◌-◌, ◌==◌, ◌<◌, ◌≤◌, [], ◌∷◌, length, Option, Some, None, Bool, true, false, ◌&&◌, ◌||◌, refl, sym, ap, ◌∙◌, arith, nat_lt, length-set, map, List, IsSome, ℤ}
 use Rattle.std.specs.Prelude.{if◌then◌else◌, slice_set, nat_le, not}
 use Rattle.std.specs.List.{list_any, range_with_len}
 use Rattle.std.specs.Option.{option_map_or}
@@ -36,13 +36,14 @@ use Rattle.tenant_model.specs.Shared.{next_place, called_frame, group_status, ex
 use Rattle.tenant_model.specs.Advance.{begin, nest_pick, is_poor, with_fuel, pay, move_on, is_blocked, after_run, is_idle_wait, run_on, advance_run, advance_top, would_be_recorded, advance, arrive_at, is_open_to_workers, arrive}
 use Rattle.tenant_model.specs.Asks.{add_job, free_slot, unless_limit, submit, submit_placed, collect, cancel_by_request, retire, retired_work, reply_to, ask, is_hello, known_job, has_outcome, current_jobs}
 use Rattle.tenant_model.specs.Asks as asks
-use Rattle.tenant_model.specs.WellFormed.{IsWellFormed}
+use Rattle.tenant_model.specs.WellFormed.{IsTable, IsWellFormed}
 use Rattle.std.specs.Prelude.{All}
 use Rattle.std.proofs.lemmas.List.Elements.{All-from_get_or}
 use Rattle.std.proofs.lemmas.List.FromFn.{get_or-range_with_len, length-range_with_len}
 use Rattle.tenant_model.proofs.Changed.{at_number-with_same}
 use Rattle.tenant_model.proofs.Picks.{top_is, top_none, found_holds}
 use Rattle.tenant_model.proofs.Keeping.{on_job_kept}
+use Rattle.tenant_model.proofs.KeptSteps.{with_cell_kept}
 use Rattle.tenant_model.proofs.Running.{SameRegisters, written_same, EndsAt, run_ends_at}
 
 -- the program of a row's job
@@ -76,7 +77,7 @@ pub record KeepsAdvances (P K J : State → Type 0) (slot : ℕ) : Type 0 where
   pub fuel : (s : State) (n f : ℕ) → IsAt s slot n → P s → K s → K (with_fuel s n f)
   pub fault : (s : State) (n : ℕ) (e : JobFault) → IsAt s slot n → P s → K s → J (faulted_at s slot n e)
   pub frame : (s : State) (n : ℕ) (f : Frame) → IsAt s slot n → P s → SameRegisters (row s.rows n).frame f → K s → J (with_frame s n f)
-  pub cells : (s : State) (t : Table) → J s → J (with_cells s t)
+  pub cells : (s : State) (t : Table) → IsTable t → J s → J (with_cells s t)
   pub spawn : (s : State) (n : ℕ) (f : Frame) (g p a b : ℕ) → IsAt s slot n → P s → SameRegisters (row s.rows n).frame f → instr_at (program_of s n) f ≡ Some (Spawn g p a b) → open_rows s.rows < s.config.rows → K s →
       J (add_row (with_frame s n (next_place f)) (new_row (Spawned n g) (row s.rows n).job (Some slot) (called_frame f p a b) Unstarted))
   pub post : (s : State) (n : ℕ) (f : Frame) (p a b : ℕ) → IsAt s slot n → P s → SameRegisters (row s.rows n).frame f → open_rows s.rows < s.config.rows → K s →
@@ -106,8 +107,8 @@ module _ (P K J : State → Type 0) (slot : ℕ) (keeps : KeepsAdvances P K J sl
     moved_keeps : (f : Frame) → SameRegisters (row s.rows n).frame f → K (finish_step slot (with_frame s n f)).1
     moved_keeps f same = keeps.enter (with_frame s n f) (keeps.frame s n f at p same k)
 
-    touched_keeps : (f : Frame) (t : Table) → SameRegisters (row s.rows n).frame f → K (finish_step slot (with_cells (with_frame s n f) t)).1
-    touched_keeps f t same = keeps.enter _ (keeps.cells (with_frame s n f) t (keeps.frame s n f at p same k))
+    touched_keeps : (f : Frame) (q : ℕ) (v : ℤ) → SameRegisters (row s.rows n).frame f → K (finish_step slot (with_cells (with_frame s n f) (with_cell s.cells q slot v))).1
+    touched_keeps f q v same = keeps.enter _ (keeps.cells (with_frame s n f) (with_cell s.cells q slot v) (with_cell_kept s.cells q slot v at.well.table) (keeps.frame s n f at p same k))
 
     execute_keeps : (f : Frame) (i : Instr) → SameRegisters (row s.rows n).frame f → instr_at (program_of s n) f ≡ Some i → is_blocked s n i ≡ false → K (execute s slot n f i).1
     execute_keeps f (Spawn g q a b) same here ready = limited_keeps _ (λ room. keeps.enter _ (keeps.spawn s n f g q a b at p same here room k))
@@ -120,8 +121,8 @@ module _ (P K J : State → Type 0) (slot : ℕ) (keeps : KeepsAdvances P K J sl
         keeps.enter _ (keeps.wait s n (write_and_step (record f { registers = slice_set f.registers d v }) e (group_status s n g)) g at p (written_same (record f { registers = slice_set f.registers d v }) e (group_status s n g) ∙ length-set f.registers d v ∙ same) ready k)
     execute_keeps f (Cancel g) same here ready = keeps.enter _ (keeps.cancel s n (next_place f) g at p same k)
     execute_keeps f (Ask d) same here ready = moved_keeps _ (written_same f d _ ∙ same)
-    execute_keeps f (Load d q) same here ready = touched_keeps _ _ (written_same f d _ ∙ same)
-    execute_keeps f (Store q a) same here ready = touched_keeps (next_place f) _ same
+    execute_keeps f (Load d q) same here ready = touched_keeps _ q _ (written_same f d _ ∙ same)
+    execute_keeps f (Store q a) same here ready = touched_keeps (next_place f) q (register f a) same
     execute_keeps f (Sum d q) same here ready = moved_keeps _ (written_same f d _ ∙ same)
     execute_keeps f (Count d q) same here ready = moved_keeps _ (written_same f d _ ∙ same)
     execute_keeps f (Ret a) same here ready = either K (has_used_group s n) _ _ (λ _. faulted_keeps fault.MissingWait) (λ unused. keeps.enter _ (keeps.done s n f a at p same unused k))

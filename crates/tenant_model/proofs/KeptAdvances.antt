@@ -58,17 +58,17 @@ faults_kept slot j f s is =
     entry_kept _ (on_job_kept t j (λ w. record w { fault = first_fault w.fault f }) (faulted_kept s slot is))
 
 -- row n is on top of the slot
-record IsTop (s : State) (slot n : ℕ) : Type 0 where
-  from : 1 ≤ n
-  to : n ≤ length s.rows
-  live : (row s.rows n).phase ≡ Live slot (height s.rows slot)
+pub record IsTop (s : State) (slot n : ℕ) : Type 0 where
+  pub from : 1 ≤ n
+  pub to : n ≤ length s.rows
+  pub live : (row s.rows n).phase ≡ Live slot (height s.rows slot)
 
 module _ (s : State) (slot n : ℕ) (is : IsWellFormed s) (top : IsTop s slot n) where
   -- a frame moved on, with its marks
-  set_kept : (f : Row → Row) → (f (row s.rows n)).kind ≡ (row s.rows n).kind → (f (row s.rows n)).job ≡ (row s.rows n).job → (f (row s.rows n)).phase ≡ (row s.rows n).phase → ((g : ℕ) → (mark_in (f (row s.rows n)).marks g).rows ≤ length s.rows) → IsWellFormed (on_row s n f)
+  pub set_kept : (f : Row → Row) → (f (row s.rows n)).kind ≡ (row s.rows n).kind → (f (row s.rows n)).job ≡ (row s.rows n).job → (f (row s.rows n)).phase ≡ (row s.rows n).phase → ((g : ℕ) → (mark_in (f (row s.rows n)).marks g).rows ≤ length s.rows) → IsWellFormed (on_row s n f)
   set_kept f kind job phase marks = on_row_kept s n f top.from top.to kind job marks phase is
 
-  moved_kept : (f : Frame) → IsWellFormed (with_frame s n f)
+  pub moved_kept : (f : Frame) → IsWellFormed (with_frame s n f)
   moved_kept f = set_kept (λ r. record r { frame = f }) refl refl refl (is.marked n)
 
   moved_long : (f : Frame) → length (with_frame s n f).rows ≡ length s.rows
@@ -77,13 +77,13 @@ module _ (s : State) (slot n : ℕ) (is : IsWellFormed s) (top : IsTop s slot n)
   moved_room : (f : Frame) → open_rows s.rows < s.config.rows → open_rows (with_frame s n f).rows < s.config.rows
   moved_room f room = omega (arith, room, open-set s.rows n (record (row s.rows n) { frame = f }) top.from top.to refl (omega arith))
 
-  spawned_kept : (f g : Frame) (k : Kind) (made_on : Option ℕ) → is_region k ≡ false → IfSome (maker_of k) (λ m. m ≡ n) → open_rows s.rows < s.config.rows →
+  pub spawned_kept : (f g : Frame) (k : Kind) (made_on : Option ℕ) → is_region k ≡ false → IfSome (maker_of k) (λ m. m ≡ n) → open_rows s.rows < s.config.rows →
       IsWellFormed (add_row (with_frame s n f) (new_row k (row s.rows n).job made_on g Unstarted))
   spawned_kept f g k made_on no_region maker room =
       let job = is.linked.jobs n top.from top.to in
       add_row_kept (with_frame s n f) (new_row k (row s.rows n).job made_on g Unstarted) (IfSome_then (maker_of k) maker (λ m same. (omega (arith, same, top.from), omega (arith, same, top.to, moved_long f)))) job (moved_room f room) refl no_region unstarted_off (moved_kept f)
 
-  region_kept : (f g : Frame) → height s.rows slot < MAX_HEIGHT → open_rows s.rows < s.config.rows →
+  pub region_kept : (f g : Frame) → height s.rows slot < MAX_HEIGHT → open_rows s.rows < s.config.rows →
       IsWellFormed (add_row (with_frame s n f) (new_row (Region n) (row s.rows n).job (Some slot) g (Live slot (height s.rows slot + 1))))
   region_kept f g low room =
       let job = is.linked.jobs n top.from top.to in
@@ -98,12 +98,12 @@ module _ (s : State) (slot n : ℕ) (is : IsWellFormed s) (top : IsTop s slot n)
       let moved = moved_kept f in
       record { linked = record { makers = moved.linked.makers; jobs = moved.linked.jobs; epoch = moved.linked.epoch }; stacked = moved.stacked; inside = moved.inside; on_makers = moved.on_makers; marked = moved.marked; limit = moved.limit; table = with_cell_kept s.cells k slot v is.table; slots = is.slots }
 
-  ended_kept : (f : Frame) (v : ℤ) → IsWellFormed (on_row s n (λ r. record r { frame = f; phase = Done v }))
+  pub ended_kept : (f : Frame) (v : ℤ) → IsWellFormed (on_row s n (λ r. record r { frame = f; phase = Done v }))
   ended_kept f v =
       let low = live_low s.rows is.stacked n slot (height s.rows slot) top.live in
       done_kept s n (λ r. record r { frame = f; phase = Done v }) top.from top.to refl refl (is.marked n) slot top.live (record { on = λ t. refl; at = λ t h. refl }) refl low.0 is
 
-  handed_kept : (f : Frame) (v : ℤ) (k : Kind) → (row s.rows n).kind ≡ k → IsWellFormed (hand_back (on_row s n (λ r. record r { frame = f; phase = Done v })) k v)
+  pub handed_kept : (f : Frame) (v : ℤ) (k : Kind) → (row s.rows n).kind ≡ k → IsWellFormed (hand_back (on_row s n (λ r. record r { frame = f; phase = Done v })) k v)
   handed_kept f v Root kind = ended_kept f v
   handed_kept f v Posted kind = ended_kept f v
   handed_kept f v (Spawned m g) kind = ended_kept f v

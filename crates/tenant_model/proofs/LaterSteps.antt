@@ -187,7 +187,7 @@ module _ (s0 : State) where
     fuel = λ s n f at p is. later-then s0 s _ is (later-fuel s slot n at f);
     fault = λ s n e at p is. later-then s0 s _ is (later-fault s slot n at e);
     frame = λ s n f at p same is. later-then s0 s _ is (later-framed s slot n at f);
-    cells = λ s t is. later-then s0 s _ is (later-beside s s.entries s.epoch t);
+    cells = λ s t table is. later-then s0 s _ is (later-beside s s.entries s.epoch t);
     spawn = λ s n f g q a b at p same here room is. later-then s0 s _ is (later-made s slot n at (next_place f) (new_row (Spawned n g) (row s.rows n).job (Some slot) (called_frame f q a b) Unstarted) refl);
     post = λ s n f q a b at p same room is. later-then s0 s _ is (later-made s slot n at (next_place f) (new_row Posted (row s.rows n).job None (called_frame f q a b) Unstarted) refl);
     isolate = λ s n f d q a b at p same here room low is. later-then s0 s _ is (later-made s slot n at f (new_row (Region n) (row s.rows n).job (Some slot) (called_frame f q a b) (Live slot (height s.rows slot + 1))) refl);

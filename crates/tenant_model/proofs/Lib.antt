@@ -37,5 +37,6 @@ pub mod AttendedSteps
 pub mod Later
 pub mod LaterSteps
 pub mod SoundSteps
+pub mod Steady
 pub mod Leaving
 pub mod Advancing

@@ -78,7 +78,7 @@ counted_advances slot = record {
   fuel = λ s n f at p is. record { rows = is.rows; jobs = omega (arith, is.jobs, length-set s.jobs ((row s.rows n).job - 1) (record (job s.jobs (row s.rows n).job) { fuel = f })) };
   fault = λ s n e at p is. counted_beside s _ (length-map s.rows (faulted_row slot (task_height s.rows slot))) (length-set s.jobs ((row s.rows n).job - 1) _) refl is;
   frame = λ s n f at p same is. counted_beside s _ (length-set s.rows (n - 1) _) refl refl is;
-  cells = λ s t is. record { rows = is.rows; jobs = is.jobs };
+  cells = λ s t table is. record { rows = is.rows; jobs = is.jobs };
   spawn = λ s n f g q a b at p same here room is. made_more s n _ _ is;
   post = λ s n f q a b at p same room is. made_more s n _ _ is;
   isolate = λ s n f d q a b at p same here room low is. made_more s n f _ is;
@@ -142,7 +142,7 @@ settled_advances slot = record {
   fuel = λ s n f at p is. settled_fuel s slot n f at is;
   fault = λ s n e at p is. tt;
   frame = λ s n f at p same is. tt;
-  cells = λ s t is. tt;
+  cells = λ s t table is. tt;
   spawn = λ s n f g q a b at p same here room is. tt;
   post = λ s n f q a b at p same room is. tt;
   isolate = λ s n f d q a b at p same here room low is. tt;

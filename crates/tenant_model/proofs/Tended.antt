@@ -232,7 +232,7 @@ module _ (s : State) (slot n : ℕ) (at : IsAt s slot n) (is : IsTended s) where
     bare = top_is_bare s slot n at.well at.live;
   }
 
-  with_frame_tended : (f : Frame) → SameRegisters (row s.rows n).frame f → IsTended (with_frame s n f)
+  pub with_frame_tended : (f : Frame) → SameRegisters (row s.rows n).frame f → IsTended (with_frame s n f)
   with_frame_tended f same = IsTended-set s n (record (row s.rows n) { frame = f }) (framed f (row s.rows n).marks same refl (λ k g kind old. is.past k n g kind old)) at.well.linked is
 
   with_frame_kept : (f : Frame) → IsWellFormed (with_frame s n f)
@@ -245,7 +245,7 @@ module _ (s : State) (slot n : ℕ) (at : IsAt s slot n) (is : IsTended s) where
   top_started f = rw (here_framed f) (rw at.live refl)
 
   -- a row that the topmost row makes
-  made_tended : (f g : Frame) (k : Kind) (made_on : Option ℕ) (phase : Phase) → SameRegisters (row s.rows n).frame f → IsShaped (new_row k (row s.rows n).job made_on g phase) →
+  pub made_tended : (f g : Frame) (k : Kind) (made_on : Option ℕ) (phase : Phase) → SameRegisters (row s.rows n).frame f → IsShaped (new_row k (row s.rows n).job made_on g phase) →
       ((m : ℕ) → maker_of k ≡ Some m → m ≡ n) → ((t h : ℕ) → phase ≡ Live t h → t ≡ slot) → ((m t h : ℕ) → k ≡ Region m → phase ≡ Live t h → IsIsolate (instr_at (program_of s n) f)) →
       IsTended (add_row (with_frame s n f) (new_row k (row s.rows n).job made_on g phase))
   made_tended f g k made_on phase same shape maker on isolate =
@@ -261,16 +261,16 @@ module _ (s : State) (slot n : ℕ) (at : IsAt s slot n) (is : IsTended s) where
         isolate = λ m u h kind live. let e = maker m (ap maker_of kind) in rw (e, here_framed f) (isolate m u h kind live);
       }) well.linked well.marked (with_frame_tended f same)
 
-new_shaped : (k : Kind) (j : ℕ) (made_on : Option ℕ) (f : Frame) (p a b : ℕ) (phase : Phase) → IsShaped (new_row k j made_on (called_frame f p a b) phase)
+pub new_shaped : (k : Kind) (j : ℕ) (made_on : Option ℕ) (f : Frame) (p a b : ℕ) (phase : Phase) → IsShaped (new_row k j made_on (called_frame f p a b) phase)
 new_shaped k j made_on f p a b phase = record { registers = refl; marks = refl }
 
-same_number : (n m : ℕ) → Some n ≡ Some m → m ≡ n
+pub same_number : (n m : ℕ) → Some n ≡ Some m → m ≡ n
 same_number n m same = grind (arith, same)
 
-no_number : (n m : ℕ) → None ≡ Some m → m ≡ n
+pub no_number : (n m : ℕ) → None ≡ Some m → m ≡ n
 no_number n m none = let no : None ≡ Some m = none in absurd (cc)
 
-not_on : (t h slot : ℕ) → Unstarted ≡ Live t h → t ≡ slot
+pub not_on : (t h slot : ℕ) → Unstarted ≡ Live t h → t ≡ slot
 not_on t h slot live = let no : Unstarted ≡ Live t h = live in absurd (grind (arith, ap (is_live_at t h) no))
 
 -- a mark that was set
@@ -285,7 +285,7 @@ mark_set (x ∷ xs) (suc g) m (suc k) = elim (mark_set xs g m k) [
 ]
 
 module _ (s : State) (slot n : ℕ) (at : IsAt s slot n) (is : IsTended s) where
-  waited_tended : (f : Frame) (g : ℕ) → SameRegisters (row s.rows n).frame f → is_pending s.rows n g ≡ false → IsTended (waited_at s n f g)
+  pub waited_tended : (f : Frame) (g : ℕ) → SameRegisters (row s.rows n).frame f → is_pending s.rows n g ≡ false → IsTended (waited_at s n f g)
   waited_tended f g same none =
       let m : Mark = record { rows = length s.rows; cancelled = false } in
       let marks = slice_set (row s.rows n).marks g m in
@@ -300,7 +300,7 @@ module _ (s : State) (slot n : ℕ) (at : IsAt s slot n) (is : IsTended s) where
             ]
       ])) at.well.linked is
 
-  cancelled_tended : (f : Frame) (g : ℕ) → SameRegisters (row s.rows n).frame f → IsTended (cancelled_at s n f g)
+  pub cancelled_tended : (f : Frame) (g : ℕ) → SameRegisters (row s.rows n).frame f → IsTended (cancelled_at s n f g)
   cancelled_tended f g same =
       let m = record (mark s.rows n g) { cancelled = true } in
       let marks = slice_set (row s.rows n).marks g m in
@@ -312,10 +312,10 @@ module _ (s : State) (slot n : ℕ) (at : IsAt s slot n) (is : IsTended s) where
       ])) at.well.linked is
 
   module _ (f : Frame) (v : ℤ) (same : SameRegisters (row s.rows n).frame f) where
-    abbrev over : State
+    abbrev pub over : State
     over = on_row s n (λ r. record r { frame = f; phase = Done v })
 
-    over_tended : IsTended over
+    pub over_tended : IsTended over
     over_tended = IsTended-set s n (record (row s.rows n) { frame = f; phase = Done v }) (record {
       from = at.from;
       to = at.to;
@@ -336,7 +336,7 @@ module _ (s : State) (slot n : ℕ) (at : IsAt s slot n) (is : IsTended s) where
         done_kept s n (λ r. record r { frame = f; phase = Done v }) at.from at.to refl refl (at.well.marked n) slot at.live (record { on = λ t. refl; at = λ t h. refl }) refl low.0 at.well
 
     -- the maker of a region that ended is on top, and has its value
-    handed_tended : (m : ℕ) → (row s.rows n).kind ≡ Region m → IsTended (hand_back over (Region m) v)
+    pub handed_tended : (m : ℕ) → (row s.rows n).kind ≡ Region m → IsTended (hand_back over (Region m) v)
     handed_tended m kind =
         let low = live_low s.rows at.well.stacked n slot (height s.rows slot) at.live in
         let there = made_there s at.well.linked n m (ap maker_of kind) in
@@ -364,13 +364,13 @@ module _ (s : State) (slot n : ℕ) (at : IsAt s slot n) (is : IsTended s) where
           bare = top_is_bare over slot m over_kept top;
         }) over_kept.linked over_tended
 
-    ended_tended : (k : Kind) → (row s.rows n).kind ≡ k → IsTended (hand_back over k v)
+    pub ended_tended : (k : Kind) → (row s.rows n).kind ≡ k → IsTended (hand_back over k v)
     ended_tended Root kind = over_tended
     ended_tended Posted kind = over_tended
     ended_tended (Spawned m g) kind = over_tended
     ended_tended (Region m) kind = handed_tended m kind
 
-nested_tended : (s : State) (slot m : ℕ) → IsWellFormed s → slot < s.config.slots → pick s slot ≡ Some m → IsTended s → IsTended (nest s slot m)
+pub nested_tended : (s : State) (slot m : ℕ) → IsWellFormed s → slot < s.config.slots → pick s slot ≡ Some m → IsTended s → IsTended (nest s slot m)
 nested_tended s slot m well low picked is =
     let its = pick_is s.config.isolation s.rows slot m picked in
     let live = Live slot (height s.rows slot + 1) in
@@ -392,7 +392,7 @@ nested_tended s slot m well low picked is =
     }) well.linked is
 
 -- a new job with its root
-added_tended : (s : State) (j : Job) (phase : Phase) → IsWellFormed s → ((t h : ℕ) → phase ≡ Live t h → t < s.config.slots) → IsTended s → IsTended (add_job s j phase)
+pub added_tended : (s : State) (j : Job) (phase : Phase) → IsWellFormed s → ((t h : ℕ) → phase ≡ Live t h → t < s.config.slots) → IsTended s → IsTended (add_job s j phase)
 added_tended s j phase well low is =
     let w = new_job s j in
     let r = new_row Root (length s.jobs + 1) None (new_frame 0 (slice_index_or j.args 0 (pos 0)) (slice_index_or j.args 1 (pos 0))) phase in
@@ -441,14 +441,14 @@ added_tended s j phase well low is =
       reserved = is.reserved;
     }
 
-on_job_tended : (s : State) (j : ℕ) (f : Work → Work) → 1 ≤ j → j ≤ length s.jobs → (f (job s.jobs j)).program ≡ (job s.jobs j).program → (f (job s.jobs j)).root ≡ (job s.jobs j).root → IsTended s → IsTended (on_job s j f)
+pub on_job_tended : (s : State) (j : ℕ) (f : Work → Work) → 1 ≤ j → j ≤ length s.jobs → (f (job s.jobs j)).program ≡ (job s.jobs j).program → (f (job s.jobs j)).root ≡ (job s.jobs j).root → IsTended s → IsTended (on_job s j f)
 on_job_tended s j f from to program root is = IsTended-jobs s (with_at_number s.jobs j (f (job s.jobs j))) (SameJobs-set s.jobs j (f (job s.jobs j)) from to program root) is
 
 retired_or : (o : Option Work) → ((unwrap_or (option_map retired_work o) (job [] 0)).program ≡ (unwrap_or o (job [] 0)).program) × ((unwrap_or (option_map retired_work o) (job [] 0)).root ≡ (unwrap_or o (job [] 0)).root)
 retired_or None = (refl, refl)
 retired_or (Some w) = (refl, refl)
 
-retired_same : (jobs : List Work) → SameJobs jobs (map retired_work jobs)
+pub retired_same : (jobs : List Work) → SameJobs jobs (map retired_work jobs)
 retired_same jobs = record {
   long = length-map jobs retired_work;
   programs = retired_programs jobs;
@@ -480,7 +480,7 @@ tended_advances slot = record {
       let rows = map (faulted_row slot (task_height s.rows slot)) s.rows in
       on_job_tended (record s { rows = rows }) (row s.rows n).job (λ w. record w { fault = first_fault w.fault e }) there.0 there.1 refl refl (IsTended-ends s rows (EndsSome-faulted s.rows slot (task_height s.rows slot)) is);
   frame = λ s n f at p same is. with_frame_tended s slot n at is f same;
-  cells = λ s t is. IsTended-beside s s.entries s.epoch t is;
+  cells = λ s t table is. IsTended-beside s s.entries s.epoch t is;
   spawn = λ s n f g p a b at q same here room is. made_tended s slot n at is (next_place f) (called_frame f p a b) (Spawned n g) (Some slot) Unstarted same (new_shaped (Spawned n g) (row s.rows n).job (Some slot) f p a b Unstarted) (same_number n) (λ t h live. not_on t h slot live)
       (λ m t h kind live. absurd (let no : Unstarted ≡ Live t h = live in grind (arith, ap (is_live_at t h) no)));
   post = λ s n f p a b at q same room is. made_tended s slot n at is (next_place f) (called_frame f p a b) Posted None Unstarted same (new_shaped Posted (row s.rows n).job None f p a b Unstarted) (no_number n) (λ t h live. not_on t h slot live)

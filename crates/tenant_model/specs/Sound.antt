@@ -78,3 +78,9 @@ pub record IsSound (s : State) : Type 0 where
 pub record MakersStay (s : State) : Type 0 where
   pub groups : (n m g : ℕ) → (row s.rows n).kind ≡ Spawned m g → g < GROUPS
   pub makers : (n m : ℕ) → is_open (row s.rows n).phase ≡ true → maker_of (row s.rows n).kind ≡ Some m → (is_open (row s.rows m).phase ≡ true) ⊎ IsSome (job s.jobs (row s.rows n).job).fault
+
+-- What a state keeps at each change of a step, where the groups that instructions name are those of a frame.
+pub record IsSteady (s : State) : Type 0 where
+  pub formed : IsWellFormed s
+  pub tended : IsTended s
+  pub stay : MakersStay s

@@ -1,0 +1,74 @@
+-- What stays where rows change alike.
+use Rattle.std.proofs.Common.{◌≡◌, ◌≢◌, ℕ, zero, suc, ◌+◌, ◌-◌, ◌==◌, ◌<◌, ◌≤◌, List, [], ◌∷◌, ◌++◌, length, Option, Some, None, Bool, true, false, ◌⊎◌, refl, sym, ap, ◌∙◌, arith, inl, inr, get_or, map}
+use Rattle.std.specs.Prelude.{slice_index_or, slice_set, slice_get, sum_by, count_by, is_some, nat_lt, IsSome, if◌then◌else◌}
+use Rattle.std.proofs.lemmas.Bool.{cases_eq}
+use Rattle.cancel_context.specs.Forest.{Forest, Binding, binding, IsHeld, held_count}
+use Rattle.tenant_model.specs.declared.rows.Kind.{Kind}
+use Rattle.tenant_model.specs.declared.rows.Kind.TheVariants.{Root, Posted, Spawned, Region}
+use Rattle.tenant_model.specs.declared.rows.Phase.{Phase}
+use Rattle.tenant_model.specs.declared.rows.Row.{Row}
+use Rattle.tenant_model.specs.State.{State, row, job, with_at_number}
+use Rattle.tenant_model.specs.Walks.{is_open, is_unstarted, is_used, mark, is_context_cancelled, value_in}
+use Rattle.tenant_model.proofs.Contexts.{is_context_cancelled-same}
+use Rattle.arena_rows.specs.declared.rows.OpenRow.{OpenRow}
+use Rattle.arena_rows.specs.declared.rows.CurrentJob.{CurrentJob}
+use Rattle.arena_rows.specs.Represents.{Places, at_place, Assigned, Owner, Nobody, OfJob, OfRow, OfGroup, bound, IsRowContext, IsGroupContext, IsOwned, AreContexts, held_by, IsJob, AreJobs, open_of}
+use Rattle.job_language.specs.declared.instructions.TheConstants.{GROUPS}
+use Rattle.tenant_model.specs.Sound.{IsSettled}
+use Rattle.arena_rows.proofs.Alike.{Alike, mark-same, used-same, open_of-alike}
+
+module _ (s t : State) (alike : Alike s.rows t.rows) (same_jobs : t.jobs ≡ s.jobs) where
+  -- contexts stay
+  opened : (n : ℕ) → is_open (row t.rows n).phase ≡ true → is_open (row s.rows n).phase ≡ true
+  opened n is = sym (alike.opens n) ∙ is
+
+  row_context : (forest : Forest) (at : Assigned) (n : ℕ) (k : Kind) → IsRowContext s forest at n k → IsRowContext t forest at n k
+  row_context forest at n Root is = rw (alike.contexts.sources.jobs n) is
+  row_context forest at n Posted is = rw (alike.contexts.sources.jobs n) is
+  row_context forest at n (Region m) is = is
+  row_context forest at n (Spawned m g) is = rw (alike.opens m) is
+
+  group_context : (forest : Forest) (at : Assigned) (n g : ℕ) (o : Option ℕ) → IsGroupContext s forest at n g o → IsGroupContext t forest at n g o
+  group_context forest at n g None is = rw (used-same s.rows t.rows alike n g, mark-same s.rows t.rows alike n g) is
+  group_context forest at n g (Some c) is = rw (mark-same s.rows t.rows alike n g) is
+
+  owned_still : (retired : ℕ) (at : Assigned) (c : ℕ) (o : Owner) → IsOwned s retired at c o → IsOwned t retired at c o
+  owned_still retired at c Nobody is = is
+  owned_still retired at c (OfJob j) is = rw same_jobs is
+  owned_still retired at c (OfRow n) is = (is.0, alike.opens n ∙ is.1, (is.2.0, is.2.1, alike.contexts.sources.kinds n ∙ is.2.2))
+  owned_still retired at c (OfGroup n g) is = (is.0, alike.opens n ∙ is.1, is.2)
+
+  pub AreContexts-alike : ((n : ℕ) → is_unstarted (row t.rows n).phase ≡ true → is_unstarted (row s.rows n).phase ≡ true) → (retired current : ℕ) (table table' : List (Option OpenRow)) (forest : Forest) (at : Assigned) →
+      ((p : ℕ) (e : OpenRow) → at_place table' p ≡ Some e → (e.context ≡ at.of_row e.number) × ((g : ℕ) → g < GROUPS → slice_index_or e.group_contexts g None ≡ at.of_group e.number g)) →
+      sum_by held_by table' ≡ sum_by held_by table → AreContexts s retired current table forest at → AreContexts t retired current table' forest at
+  AreContexts-alike waits retired current table table' forest at in_table held are = record {
+    of_jobs = λ j from to. rw same_jobs (are.of_jobs j from (rw same_jobs at to));
+    of_rows = λ n is. rw (alike.contexts.sources.kinds n) (row_context forest at n (row s.rows n).kind (are.of_rows n (opened n is)));
+    of_groups = λ n g is few. group_context forest at n g (at.of_group n g) (are.of_groups n g (opened n is) few);
+    bare = λ n g waits_n. are.bare n g (waits n waits_n);
+    owned = λ c held_c. owned_still retired at c (at.owner c) (are.owned c held_c);
+    in_table = in_table;
+    count = are.count ∙ rw held refl;
+  }
+
+  IsJob-alike : (at : Assigned) (j : ℕ) (it : CurrentJob) → IsJob s.rows at j it → IsJob t.rows at j it
+  IsJob-alike at j it is = record {
+    current = is.current;
+    value = is.value ∙ sym (alike.values it.work.root);
+    opened = is.opened ∙ sym (open_of-alike s.rows t.rows alike j);
+    context = is.context;
+  }
+
+  pub AreJobs-alike : (at : Assigned) (retired : ℕ) (jobs : List CurrentJob) → AreJobs s at retired jobs → AreJobs t at retired jobs
+  AreJobs-alike at retired jobs are = record {
+    past = are.past;
+    many = are.many;
+    gone = are.gone;
+    all = same_jobs ∙ are.all;
+    each = λ i d below. IsJob-alike at (retired + i + 1) (get_or jobs i d) (are.each i d below);
+    later = λ n is. rw (alike.contexts.sources.jobs n) (are.later n (opened n is));
+    few = are.few;
+  }
+
+  pub IsSettled-alike : ((n : ℕ) → is_unstarted (row t.rows n).phase ≡ true → is_unstarted (row s.rows n).phase ≡ true) → IsSettled s → IsSettled t
+  IsSettled-alike waits is n waits_n = is_context_cancelled-same s t alike.contexts same_jobs n ∙ is n (waits n waits_n)

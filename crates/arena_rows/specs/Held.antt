@@ -1,0 +1,50 @@
+-- What an arena holds.
+use Rattle.std.specs.Prelude.{ℕ, ◌≤◌, ◌&&◌, ◌==◌, Bool, true, false, if◌then◌else◌, List, [], ◌∷◌, Option, Some, None, slice_index_or, slice_set, vec_capacity, map, length}
+use Rattle.job_language.specs.declared.tenants.Tenant.{Tenant}
+use Rattle.cancel_context.specs.Forest.{Forest}
+use Rattle.nest_stack.specs.Nest.{Stacks}
+use Rattle.ready_pool.specs.Ready.{Ready}
+use Rattle.region_tag.specs.Region.{Table}
+use Rattle.thread_cells.specs.Cells as cells
+use Rattle.tenant_model.specs.declared.works.TheConstants.{MAX_JOBS}
+use Rattle.arena_rows.specs.declared.rows.OpenRow.{OpenRow}
+use Rattle.arena_rows.specs.declared.rows.CurrentJob.{CurrentJob}
+use Rattle.arena_rows.specs.declared.parts.Parts.TheInside.{Inside}
+
+-- The open rows stand by their places.
+pub record Held : Type 0 where
+  pub config : Tenant
+  pub table : List (Option OpenRow)
+  pub free : List ℕ
+  pub made : ℕ
+  pub jobs : List CurrentJob
+  pub retired : ℕ
+  pub cells : cells.Table
+  pub entries : ℕ
+  pub epoch : ℕ
+  pub regions : Table
+  pub contexts : Forest
+  pub pool : Ready
+  pub nests : Stacks
+
+abbrev pub shown : Inside → Held
+shown p = record {
+  config = p.config;
+  table = p.table.items;
+  free = p.free.items;
+  made = p.made;
+  jobs = p.jobs.items;
+  retired = p.retired;
+  cells = p.cells;
+  entries = p.entries;
+  epoch = p.epoch;
+  regions = p.regions;
+  contexts = p.contexts;
+  pool = p.pool;
+  nests = p.nests;
+}
+
+-- A place or a job more needs no memory.
+pub record IsRoomy (p : Inside) : Type 0 where
+  pub places : length p.table.items ≤ vec_capacity p.free
+  pub jobs : MAX_JOBS ≤ vec_capacity p.jobs

@@ -1,0 +1,9 @@
+//! The open rows of one tenant in the parts that answer at a cost that does not grow, and which states they stand for.
+#![tactic(auto)]
+
+mod changes;
+mod parts;
+mod rows;
+
+pub use parts::Parts;
+pub use rows::{CurrentJob, OpenRow, Source, Stage};

@@ -1,0 +1,100 @@
+// The parts of an arena, and what they answer.
+ghost use Rattle.std.specs.Prelude.{◌≡◌, ◌<◌, length, nat_le, option_and_then};
+ghost use Rattle.nest_stack.specs.Nest.{stack, top};
+ghost use Rattle.region_tag.specs.Region.{region_of};
+
+use crate::rows::{CurrentJob, OpenRow};
+use cancel_context::Contexts;
+use job_language::{Tenant, TenantConfig};
+use nest_stack::{Nested, Nests};
+use ready_pool::Pool;
+use region_tag::{Regions, RowId};
+use std::marker::Model;
+use thread_cells::Cells;
+
+/// What an arena is made of: its open rows by their places, and the leaves that say what they may do.
+#[derive(Drop)]
+pub struct Parts {
+    pub(crate) config: TenantConfig,
+    /// The open rows, by their places.
+    pub(crate) table: Vec<Option<OpenRow>>,
+    /// The places that are free.
+    pub(crate) free: Vec<usize>,
+    /// How many rows were made.
+    pub(crate) made: u64,
+    /// The jobs that are not retired, and how many are.
+    pub(crate) jobs: Vec<CurrentJob>,
+    pub(crate) retired: u64,
+    pub(crate) cells: Cells,
+    pub(crate) entries: usize,
+    pub(crate) epoch: u64,
+    pub(crate) regions: Regions,
+    pub(crate) contexts: Contexts,
+    pub(crate) pool: Pool,
+    pub(crate) nests: Nests,
+}
+
+impl Model for Parts {
+    ghost use Rattle.arena_rows.specs.Held.{Held, shown, IsRoomy};
+
+    ghost Value = { Held };
+
+    ghost view = { shown };
+
+    ghost invariant = { IsRoomy };
+}
+
+impl Parts {
+    ghost use Rattle.job_language.specs.Tenant.{IsValidTenant};
+    ghost use Rattle.arena_rows.specs.HeldChanges.{picked};
+
+    /// What the tenant is given.
+    pub fn config(&self) -> &Tenant
+        ensures value { result.now ≡ self.now.config }
+        ensures valid { IsValidTenant self.now.config }
+    {
+        self.config.tenant()
+    }
+
+    /// Whether no step may be an entry any more.
+    pub fn is_full(&self) -> bool
+        ensures { result ≡ nat_le self.now.config.steps self.now.entries }
+    {
+        self.config.tenant().steps <= self.entries
+    }
+
+    /// How many rows are on a slot.
+    pub fn height(&self, slot: u8) -> usize
+        requires { slot < length self.now.nests }
+        ensures { result ≡ length (stack self.now.nests slot) }
+    {
+        self.nests.height(usize::from(slot))
+    }
+
+    /// The topmost row of a slot.
+    pub fn top(&self, slot: u8) -> Option<Nested>
+        requires { slot < length self.now.nests }
+        ensures { result ≡ top (stack self.now.nests slot) }
+    {
+        self.nests.top(usize::from(slot))
+    }
+
+    /// The region of a slot's topmost row.
+    fn region_on(&self, slot: u8) -> Option<RowId>
+        requires { slot < length self.now.nests }
+        ensures { result ≡ option_and_then (λ n. region_of self.now.regions n.row) (top (stack self.now.nests slot)) }
+    {
+        let top = self.nests.top(usize::from(slot))?;
+        self.regions.region_of(top.row)
+    }
+
+    /// The row that a slot takes next.
+    pub fn pick(&self, slot: u8) -> Option<RowId>
+        requires slot { slot < length self.now.nests }
+        requires slots { slot < self.now.pool.slots }
+        ensures { result ≡ picked self.now slot }
+    {
+        let region = self.region_on(slot);
+        self.pool.pick(usize::from(slot), region, &self.regions)
+    }
+}

@@ -1,0 +1,58 @@
+// Open rows, and the jobs that are not retired.
+use cancel_context::ContextId;
+use job_language::{GROUPS, Group};
+use job_step::Frame;
+use region_tag::RowId;
+use task_group::Groups;
+use tenant_model::Work;
+
+/// What made an open row, and what for.
+#[derive(Clone, Copy)]
+pub enum Source {
+    /// The root of a job.
+    Root,
+    /// Posted by some row of the job.
+    Posted,
+    /// Spawned by that row into one of its groups. The row may have ended by a fault since.
+    Spawned(RowId, Group),
+    /// A region that the row isolated.
+    Region(RowId),
+}
+
+/// How far an open row is.
+#[derive(Clone, Copy)]
+pub enum Stage {
+    /// It waits to be started, with that frame.
+    Waiting(Frame),
+    /// It is on the stack of a slot, at a height from 1. Its frame is there.
+    Live(u8, u64),
+}
+
+/// An open row.
+#[derive(Clone, Copy)]
+pub struct OpenRow {
+    pub number: u64,
+    pub source: Source,
+    pub job: u64,
+    /// The slot on which it was made; roots and posts are made on none.
+    pub made_on: Option<u8>,
+    pub stage: Stage,
+    /// Its groups, and the context of each that is used or cancelled.
+    pub groups: Groups,
+    pub group_contexts: [Option<ContextId>; GROUPS],
+    /// The context that its groups are bound to: its own where it was spawned, its maker's for a
+    /// region, its job's for a root or a post.
+    pub context: ContextId,
+}
+
+/// A job that is not retired.
+#[derive(Drop)]
+pub struct CurrentJob {
+    pub work: Work,
+    /// The value of its root, and 0 before it has one.
+    pub value: i64,
+    /// How many of its rows are open.
+    pub open_rows: usize,
+    /// Its context.
+    pub context: ContextId,
+}
