@@ -109,9 +109,9 @@ dropped_waits r b (Done v) is opened ended = absurd (grind (arith, opened))
 dropped_waits r b Dropped is opened ended = absurd (grind (arith, opened))
 dropped_waits r b Faulted is opened ended = absurd (grind (arith, opened))
 
-nowhere_open : (rows : List Row) (n : ℕ) → is_open (row rows n).phase ≡ true → (1 ≤ n) × (n ≤ length rows)
-nowhere_open rows zero opened = absurd (grind (arith, opened))
-nowhere_open rows (suc n) opened = elim (cases_lt (length rows) (suc n)) [
+pub open_there : (rows : List Row) (n : ℕ) → is_open (row rows n).phase ≡ true → (1 ≤ n) × (n ≤ length rows)
+open_there rows zero opened = absurd (grind (arith, opened))
+open_there rows (suc n) opened = elim (cases_lt (length rows) (suc n)) [
   | inl past ↦ absurd (let no : is_open (row rows (suc n)).phase ≡ false = rw (row-past rows (suc n) past) refl in grind (arith, no, opened))
   | inr within ↦ (omega arith, within)
 ]
@@ -121,7 +121,7 @@ entry_stays s is =
     let t = record s { entries = s.entries + 1 } in (
       entry_tended s is.0,
       MakersStay-ends t (settle t).rows (EndsSome-settle t) (λ x m opened made was_open ended.
-          let there = nowhere_open s.rows m was_open in
+          let there = open_there s.rows m was_open in
           let settled : is_open (settled_row (row s.rows m) (is_context_cancelled t m)).phase ≡ false = ap (λ (r : Row). is_open r.phase) (sym (row-settle t m there.0 there.1)) ∙ ended in
           let waits = dropped_waits (row s.rows m) (is_context_cancelled t m) (row s.rows m).phase refl was_open settled in
           absurd (grind (arith, waits, is.0.started x m made)))

@@ -12,7 +12,7 @@ use Rattle.tenant_model.proofs.Chains.{chain_goes_on, chain_ends}
 use Rattle.tenant_model.proofs.Changed.{row-push_old}
 
 -- the maker of a row, or none
-maker_cases : (o : Option ℕ) → (o ≡ None) ⊎ ((m : ℕ) × (o ≡ Some m))
+pub maker_cases : (o : Option ℕ) → (o ≡ None) ⊎ ((m : ℕ) × (o ≡ Some m))
 maker_cases None = inl refl
 maker_cases (Some m) = inr (m, refl)
 
@@ -51,7 +51,7 @@ module _ (rows : List Row) (precede : MakersPrecede rows) where
   pub within_by_maker : (n m r : ℕ) → 1 ≤ n → n ≤ length rows → maker_of (row rows n).kind ≡ Some m → is_within rows m r ≡ true → is_within rows n r ≡ true
   within_by_maker n m r from to made within = rw (chain_goes_on rows precede n m from to made, within) (grind arith)
 
-  maker_before : (n m : ℕ) → 1 ≤ n → n ≤ length rows → maker_of (row rows n).kind ≡ Some m → (1 ≤ m) × (m < n)
+  pub maker_before : (n m : ℕ) → 1 ≤ n → n ≤ length rows → maker_of (row rows n).kind ≡ Some m → (1 ≤ m) × (m < n)
   maker_before n m from to made = let before : IfSome (Some m) (λ k. (1 ≤ k) × (k < n)) = rw made at (precede n from to) in before
 
   -- The rows on a chain stand before its first, or are it.
@@ -92,16 +92,16 @@ module _ (rows : List Row) (precede : MakersPrecede rows) where
   ]
 
   -- the region of a row, by whether it is one
-  region_of-here : (n : ℕ) → 1 ≤ n → n ≤ length rows → is_region (row rows n).kind ≡ true → region_of rows n ≡ Some n
+  pub region_of-here : (n : ℕ) → 1 ≤ n → n ≤ length rows → is_region (row rows n).kind ≡ true → region_of rows n ≡ Some n
   region_of-here n from to is_one = elim (maker_cases (maker_of (row rows n).kind)) [
     | inl none ↦ rw (chain_ends rows n from none, is_one) refl
     | inr made ↦ rw (chain_goes_on rows precede n made.0 from to made.1, is_one) refl
   ]
 
-  region_of-above : (n m : ℕ) → 1 ≤ n → n ≤ length rows → is_region (row rows n).kind ≡ false → maker_of (row rows n).kind ≡ Some m → region_of rows n ≡ region_of rows m
+  pub region_of-above : (n m : ℕ) → 1 ≤ n → n ≤ length rows → is_region (row rows n).kind ≡ false → maker_of (row rows n).kind ≡ Some m → region_of rows n ≡ region_of rows m
   region_of-above n m from to is_none made = rw (chain_goes_on rows precede n m from to made, is_none) refl
 
-  region_of-none : (n : ℕ) → 1 ≤ n → n ≤ length rows → is_region (row rows n).kind ≡ false → maker_of (row rows n).kind ≡ None → region_of rows n ≡ None
+  pub region_of-none : (n : ℕ) → 1 ≤ n → n ≤ length rows → is_region (row rows n).kind ≡ false → maker_of (row rows n).kind ≡ None → region_of rows n ≡ None
   region_of-none n from to is_none none = rw (chain_ends rows n from none, is_none) refl
 
   -- The region of a row is within all regions that the row is within.
