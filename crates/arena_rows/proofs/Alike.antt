@@ -1,5 +1,5 @@
 -- Rows that differ in frames, and in phases that are open alike.
-use Rattle.std.proofs.Common.{◌≡◌, ℕ, zero, suc, ◌+◌, ◌-◌, ◌==◌, ◌<◌, ◌≤◌, ℤ, pos, List, [], ◌∷◌, length, Option, Some, None, Bool, true, false, ◌&&◌, nat_lt, refl, sym, ap, ◌∙◌, arith, inl, inr, map, ◌⊎◌}
+use Rattle.std.proofs.Common.{◌≡◌, ℕ, zero, suc, ◌+◌, ◌-◌, ◌==◌, ◌<◌, ◌≤◌, ℤ, pos, List, [], ◌∷◌, ◌++◌, length, Option, Some, None, Bool, true, false, ◌&&◌, nat_lt, refl, sym, ap, ◌∙◌, arith, inl, inr, map, ◌⊎◌}
 use Rattle.std.specs.Prelude.{filter, fold, find, count_by, slice_index_or}
 use Rattle.std.specs.List.{enumerate_from}
 use Rattle.std.specs.Int.{int_wrapping_add, w64}
@@ -62,6 +62,9 @@ count-like p q (x ∷ xs) (y ∷ ys) same like =
 
 pub count_cons : {A : Type 0} (p : A → Bool) (x : A) (xs : List A) → count_by p (x ∷ xs) ≡ one_if (p x) + count_by p xs
 count_cons p x xs = sum_by-append (λ r. one_if (p r)) (x ∷ []) xs ∙ omega arith
+
+pub count_append : {A : Type 0} (p : A → Bool) (xs ys : List A) → count_by p (xs ++ ys) ≡ count_by p xs + count_by p ys
+count_append p xs ys = sum_by-append (λ r. one_if (p r)) xs ys
 
 -- what is counted of the members of a group
 abbrev pub member : (f g since : ℕ) → NumberedRow → Bool
@@ -150,6 +153,8 @@ module _ (a b : List Row) (alike : Alike a b) where
     made_on = is.made_on ∙ sym (alike.made_on n);
     stage = is.stage ∙ sym stage;
     groups = λ g few. IsGroup-alike n g (group e.groups g) (is.groups g few);
+    all_groups = is.all_groups;
+    all_contexts = is.all_contexts;
   }
 
 -- a row changed in its frame, or in a phase that is open alike

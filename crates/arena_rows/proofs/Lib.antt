@@ -16,3 +16,10 @@ pub mod Ends
 pub mod Putting
 pub mod Spawned
 pub mod Dropped
+pub mod Placed
+pub mod PushedRows
+pub mod Pushing
+pub mod Bound
+pub mod Grouped
+pub mod Making
+pub mod Made

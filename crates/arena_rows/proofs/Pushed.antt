@@ -33,7 +33,7 @@ module _ (nests : List (List Nested)) (slot : ℕ) (new : List Nested) (within :
 
 -- row n, which was on no slot, on top of one
 module _ (rows rows' : List Row) (places : Places) (slots : ℕ) (nests : List (List Nested)) (n slot : ℕ) (are : AreNests rows places slots nests) (within : slot < slots)
-    (off : is_unstarted (row rows n).phase ≡ true) (live : (row rows' n).phase ≡ Live slot (length (stack nests slot) + 1)) (others : (m : ℕ) → m ≢ n → row rows' m ≡ row rows m) where
+    (off : (t h : ℕ) → (row rows n).phase ≡ Live t h → ⊥) (live : (row rows' n).phase ≡ Live slot (length (stack nests slot) + 1)) (others : (m : ℕ) → m ≢ n → row rows' m ≡ row rows m) where
   abbrev top : Nested
   top = nested_of rows' places n
 
@@ -58,10 +58,7 @@ module _ (rows rows' : List Row) (places : Places) (slots : ℕ) (nests : List (
   still : (t h : ℕ) → (m : ℕ) × ((row rows m).phase ≡ Live t h) → (m : ℕ) × ((row rows' m).phase ≡ Live t h)
   still t h found =
       let m = found.0 in
-      let other : m ≢ n = λ same.
-      let no : is_unstarted (row rows m).phase ≡ false = rw found.1 refl in
-      let it_does : is_unstarted (row rows m).phase ≡ true = rw same off in
-      grind (arith, no, it_does) in
+      let other : m ≢ n = λ same. off t h (ap (λ k. (row rows k).phase) (sym same) ∙ found.1) in
       (m, ap (λ (r : Row). r.phase) (others m other) ∙ found.1)
 
   pub AreNests-pushed : AreNests rows' places slots (with_stack nests slot new_stack)

@@ -105,6 +105,8 @@ module _ (a : Held) (s : State) (is : Holds a s) (slot n : ℕ) (e : OpenRow) (f
     made_on = is_row.made_on ∙ rw here refl;
     stage = rw (here, high) refl;
     groups = λ g few. IsGroup-alike s.rows (with_at_number s.rows n r) alike n g _ (is_row.groups g few);
+    all_groups = is_row.all_groups;
+    all_contexts = is_row.all_contexts;
   }
 
   started_phase : is_unstarted r.phase ≡ false
@@ -131,7 +133,7 @@ module _ (a : Held) (s : State) (is : Holds a s) (slot n : ℕ) (e : OpenRow) (f
     made = is.made ∙ sym alike.contexts.sources.long;
     table = AreRows-set s.rows (with_at_number s.rows n r) is.places a.table n e e' alike opened is.table there is_row.number is_row' (λ m other. rw (others m other) refl);
     free = AreFree-set s.rows (with_at_number s.rows n r) is.places a.table n e e' alike opened is.table there is_row.number is_row' (λ m other. rw (others m other) refl) a.config.rows a.free is.free;
-    nests = rw (← pushed_is) (AreNests-pushed s.rows (with_at_number s.rows n r) is.places a.config.slots a.nests n slot is.nests within off (rw (here, high) refl) others);
+    nests = rw (← pushed_is) (AreNests-pushed s.rows (with_at_number s.rows n r) is.places a.config.slots a.nests n slot is.nests within (λ t h live. absurd (let started : is_unstarted (row s.rows n).phase ≡ false = rw live refl in grind (arith, started, off))) (rw (here, high) refl) others);
     tags = AreTagged-set s.rows (with_at_number s.rows n r) is.places a.table n e e' alike opened is.table there is_row.number is_row' (λ m other. rw (others m other) refl) a.regions is.tags;
     waiting = rw is.waiting (ap (λ rows. let p : Ready = record { isolation = a.config.isolation; limit = a.config.rows; slots = a.config.slots; rows = rows } in p) (pool-without s.rows (with_at_number s.rows n r) is.places n alike (waiting-with s.rows n r from to started_phase)));
     contexts = AreContexts-alike s (nest s slot n) alike refl fewer a.retired (length a.jobs) a.table _ a.contexts is.assigned

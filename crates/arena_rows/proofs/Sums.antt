@@ -40,6 +40,10 @@ summed_more : (s x : ℤ) (ps : List NumberedRow) → summed (add s x) ps ≡ ad
 summed_more s x [] = refl
 summed_more s x (p ∷ ps) = ap (λ t. summed t ps) (add_swap s x (value_in p.1.phase)) ∙ summed_more (add s (value_in p.1.phase)) x ps
 
+-- A member without a value adds nothing.
+pub summed_nothing : (ps : List NumberedRow) → add (summed (pos 0) ps) (pos 0) ≡ summed (pos 0) ps
+summed_nothing ps = sym (summed_more (pos 0) (pos 0) ps)
+
 -- A member that had no value is done.
 pub total-done : (f g since n k i : ℕ) (s : ℤ) (r d : Row) (xs : List Row) → n ≡ k + i → i < length xs → r.kind ≡ (get_or xs i d).kind → value_in (get_or xs i d).phase ≡ pos 0 → member f g since (n, get_or xs i d) ≡ true →
     summed s (filter (member f g since) (enumerate_from k (slice_set xs i r))) ≡ add (summed s (filter (member f g since) (enumerate_from k xs))) (value_in r.phase)

@@ -1,12 +1,20 @@
 -- What the changes of an arena's parts do to what they hold.
-use Rattle.std.specs.Prelude.{ℕ, ◌+◌, false, List, [], ◌∷◌, ◌++◌, Option, Some, slice_set, length, option_and_then}
+use Rattle.std.specs.Prelude.{ℕ, ◌≡◌, ◌≢◌, ◌<◌, ◌+◌, ◌-◌, All, Bool, true, false, List, [], ◌∷◌, ◌++◌, Option, Some, None, slice_index_or, slice_set, length, take, option_and_then}
 use Rattle.job_step.specs.declared.frames.Frame.{Frame}
 use Rattle.region_tag.specs.declared.row_id.RowId.{RowId}
-use Rattle.region_tag.specs.Region.{region_of}
+use Rattle.region_tag.specs.Region.{Table, region_of, tagged}
+use Rattle.cancel_context.specs.Forest.{with_bound}
+use Rattle.task_group.specs.Groups.{group}
+use Rattle.ready_pool.specs.declared.pool.Waiting.{Waiting}
+use Rattle.std.specs.Option.{ForSome}
 use Rattle.ready_pool.specs.Ready as ready
+use Rattle.ready_pool.specs.Ready.{IsRegionEntered}
 use Rattle.nest_stack.specs.declared.stack.Nested.{Nested}
 use Rattle.nest_stack.specs.Nest.{stack, with_stack, with_top_frame, top}
 use Rattle.arena_rows.specs.declared.rows.OpenRow.{OpenRow}
+use Rattle.arena_rows.specs.declared.rows.CurrentJob.{CurrentJob}
+use Rattle.arena_rows.specs.declared.rows.Source.{Source}
+use Rattle.arena_rows.specs.declared.rows.Source.TheVariants.{Root, Posted, Spawned, Region}
 use Rattle.arena_rows.specs.declared.rows.Stage.TheVariants.{Live}
 use Rattle.arena_rows.specs.Held.{Held}
 
@@ -28,3 +36,74 @@ framed a slot f = record a { nests = with_stack a.nests slot (with_top_frame (st
 
 abbrev pub counted : Held → Held
 counted a = record a { entries = a.entries + 1 }
+
+-- the place that the next row takes, and the others that are free
+abbrev pub next_place : Held → ℕ
+next_place a = slice_index_or a.free (length a.free - 1) 0
+
+abbrev pub other_places : Held → List ℕ
+other_places a = take (length a.free - 1) a.free
+
+-- the next row
+abbrev pub next_id : Held → RowId
+next_id a = record { number = a.made + 1; place = next_place a }
+
+-- where a job that is not retired stands among those that are not
+abbrev pub index_of : Held → (job : ℕ) → ℕ
+index_of a j = j - a.retired - 1
+
+-- the tag of what makes a row, and whether the row is a region
+abbrev pub outer_of : Table → Source → Option RowId
+outer_of regions Root = None
+outer_of regions Posted = None
+outer_of regions (Spawned m g) = region_of regions m
+outer_of regions (Region m) = region_of regions m
+
+abbrev pub is_region_source : Source → Bool
+is_region_source (Region m) = true
+is_region_source s = false
+
+-- the next row in the table and among the regions
+abbrev pub entered : Held → OpenRow → Held
+entered a e = record a {
+  table = slice_set a.table (next_place a) (Some e);
+  free = other_places a;
+  made = a.made + 1;
+  regions = slice_set a.regions (next_place a) (Some (tagged (next_id a) (outer_of a.regions e.source) (is_region_source e.source)));
+}
+
+-- one more open row of a job
+abbrev pub with_open : CurrentJob → CurrentJob
+with_open it = record it { open_rows = it.open_rows + 1 }
+
+abbrev pub job_counted : Held → (job : ℕ) → CurrentJob → Held
+job_counted a j d = record a { jobs = slice_set a.jobs (index_of a j) (with_open (slice_index_or a.jobs (index_of a j) d)) }
+
+-- the entry of a row that another one joined as a member of its group
+abbrev pub with_member : ℕ → OpenRow → OpenRow
+with_member g e = let joined = group e.groups g in record e { groups = slice_set e.groups g (record joined { pending = joined.pending + 1; is_used = true }) }
+
+abbrev pub with_entry : Held → (place : ℕ) → OpenRow → Held
+with_entry a p e = record a { table = slice_set a.table p (Some e) }
+
+-- the row waits to be started
+abbrev pub put : Held → Waiting → Held
+put a w = record a { pool = ready.with_row a.pool w }
+
+-- a context more
+abbrev pub bound_to : Held → (context : ℕ) → (parent : Option ℕ) → Held
+bound_to a c parent = record a { contexts = with_bound a.contexts c parent }
+
+abbrev pub with_group : ℕ → ℕ → OpenRow → OpenRow
+with_group g c e = record e { group_contexts = slice_set e.group_contexts g (Some c) }
+
+-- what the pool asks of a new row that is to wait
+pub record CanWait (a : Held) (id : RowId) (made_on : Option ℕ) : Type 0 where
+  pub room : length a.pool.rows < a.pool.limit
+  pub newest : All (λ (w : Waiting). w.row.number < id.number) a.pool.rows
+  pub place : id.place < a.pool.limit
+  pub free : All (λ (w : Waiting). w.row.place ≢ id.place) a.pool.rows
+  pub slot : ForSome made_on (λ slot. slot < a.pool.slots)
+  pub places : length a.regions ≡ a.pool.limit
+  pub region : IsRegionEntered a.regions (region_of a.regions id)
+  pub regions : All (λ (w : Waiting). IsRegionEntered a.regions w.region) a.pool.rows

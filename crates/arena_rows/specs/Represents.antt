@@ -66,6 +66,8 @@ pub record IsRow (rows : List Row) (places : Places) (n : ℕ) (e : OpenRow) : T
   pub made_on : e.made_on ≡ (row rows n).made_on
   pub stage : e.stage ≡ stage_of (row rows n).frame (row rows n).phase
   pub groups : (g : ℕ) → g < GROUPS → IsGroup rows n g (group e.groups g)
+  pub all_groups : length e.groups ≡ GROUPS
+  pub all_contexts : length e.group_contexts ≡ GROUPS
 
 -- row n stands at its place
 pub record Stands (rows : List Row) (places : Places) (table : List (Option OpenRow)) (n : ℕ) : Type 0 where

@@ -1,16 +1,22 @@
 // Changes of an arena's parts, one at a time.
-ghost use Rattle.std.specs.Prelude.{◌≡◌, ◌<◌, length};
+ghost use Rattle.std.specs.Prelude.{◌≡◌, ◌<◌, ◌≤◌, ◌+◌, ◌-◌, ◌^◌, length, slice_index_or, replicate, Some, None};
+ghost use Rattle.std.specs.Option.{ForSome};
+ghost use Rattle.task_group.specs.Groups.{group, no_members};
+ghost use Rattle.arena_rows.specs.declared.rows.CurrentJob.{CurrentJob};
 ghost use Rattle.nest_stack.specs.Nest.{stack};
 ghost use Rattle.job_step.specs.declared.frames.Frame.{Frame};
 ghost use Rattle.arena_rows.specs.declared.rows.OpenRow.{OpenRow};
 ghost use Rattle.arena_rows.specs.declared.rows.Stage.TheVariants as stage;
 ghost use Rattle.arena_rows.specs.Represents.{at_place};
-ghost use Rattle.arena_rows.specs.HeldChanges.{started, counted, framed};
+ghost use Rattle.arena_rows.specs.HeldChanges.{started, counted, framed, next_place, next_id, index_of, outer_of, entered, job_counted, with_entry, with_member};
 
 use crate::parts::Parts;
-use crate::rows::{OpenRow, Stage};
+use crate::rows::{OpenRow, Source, Stage};
+use cancel_context::ContextId;
+use job_language::{GROUPS, Group};
 use job_step::Frame;
 use region_tag::RowId;
+use task_group::Groups;
 
 impl Parts {
     /// A row that waits goes live on top of a slot.
@@ -50,5 +56,83 @@ impl Parts {
         ensures { self.new ≡ framed self.old slot frame }
     {
         self.nests.set_top(usize::from(slot), frame);
+    }
+
+    /// Where a job that is not retired stands among those that are not.
+    fn index_of(&self, job: u64) -> usize
+        requires above { self.now.retired < job }
+        requires below { job - self.now.retired ≤ length self.now.jobs }
+        ensures value { result ≡ index_of self.now job }
+        ensures within { result < length self.now.jobs }
+    {
+        (job - self.retired - 1) as usize
+    }
+
+    /// Takes the next row into the table, and among the regions.
+    fn enter(
+        &mut self,
+        source: Source,
+        job: u64,
+        made_on: Option<u8>,
+        stage: Stage,
+        context: ContextId,
+    ) -> RowId
+        requires free { 0 < length self.old.free }
+        requires few { self.old.made < 2 ^ 32 }
+        requires place { next_place self.old < length self.old.table }
+        requires regions { next_place self.old < length self.old.regions }
+        requires vacant { slice_index_or self.old.regions (next_place self.old) None ≡ None }
+        requires earlier { ForSome (outer_of self.old.regions source) (λ region. region.number < self.old.made + 1) }
+        ensures row { result ≡ next_id self.old }
+        ensures entered { self.new ≡ entered self.old (record { number = self.old.made + 1; source = source; job = job; made_on = made_on;
+            stage = stage; groups = no_members; group_contexts = replicate GROUPS None; context = context }) }
+    {
+        let Some(place) = self.free.pop() else {
+            unreachable!();
+        };
+        self.made += 1;
+        let number = self.made;
+        let row = RowId { number, place };
+        let outer = match source {
+            Source::Root | Source::Posted => None,
+            Source::Spawned(maker, _) | Source::Region(maker) => self.regions.region_of(maker),
+        };
+        let is_region = matches!(source, Source::Region(_));
+        self.regions.enter(row, outer, is_region);
+        self.table[place] = Some(OpenRow {
+            number,
+            source,
+            job,
+            made_on,
+            stage,
+            groups: Groups::new(),
+            group_contexts: [None; GROUPS],
+            context,
+        });
+        row
+    }
+
+    /// Counts one more open row of a job.
+    fn count_row(&mut self, job: u64)
+        requires above { self.old.retired < job }
+        requires below { job - self.old.retired ≤ length self.old.jobs }
+        requires few { (d : CurrentJob) → (slice_index_or self.old.jobs (index_of self.old job) d).open_rows < 2 ^ 32 }
+        ensures { (d : CurrentJob) → self.new ≡ job_counted self.old job d }
+    {
+        let index = self.index_of(job);
+        self.jobs[index].open_rows += 1;
+    }
+
+    /// Lets the row at a place have one more member in a group.
+    fn join(&mut self, place: usize, number: Group)
+        requires place { place < length self.old.table }
+        requires few { (e : OpenRow) → at_place self.old.table place ≡ Some e → (group e.groups number).pending < u32.MAX }
+        ensures { (e : OpenRow) → at_place self.old.table place ≡ Some e → self.new ≡ with_entry self.old place (with_member number e) }
+    {
+        let Some(mut maker) = self.table[place] else {
+            return;
+        };
+        maker.groups.add(number.index());
+        self.table[place] = Some(maker);
     }
 }
