@@ -11,3 +11,4 @@ pub mod SerialOwn
 pub mod SerialAdvances
 pub mod SerialAsks
 pub mod SerialAnswers
+pub mod Worked

@@ -1,1 +1,2 @@
 pub mod SerialValues
+pub mod Worked

@@ -7,6 +7,7 @@ use std::test::Fail;
 mod cancellation;
 mod limits;
 mod numbers;
+mod random_serial_jobs;
 mod regions;
 mod retiring;
 mod serial_values;
