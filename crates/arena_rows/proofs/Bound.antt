@@ -129,19 +129,24 @@ module _ (s : State) (retired current : ℕ) (table : List (Option OpenRow)) (fo
       | inl same ↦
           let x_is : with_group g c e ≡ x = ap (λ o. unwrap_or o x) (sym (get_or-set_same table p (Some (with_group g c e)) None within) ∙ ap (at_place (slice_set table p (Some (with_group g c e)))) (sym same) ∙ at_q) in
           let its = are.in_table p e there in
-          rw (← x_is) (its.0, λ h few_h. elim (cases_eq h g) [
-            | inl here ↦ rw (here, number) (get_or-set_same e.group_contexts g (Some c) None (omega (arith, few, long)) ∙ sym group_here)
-            | inr else_where ↦
-                let apart : ((e.number == n) && (h == g)) ≡ false = grind (arith, else_where) in
-                get_or-set_other e.group_contexts g h (Some c) None else_where ∙ its.1 h few_h ∙ sym (group_else e.number h apart)
-          ])
+          rw (← x_is) (
+            its.0,
+            λ h few_h. elim (cases_eq h g) [
+              | inl here ↦ rw (here, number) (get_or-set_same e.group_contexts g (Some c) None (omega (arith, few, long)) ∙ sym group_here)
+              | inr else_where ↦
+                  let apart : ((e.number == n) && (h == g)) ≡ false = grind (arith, else_where) in
+                  get_or-set_other e.group_contexts g h (Some c) None else_where ∙ its.1 h few_h ∙ sym (group_else e.number h apart)
+            ],
+          )
       | inr other ↦
           let before : at_place table q ≡ Some x = sym (get_or-set_other table p q (Some (with_group g c e)) None other) ∙ at_q in
-          let its = are.in_table q x before in
-          (its.0, λ h few_h.
-              let not_it : x.number ≢ n = λ same. other (only_place q x before same) in
-              let apart : ((x.number == n) && (h == g)) ≡ false = grind (arith, not_it) in
-              its.1 h few_h ∙ sym (group_else x.number h apart))
+          let its = are.in_table q x before in (
+            its.0,
+            λ h few_h.
+                let not_it : x.number ≢ n = λ same. other (only_place q x before same) in
+                let apart : ((x.number == n) && (h == g)) ≡ false = grind (arith, not_it) in
+                its.1 h few_h ∙ sym (group_else x.number h apart),
+          )
     ];
     count = count ∙ omega (arith, are.count, sum_by-set held_by table p (Some (with_group g c e)) None within, ap held_by there, held_more);
   }

@@ -84,8 +84,16 @@ impl Parts {
         requires vacant { slice_index_or self.old.regions (next_place self.old) None ≡ None }
         requires earlier { ForSome (outer_of self.old.regions source) (λ region. region.number < self.old.made + 1) }
         ensures row { result ≡ next_id self.old }
-        ensures entered { self.new ≡ entered self.old (record { number = self.old.made + 1; source = source; job = job; made_on = made_on;
-            stage = stage; groups = no_members; group_contexts = replicate GROUPS None; context = context }) }
+        ensures entered { self.new ≡ entered self.old (record {
+          number = self.old.made + 1;
+          source = source;
+          job = job;
+          made_on = made_on;
+          stage = stage;
+          groups = no_members;
+          group_contexts = replicate GROUPS None;
+          context = context;
+        }) }
     {
         let Some(place) = self.free.pop() else {
             unreachable!();

@@ -2,6 +2,7 @@
 #![tactic(auto)]
 
 mod changes;
+mod limits;
 mod parts;
 mod rows;
 
