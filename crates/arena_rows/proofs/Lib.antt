@@ -23,3 +23,4 @@ pub mod Bound
 pub mod Grouped
 pub mod Making
 pub mod Made
+pub mod JobChanged

@@ -11,6 +11,7 @@ use Rattle.ready_pool.specs.Ready as ready
 use Rattle.ready_pool.specs.Ready.{IsRegionEntered}
 use Rattle.nest_stack.specs.declared.stack.Nested.{Nested}
 use Rattle.nest_stack.specs.Nest.{stack, with_stack, with_top_frame, top}
+use Rattle.tenant_model.specs.declared.works.Work.{Work}
 use Rattle.arena_rows.specs.declared.rows.OpenRow.{OpenRow}
 use Rattle.arena_rows.specs.declared.rows.CurrentJob.{CurrentJob}
 use Rattle.arena_rows.specs.declared.rows.Source.{Source}
@@ -78,6 +79,13 @@ with_open it = record it { open_rows = it.open_rows + 1 }
 
 abbrev pub job_counted : Held → (job : ℕ) → CurrentJob → Held
 job_counted a j d = record a { jobs = slice_set a.jobs (index_of a j) (with_open (slice_index_or a.jobs (index_of a j) d)) }
+
+-- a job's work changed
+abbrev pub with_work : (Work → Work) → CurrentJob → CurrentJob
+with_work f it = record it { work = f it.work }
+
+abbrev pub job_changed : Held → (job : ℕ) → (Work → Work) → CurrentJob → Held
+job_changed a j f d = record a { jobs = slice_set a.jobs (index_of a j) (with_work f (slice_index_or a.jobs (index_of a j) d)) }
 
 -- the entry of a row that another one joined as a member of its group
 abbrev pub with_member : ℕ → OpenRow → OpenRow
