@@ -19,7 +19,7 @@ use Rattle.arena_rows.specs.Held.{Held}
 use Rattle.arena_rows.specs.Represents.{Assigned, Owner, Nobody, OfJob, OfRow, OfGroup, IsRowContext, IsGroupContext, IsOwned, AreContexts, IsJob, AreJobs, Holds}
 use Rattle.arena_rows.specs.HeldChanges.{index_of, with_work, job_changed}
 
-abbrev work_of : CurrentJob → Work
+abbrev pub work_of : CurrentJob → Work
 work_of it = it.work
 
 -- the work of a job that is not retired

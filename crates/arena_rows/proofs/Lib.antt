@@ -24,3 +24,5 @@ pub mod Grouped
 pub mod Making
 pub mod Made
 pub mod JobChanged
+pub mod TopRows
+pub mod Fuel

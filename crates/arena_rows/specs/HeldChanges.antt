@@ -1,5 +1,5 @@
 -- What the changes of an arena's parts do to what they hold.
-use Rattle.std.specs.Prelude.{ℕ, ◌≡◌, ◌≢◌, ◌<◌, ◌+◌, ◌-◌, All, Bool, true, false, List, [], ◌∷◌, ◌++◌, Option, Some, None, slice_index_or, slice_set, length, take, option_and_then}
+use Rattle.std.specs.Prelude.{ℕ, pos, ◌≡◌, ◌≢◌, ◌<◌, ◌+◌, ◌-◌, All, Bool, true, false, List, [], ◌∷◌, ◌++◌, Option, Some, None, slice_index_or, slice_set, length, take, option_and_then}
 use Rattle.job_step.specs.declared.frames.Frame.{Frame}
 use Rattle.region_tag.specs.declared.row_id.RowId.{RowId}
 use Rattle.region_tag.specs.Region.{Table, region_of, tagged}
@@ -12,6 +12,7 @@ use Rattle.ready_pool.specs.Ready.{IsRegionEntered}
 use Rattle.nest_stack.specs.declared.stack.Nested.{Nested}
 use Rattle.nest_stack.specs.Nest.{stack, with_stack, with_top_frame, top}
 use Rattle.tenant_model.specs.declared.works.Work.{Work}
+use Rattle.tenant_model.specs.State.{job}
 use Rattle.arena_rows.specs.declared.rows.OpenRow.{OpenRow}
 use Rattle.arena_rows.specs.declared.rows.CurrentJob.{CurrentJob}
 use Rattle.arena_rows.specs.declared.rows.Source.{Source}
@@ -80,12 +81,19 @@ with_open it = record it { open_rows = it.open_rows + 1 }
 abbrev pub job_counted : Held → (job : ℕ) → CurrentJob → Held
 job_counted a j d = record a { jobs = slice_set a.jobs (index_of a j) (with_open (slice_index_or a.jobs (index_of a j) d)) }
 
+-- a job that is not there
+abbrev pub no_job : CurrentJob
+no_job = record { work = job [] 0; value = pos 0; open_rows = 0; context = 0 }
+
 -- a job's work changed
 abbrev pub with_work : (Work → Work) → CurrentJob → CurrentJob
 with_work f it = record it { work = f it.work }
 
 abbrev pub job_changed : Held → (job : ℕ) → (Work → Work) → CurrentJob → Held
 job_changed a j f d = record a { jobs = slice_set a.jobs (index_of a j) (with_work f (slice_index_or a.jobs (index_of a j) d)) }
+
+abbrev pub with_fuel_left : ℕ → Work → Work
+with_fuel_left fuel w = record w { fuel = fuel }
 
 -- the entry of a row that another one joined as a member of its group
 abbrev pub with_member : ℕ → OpenRow → OpenRow

@@ -19,7 +19,7 @@ use Rattle.tenant_model.specs.declared.rows.Row.{Row}
 use Rattle.tenant_model.specs.declared.works.TheConstants.{MAX_JOBS}
 use Rattle.tenant_model.specs.declared.works.Work.{Work}
 use Rattle.tenant_model.specs.State.{State, row, job}
-use Rattle.tenant_model.specs.Walks.{NumberedRow, numbered_rows, is_region, is_unstarted, is_open, members, mark, total, is_used, region_of, value_in, is_job_cancelled}
+use Rattle.tenant_model.specs.Walks.{NumberedRow, numbered_rows, is_region, is_unstarted, is_open, members, mark, total, is_used, region_of, value_in, is_job_cancelled, top}
 use Rattle.tenant_model.specs.Changes.{open_rows}
 use Rattle.tenant_model.specs.Sound.{IsSteady, IsSettled}
 use Rattle.arena_rows.specs.declared.rows.OpenRow.{OpenRow}
@@ -230,3 +230,7 @@ pub record Rests (a : Held) (s : State) : Type 0 where
 -- Some state is there that it stands for.
 abbrev pub RestsSomehow : Held → Type 0
 RestsSomehow a = (s : State) × Rests a s
+
+-- A row is on a slot, in some state that is held.
+abbrev pub HasTop : Held → (slot : ℕ) → Type 0
+HasTop a slot = (s : State) × (n : ℕ) × Holds a s × (top s.rows slot ≡ Some n)

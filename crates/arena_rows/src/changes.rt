@@ -59,7 +59,7 @@ impl Parts {
     }
 
     /// Where a job that is not retired stands among those that are not.
-    fn index_of(&self, job: u64) -> usize
+    pub(crate) fn index_of(&self, job: u64) -> usize
         requires above { self.now.retired < job }
         requires below { job - self.now.retired ≤ length self.now.jobs }
         ensures value { result ≡ index_of self.now job }

@@ -4,6 +4,7 @@
 mod changes;
 mod limits;
 mod parts;
+mod paying;
 mod rows;
 
 pub use parts::Parts;
