@@ -73,13 +73,15 @@ module _ (s : State) (at : Assigned) (retired : ℕ) (j : ℕ) (f : Work → Wor
 
     contexts_of_jobs : (m : ℕ) → retired < m → m ≤ length t.jobs → (at.owner (at.of_job m) ≡ OfJob m) × (binding forest' (at.of_job m) ≡ asked_of (job t.jobs m))
     contexts_of_jobs m from within =
-        let was = are.of_jobs m from (omega (arith, within, as_many)) in
-        (was.0, elim (cases_eq m j) [
-          | inl same ↦ subst (λ k. binding forest' (at.of_job k) ≡ asked_of (job t.jobs k)) (sym same) (asked.here ∙ ap asked_of (sym job_here))
-          | inr other ↦
-              let elsewhere : at.of_job m ≢ at.of_job j = λ same. other (ap job_in (sym was.0 ∙ ap at.owner same ∙ owner_here)) in
-              asked.others (at.of_job m) elsewhere ∙ was.1 ∙ ap asked_of (sym (job_there m other))
-        ])
+        let was = are.of_jobs m from (omega (arith, within, as_many)) in (
+          was.0,
+          elim (cases_eq m j) [
+            | inl same ↦ subst (λ k. binding forest' (at.of_job k) ≡ asked_of (job t.jobs k)) (sym same) (asked.here ∙ ap asked_of (sym job_here))
+            | inr other ↦
+                let elsewhere : at.of_job m ≢ at.of_job j = λ same. other (ap job_in (sym was.0 ∙ ap at.owner same ∙ owner_here)) in
+                asked.others (at.of_job m) elsewhere ∙ was.1 ∙ ap asked_of (sym (job_there m other))
+          ],
+        )
 
     row_context : (n : ℕ) (k : Kind) → IsRowContext s forest at n k → IsRowContext t forest' at n k
     row_context n Root is = is

@@ -25,4 +25,4 @@ pub mod Making
 pub mod Made
 pub mod JobChanged
 pub mod TopRows
-pub mod Fuel
+pub mod OneJob

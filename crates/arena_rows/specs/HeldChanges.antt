@@ -3,7 +3,7 @@ use Rattle.std.specs.Prelude.{ℕ, pos, ◌≡◌, ◌≢◌, ◌<◌, ◌+◌, 
 use Rattle.job_step.specs.declared.frames.Frame.{Frame}
 use Rattle.region_tag.specs.declared.row_id.RowId.{RowId}
 use Rattle.region_tag.specs.Region.{Table, region_of, tagged}
-use Rattle.cancel_context.specs.Forest.{with_bound}
+use Rattle.cancel_context.specs.Forest.{with_bound, with_request}
 use Rattle.task_group.specs.Groups.{group}
 use Rattle.ready_pool.specs.declared.pool.Waiting.{Waiting}
 use Rattle.std.specs.Option.{ForSome}
@@ -11,7 +11,9 @@ use Rattle.ready_pool.specs.Ready as ready
 use Rattle.ready_pool.specs.Ready.{IsRegionEntered}
 use Rattle.nest_stack.specs.declared.stack.Nested.{Nested}
 use Rattle.nest_stack.specs.Nest.{stack, with_stack, with_top_frame, top}
+use Rattle.job_language.specs.declared.errors.JobFault.{JobFault}
 use Rattle.tenant_model.specs.declared.works.Work.{Work}
+use Rattle.tenant_model.specs.Changes.{first_fault}
 use Rattle.tenant_model.specs.State.{job}
 use Rattle.arena_rows.specs.declared.rows.OpenRow.{OpenRow}
 use Rattle.arena_rows.specs.declared.rows.CurrentJob.{CurrentJob}
@@ -94,6 +96,16 @@ job_changed a j f d = record a { jobs = slice_set a.jobs (index_of a j) (with_wo
 
 abbrev pub with_fuel_left : ℕ → Work → Work
 with_fuel_left fuel w = record w { fuel = fuel }
+
+abbrev pub with_fault : JobFault → Work → Work
+with_fault fault w = record w { fault = first_fault w.fault fault }
+
+abbrev pub cancelled_work : Work → Work
+cancelled_work w = record w { cancelled = true }
+
+-- a cancel request on a job's context
+abbrev pub job_asked : Held → (job : ℕ) → CurrentJob → Held
+job_asked a j d = record a { contexts = with_request a.contexts (slice_index_or a.jobs (index_of a j) d).context true }
 
 -- the entry of a row that another one joined as a member of its group
 abbrev pub with_member : ℕ → OpenRow → OpenRow

@@ -231,6 +231,9 @@ pub record Rests (a : Held) (s : State) : Type 0 where
 abbrev pub RestsSomehow : Held → Type 0
 RestsSomehow a = (s : State) × Rests a s
 
+abbrev pub HoldsSomehow : Held → Type 0
+HoldsSomehow a = (s : State) × Holds a s
+
 -- A row is on a slot, in some state that is held.
 abbrev pub HasTop : Held → (slot : ℕ) → Type 0
 HasTop a slot = (s : State) × (n : ℕ) × Holds a s × (top s.rows slot ≡ Some n)

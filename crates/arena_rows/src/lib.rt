@@ -2,9 +2,9 @@
 #![tactic(auto)]
 
 mod changes;
+mod jobs;
 mod limits;
 mod parts;
-mod paying;
 mod rows;
 
 pub use parts::Parts;

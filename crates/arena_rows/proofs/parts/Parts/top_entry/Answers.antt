@@ -29,10 +29,10 @@ pub returns : goal.returns
 returns c =
     let h = c.requires in
     let entry_is : (s : State) (n : ℕ) (is : Holds c.args.self.now s) → top s.rows c.args.slot ≡ Some n → (at_place c.args.self.now.table (is.places n) ≡ Some c.entry_at.result) × IsRow s.rows is.places n c.entry_at.result = λ s n is on_top.
-        let stands = top_stands c.args.self.now s is c.args.slot n on_top in
-        let told = top_told c.args.self.now s is c.args.slot n c.top.result c.in-Some.top on_top c.top.ensures c.in-Some.is in
-        let entry : stands.entry ≡ c.entry_at.result = some_is stands.entry c.entry_at.result (sym stands.there ∙ rw told at c.entry_at.ensures) in
-        (stands.there ∙ ap Some entry, rw entry at stands.is) in
+    let stands = top_stands c.args.self.now s is c.args.slot n on_top in
+    let told = top_told c.args.self.now s is c.args.slot n c.top.result c.in-Some.top on_top c.top.ensures c.in-Some.is in
+    let entry : stands.entry ≡ c.entry_at.result = some_is stands.entry c.entry_at.result (sym stands.there ∙ rw told at c.entry_at.ensures) in
+    (stands.there ∙ ap Some entry, rw entry at stands.is) in
     let its_job = (entry_is h.0 h.1 h.2 h.3).1.job in
     let current = top_job c.args.self.now h.0 h.2 c.args.slot h.1 h.3 in
     record { entry = entry_is; above = rw its_job current.0; below = rw its_job current.2 }

@@ -1,0 +1,131 @@
+// Changes of jobs: what they pay, their faults and their cancels.
+ghost use Rattle.std.specs.Prelude.{◌≡◌, ◌<◌, ◌≤◌, ◌-◌, ℕ, not, length, slice_index_or, Some, IsSome};
+ghost use Rattle.tenant_model.specs.State.{State, row};
+ghost use Rattle.tenant_model.specs.Changes.{on_job};
+ghost use Rattle.cancel_context.specs.Forest.{IsHeld, held_count};
+ghost use Rattle.tenant_model.specs.Walks.{top};
+ghost use Rattle.tenant_model.specs.Advance.{is_poor, with_fuel_paid};
+ghost use Rattle.arena_rows.specs.declared.rows.CurrentJob.{CurrentJob};
+ghost use Rattle.arena_rows.specs.Represents.{at_place, IsRow, Holds, HasTop, HoldsSomehow};
+ghost use Rattle.arena_rows.specs.HeldChanges.{index_of, job_changed, job_asked, with_fuel_left, with_fault, cancelled_work};
+
+use crate::parts::Parts;
+use crate::rows::OpenRow;
+use job_language::JobFault;
+
+impl Parts {
+    /// The entry at a place.
+    fn entry_at(&self, place: usize) -> OpenRow
+        requires within { place < length self.now.table }
+        requires there { IsSome (at_place self.now.table place) }
+        ensures { at_place self.now.table place ≡ Some result }
+    {
+        let Some(entry) = self.table[place] else {
+            unreachable!();
+        };
+        entry
+    }
+
+    /// The entry of a slot's topmost row.
+    pub(crate) fn top_entry(&self, slot: u8) -> OpenRow
+        requires { HasTop self.now slot }
+        ensures entry { (s : State) (n : ℕ) (is : Holds self.now s) → top s.rows slot ≡ Some n
+            → (at_place self.now.table (is.places n) ≡ Some result) × IsRow s.rows is.places n result }
+        ensures above { self.now.retired < result.job }
+        ensures below { result.job - self.now.retired ≤ length self.now.jobs }
+    {
+        let Some(top) = self.top(slot) else {
+            unreachable!();
+        };
+        self.entry_at(top.row.place)
+    }
+
+    /// How much fuel a job has left.
+    fn fuel_of(&self, job: u64) -> u64
+        requires above { self.now.retired < job }
+        requires below { job - self.now.retired ≤ length self.now.jobs }
+        ensures { (d : CurrentJob) → result ≡ (slice_index_or self.now.jobs (index_of self.now job) d).work.fuel }
+    {
+        let index = self.index_of(job);
+        self.jobs[index].work.fuel
+    }
+
+    /// Lets a job have that much fuel left.
+    fn set_fuel(&mut self, job: u64, fuel: u64)
+        requires above { self.old.retired < job }
+        requires below { job - self.old.retired ≤ length self.old.jobs }
+        ensures { (d : CurrentJob) → self.new ≡ job_changed self.old job (with_fuel_left fuel) d }
+    {
+        let index = self.index_of(job);
+        self.jobs[index].work.fuel = fuel;
+    }
+
+    /// Lets the job of a slot's topmost row pay for so many instructions, and says whether its fuel
+    /// sufficed; where it did not, none is left.
+    pub fn pay(&mut self, slot: u8, cost: u64) -> bool
+        requires { HasTop self.old slot }
+        ensures pays { (s : State) (n : ℕ) → Holds self.old s → top s.rows slot ≡ Some n
+            → (result ≡ not (is_poor s n cost)) × Holds self.new (with_fuel_paid s n cost) }
+    {
+        let job = self.top_entry(slot).job;
+        let fuel = self.fuel_of(job);
+        self.set_fuel(job, fuel.saturating_sub(cost));
+        cost <= fuel
+    }
+
+    /// Notes a fault of a job, unless it has one already.
+    fn note_fault(&mut self, job: u64, fault: JobFault)
+        requires above { self.old.retired < job }
+        requires below { job - self.old.retired ≤ length self.old.jobs }
+        ensures { (d : CurrentJob) → self.new ≡ job_changed self.old job (with_fault fault) d }
+    {
+        let index = self.index_of(job);
+        let noted = &mut self.jobs[index].work.fault;
+        *noted = noted.or(Some(fault));
+    }
+
+    /// Notes that a job was cancelled by request.
+    fn note_cancel(&mut self, job: u64)
+        requires above { self.old.retired < job }
+        requires below { job - self.old.retired ≤ length self.old.jobs }
+        ensures { (d : CurrentJob) → self.new ≡ job_changed self.old job cancelled_work d }
+    {
+        let index = self.index_of(job);
+        self.jobs[index].work.cancelled = true;
+    }
+
+    /// Makes a cancel request on a job's context.
+    fn ask_job(&mut self, job: u64)
+        requires above { self.old.retired < job }
+        requires below { job - self.old.retired ≤ length self.old.jobs }
+        requires held { (d : CurrentJob) → IsHeld self.old.contexts (slice_index_or self.old.jobs (index_of self.old job) d).context }
+        ensures asked { (d : CurrentJob) → self.new ≡ job_asked self.old job d }
+        ensures count { held_count self.new.contexts ≡ held_count self.old.contexts }
+    {
+        let index = self.index_of(job);
+        self.contexts.cancel(self.jobs[index].context);
+    }
+
+    /// Notes a fault of the job of a slot's topmost row, unless it has one already, and cancels what
+    /// the job still does.
+    pub fn fault_job(&mut self, slot: u8, fault: JobFault)
+        requires { HasTop self.old slot }
+        ensures { (s : State) (n : ℕ) → Holds self.old s → top s.rows slot ≡ Some n
+            → Holds self.new (on_job s (row s.rows n).job (with_fault fault)) }
+    {
+        let job = self.top_entry(slot).job;
+        self.ask_job(job);
+        self.note_fault(job, fault);
+    }
+
+    /// Cancels a job by request.
+    pub fn cancel_job(&mut self, job: u64)
+        requires held { HoldsSomehow self.old }
+        requires above { self.old.retired < job }
+        requires below { job - self.old.retired ≤ length self.old.jobs }
+        ensures { (s : State) → Holds self.old s → Holds self.new (on_job s job cancelled_work) }
+    {
+        self.ask_job(job);
+        self.note_cancel(job);
+    }
+}
