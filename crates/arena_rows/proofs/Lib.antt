@@ -26,3 +26,4 @@ pub mod Made
 pub mod JobChanged
 pub mod TopRows
 pub mod OneJob
+pub mod CellsHeld

@@ -7,13 +7,14 @@ use Rattle.tenant_model.specs.declared.rows.Phase.TheVariants.{Live}
 use Rattle.tenant_model.specs.State.{State, row}
 use Rattle.tenant_model.specs.Walks.{is_open, height, top}
 use Rattle.tenant_model.proofs.Picks.{top_is}
+use Rattle.tenant_model.proofs.Invariance.{IsAt}
 use Rattle.tenant_model.proofs.AttendedSteps.{open_there}
 use Rattle.std.specs.Option.{option_map}
 use Rattle.arena_rows.specs.Held.{Held}
 use Rattle.nest_stack.specs.declared.stack.Nested.{Nested}
 use Rattle.arena_rows.specs.Represents.{nested_of, Stands, Holds, HasTop}
 use Rattle.arena_rows.proofs.Started.{some_is, some_none}
-use Rattle.arena_rows.proofs.Tops.{top_of_stack}
+use Rattle.arena_rows.proofs.Tops.{height_is, top_of_stack}
 use Rattle.arena_rows.proofs.JobChanged.{work_of}
 
 module _ (a : Held) (s : State) (is : Holds a s) where
@@ -32,6 +33,12 @@ module _ (a : Held) (s : State) (is : Holds a s) where
 
     pub on_slot : slot < a.config.slots
     on_slot = (is.nests.each n slot (height s.rows slot) live).0
+
+    pub top_at : IsAt s slot n
+    top_at = let it = top_is s.rows slot n on_top in record { well = is.steady.formed; slots = rw is.config at on_slot; from = it.0; to = it.1; live = it.2 }
+
+    pub top_high : 0 < length (stack a.nests slot)
+    top_high = omega (arith, height_is s.rows is.places a.config.slots a.nests is.steady.formed.stacked is.nests slot, (is.nests.each n slot (height s.rows slot) live).1)
 
     pub top_stands : Stands s.rows is.places a.table n
     top_stands = is.table.each n top_open
@@ -55,3 +62,6 @@ top_told a s is slot n o x on_top told some = some_is x (nested_of s.rows is.pla
 
 pub top_not_none : (a : Held) (slot : ℕ) (o : Option Nested) → HasTop a slot → o ≡ nest.top (stack a.nests slot) → o ≡ None → ⊥
 top_not_none a slot o h told none = some_none (nested_of h.0.rows h.2.places h.1) (sym (top_nested a h.0 h.2 slot h.1 h.3) ∙ sym told ∙ none)
+
+pub some_row : (a : Held) (slot : ℕ) → HasTop a slot → 0 < length (stack a.nests slot)
+some_row a slot h = top_high a h.0 h.2 slot h.1 h.3

@@ -20,6 +20,7 @@ use Rattle.arena_rows.specs.declared.rows.CurrentJob.{CurrentJob}
 use Rattle.arena_rows.specs.declared.rows.Source.{Source}
 use Rattle.arena_rows.specs.declared.rows.Source.TheVariants.{Root, Posted, Spawned, Region}
 use Rattle.arena_rows.specs.declared.rows.Stage.TheVariants.{Live}
+use Rattle.thread_cells.specs.Cells as cells
 use Rattle.arena_rows.specs.Held.{Held}
 
 -- a waiting row goes live on top of a slot
@@ -40,6 +41,9 @@ framed a slot f = record a { nests = with_stack a.nests slot (with_top_frame (st
 
 abbrev pub counted : Held → Held
 counted a = record a { entries = a.entries + 1 }
+
+abbrev pub with_cells_held : Held → cells.Table → Held
+with_cells_held a t = record a { cells = t }
 
 -- the place that the next row takes, and the others that are free
 abbrev pub next_place : Held → ℕ

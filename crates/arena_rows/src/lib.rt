@@ -2,6 +2,7 @@
 #![tactic(auto)]
 
 mod changes;
+mod frames;
 mod jobs;
 mod limits;
 mod parts;
