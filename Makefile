@@ -1,26 +1,29 @@
-# The two commands of this repository. `rt` is the command of the Rattle kit.
+# The commands of this repository; `make help` lists them. `rt` is the command of the Rattle kit.
 
-.PHONY: run test check clean
+.DEFAULT_GOAL := help
+.PHONY: help run build test check examples clean
 
-# Builds arena-script, and answers the first job.
-run: out/arena-script
-	@out/arena-script < examples/first_job.jsonl
+EXAMPLE ?= first_job
 
-# Builds the program; each crate below it is proved on the way.
-out/arena-script: $(shell find crates/*/src -name '*.rt') crates.txt
-	@mkdir -p out
-	@cd crates/script_program && rt run < ../../examples/first_job.jsonl > ../../out/build.log 2>&1 || { tail -n 40 ../../out/build.log; exit 1; }
-	@cp crates/script_program/out/script_program $@
+help: ## lists the targets
+	@sed -n 's/^\([a-z]*\):[^#]*## */    make \1|/p' Makefile | awk -F'|' '{ printf "%-20s %s\n", $$1, $$2 }'
 
-# Passes everything: each proof from nothing, each must-fail edit, each test, each program, and the
-# evaluator's calls with each allocation refused in turn.
-test:
-	rt ci
+run: ## runs an example within a minute, unproved unless it is built: make run EXAMPLE=isolated_waiter
+	@python3 examples/show.py $(EXAMPLE)
+
+build: ## proves arena-script and builds it into out/
+	@python3 checks/build/run.py
+
+test: ## passes everything: the examples, each proof from scratch, each edit, test and program, each failed allocation
+	checks/examples/run.sh
+	checks/gate/run.py
 	checks/failed_allocations/run.sh
 
-# Proves each crate over what earlier checks kept.
-check:
+check: ## proves each crate again where it has changed
 	rt all check
 
-clean:
+examples: ## compares what each example prints with what is expected, unproved
+	checks/examples/run.sh
+
+clean: ## removes what was built and proved
 	rm -rf out crates/*/out

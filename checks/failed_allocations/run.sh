@@ -1,8 +1,8 @@
 #!/bin/sh
 # Fails each allocation of the program `failed_allocations` in turn: what it prints must stay the same,
-# since each call of the evaluator that failed is made again and then has its answer. It wants `rt` and
-# `cc` on the path, and builds the program if a source is newer than it. Its last line is `N passed,
-# 0 failed`, one for each allocation.
+# since each call of the evaluator that failed is made again and then has its answer. It needs `rt` and
+# `cc` on the path, and builds the program if a source is newer than it. Its last line says how many
+# allocations there are, and after how many of them something else was printed.
 set -eu
 cd "$(dirname "$0")/../../crates/failed_allocations"
 work=$(mktemp -d)
@@ -26,5 +26,5 @@ do
     number=$((number + 1))
 done
 cmp "$work/printed" stdout
-echo "$((number - 1 - failed)) passed, $failed failed"
+echo "$((number - 1)) allocations failed in turn: $failed with other answers"
 [ "$failed" -eq 0 ] && [ "$number" -gt 100 ]

@@ -14,8 +14,16 @@ import time
 TICKS = os.sysconf("SC_CLK_TCK")
 
 
-def checks_now():
-    """Yields (process, crate, kind, processor seconds) for each running check of a crate."""
+def is_below(process, above):
+    """Whether a process was started by another one, or by one that it started."""
+    while process not in ("0", above):
+        with open(f"/proc/{process}/stat") as it:
+            process = it.read().rpartition(")")[2].split()[1]
+    return process == above
+
+
+def checks_now(above):
+    """Yields (process, crate, kind, processor seconds) for each running check of a crate below a process."""
     for name in os.listdir("/proc"):
         if not name.isdigit():
             continue
@@ -27,6 +35,8 @@ def checks_now():
             with open(f"/proc/{name}/stat") as it:
                 fields = it.read().rpartition(")")[2].split()
             folder = os.readlink(f"/proc/{name}/cwd")
+            if not is_below(name, above):
+                continue
         except (OSError, IndexError):
             continue
         if "/rt-edit-" in folder:
@@ -37,10 +47,10 @@ def checks_now():
         yield name, crate, kind, (int(fields[11]) + int(fields[12])) / TICKS
 
 
-def watch(spent, is_over):
-    """Keeps in `spent` what each check has used of the processors, until the run is over."""
+def watch(above, spent, is_over):
+    """Keeps in `spent` what each check below a process has used of the processors, until the run is over."""
     while not is_over.is_set():
-        for process, crate, kind, seconds in checks_now():
+        for process, crate, kind, seconds in checks_now(above):
             spent[process, crate, kind] = seconds
         is_over.wait(0.5)
 
@@ -63,10 +73,10 @@ def table(spent):
 
 def main():
     start, spent, is_over = time.monotonic(), {}, threading.Event()
-    watcher = threading.Thread(target=watch, args=(spent, is_over))
-    watcher.start()
     last = ""
     with subprocess.Popen(["rt", "ci"], stdout=subprocess.PIPE, stderr=subprocess.STDOUT, text=True, errors="replace") as run:
+        watcher = threading.Thread(target=watch, args=(str(run.pid), spent, is_over))
+        watcher.start()
         for line in run.stdout:
             last = line.rstrip("\n")
             # what a check says of each library and function it reads is left out
