@@ -1,8 +1,8 @@
 #!/bin/sh
-# A counting loop of private instructions, 100,000,000 turns or as many as are said, beside the same
+# A counting loop of private instructions, 100,000,000 turns or as many as its argument says, and the same
 # loop in a plain C switch interpreter built by `cc -O2`, one after the other. It prints the seconds of
-# both, and C's as a part of ours: 1.00 is as fast as C, and below 0.90 is a defect. It wants `rt` and
-# `cc` on the path.
+# both, and C's time divided by ours: 1.00 means as fast as C, and below 0.90 is a defect. It needs `rt`
+# and `cc` on the path.
 set -e
 cd "$(dirname "$0")"
 turns="${1:-100000000}"

@@ -1,6 +1,6 @@
-// A plain switch interpreter of the private instructions, for comparison: it runs the counting loop of
-// `job.json` for as many turns as its argument says, and prints how many instructions it executed and
-// the first register.
+// A plain switch interpreter of the private instructions, for comparison: it runs the counting loop
+// that `run.sh` writes as a job, for as many turns as its argument says, and prints how many
+// instructions it executed and the first register.
 #include <inttypes.h>
 #include <stdint.h>
 #include <stdio.h>

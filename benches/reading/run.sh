@@ -1,7 +1,7 @@
 #!/bin/sh
-# How fast 100,000 small requests are read, by how many bytes the reader hands over at a call, beside
-# serde_json alone on the same lines. Speeds are in bytes a microsecond of processor time; the last
-# column is the time of reading as a percentage of serde_json's. It wants `rt` on the path.
+# How fast 100,000 small requests are read, by how many bytes the reader hands over at a call, compared
+# with serde_json alone on the same lines. Speeds are in bytes a microsecond of processor time; the last
+# column is the time of reading as a percentage of serde_json's. It needs `rt` on the path.
 set -e
 cd "$(dirname "$0")/../../crates/reading_bench"
 rt run > /dev/null 2>&1
