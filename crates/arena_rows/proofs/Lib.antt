@@ -27,3 +27,4 @@ pub mod JobChanged
 pub mod TopRows
 pub mod OneJob
 pub mod CellsHeld
+pub mod Taken

@@ -69,7 +69,7 @@ impl Parts {
     }
 
     /// Takes the next row into the table, and among the regions.
-    fn enter(
+    fn enter_row(
         &mut self,
         source: Source,
         job: u64,

@@ -7,6 +7,7 @@ mod jobs;
 mod limits;
 mod parts;
 mod rows;
+mod taking;
 
 pub use parts::Parts;
 pub use rows::{CurrentJob, OpenRow, Source, Stage};
