@@ -28,3 +28,4 @@ pub mod TopRows
 pub mod OneJob
 pub mod CellsHeld
 pub mod Taken
+pub mod Posted

@@ -152,3 +152,19 @@ module _ (a : Held) (s : State) (is : Holds a s) (place : ℕ) where
         epoch = is.epoch;
         steady = is.steady;
       }
+
+-- the same, as a caller needs it
+pub record IsPlaced (a : Held) (s : State) (is : Holds a s) (place : ℕ) : Type 0 where
+  pub holds : Holds a s
+  pub placed : holds.places (length s.rows + 1) ≡ place
+  pub assigned : holds.assigned ≡ is.assigned
+  pub old : (m : ℕ) → m ≤ length s.rows → holds.places m ≡ is.places m
+
+pub next_placed : (a : Held) (s : State) (is : Holds a s) (place : ℕ) → IsPlaced a s is place
+unfolding holds_placed
+next_placed a s is place = record {
+  holds = holds_placed a s is place;
+  placed = place_new is.places (length s.rows + 1) place;
+  assigned = refl;
+  old = λ m old. place_old is.places (length s.rows + 1) place m (omega (arith, old));
+}

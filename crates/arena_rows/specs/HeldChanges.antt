@@ -1,10 +1,11 @@
 -- What the changes of an arena's parts do to what they hold.
-use Rattle.std.specs.Prelude.{ℕ, pos, ◌≡◌, ◌≢◌, ◌<◌, ◌+◌, ◌-◌, All, Bool, true, false, List, [], ◌∷◌, ◌++◌, Option, Some, None, slice_index_or, slice_set, length, take, option_and_then}
+use Rattle.std.specs.Prelude.{ℕ, pos, ◌≡◌, ◌≢◌, ◌<◌, ◌+◌, ◌-◌, All, Bool, true, false, List, [], ◌∷◌, ◌++◌, Option, Some, None, slice_index_or, slice_set, replicate, length, take, option_and_then}
 use Rattle.job_step.specs.declared.frames.Frame.{Frame}
 use Rattle.region_tag.specs.declared.row_id.RowId.{RowId}
 use Rattle.region_tag.specs.Region.{Table, region_of, tagged}
 use Rattle.cancel_context.specs.Forest.{with_bound, with_request}
-use Rattle.task_group.specs.Groups.{group}
+use Rattle.job_language.specs.declared.instructions.TheConstants.{GROUPS}
+use Rattle.task_group.specs.Groups.{group, no_members}
 use Rattle.ready_pool.specs.declared.pool.Waiting.{Waiting}
 use Rattle.std.specs.Option.{ForSome}
 use Rattle.ready_pool.specs.Ready as ready
@@ -19,14 +20,14 @@ use Rattle.arena_rows.specs.declared.rows.OpenRow.{OpenRow}
 use Rattle.arena_rows.specs.declared.rows.CurrentJob.{CurrentJob}
 use Rattle.arena_rows.specs.declared.rows.Source.{Source}
 use Rattle.arena_rows.specs.declared.rows.Source.TheVariants.{Root, Posted, Spawned, Region}
-use Rattle.arena_rows.specs.declared.rows.Stage.TheVariants.{Live}
+use Rattle.arena_rows.specs.declared.rows.Stage.TheVariants as stage
 use Rattle.thread_cells.specs.Cells as cells
 use Rattle.arena_rows.specs.Held.{Held}
 
 -- a waiting row goes live on top of a slot
 abbrev pub started : Held → ℕ → RowId → OpenRow → Frame → Held
 started a slot id e f = record a {
-  table = slice_set a.table id.place (Some (record e { stage = Live slot (length (stack a.nests slot) + 1) }));
+  table = slice_set a.table id.place (Some (record e { stage = stage.Live slot (length (stack a.nests slot) + 1) }));
   pool = ready.without a.pool id;
   nests = with_stack a.nests slot (stack a.nests slot ++ (record { frame = f; row = id; is_region = false }) ∷ []);
 }
@@ -79,6 +80,10 @@ entered a e = record a {
   made = a.made + 1;
   regions = slice_set a.regions (next_place a) (Some (tagged (next_id a) (outer_of a.regions e.source) (is_region_source e.source)));
 }
+
+-- the entry of a row that was posted
+abbrev pub posted_entry : Held → (job context : ℕ) → Frame → OpenRow
+posted_entry a j c f = record { number = a.made + 1; source = Posted; job = j; made_on = None; stage = stage.Waiting f; groups = no_members; group_contexts = replicate GROUPS None; context = c }
 
 -- one more open row of a job
 abbrev pub with_open : CurrentJob → CurrentJob

@@ -8,7 +8,8 @@ ghost use Rattle.job_step.specs.declared.frames.Frame.{Frame};
 ghost use Rattle.arena_rows.specs.declared.rows.OpenRow.{OpenRow};
 ghost use Rattle.arena_rows.specs.declared.rows.Stage.TheVariants as stage;
 ghost use Rattle.arena_rows.specs.Represents.{at_place};
-ghost use Rattle.arena_rows.specs.HeldChanges.{started, counted, framed, next_place, next_id, index_of, outer_of, entered, job_counted, with_entry, with_member};
+ghost use Rattle.arena_rows.specs.HeldChanges.{started, counted, framed, next_place, next_id, index_of, outer_of, entered, job_counted, with_entry, with_member, put, CanWait};
+ghost use Rattle.region_tag.specs.Region.{region_of};
 
 use crate::parts::Parts;
 use crate::rows::{OpenRow, Source, Stage};
@@ -69,7 +70,7 @@ impl Parts {
     }
 
     /// Takes the next row into the table, and among the regions.
-    fn enter_row(
+    pub(crate) fn enter_row(
         &mut self,
         source: Source,
         job: u64,
@@ -121,10 +122,10 @@ impl Parts {
     }
 
     /// Counts one more open row of a job.
-    fn count_row(&mut self, job: u64)
+    pub(crate) fn count_row(&mut self, job: u64)
         requires above { self.old.retired < job }
         requires below { job - self.old.retired ≤ length self.old.jobs }
-        requires few { (d : CurrentJob) → (slice_index_or self.old.jobs (index_of self.old job) d).open_rows < 2 ^ 32 }
+        requires few { (d : CurrentJob) → (slice_index_or self.old.jobs (index_of self.old job) d).open_rows < length self.old.table }
         ensures { (d : CurrentJob) → self.new ≡ job_counted self.old job d }
     {
         let index = self.index_of(job);
@@ -132,7 +133,7 @@ impl Parts {
     }
 
     /// Lets the row at a place have one more member in a group.
-    fn join(&mut self, place: usize, number: Group)
+    pub(crate) fn join(&mut self, place: usize, number: Group)
         requires place { place < length self.old.table }
         requires few { (e : OpenRow) → at_place self.old.table place ≡ Some e → (group e.groups number).pending < u32.MAX }
         ensures { (e : OpenRow) → at_place self.old.table place ≡ Some e → self.new ≡ with_entry self.old place (with_member number e) }
@@ -142,5 +143,15 @@ impl Parts {
         };
         maker.groups.add(number.index());
         self.table[place] = Some(maker);
+    }
+
+    /// Lets a row wait to be started.
+    pub(crate) fn wait(&mut self, row: RowId, made_on: Option<u8>)
+        requires { CanWait self.old row made_on }
+        ensures { self.new ≡ put self.old (record { row = row; made_on = made_on; region = region_of self.old.regions row }) }
+    {
+        let region = self.regions.region_of(row);
+        let made_on = made_on.map(usize::from);
+        self.pool.put(row, made_on, region, &self.regions);
     }
 }

@@ -6,6 +6,7 @@ mod frames;
 mod jobs;
 mod limits;
 mod parts;
+mod posts;
 mod rows;
 mod taking;
 

@@ -1,0 +1,45 @@
+// Rows in no group and no region that wait to be started, for every state that the parts stand for.
+ghost use Rattle.std.specs.Prelude.{◌≡◌, ◌<◌, ◌≤◌, ◌-◌, ◌^◌, ℕ, length, slice_index_or, Some, None};
+ghost use Rattle.tenant_model.specs.State.{State, row};
+ghost use Rattle.tenant_model.specs.Walks.{top};
+ghost use Rattle.tenant_model.specs.Changes.{new_row, add_row};
+ghost use Rattle.tenant_model.specs.Sound.{IsSteady};
+ghost use Rattle.tenant_model.specs.declared.rows.Kind.TheVariants.{Posted};
+ghost use Rattle.tenant_model.specs.declared.rows.Phase.TheVariants.{Unstarted};
+ghost use Rattle.arena_rows.specs.declared.rows.CurrentJob.{CurrentJob};
+ghost use Rattle.arena_rows.specs.Represents.{Holds, Rests, RestsSomehow, HasTop};
+ghost use Rattle.arena_rows.specs.HeldChanges.{index_of};
+
+use crate::parts::Parts;
+use crate::rows::{Source, Stage};
+use cancel_context::ContextId;
+use job_step::Frame;
+
+impl Parts {
+    /// The context of a job.
+    fn context_of(&self, job: u64) -> ContextId
+        requires above { self.now.retired < job }
+        requires below { job - self.now.retired ≤ length self.now.jobs }
+        ensures { (d : CurrentJob) → result ≡ (slice_index_or self.now.jobs (index_of self.now job) d).context }
+    {
+        let index = self.index_of(job);
+        self.jobs[index].context
+    }
+
+    /// Makes a row of the job of a slot's topmost row, in no group and no region (`enqueue`).
+    pub fn post(&mut self, slot: u8, frame: Frame)
+        requires rests { RestsSomehow self.old }
+        requires top { HasTop self.old slot }
+        requires free { 0 < length self.old.free }
+        requires few { self.old.made < 2 ^ 32 }
+        ensures { (s : State) (n : ℕ) → Rests self.old s → top s.rows slot ≡ Some n
+            → IsSteady (add_row s (new_row Posted (row s.rows n).job None frame Unstarted))
+            → Holds self.new (add_row s (new_row Posted (row s.rows n).job None frame Unstarted)) }
+    {
+        let job = self.top_entry(slot).job;
+        let context = self.context_of(job);
+        let row = self.enter_row(Source::Posted, job, None, Stage::Waiting(frame), context);
+        self.count_row(job);
+        self.wait(row, None);
+    }
+}
