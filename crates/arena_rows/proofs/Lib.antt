@@ -29,3 +29,4 @@ pub mod OneJob
 pub mod CellsHeld
 pub mod Taken
 pub mod Posted
+pub mod Regioned

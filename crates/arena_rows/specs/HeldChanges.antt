@@ -85,6 +85,14 @@ entered a e = record a {
 abbrev pub posted_entry : Held → (job context : ℕ) → Frame → OpenRow
 posted_entry a j c f = record { number = a.made + 1; source = Posted; job = j; made_on = None; stage = stage.Waiting f; groups = no_members; group_contexts = replicate GROUPS None; context = c }
 
+-- the entry of a region on top of its maker
+abbrev pub region_entry : Held → (maker : RowId) → (job context slot : ℕ) → OpenRow
+region_entry a m j c slot = record { number = a.made + 1; source = Region m; job = j; made_on = Some slot; stage = stage.Live slot (length (stack a.nests slot) + 1); groups = no_members; group_contexts = replicate GROUPS None; context = c }
+
+-- a region on top of a slot
+abbrev pub region_pushed : Held → (slot : ℕ) → Frame → RowId → Held
+region_pushed a slot f id = record a { nests = with_stack a.nests slot (stack a.nests slot ++ (record { frame = f; row = id; is_region = true }) ∷ []) }
+
 -- one more open row of a job
 abbrev pub with_open : CurrentJob → CurrentJob
 with_open it = record it { open_rows = it.open_rows + 1 }

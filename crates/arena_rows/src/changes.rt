@@ -8,7 +8,7 @@ ghost use Rattle.job_step.specs.declared.frames.Frame.{Frame};
 ghost use Rattle.arena_rows.specs.declared.rows.OpenRow.{OpenRow};
 ghost use Rattle.arena_rows.specs.declared.rows.Stage.TheVariants as stage;
 ghost use Rattle.arena_rows.specs.Represents.{at_place};
-ghost use Rattle.arena_rows.specs.HeldChanges.{started, counted, framed, next_place, next_id, index_of, outer_of, entered, job_counted, with_entry, with_member, put, CanWait};
+ghost use Rattle.arena_rows.specs.HeldChanges.{started, counted, framed, next_place, next_id, index_of, outer_of, entered, job_counted, with_entry, with_member, put, region_pushed, CanWait};
 ghost use Rattle.region_tag.specs.Region.{region_of};
 
 use crate::parts::Parts;
@@ -153,5 +153,14 @@ impl Parts {
         let region = self.regions.region_of(row);
         let made_on = made_on.map(usize::from);
         self.pool.put(row, made_on, region, &self.regions);
+    }
+
+    /// Puts a region on top of a slot.
+    pub(crate) fn push_region(&mut self, slot: u8, frame: Frame, row: RowId)
+        requires slot { slot < length self.old.nests }
+        requires height { length (stack self.old.nests slot) < 128 }
+        ensures { self.new ≡ region_pushed self.old slot frame row }
+    {
+        self.nests.push(usize::from(slot), frame, row, true);
     }
 }

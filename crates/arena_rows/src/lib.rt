@@ -3,6 +3,7 @@
 
 mod changes;
 mod frames;
+mod isolated;
 mod jobs;
 mod limits;
 mod parts;

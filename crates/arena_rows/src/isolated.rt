@@ -1,0 +1,48 @@
+// Regions that rows make, for every state that the parts stand for.
+ghost use Rattle.std.specs.Prelude.{◌≡◌, ◌<◌, ◌+◌, ◌^◌, ℕ, length, Some};
+ghost use Rattle.nest_stack.specs.Nest.{stack};
+ghost use Rattle.tenant_model.specs.State.{State, row};
+ghost use Rattle.tenant_model.specs.Walks.{top, height};
+ghost use Rattle.tenant_model.specs.Changes.{new_row, add_row};
+ghost use Rattle.tenant_model.specs.Sound.{IsSteady};
+ghost use Rattle.tenant_model.specs.declared.rows.Kind.TheVariants.{Region};
+ghost use Rattle.tenant_model.specs.declared.rows.Phase.TheVariants.{Live};
+ghost use Rattle.arena_rows.specs.Represents.{id_of, Holds, HasTop};
+
+use crate::parts::Parts;
+use crate::rows::{Source, Stage};
+use job_step::Frame;
+use region_tag::RowId;
+
+impl Parts {
+    /// The id of a slot's topmost row.
+    pub(crate) fn top_row(&self, slot: u8) -> RowId
+        requires { HasTop self.now slot }
+        ensures { (s : State) (n : ℕ) (is : Holds self.now s) → top s.rows slot ≡ Some n → result ≡ id_of is.places n }
+    {
+        let Some(top) = self.top(slot) else {
+            unreachable!();
+        };
+        top.row
+    }
+
+    /// Makes a region on top of a slot's topmost row (`this_task_arena::isolate`).
+    pub fn isolate(&mut self, slot: u8, frame: Frame)
+        requires top { HasTop self.old slot }
+        requires free { 0 < length self.old.free }
+        requires few { self.old.made < 2 ^ 32 }
+        requires height { length (stack self.old.nests slot) < 128 }
+        ensures { (s : State) (n : ℕ) → Holds self.old s → top s.rows slot ≡ Some n
+            → IsSteady (add_row s (new_row (Region n) (row s.rows n).job (Some slot) frame (Live slot (height s.rows slot + 1))))
+            → Holds self.new (add_row s (new_row (Region n) (row s.rows n).job (Some slot) frame (Live slot (height s.rows slot + 1)))) }
+    {
+        let maker = self.top_row(slot);
+        let entry = self.top_entry(slot);
+        let height = self.height(slot) as u64 + 1;
+        let stage = Stage::Live(slot, height);
+        let source = Source::Region(maker);
+        let row = self.enter_row(source, entry.job, Some(slot), stage, entry.context);
+        self.count_row(entry.job);
+        self.push_region(slot, frame, row);
+    }
+}
