@@ -1,5 +1,5 @@
 -- The answers to the lines of a script, one after another.
-use Rattle.std.proofs.Common.{◌≡◌, ◌≢◌, ℕ, List, [], ◌∷◌, ◌++◌, Option, Some, None, Ok, refl, sym, ap, ◌∙◌, append_assoc, subst}
+use Rattle.std.proofs.Common.{◌≡◌, ◌≢◌, ℕ, List, [], ◌∷◌, ◌++◌, Option, Some, None, refl, sym, ap, ◌∙◌, append_assoc, subst}
 use Rattle.std.proofs.lemmas.List.{append-nil}
 use Rattle.std.specs.Io.KnownBytes.{Appends}
 use Rattle.job_language.specs.declared.answers.Answer.{Answer}
@@ -9,7 +9,7 @@ use Rattle.request_reader.specs.Lines.{Line, newline}
 use Rattle.tenant_model.specs.State.{State}
 use Rattle.arena_script.specs.OwnAnswers.{told}
 use Rattle.arena_script.specs.ScriptAnswers.{TakesLine, AnswersAll}
-use Rattle.arena_script.specs.ScriptLines.{line_of, lines_read}
+use Rattle.arena_script.specs.ScriptLines.{line_of, input_lines}
 use Rattle.arena_script.specs.SerialAnswers.{serial_answer, serial_answers}
 use Rattle.arena_script.specs.declared.inputs.Input.{Input}
 use Rattle.arena_script.specs.declared.inputs.Input.TheVariants as input
@@ -35,30 +35,30 @@ answers_on slots line lines old mid final answer before middle after taken writt
     (told answer ++ newline ∷ others.0, (answer, mid, others.0, taken, refl, others.1), appends_two before middle after (told answer) others.0 written others.2)
 
 -- An input that is not the end is one line.
-pub lines_read-line : (i : Input) (text : List ℕ) → i ≢ input.End → lines_read (Ok i) text ≡ line_of i text ∷ []
-lines_read-line input.Line text h = refl
-lines_read-line input.TooLong text h = refl
-lines_read-line input.End text h = absurd (h refl)
+pub input_lines-line : (i : Input) (text : List ℕ) → i ≢ input.End → input_lines i text ≡ line_of i text ∷ []
+input_lines-line input.Line text h = refl
+input_lines-line input.TooLong text h = refl
+input_lines-line input.End text h = absurd (h refl)
 
 -- The next input is taken and its answer written, and then the lines that are left.
-pub answers_step : (slots slots' : ℕ) (i : Input) (text text' : List ℕ) (left left' : List Line) (old mid final : State) (answer : Option Answer) (line : List ℕ) (before middle after : Option (List ℕ)) → slots' ≡ slots → text' ≡ text → i ≢ input.End → left ≡ lines_read (Ok i) text ++ left' → TakesLine slots' (line_of i text') old answer mid → line ≡ told answer ++ newline ∷ [] → Appends before middle line → AnswersAll slots left' mid middle after final → AnswersAll slots left old before after final
+pub answers_step : (slots slots' : ℕ) (i : Input) (text text' : List ℕ) (left left' : List Line) (old mid final : State) (answer : Option Answer) (line : List ℕ) (before middle after : Option (List ℕ)) → slots' ≡ slots → text' ≡ text → i ≢ input.End → left ≡ input_lines i text ++ left' → TakesLine slots' (line_of i text') old answer mid → line ≡ told answer ++ newline ∷ [] → Appends before middle line → AnswersAll slots left' mid middle after final → AnswersAll slots left old before after final
 answers_step slots slots' i text text' left left' old mid final answer line before middle after same_slots same_text going here taken told_as written others =
     let taken_here : TakesLine slots' (line_of i text) old answer mid = subst (λ (t : List ℕ). TakesLine slots' (line_of i t) old answer mid) same_text taken in
     let taken_there : TakesLine slots (line_of i text) old answer mid = subst (λ (s : ℕ). TakesLine s (line_of i text) old answer mid) same_slots taken_here in
     let written_line : Appends before middle (told answer ++ newline ∷ []) = subst (λ (t : List ℕ). Appends before middle t) told_as written in
-    let one_line : left ≡ line_of i text ∷ left' = here ∙ ap (λ ls. ls ++ left') (lines_read-line i text going) in
+    let one_line : left ≡ line_of i text ∷ left' = here ∙ ap (λ ls. ls ++ left') (input_lines-line i text going) in
     subst (λ (ls : List Line). AnswersAll slots ls old before after final) (sym one_line) (answers_on slots (line_of i text) left' old mid final answer before middle after taken_there written_line others)
 
 -- At the end no lines are left, and all are answered.
-pub answers_end : (slots : ℕ) (i : Input) (text : List ℕ) (left left' : List Line) (s : State) (known : Option (List ℕ)) → i ≡ input.End → left ≡ lines_read (Ok i) text ++ left' → left' ≡ [] → AnswersAll slots left s known known s
+pub answers_end : (slots : ℕ) (i : Input) (text : List ℕ) (left left' : List Line) (s : State) (known : Option (List ℕ)) → i ≡ input.End → left ≡ input_lines i text ++ left' → left' ≡ [] → AnswersAll slots left s known known s
 answers_end slots i text left left' s known ended here none =
-    let no_lines : left ≡ [] = here ∙ ap (λ e. lines_read (Ok e) text ++ left') ended ∙ none in
+    let no_lines : left ≡ [] = here ∙ ap (λ e. input_lines e text ++ left') ended ∙ none in
     subst (λ (ls : List Line). AnswersAll slots ls s known known s) (sym no_lines) (answers_none slots s known)
 
 -- The next input is answered with the serial value that it asks, and then the lines that are left.
-pub serial_step : (i : Input) (text text' : List ℕ) (left left' : List Line) (answer : SerialAnswer) (line : List ℕ) (before middle after : Option (List ℕ)) → text' ≡ text → i ≢ input.End → left ≡ lines_read (Ok i) text ++ left' → answer ≡ serial_answer (line_of i text') → line ≡ serial_text answer ++ newline ∷ [] → Appends before middle line → Appends middle after (serial_answers left') → Appends before after (serial_answers left)
+pub serial_step : (i : Input) (text text' : List ℕ) (left left' : List Line) (answer : SerialAnswer) (line : List ℕ) (before middle after : Option (List ℕ)) → text' ≡ text → i ≢ input.End → left ≡ input_lines i text ++ left' → answer ≡ serial_answer (line_of i text') → line ≡ serial_text answer ++ newline ∷ [] → Appends before middle line → Appends middle after (serial_answers left') → Appends before after (serial_answers left)
 serial_step i text text' left left' answer line before middle after same_text going here answered told_as written others =
     let told_here : line ≡ serial_text (serial_answer (line_of i text)) ++ newline ∷ [] = told_as ∙ ap (λ a. serial_text a ++ newline ∷ []) answered ∙ ap (λ t. serial_text (serial_answer (line_of i t)) ++ newline ∷ []) same_text in
     let written_line : Appends before middle (serial_text (serial_answer (line_of i text)) ++ newline ∷ []) = subst (λ (t : List ℕ). Appends before middle t) told_here written in
-    let one_line : left ≡ line_of i text ∷ left' = here ∙ ap (λ ls. ls ++ left') (lines_read-line i text going) in
+    let one_line : left ≡ line_of i text ∷ left' = here ∙ ap (λ ls. ls ++ left') (input_lines-line i text going) in
     subst (λ (ls : List Line). Appends before after (serial_answers ls)) (sym one_line) (appends_two before middle after (serial_text (serial_answer (line_of i text))) (serial_answers left') written_line others)

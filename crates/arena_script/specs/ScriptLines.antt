@@ -1,10 +1,9 @@
 -- The lines of a script that are not blank, and which of them is read next.
-use Rattle.std.specs.Prelude.{ℕ, List, [], ◌∷◌, Bool, true, not, filter, Option, unwrap_or, Result, Ok, Err}
+use Rattle.std.specs.Prelude.{◌≡◌, ◌<◌, ◌⊎◌, ℕ, List, [], ◌∷◌, Bool, true, not, filter, Option, unwrap_or, Result, Ok, Err}
 use Rattle.std.specs.List.{list_all}
 use Rattle.request_reader.specs.Blank.{is_blank_byte}
 use Rattle.request_reader.specs.Lines.{Line, whole, too_long, lines_of}
-use Rattle.request_reader.specs.Reading.{Reading, lines_left}
-use Rattle.arena_script.specs.declared.ends.ScriptEnd.{ScriptEnd}
+use Rattle.request_reader.specs.Reading.{Reading, IsPending, lines_left}
 use Rattle.arena_script.specs.declared.inputs.TheConstants.{MAX_SCRIPT_LINE}
 use Rattle.arena_script.specs.declared.inputs.Input.{Input}
 use Rattle.arena_script.specs.declared.inputs.Input.TheVariants as input
@@ -31,8 +30,16 @@ line_of input.Line text = whole text
 line_of input.TooLong text = too_long
 line_of input.End text = too_long
 
-abbrev pub lines_read : Result Input ScriptEnd → List ℕ → List Line
-lines_read (Ok input.Line) text = whole text ∷ []
-lines_read (Ok input.TooLong) text = too_long ∷ []
-lines_read (Ok input.End) text = []
-lines_read (Err end) text = []
+abbrev pub input_lines : Input → List ℕ → List Line
+input_lines input.Line text = whole text ∷ []
+input_lines input.TooLong text = too_long ∷ []
+input_lines input.End text = []
+
+abbrev pub lines_read : {E : Type 0} → Result Input E → List ℕ → List Line
+lines_read (Ok i) text = input_lines i text
+lines_read (Err e) text = []
+
+-- The reader of bytes failed, or may not be called again: no line that is held whole is left, and none was told last.
+pub record WasLost (old new : Reading) : Type 0 where
+  pub pending : IsPending new
+  pub called : (new.turns < old.turns) ⊎ (new.turns ≡ 0)

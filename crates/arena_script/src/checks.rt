@@ -5,9 +5,9 @@ ghost use Rattle.arena_script.specs.DumpData.{dump_of, TellsVerdict, TellsBadLin
 ghost use Rattle.arena_script.specs.ScriptLines.{lines_in};
 ghost use Rattle.arena_script.specs.VerdictText.{verdict_text, bad_line_text};
 
+use crate::devices::put;
 use crate::dumps::{DumpRead, read_dump};
 use crate::ends::ScriptEnd;
-use crate::scripts::put;
 use history_check::Verdict;
 use std::alloc::{AllocError, Global};
 use std::io::{Read, Write};
@@ -27,7 +27,8 @@ pub(crate) fn check_dump<R: Read, W: Write>(
     match read_dump(alloc, reader)? {
         DumpRead::Whole(dump) => {
             let verdict = dump.verdict(alloc)?;
-            put(writer, verdict_line(alloc, verdict)?.as_bytes())
+            put(writer, verdict_line(alloc, verdict)?.as_bytes())?;
+            Ok(())
         }
         DumpRead::BadLine(number) => {
             put(writer, bad_line(alloc, number)?.as_bytes())?;

@@ -1,6 +1,6 @@
 // The lines of a dump: a tenant, and the entries of its history.
-ghost use Rattle.std.specs.Prelude.{◌≡◌, [], option_map, unwrap_or, IsSome, IfOk, IfErr, OnOk};
-ghost use Rattle.request_reader.specs.Reading.{lines_left};
+ghost use Rattle.std.specs.Prelude.{◌≡◌, ◌<◌, ◌^◌, [], option_map, unwrap_or, IsSome, IfOk, IfErr, OnOk};
+ghost use Rattle.request_reader.specs.Reading.{lines_left, work_left};
 ghost use Rattle.serde_json.specs.View.{view};
 ghost use Rattle.arena_script.specs.CheckEnds.{IsLost};
 ghost use Rattle.arena_script.specs.DumpLines.{said_by, said_in_value, step_word, asked, ask_said, recorded, arrived, arrival_of, arrival_said, advanced, advance_said, moved_word, moved_named, verdict_on};
@@ -9,14 +9,15 @@ ghost use Rattle.arena_script.specs.DumpReads.{came_to, after_first};
 ghost use Rattle.arena_script.specs.OwnAnswers.{request_in};
 ghost use Rattle.arena_script.specs.ScriptLines.{lines_in};
 
+use crate::devices::next_line;
 use crate::dump_replies::{natural, reply_in, small};
 use crate::ends::ScriptEnd;
-use crate::inputs::MAX_SCRIPT_LINE;
+use crate::inputs::{Input, MAX_SCRIPT_LINE};
 use crate::own::{request_in, tenant_of};
 use history_check::{Verdict, check};
 use job_language::values::has_members;
 use job_language::{Answer, Came, Entry, Error, Moved, Reply, Request, Step, TenantConfig};
-use request_reader::{LineRead, LineReader, value_of};
+use request_reader::{LineReader, value_of};
 use serde_json::Value;
 use std::alloc::{AllocError, Global};
 use std::io::Read;
@@ -78,12 +79,11 @@ fn read_first<R: Read>(
         → dump_of (lines_left lines.old (unwrap_or (R.remaining reader.old) []))
         ≡ after_first first (lines_left lines.new (unwrap_or (R.remaining reader.new) []))) }
     ensures known { IsSome (R.remaining reader.old) → IsSome (R.remaining reader.new) }
+    ensures work { IfOk result (λ first. IsSome first → work_left lines.new < work_left lines.old) }
     ensures lost { IfErr result IsLost }
 {
-    match lines.read_line(reader) {
-        LineRead::Line => {}
-        LineRead::TooLong | LineRead::End => return Ok(None),
-        LineRead::ReadFault | LineRead::TurnLimit => return Err(ScriptEnd::Device),
+    if next_line(lines, reader)? != Input::Line {
+        return Ok(None);
     }
     match tenant_of(alloc, lines.line()) {
         Ok(config) => Ok(Some(Dump {
@@ -103,22 +103,23 @@ fn read_on<R: Read>(
     mut lines: LineReader,
     reader: &mut R,
 ) -> Result<DumpRead, ScriptEnd>
+    requires { work_left lines < 2 ^ 63 }
     ensures read { IfOk result (λ read. IsSome (R.remaining reader.old)
         → read_on (lines_left lines (unwrap_or (R.remaining reader.old) [])) 2 dump ≡ came_to read) }
     ensures lost { IfErr result IsLost }
 {
-    for number in 2..u64::MAX {
-        match lines.read_line(reader) {
-            LineRead::Line => match said_by(alloc, lines.line())? {
+    let mut number = 2;
+    loop {
+        match next_line(&mut lines, reader)? {
+            Input::Line => match said_by(alloc, lines.line())? {
                 Some(said) => dump.add(said)?,
                 None => return Ok(DumpRead::BadLine(number)),
             },
-            LineRead::TooLong => return Ok(DumpRead::BadLine(number)),
-            LineRead::End => return Ok(DumpRead::Whole(dump)),
-            LineRead::ReadFault | LineRead::TurnLimit => return Err(ScriptEnd::Device),
+            Input::TooLong => return Ok(DumpRead::BadLine(number)),
+            Input::End => return Ok(DumpRead::Whole(dump)),
         }
+        number += 1;
     }
-    Err(ScriptEnd::Device)
 }
 
 impl Dump {

@@ -1,8 +1,9 @@
 // How a script ends.
 ghost use Rattle.std.specs.Prelude.{◌≡◌, option_map};
 ghost use Rattle.arena_script.specs.Ends.{status_of, fault_of};
-ghost use Rattle.arena_script.specs.declared.ends.ScriptEnd.TheVariants.{Memory};
+ghost use Rattle.arena_script.specs.declared.ends.ScriptEnd.TheVariants.{Device, Memory};
 
+use crate::devices::DeviceFault;
 use std::alloc::{AllocError, AllocFailed};
 
 /// How a script ended.
@@ -53,5 +54,13 @@ impl From<AllocError> for ScriptEnd {
 
     fn from(_error: AllocError) -> ScriptEnd {
         ScriptEnd::Memory
+    }
+}
+
+impl From<DeviceFault> for ScriptEnd {
+    ghost from_gives = { λ _ e. e ≡ Device };
+
+    fn from(_fault: DeviceFault) -> ScriptEnd {
+        ScriptEnd::Device
     }
 }

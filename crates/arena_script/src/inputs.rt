@@ -1,15 +1,16 @@
 // The lines of a script.
-ghost use Rattle.std.specs.Prelude.{◌≡◌, ◌++◌, [], Ok, IsSome, IfErr};
-ghost use Rattle.arena_script.specs.ScriptLines.{script_lines, lines_read};
+ghost use Rattle.std.specs.Prelude.{◌≡◌, ◌≢◌, ◌<◌, ◌++◌, [], Ok, IsSome, IfOk, OnErr};
+ghost use Rattle.request_reader.specs.Reading.{work_left};
+ghost use Rattle.arena_script.specs.ScriptLines.{script_lines, lines_read, WasLost};
 
-use crate::ends::ScriptEnd;
-use request_reader::{LineRead, LineReader, is_blank};
+use crate::devices::{DeviceFault, next_line};
+use request_reader::{LineReader, is_blank};
 use std::io::Read;
 
 /// How many bytes a line of a script may have, without its newline.
 pub const MAX_SCRIPT_LINE: usize = 1_048_576;
 
-/// A line of a script that is not blank.
+/// What reading a line came to.
 #[derive(Clone, Copy, Debug, PartialEq, Eq)]
 pub(crate) enum Input {
     /// A line, which the reader of lines lends.
@@ -22,23 +23,20 @@ pub(crate) enum Input {
 pub(crate) fn next_input<R: Read>(
     lines: &mut LineReader,
     reader: &mut R,
-) -> Result<Input, ScriptEnd>
+) -> Result<Input, DeviceFault>
     ensures lines { IsSome (R.remaining reader.old)
         → script_lines lines.old (R.remaining reader.old)
         ≡ lines_read result lines.new.line ++ script_lines lines.new (R.remaining reader.new) }
     ensures known { IsSome (R.remaining reader.old) → IsSome (R.remaining reader.new) }
     ensures end { result ≡ Ok Input.End
         → script_lines lines.new (R.remaining reader.new) ≡ [] }
-    ensures err { IfErr result (λ end. end ≡ ScriptEnd.Device) }
+    ensures lowers { IfOk result (λ input. input ≢ Input.End → work_left lines.new < work_left lines.old) }
+    ensures device { OnErr result (WasLost lines.old lines.new) }
 {
-    for _line in 0..u64::MAX {
-        match lines.read_line(reader) {
-            LineRead::Line if is_blank(lines.line()) => {}
-            LineRead::Line => return Ok(Input::Line),
-            LineRead::TooLong => return Ok(Input::TooLong),
-            LineRead::End => return Ok(Input::End),
-            LineRead::ReadFault | LineRead::TurnLimit => return Err(ScriptEnd::Device),
+    loop {
+        match next_line(lines, reader)? {
+            Input::Line if is_blank(lines.line()) => {}
+            input => return Ok(input),
         }
     }
-    Err(ScriptEnd::Device)
 }

@@ -2,6 +2,7 @@
 #![tactic(auto)]
 
 mod checks;
+mod devices;
 mod dump_replies;
 mod dumps;
 mod ends;

@@ -13,12 +13,13 @@ ghost use Rattle.arena_script.specs.SerialAnswers.{serial_answers};
 ghost use Rattle.arena_script.specs.SerialEnds.{are_serial_words, IsSerialEnd};
 
 use crate::checks::check_dump;
+use crate::devices::put;
 use crate::ends::ScriptEnd;
 use crate::inputs::{Input, MAX_SCRIPT_LINE, next_input};
 use crate::own::Own;
 use crate::serials::serial_values;
 use job_language::Answer;
-use reply_writer::{ReplyBuf, answer_line, bad_step_line, write_all_of};
+use reply_writer::{ReplyBuf, answer_line, bad_step_line};
 use request_reader::LineReader;
 use std::alloc::Global;
 use std::io::{Read, Write};
@@ -99,7 +100,7 @@ fn take_all<R: Read, W: Write>(
         × AnswersAll own.slots (script_lines lines (R.remaining reader.old)) own.solo
         (W.contents writer.old) (W.contents writer.new) final) }
 {
-    for _line in 0..u64::MAX {
+    loop {
         let input = next_input(&mut lines, reader)?;
         if input == Input::End {
             return Ok(());
@@ -107,7 +108,6 @@ fn take_all<R: Read, W: Write>(
         let answer = own.take_input(alloc, input, lines.line())?;
         put(writer, told(answer).line())?;
     }
-    Err(ScriptEnd::Device)
 }
 
 /// The line that tells an answer, or that there is none.
@@ -117,15 +117,5 @@ fn told(answer: Option<Answer>) -> ReplyBuf
     match answer {
         Some(answer) => answer_line(&answer),
         None => bad_step_line(),
-    }
-}
-
-pub(crate) fn put<W: Write>(writer: &mut W, line: &[u8]) -> Result<(), ScriptEnd>
-    ensures ok { OnOk result (Appends (W.contents writer.old) (W.contents writer.new) line.now) }
-    ensures err { IfErr result (λ end. end ≡ ScriptEnd.Device) }
-{
-    match write_all_of(writer, line) {
-        Ok(()) => Ok(()),
-        Err(_) => Err(ScriptEnd::Device),
     }
 }

@@ -7,9 +7,9 @@ ghost use Rattle.arena_script.specs.ScriptLines.{line_of, all_lines};
 ghost use Rattle.arena_script.specs.SerialAnswers.{serial_answer, serial_answers, serial_in, serial_of_job, serial_of_read};
 ghost use Rattle.arena_script.specs.SerialEnds.{IsSerialFault};
 
+use crate::devices::put;
 use crate::ends::ScriptEnd;
 use crate::inputs::{Input, MAX_SCRIPT_LINE, next_input};
-use crate::scripts::put;
 use job_language::{Error, Job, Refused, read_job};
 use reply_writer::{SerialAnswer, serial_line};
 use request_reader::{LineReader, value_of};
@@ -30,7 +30,7 @@ pub(crate) fn serial_values<R: Read, W: Write>(
         → Appends (W.contents writer.old) (W.contents writer.new) (serial_answers (all_lines (R.remaining reader.old)))) }
 {
     let mut lines = LineReader::new(alloc, MAX_SCRIPT_LINE)?;
-    for _line in 0..u64::MAX {
+    loop {
         let input = next_input(&mut lines, reader)?;
         if input == Input::End {
             return Ok(());
@@ -38,7 +38,6 @@ pub(crate) fn serial_values<R: Read, W: Write>(
         let answer = serial_of_input(alloc, input, lines.line())?;
         put(writer, serial_line(&answer).line())?;
     }
-    Err(ScriptEnd::Device)
 }
 
 /// The answer to an input, whose text is that line.

@@ -3,3 +3,4 @@ mod LineLaws
 mod NewlinePlaces
 mod Parts
 mod Telling
+mod Work

@@ -1,5 +1,5 @@
 -- The answer to a line, by the JSON value that it is.
-use Rattle.std.proofs.Common.{◌≡◌, ℕ, ◌≤◌, List, length, Bool, true, false, Option, Some, None, Result, Ok, Err, cond, refl, sym, ap, ◌∙◌}
+use Rattle.std.proofs.Common.{◌≡◌, ℕ, ◌≤◌, List, length, Bool, true, false, Option, Result, Ok, Err, cond, refl, sym, ap, ◌∙◌}
 use Rattle.std.specs.Option.{ok_or}
 use Rattle.std.specs.Str.{IsUtf8, is_utf8}
 use Rattle.std.proofs.lemmas.Bool.{false_from_ne_true, le-ltb}
@@ -10,8 +10,8 @@ use Rattle.job_language.specs.declared.errors.Error.{Error}
 use Rattle.job_language.specs.declared.errors.Error.TheVariants as error
 use Rattle.job_language.specs.declared.requests.Asked.{Asked}
 use Rattle.request_reader.specs.declared.requests.TheConstants.{MAX_REQUEST}
-use Rattle.request_reader.specs.Answers.{asked_data, Answers}
-use Rattle.request_reader.specs.Asks.{AskedData, asked_by_value}
+use Rattle.request_reader.specs.Answers.{Answers}
+use Rattle.request_reader.specs.Asks.{asked_by_value}
 use Rattle.request_reader.specs.LineAsks.{value_of, asked_in, asked_by, IsText, AnswersLine}
 
 pub value_of-not_text : (line : List ℕ) → ¬ IsUtf8 line → value_of line ≡ Err error.BadJson

@@ -1,11 +1,11 @@
 -- The first line of some bytes, and the lines after it.
-use Rattle.std.proofs.Common.{◌≡◌, ◌≢◌, ℕ, ◌+◌, ◌≤◌, ◌<◌, List, [], ◌∷◌, ◌++◌, length, take, drop, slice_index, get_or, Bool, true, false, cond, sym, ap, refl, ◌∙◌, arith, length-append, append_assoc, add-one}
-use Rattle.std.specs.Prelude.{if◌then◌else◌, map, ◌==◌, ◌||◌, nat_le, nat_lt, nat_eq}
+use Rattle.std.proofs.Common.{◌≡◌, ◌≢◌, ℕ, ◌+◌, ◌≤◌, ◌<◌, List, [], ◌∷◌, ◌++◌, length, take, drop, slice_index, Bool, true, false, cond, sym, ap, refl, ◌∙◌, arith, length-append}
+use Rattle.std.specs.Prelude.{if◌then◌else◌, map, ◌==◌, ◌||◌, nat_lt, nat_eq}
 use Rattle.std.specs.Io.BufRead.{drop_through}
 use Rattle.std.proofs.lemmas.Bool.{ne_eqb, lt-leb, le-leb, ltb-true, ltb-false}
 use Rattle.std.proofs.lemmas.List.{append-nil, take-append-drop, drop_more}
 use Rattle.std.proofs.lemmas.List.Elements.{All-head, All-tail}
-use Rattle.request_reader.specs.Lines.{newline, HasNoNewline, Line, whole, too_long, with_first, split_lines, line_of, lines_of}
+use Rattle.request_reader.specs.Lines.{newline, HasNoNewline, whole, too_long, with_first, split_lines, line_of, lines_of}
 use Rattle.request_reader.specs.Reading.{lines_from}
 
 -- the bytes before the first newline, or all of them

@@ -1,10 +1,9 @@
 -- What is told of the bytes that are held.
-use Rattle.std.proofs.Common.{IsSome, inl, inr, Option, Some, None, subst, ◌≡◌, ◌≢◌, ℕ, ◌+◌, ◌≤◌, ◌<◌, List, [], ◌∷◌, ◌++◌, length, take, drop, Bool, true, false, sym, ap, refl, ◌∙◌, arith, append_assoc}
-use Rattle.std.specs.Prelude.{◌⊎◌, unwrap_or, ◌||◌, nat_lt, if◌then◌else◌}
+use Rattle.std.proofs.Common.{IsSome, inl, inr, Option, Some, None, subst, ◌≡◌, ◌≢◌, ℕ, ◌+◌, ◌≤◌, ◌<◌, List, [], ◌∷◌, ◌++◌, length, take, drop, true, false, sym, ap, refl, ◌∙◌, arith, append_assoc}
+use Rattle.std.specs.Prelude.{◌⊎◌, unwrap_or, ◌||◌, nat_lt}
 use Rattle.std.proofs.lemmas.Bool.{both_ways, cases_Bool, ltb-false, or_parts}
 use Rattle.std.proofs.lemmas.List.{append-nil, length-take, length-take-le}
 use Rattle.std.proofs.lemmas.List.Elements.{All-nil, All-same}
-use Rattle.std.specs.Io.BufRead.{drop_through}
 use Rattle.std.specs.Io.KnownBytes.{Consumes, Keeps, IsAtEnd}
 use Rattle.request_reader.specs.declared.lines.LineRead.{LineRead}
 use Rattle.request_reader.specs.declared.lines.LineRead.TheVariants as read

@@ -1,5 +1,5 @@
 -- What a line of bytes asks for, or the error that refuses it.
-use Rattle.std.specs.Prelude.{◌≡◌, ℕ, ◌≤◌, List, length, true, nat_lt, if◌then◌else◌, Option, Some, None, Result, Ok, Err}
+use Rattle.std.specs.Prelude.{◌≡◌, ℕ, ◌≤◌, List, length, true, nat_lt, if◌then◌else◌, Result, Ok, Err}
 use Rattle.std.specs.Option.{ok_or}
 use Rattle.std.specs.Str.{is_utf8}
 use Rattle.serde_json.specs.Data.{Data}

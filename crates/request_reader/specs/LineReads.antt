@@ -3,7 +3,7 @@ use Rattle.std.specs.Prelude.{◌≡◌, ℕ, ◌≤◌, ◌<◌, List, [], ◌�
 use Rattle.request_reader.specs.declared.lines.LineRead.{LineRead}
 use Rattle.request_reader.specs.declared.lines.LineRead.TheVariants as read
 use Rattle.request_reader.specs.Lines.{Line, whole, too_long}
-use Rattle.request_reader.specs.Reading.{Reading, Tells, Reads, IsPending, IsDone}
+use Rattle.request_reader.specs.Reading.{Reading, Tells, Reads, IsPending, IsDone, work_left}
 
 -- the lines that it tells
 abbrev pub told_by : LineRead → Reading → List Line
@@ -20,6 +20,12 @@ ComesTo read.TooLong old new = new.line ≡ []
 ComesTo read.End old new = IsDone new
 ComesTo read.ReadFault old new = IsPending new × (new.turns < old.turns)
 ComesTo read.TurnLimit old new = IsPending new × (new.turns ≡ 0)
+
+-- A line that is told lowers the work that is left.
+abbrev pub LowersWork : LineRead → Reading → Reading → Type 0
+LowersWork read.Line old new = work_left new < work_left old
+LowersWork read.TooLong old new = work_left new < work_left old
+LowersWork other old new = Unit {0}
 
 -- a line of the bytes that are held, if a newline ends one
 abbrev pub Finds : Option LineRead → Reading → Reading → Type 0

@@ -1,7 +1,8 @@
 -- How far a reader of lines is, and what it tells.
-use Rattle.std.specs.Prelude.{◌≡◌, ℕ, ◌≤◌, List, [], ◌∷◌, ◌++◌, length, Bool, true, false, ◌||◌, nat_lt, if◌then◌else◌, Option}
+use Rattle.std.specs.Prelude.{◌≡◌, ℕ, ◌+◌, ◌*◌, ◌≤◌, List, [], ◌∷◌, ◌++◌, length, Bool, true, false, ◌||◌, nat_lt, if◌then◌else◌, Option}
 use Rattle.std.specs.Io.BufRead.{drop_through}
 use Rattle.std.specs.Io.KnownBytes.{Consumes, IsAtEnd}
+use Rattle.request_reader.specs.declared.lines.TheConstants.{BLOCK}
 use Rattle.request_reader.specs.Lines.{newline, HasNoNewline, Line, too_long, lines_of}
 
 pub record Reading : Type 0 where
@@ -51,6 +52,15 @@ pub record IsPending (r : Reading) : Type 0 where
   pub held : HasNoNewline r.held
   pub short : length r.held ≤ r.limit
   pub line : r.line ≡ []
+
+-- Neither a whole line nor the end can be told before more bytes are read.
+pub record NeedsBytes (r : Reading) : Type 0 where
+  pub not_ended : r.is_ended ≡ false
+  pub held : HasNoNewline r.held
+
+-- How much a reader of lines may still do: what is held, and for each call that is left as much as has room. It falls with each line that is told.
+abbrev pub work_left : Reading → ℕ
+work_left r = r.turns * (r.limit + BLOCK + 1) + length r.held
 
 -- all is told
 pub record IsDone (r : Reading) : Type 0 where

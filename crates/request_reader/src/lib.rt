@@ -7,8 +7,10 @@ mod newlines;
 mod requests;
 #[cfg(test)]
 mod tests;
+mod turns;
 mod windows;
 
 pub use job_requests::ready;
-pub use lines::{LineRead, LineReader, MAX_TURNS};
+pub use lines::{LineRead, LineReader};
 pub use requests::{MAX_REQUEST, is_blank, read_request, request_of, value_of};
+pub use turns::MAX_TURNS;

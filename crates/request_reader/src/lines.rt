@@ -1,15 +1,13 @@
 // Lines of bytes from a reader.
-ghost use Rattle.std.specs.Prelude.{◌≡◌, ℕ, List, [], ◌++◌, ◌<◌, ◌≤◌, ◌+◌, ◌^◌, length, take, false, IfOk, Some, None, IsSome, unwrap_or};
+ghost use Rattle.std.specs.Prelude.{◌≡◌, ℕ, List, [], ◌++◌, ◌<◌, ◌≤◌, ◌+◌, ◌^◌, length, take, false, IfOk, IfSome, Some, None, IsSome, unwrap_or, ◌⊎◌};
 ghost use Rattle.std.specs.Io.KnownBytes.{Consumes, IsAtEnd};
 
 use crate::newlines::newline_from;
+use crate::turns::{MAX_TURNS, Turns};
 use crate::windows::Window;
 use std::alloc::{AllocError, Global};
 use std::io::{ErrorKind, Read};
 use std::marker::Model;
-
-/// How often a `LineReader` calls `read`.
-pub const MAX_TURNS: u64 = 1_048_576;
 
 /// How many bytes are asked for at once, at least.
 const BLOCK: usize = 65_536;
@@ -37,7 +35,7 @@ pub struct LineReader {
     limit: usize,
     is_within_long: bool,
     is_ended: bool,
-    turns: u64,
+    turns: Turns,
 }
 
 impl Model for LineReader {
@@ -53,10 +51,10 @@ impl Model for LineReader {
 }
 
 impl LineReader {
-    ghost use Rattle.request_reader.specs.LineReads.{told_by, ComesTo, Finds, FindsLast, TurnsTo};
+    ghost use Rattle.request_reader.specs.LineReads.{told_by, ComesTo, Finds, FindsLast, LowersWork, TurnsTo};
     ghost use Rattle.request_reader.specs.Lines.{HasNoNewline};
     ghost use Rattle.request_reader.specs.Newlines.{IsFirstNewline};
-    ghost use Rattle.request_reader.specs.Reading.{is_long, lines_left, IsPending, Reads};
+    ghost use Rattle.request_reader.specs.Reading.{is_long, lines_left, IsPending, NeedsBytes, Reads};
 
     /// A reader of lines that have so many bytes at most, without their newline.
     pub fn new(alloc: Global, limit: usize) -> Result<LineReader, AllocError>
@@ -68,7 +66,7 @@ impl LineReader {
             limit,
             is_within_long: false,
             is_ended: false,
-            turns: MAX_TURNS,
+            turns: Turns::new(),
         })
     }
 
@@ -93,6 +91,10 @@ impl LineReader {
         ensures reads { Reads self.old self.new (R.remaining reader.old) (R.remaining reader.new) (told_by result self.new) }
         ensures comes_to { ComesTo result self.old self.new }
         ensures unread { self.new.turns ≡ self.old.turns → reader.new ≡ reader.old }
+
+        // A line that is held whole is told without a call of the reader, and so is the end.
+        ensures at_once { NeedsBytes self.old ⊎ (self.new.turns ≡ self.old.turns) }
+        ensures lowers { LowersWork result self.old self.new }
     {
         self.read_on(reader)
     }
@@ -101,6 +103,8 @@ impl LineReader {
         ensures reads { Reads self.old self.new (R.remaining reader.old) (R.remaining reader.new) (told_by result self.new) }
         ensures comes_to { ComesTo result self.old self.new }
         ensures unread { self.new.turns ≡ self.old.turns → reader.new ≡ reader.old }
+        ensures at_once { NeedsBytes self.old ⊎ (self.new.turns ≡ self.old.turns) }
+        ensures lowers { LowersWork result self.old self.new }
     {
         if self.is_ended {
             self.window.cut(0, 0);
@@ -109,7 +113,7 @@ impl LineReader {
         if let Some(told) = self.next_held(0) {
             return told;
         }
-        while self.turns > 0 {
+        while !self.turns.are_over() {
             if let Some(told) = self.turn(reader) {
                 return told;
             }
@@ -123,10 +127,10 @@ impl LineReader {
         requires turns { 0 < self.old.turns }
         ensures turns_to { TurnsTo result self.old self.new (R.remaining reader.old) (R.remaining reader.new) }
         ensures turns { self.new.turns + 1 ≡ self.old.turns }
+        ensures room { length self.new.held ≤ self.new.limit + BLOCK }
     {
         let start = self.window.held().len();
-        self.turns -= 1;
-        match self.window.fill(reader) {
+        match self.window.fill(&mut self.turns, reader) {
             Ok(0) => Some(self.tell_last()),
             Ok(_) => self.next_held(start),
             Err(error) if error.kind() == ErrorKind::Interrupted => None,
@@ -137,7 +141,8 @@ impl LineReader {
     /// Tells what is held as the last line, where no more bytes come.
     fn tell_last(&mut self) -> LineRead
         requires { IsPending self.old }
-        ensures { FindsLast result self.old self.new }
+        ensures finds { FindsLast result self.old self.new }
+        ensures held { length self.new.held ≤ length self.old.held }
     {
         let len = self.window.held().len();
         let was_within_long = self.is_within_long;
@@ -161,6 +166,9 @@ impl LineReader {
         requires before { HasNoNewline (take start self.old.held) }
         ensures finds { Finds result self.old self.new }
         ensures goes_on { self.new.is_ended ≡ false }
+        ensures none { result ≡ None → HasNoNewline self.old.held }
+        ensures fewer { IfSome result (λ _. length self.new.held < length self.old.held) }
+        ensures held { length self.new.held ≤ length self.old.held }
     {
         match newline_from(self.window.held(), start) {
             Some(place) => Some(self.tell(place)),
@@ -178,6 +186,7 @@ impl LineReader {
         requires fits { place + 1 < 2 ^ 64 }
         ensures finds { Finds (Some result) self.old self.new }
         ensures goes_on { self.new.is_ended ≡ false }
+        ensures fewer { length self.new.held < length self.old.held }
     {
         let is_long = self.is_long(place);
         self.is_within_long = false;
@@ -196,6 +205,7 @@ impl LineReader {
         requires held { HasNoNewline self.old.held }
         ensures finds { Finds None self.old self.new }
         ensures goes_on { self.new.is_ended ≡ false }
+        ensures held { length self.new.held ≤ length self.old.held }
     {
         let len = self.window.held().len();
         if self.is_long(len) {

@@ -2,6 +2,7 @@
 ghost use Rattle.std.specs.Prelude.{◌≡◌, ℕ, List, [], ◌++◌, ◌<◌, ◌≤◌, ◌+◌, ◌-◌, length, take, drop, slice_range, vec_len, IfOk, OnErr};
 ghost use Rattle.std.specs.Io.KnownBytes.{Keeps, Consumes, IsAtEnd};
 
+use crate::turns::Turns;
 use std::alloc::{AllocError, Global};
 use std::io;
 use std::io::Read;
@@ -72,9 +73,12 @@ impl Window {
     }
 
     /// Reads once, as many bytes as there is room for. The line is gone afterwards.
-    pub(crate) fn fill<R: Read>(&mut self, reader: &mut R) -> io::Result<usize>
-        requires { length self.old.held < self.old.size }
+    pub(crate) fn fill<R: Read>(&mut self, turns: &mut Turns, reader: &mut R) -> io::Result<usize>
+        requires room { length self.old.held < self.old.size }
+        requires turns { 0 < turns.old }
+        ensures turns { turns.new + 1 ≡ turns.old }
         ensures size { self.new.size ≡ self.old.size }
+        ensures fits { length self.new.held ≤ self.new.size }
         ensures line { self.new.line ≡ [] }
         ensures ok { IfOk result (λ n. (came : List ℕ) × (length came ≡ n) × (self.new.held ≡ self.old.held ++ came)
             × Consumes (R.remaining reader.old) (R.remaining reader.new) came) }
@@ -87,7 +91,7 @@ impl Window {
         self.line_end = 0;
         self.start = 0;
         self.end = end - start;
-        let count = read_from(reader, &mut self.bytes, end - start)?;
+        let count = read_from(turns, reader, &mut self.bytes, end - start)?;
         self.end += count;
         Ok(count)
     }
@@ -106,8 +110,15 @@ fn move_to_front(bytes: &mut Vec<u8>, start: usize, end: usize)
 }
 
 /// Reads once into the bytes from a place on.
-fn read_from<R: Read>(reader: &mut R, bytes: &mut Vec<u8>, start: usize) -> io::Result<usize>
-    requires { start < vec_len bytes.old }
+fn read_from<R: Read>(
+    turns: &mut Turns,
+    reader: &mut R,
+    bytes: &mut Vec<u8>,
+    start: usize,
+) -> io::Result<usize>
+    requires start { start < vec_len bytes.old }
+    requires turns { 0 < turns.old }
+    ensures turns { turns.new + 1 ≡ turns.old }
     ensures len { vec_len bytes.new ≡ vec_len bytes.old }
     ensures before { take start bytes.new.items ≡ take start bytes.old.items }
     ensures bound { IfOk result (λ n. start + n ≤ vec_len bytes.new) }
@@ -116,5 +127,5 @@ fn read_from<R: Read>(reader: &mut R, bytes: &mut Vec<u8>, start: usize) -> io::
     ensures err { OnErr result (Keeps (R.remaining reader.old) (R.remaining reader.new)) }
 {
     let room = &mut bytes.as_mut_slice()[start..];
-    reader.read(room)
+    turns.read(reader, room)
 }

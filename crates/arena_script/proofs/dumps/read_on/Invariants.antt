@@ -1,12 +1,17 @@
-use Rattle.std.proofs.Common.{◌≡◌, [], unwrap_or, IsSome}
-use Rattle.request_reader.specs.Reading.{lines_left}
+use Rattle.std.proofs.Common.{◌≡◌, ◌≤◌, ◌+◌, [], unwrap_or, IsSome}
+use Rattle.request_reader.specs.Reading.{lines_left, work_left}
 use Rattle.arena_script.specs.DumpData.{read_on}
 use Rattle.arena_script.proofs.dumps.read_on.Given as goal
 
--- what the lines that are left come to is what all come to
-abbrev pub invariant-loop-number : goal.invariant-loop-number
-invariant-loop-number g l =
-    IsSome (g.R.Read.remaining l.initial.reader) →
-    IsSome (g.R.Read.remaining l.reader)
-    × (read_on (lines_left l.initial.lines (unwrap_or (g.R.Read.remaining l.initial.reader) [])) 2 l.initial.dump
-    ≡ read_on (lines_left l.lines (unwrap_or (g.R.Read.remaining l.reader) [])) l.number l.dump)
+abbrev pub invariant-loop-lines : goal.invariant-loop-lines
+invariant-loop-lines g l = record {
+  -- what the lines that are left come to is what all come to
+  same : IsSome (g.R.Read.remaining l.initial.reader) →
+      IsSome (g.R.Read.remaining l.reader)
+      × (read_on (lines_left l.initial.lines (unwrap_or (g.R.Read.remaining l.initial.reader) [])) 2 l.initial.dump
+      ≡ read_on (lines_left l.lines (unwrap_or (g.R.Read.remaining l.reader) [])) l.number l.dump);
+  work : l.number + work_left l.lines ≤ 2 + work_left l.initial.lines;
+}
+
+abbrev pub decreases-loop-lines : goal.decreases-loop-lines
+decreases-loop-lines g l = work_left l.lines

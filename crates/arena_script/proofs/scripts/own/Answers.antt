@@ -1,9 +1,9 @@
-use Rattle.std.proofs.Common.{rules, subst, ◌≡◌, IsSome, OnOk, List, ◌∷◌, ◌++◌, sym, ap, ◌∙◌, ℕ, Option, Some, Ok, Err}
+use Rattle.std.proofs.Common.{rules, subst, ◌≡◌, OnOk, ◌∷◌, Ok, Err}
 use Rattle.std.specs.Prelude.{Result}
-use Rattle.request_reader.specs.Lines.{Line, whole}
+use Rattle.request_reader.specs.Lines.{whole}
 use Rattle.tenant_model.specs.State.{State, empty}
-use Rattle.arena_script.specs.ScriptAnswers.{AnswersAll, AnswersScript}
-use Rattle.arena_script.specs.ScriptLines.{script_lines, all_lines, lines_read}
+use Rattle.arena_script.specs.ScriptAnswers.{AnswersAll}
+use Rattle.arena_script.specs.ScriptLines.{script_lines, all_lines}
 use Rattle.arena_script.proofs.scripts.own.Goals as goal
 
 on_ok-map : {T E : Type 0} (r : Result T E) (P Q : Type 0) → (P → Q) → OnOk r P → OnOk r Q

@@ -6,18 +6,18 @@ use Rattle.arena_script.proofs.scripts.take_all.Goals as goal
 
 pub returns-then-eq-clause-done : goal.returns-then-eq-clause-done
 returns-then-eq-clause-done g c known =
-    let so_far = c.loop-line.invariant.1 known in
+    let so_far = c.loop-lines.invariant.1 known in
     let ended : c.in_ok-input.input ≡ input.End = search rules in
-    (c.loop-line.own.solo, so_far.1 _ _ (answers_end _ _ _ _ _ _ _ ended (c.in_ok-input.ensures.lines so_far.0) (c.in_ok-input.ensures.end (ap (λ (i : Input). Ok i) ended))))
+    (c.loop-lines.own.solo, so_far.1 _ _ (answers_end _ _ _ _ _ _ _ ended (c.in_ok-input.ensures.lines so_far.0) (c.in_ok-input.ensures.end (ap (λ (i : Input). Ok i) ended))))
 
-pub loop-line-preserved : goal.loop-line-preserved
-loop-line-preserved g c =
+pub loop-lines-preserved : goal.loop-lines-preserved
+loop-lines-preserved g c =
     let going : c.in_ok-input.input ≢ input.End = search rules in (
-      c.in_ok-answer.ensures.slots ∙ c.loop-line.invariant.0,
-      λ known. let so_far = c.loop-line.invariant.1 known in (
+      c.in_ok-answer.ensures.slots ∙ c.loop-lines.invariant.0,
+      λ known. let so_far = c.loop-lines.invariant.1 known in (
         c.in_ok-input.ensures.known so_far.0,
         λ after final others. so_far.1 after final
-            (answers_step _ _ _ _ _ _ _ _ _ _ _ _ _ _ _ c.loop-line.invariant.0 c.line.ensures going (c.in_ok-input.ensures.lines so_far.0) c.in_ok-answer.ensures.ok
-            (c.line-in-loop-line.ensures.value ∙ ap (λ (t : List ℕ). t ++ 10 ∷ []) c.told.ensures) c.in_ok-put.ensures.ok others),
+            (answers_step _ _ _ _ _ _ _ _ _ _ _ _ _ _ _ c.loop-lines.invariant.0 c.line.ensures going (c.in_ok-input.ensures.lines so_far.0) c.in_ok-answer.ensures.ok
+            (c.line-in-loop-lines.ensures.value ∙ ap (λ (t : List ℕ). t ++ 10 ∷ []) c.told.ensures) c.in_ok-put.ensures.ok others),
       ),
     )

@@ -3,12 +3,12 @@ use Rattle.arena_script.specs.declared.inputs.Input.TheVariants as input
 use Rattle.arena_script.proofs.Answering.{serial_step}
 use Rattle.arena_script.proofs.serials.serial_values.Goals as goal
 
-pub loop-line-preserved : goal.loop-line-preserved
-loop-line-preserved g c =
+pub loop-lines-preserved : goal.loop-lines-preserved
+loop-lines-preserved g c =
     let going : c.in_ok-input.input ≢ input.End = search rules in
-    λ known. let so_far = c.loop-line.invariant known in (
+    λ known. let so_far = c.loop-lines.invariant known in (
       c.in_ok-input.ensures.known so_far.0,
       λ after others. so_far.1 after
           (serial_step _ _ _ _ _ _ _ _ _ _ c.line.ensures going (c.in_ok-input.ensures.lines so_far.0) c.in_ok-answer.ensures.ok
-          (c.line-in-loop-line.ensures.value ∙ ap (λ (t : List ℕ). t ++ 10 ∷ []) c.serial_line.ensures) c.in_ok-put.ensures.ok others),
+          (c.line-in-loop-lines.ensures.value ∙ ap (λ (t : List ℕ). t ++ 10 ∷ []) c.serial_line.ensures) c.in_ok-put.ensures.ok others),
     )

@@ -1,4 +1,4 @@
-use Rattle.std.proofs.Common.{Some, None}
+use Rattle.std.proofs.Common.{Some}
 use Rattle.std.proofs.lemmas.Str.{is_utf8-from_IsUtf8}
 use Rattle.serde_json.specs.View.{view}
 use Rattle.request_reader.proofs.LineAnswers.{value_of-not_text, value_of-text}

@@ -1,10 +1,10 @@
-use Rattle.std.proofs.Common.{◌≡◌, ◌<◌, [], length, take, drop, sym, ap, ◌∙◌, refl, arith}
+use Rattle.std.proofs.Common.{◌≡◌, ◌<◌, [], length, sym, ap, ◌∙◌, refl, arith}
 use Rattle.std.proofs.lemmas.List.{drop_all, take_all}
 use Rattle.request_reader.proofs.Telling.{Tells-last_long, Tells-last_whole}
 use Rattle.request_reader.proofs.lines.LineReader.tell_last.Goals as goal
 
-pub returns-then-was_within_long : goal.returns-then-was_within_long
-returns-then-was_within_long c =
+pub returns-then-was_within_long-clause-finds : goal.returns-then-was_within_long-clause-finds
+returns-then-was_within_long-clause-finds c =
     let none : c.cut.new.self.held ≡ [] = ap (λ w. w.held) c.cut.ensures ∙ drop_all (length c.held-len.result.now) c.self.inside.window.held (omega (arith, ap length c.held-len.ensures.value)) in
     record {
       finds = (
@@ -15,8 +15,8 @@ returns-then-was_within_long c =
       ended = refl;
     }
 
-pub returns-then-len-gt0 : goal.returns-then-len-gt0
-returns-then-len-gt0 c =
+pub returns-then-len-gt0-clause-finds : goal.returns-then-len-gt0-clause-finds
+returns-then-len-gt0-clause-finds c =
     let held = c.held-len.ensures.value ∙ ap (λ r. r.held) c.self.view_is in
     let none : c.cut-then-len-gt0.new.self.held ≡ [] = ap (λ w. w.held) c.cut-then-len-gt0.ensures ∙ drop_all (length c.held-len.result.now) c.self.inside.window.held (omega (arith, ap length c.held-len.ensures.value)) in
     let line : c.cut-then-len-gt0.new.self.line ≡ c.args.self.now.held = ap (λ w. w.line) c.cut-then-len-gt0.ensures ∙ take_all (length c.held-len.result.now) c.self.inside.window.held (omega (arith, ap length c.held-len.ensures.value)) ∙ ap (λ r. r.held) c.self.view_is in

@@ -1,4 +1,3 @@
-use Rattle.std.proofs.Common.{arith}
 use Rattle.request_reader.proofs.Parts.{buffered-cut}
 use Rattle.request_reader.proofs.windows.Window.cut.Goals as goal
 

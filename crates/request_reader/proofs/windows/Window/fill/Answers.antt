@@ -1,4 +1,4 @@
-use Rattle.std.proofs.Common.{take, drop, length, ◌≤◌, ◌-◌, ◌∙◌, ap, ◌++◌, arith, length-take, length-drop, ℕ}
+use Rattle.std.proofs.Common.{take, drop, ◌-◌, ◌∙◌, ap, arith, length-take, length-drop}
 use Rattle.request_reader.proofs.Parts.{front-more}
 use Rattle.request_reader.proofs.windows.Window.fill.Goals as goal
 
