@@ -14,14 +14,14 @@ use Rattle.arena_script.specs.SerialAnswers.{serial_answer, serial_answers}
 use Rattle.arena_script.specs.declared.inputs.Input.{Input}
 use Rattle.arena_script.specs.declared.inputs.Input.TheVariants as input
 
-appends_two : (before middle after : Option (List ℕ)) (line rest : List ℕ) → Appends before middle (line ++ newline ∷ []) → Appends middle after rest → Appends before after (line ++ newline ∷ rest)
+pub appends_two : (before middle after : Option (List ℕ)) (line rest : List ℕ) → Appends before middle (line ++ newline ∷ []) → Appends middle after rest → Appends before after (line ++ newline ∷ rest)
 appends_two None middle after line rest first next = tt
 appends_two (Some x) None after line rest first next = absurd first
 appends_two (Some x) (Some y) None line rest first next = absurd next
 appends_two (Some x) (Some y) (Some z) line rest first next =
     next ∙ ap (λ t. t ++ rest) first ∙ append_assoc x (line ++ newline ∷ []) rest ∙ ap (λ t. x ++ t) (append_assoc line (newline ∷ []) rest)
 
-appends_nothing : (known : Option (List ℕ)) → Appends known known []
+pub appends_nothing : (known : Option (List ℕ)) → Appends known known []
 appends_nothing None = tt
 appends_nothing (Some x) = sym (append-nil x)
 

@@ -7,6 +7,7 @@ pub mod Ends
 pub mod OwnAnswers
 pub mod OwnEnds
 pub mod OwnLine
+pub mod Parts
 pub mod ScriptAnswers
 pub mod ScriptLines
 pub mod SerialAnswers

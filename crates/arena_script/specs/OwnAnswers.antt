@@ -1,6 +1,7 @@
 -- What a line of a script does to its tenant, and the answer.
-use Rattle.std.specs.Prelude.{◌≡◌, ℕ, List, Option, Some, None, Result, Ok, Err, nat_lt, if◌then◌else◌, ◌⊎◌, codes}
+use Rattle.std.specs.Prelude.{◌≡◌, ℕ, List, Option, Some, None, Result, Ok, Err, nat_lt, if◌then◌else◌, ◌⊎◌, IsSome, codes}
 use Rattle.serde_json.specs.Data.{Data}
+use Rattle.job_language.specs.Brought.{job_of}
 use Rattle.job_language.specs.declared.answers.Answer.{Answer}
 use Rattle.job_language.specs.declared.answers.Answer.TheVariants as answer
 use Rattle.job_language.specs.declared.answers.Reply.{Reply}
@@ -8,10 +9,12 @@ use Rattle.job_language.specs.declared.answers.Reply.TheVariants.{Refused}
 use Rattle.job_language.specs.declared.errors.Error.{Error}
 use Rattle.job_language.specs.declared.errors.Error.TheVariants.{BadRequest, NoMemory}
 use Rattle.job_language.specs.declared.requests.Request.{Request}
+use Rattle.request_reader.specs.Answers.{HasJob}
 use Rattle.request_reader.specs.Asks.{AskedData, asked_by_value}
 use Rattle.request_reader.specs.LineAsks.{value_of}
 use Rattle.request_reader.specs.Ready.{ready_of}
 use Rattle.reply_writer.specs.AnswerText.{answer_text}
+use Rattle.solo_eval.specs.Execution.{MakesRow}
 use Rattle.tenant_model.specs.Advance.{arrive as came_at, advance as moved_at}
 use Rattle.tenant_model.specs.Asks.{ask as asked_of}
 use Rattle.tenant_model.specs.State.{State}
@@ -29,9 +32,14 @@ abbrev pub reply_to : State → Result Request Error → Reply × State
 reply_to s (Err error) = (Refused error, s)
 reply_to s (Ok request) = asked_of s request
 
--- the reply, unless memory ran out and nothing has changed
+-- a request with a job, for which memory is taken
+abbrev pub BringsJob : Result Request Error → Type 0
+BringsJob (Ok request) = IsSome (job_of request)
+BringsJob (Err error) = ⊥
+
+-- The reply is exact, or it is error 9, and that only where a job is brought; then nothing has changed.
 abbrev pub Replies : Result Request Error → State → Reply → State → Type 0
-Replies want old reply new = ((reply ≡ Refused NoMemory) × (new ≡ old)) ⊎ (reply_to old want ≡ (reply, new))
+Replies want old reply new = (BringsJob want × (reply ≡ Refused NoMemory) × (new ≡ old)) ⊎ (reply_to old want ≡ (reply, new))
 
 abbrev pub AnswersAsk : Data → State → Option Answer → State → Type 0
 AnswersAsk d old (Some (answer.Replied reply)) new = Replies (request_in d) old reply new
@@ -50,6 +58,13 @@ TakesStep slots None old answer new = (answer ≡ None) × (new ≡ old)
 TakesStep slots (Some (ask d)) old answer new = AnswersAsk d old answer new
 TakesStep slots (Some (arrive slot)) old answer new = arrival slots old slot ≡ (answer, new)
 TakesStep slots (Some (advance slot)) old answer new = advancement slots old slot ≡ (answer, new)
+
+-- The step brings a job or makes a row: no other takes memory.
+abbrev pub TakesMemory : State → Option OwnData → Type 0
+TakesMemory s (Some (ask d)) = HasJob (asked_by_value d)
+TakesMemory s (Some (arrive slot)) = ⊥
+TakesMemory s (Some (advance slot)) = MakesRow s slot
+TakesMemory s None = ⊥
 
 abbrev pub step_of_value : Result Data Error → Option OwnData
 step_of_value (Ok d) = own_line d

@@ -2,6 +2,7 @@
 ghost use Rattle.std.specs.Prelude.{◌≡◌, Err, IsSome, IfErr, IfOk, OnOk, string_bytes};
 ghost use Rattle.arena_script.specs.CheckEnds.{IsCheckFault};
 ghost use Rattle.arena_script.specs.DumpData.{dump_of, TellsVerdict, TellsBadLine};
+ghost use Rattle.arena_script.specs.Parts.{AppendsPart, told_text};
 ghost use Rattle.arena_script.specs.ScriptLines.{lines_in};
 ghost use Rattle.arena_script.specs.VerdictText.{verdict_text, bad_line_text};
 
@@ -13,6 +14,7 @@ use std::alloc::{AllocError, Global};
 use std::io::{Read, Write};
 
 /// Reads a dump, and writes its verdict, or the number of its first bad line.
+#[tactic(auto, using(crate::proofs::Parts::part_none, crate::proofs::Parts::part_all, crate::proofs::Parts::part_fewer))]
 pub(crate) fn check_dump<R: Read, W: Write>(
     alloc: Global,
     reader: &mut R,
@@ -22,6 +24,8 @@ pub(crate) fn check_dump<R: Read, W: Write>(
         → TellsVerdict (dump_of (lines_in (R.remaining reader.old))) (W.contents writer.old) (W.contents writer.new)) }
     ensures bad_line { result ≡ Err ScriptEnd.BadLine → IsSome (R.remaining reader.old)
         → TellsBadLine (dump_of (lines_in (R.remaining reader.old))) (W.contents writer.old) (W.contents writer.new) }
+    ensures part { IsSome (R.remaining reader.old)
+        → AppendsPart (W.contents writer.old) (W.contents writer.new) (told_text (dump_of (lines_in (R.remaining reader.old)))) }
     ensures ends { IfErr result IsCheckFault }
 {
     match read_dump(alloc, reader)? {

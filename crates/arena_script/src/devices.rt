@@ -2,6 +2,7 @@
 ghost use Rattle.std.specs.Prelude.{◌≡◌, ◌≢◌, ◌<◌, ◌≤◌, ◌++◌, [], unwrap_or, Ok, IsSome, IfOk, OnOk, OnErr};
 ghost use Rattle.std.specs.Io.KnownBytes.{Appends};
 ghost use Rattle.request_reader.specs.Reading.{lines_left, work_left};
+ghost use Rattle.arena_script.specs.Parts.{AppendsFewer};
 ghost use Rattle.arena_script.specs.ScriptLines.{lines_read, WasLost};
 
 use crate::inputs::Input;
@@ -39,6 +40,7 @@ pub(crate) fn next_line<R: Read>(
 /// Writes all of a line.
 pub(crate) fn put<W: Write>(writer: &mut W, line: &[u8]) -> Result<(), DeviceFault>
     ensures ok { OnOk result (Appends (W.contents writer.old) (W.contents writer.new) line.now) }
+    ensures part { OnErr result (AppendsFewer (W.contents writer.old) (W.contents writer.new) line.now) }
 {
     match write_all_of(writer, line) {
         Ok(()) => Ok(()),

@@ -1,5 +1,8 @@
 // The lines of a dump: a tenant, and the entries of its history.
-ghost use Rattle.std.specs.Prelude.{◌≡◌, ◌<◌, ◌^◌, [], option_map, unwrap_or, IsSome, IfOk, IfErr, OnOk};
+ghost use Rattle.std.specs.Prelude.{◌≡◌, ◌<◌, ◌^◌, [], option_map, unwrap_or, IsSome, IfOk, IfErr, OnErr, OnOk};
+ghost use Rattle.request_reader.specs.Answers.{HasJob};
+ghost use Rattle.request_reader.specs.Asks.{asked_by_value};
+ghost use Rattle.request_reader.specs.LineAsks.{IsText};
 ghost use Rattle.request_reader.specs.Reading.{lines_left, work_left};
 ghost use Rattle.serde_json.specs.View.{view};
 ghost use Rattle.arena_script.specs.CheckEnds.{IsLost};
@@ -85,14 +88,13 @@ fn read_first<R: Read>(
     if next_line(lines, reader)? != Input::Line {
         return Ok(None);
     }
-    match tenant_of(alloc, lines.line()) {
-        Ok(config) => Ok(Some(Dump {
+    match tenant_of(alloc, lines.line())? {
+        Some(config) => Ok(Some(Dump {
             config,
             entries: Vec::new(alloc),
             has_foreign: false,
         })),
-        Err(ScriptEnd::Config) => Ok(None),
-        Err(end) => Err(end),
+        None => Ok(None),
     }
 }
 
@@ -154,20 +156,19 @@ impl Dump {
 }
 
 /// What a line says, where it has the shape of an entry.
-fn said_by(alloc: Global, line: &[u8]) -> Result<Option<Said>, ScriptEnd>
+fn said_by(alloc: Global, line: &[u8]) -> Result<Option<Said>, AllocError>
     ensures ok { IfOk result (λ said. said ≡ said_by line.now) }
-    ensures err { IfErr result IsLost }
+    ensures takes { OnErr result (IsText line.now) }
 {
     match value_of(alloc, line) {
         Ok(value) => said_in_value(alloc, &value),
-        Err(Error::NoMemory) => Err(ScriptEnd::Memory),
+        Err(Error::NoMemory) => Err(AllocError),
         Err(_) => Ok(None),
     }
 }
 
-fn said_in_value(alloc: Global, value: &Value) -> Result<Option<Said>, ScriptEnd>
-    ensures ok { IfOk result (λ said. said ≡ said_in_value (view value.now)) }
-    ensures err { IfErr result IsLost }
+fn said_in_value(alloc: Global, value: &Value) -> Result<Option<Said>, AllocError>
+    ensures { IfOk result (λ said. said ≡ said_in_value (view value.now)) }
 {
     match step_word(value) {
         Some("ask") => asked(alloc, value),
@@ -183,9 +184,8 @@ fn step_word(value: &Value) -> Option<&str>
     value.get("step")?.as_str()
 }
 
-fn asked(alloc: Global, value: &Value) -> Result<Option<Said>, ScriptEnd>
-    ensures ok { IfOk result (λ said. said ≡ asked (view value.now)) }
-    ensures err { IfErr result IsLost }
+fn asked(alloc: Global, value: &Value) -> Result<Option<Said>, AllocError>
+    ensures { IfOk result (λ said. said ≡ asked (view value.now)) }
 {
     if !has_members(3, value) {
         return Ok(None);
@@ -215,14 +215,14 @@ fn ask_said(request: Request, reply: Option<Reply>) -> Said
 }
 
 /// The request that a value spells, where it is valid and no hello.
-fn recorded(alloc: Global, value: &Value) -> Result<Option<Request>, ScriptEnd>
+fn recorded(alloc: Global, value: &Value) -> Result<Option<Request>, AllocError>
     ensures ok { IfOk result (λ request. request ≡ recorded (request_in (view value.now))) }
-    ensures err { IfErr result IsLost }
+    ensures takes { OnErr result (HasJob (asked_by_value (view value.now))) }
 {
     match request_in(alloc, value) {
         Ok(Request::Hello(_)) => Ok(None),
         Ok(request) => Ok(Some(request)),
-        Err(Error::NoMemory) => Err(ScriptEnd::Memory),
+        Err(Error::NoMemory) => Err(AllocError),
         Err(_) => Ok(None),
     }
 }

@@ -1,15 +1,17 @@
 // The steps of one tenant, as the lines of a script spell them, and their answers.
-ghost use Rattle.std.specs.Prelude.{◌≡◌, nat_lt, if◌then◌else◌, Some, None, Ok, Err, IfOk, IfErr};
+ghost use Rattle.std.specs.Prelude.{◌≡◌, nat_lt, if◌then◌else◌, option_map, Some, None, Ok, IfSome, IfOk, OnErr};
 ghost use Rattle.tenant_model.specs.State.{empty};
 ghost use Rattle.serde_json.specs.View.{view};
-ghost use Rattle.request_reader.specs.Ready.{Readies};
+ghost use Rattle.request_reader.specs.Answers.{HasJob};
+ghost use Rattle.request_reader.specs.Asks.{asked_by_value};
+ghost use Rattle.request_reader.specs.Exact.{ExactOrNoMemory};
+ghost use Rattle.request_reader.specs.LineAsks.{IsText};
+ghost use Rattle.solo_eval.specs.Execution.{MakesRow};
 ghost use Rattle.arena_script.specs.Steps.{own_line};
-ghost use Rattle.arena_script.specs.OwnEnds.{IsFault};
-ghost use Rattle.arena_script.specs.ScriptAnswers.{tenant_in, TakesLine};
+ghost use Rattle.arena_script.specs.ScriptAnswers.{tenant_in, tenant_of_value, TakesLine};
 ghost use Rattle.arena_script.specs.ScriptLines.{line_of};
-ghost use Rattle.arena_script.specs.OwnAnswers.{request_in, Replies, arrival, advancement, step_in, TakesStep};
+ghost use Rattle.arena_script.specs.OwnAnswers.{request_in, Replies, arrival, advancement, step_in, TakesMemory, TakesStep};
 
-use crate::ends::ScriptEnd;
 use crate::inputs::Input;
 use crate::steps::{OwnLine, own_line};
 use job_language::values::has_members;
@@ -17,7 +19,7 @@ use job_language::{Answer, Error, Reply, Request, TenantConfig, read_tenant};
 use request_reader::{ready, request_of, value_of};
 use serde_json::Value;
 use solo_eval::Solo;
-use std::alloc::Global;
+use std::alloc::{AllocError, Global};
 
 /// One tenant that a script speaks of.
 #[derive(Drop)]
@@ -28,17 +30,18 @@ pub(crate) struct Own {
 
 impl Own {
     /// The tenant of a script's first line.
-    pub(crate) fn read(alloc: Global, line: &[u8]) -> Result<Own, ScriptEnd>
-        ensures ok { IfOk result (λ own.
-            (tenant_in line.now ≡ Some own.solo.config) × (own.solo ≡ empty own.solo.config)) }
-        ensures slots { IfOk result (λ own. own.slots ≡ own.solo.config.slots) }
-        ensures no_tenant { result ≡ Err ScriptEnd.Config → tenant_in line.now ≡ None }
-        ensures err { IfErr result IsFault }
+    pub(crate) fn read(alloc: Global, line: &[u8]) -> Result<Option<Own>, AllocError>
+        ensures tenant { IfOk result (λ own. option_map (λ own. own.solo.config) own ≡ tenant_in line.now) }
+        ensures new { IfOk result (λ own. IfSome own (λ own.
+            (own.solo ≡ empty own.solo.config) × (own.slots ≡ own.solo.config.slots))) }
+        ensures takes { OnErr result (IsText line.now) }
     {
-        let config = tenant_of(alloc, line)?;
+        let Some(config) = tenant_of(alloc, line)? else {
+            return Ok(None);
+        };
         let slots = config.tenant().slots;
         let solo = Solo::new(alloc, config);
-        Ok(Own { solo, slots })
+        Ok(Some(Own { solo, slots }))
     }
 
     /// Takes the step of an input, whose text is that line, and gives the answer. A line that is too
@@ -48,12 +51,12 @@ impl Own {
         alloc: Global,
         input: Input,
         line: &[u8],
-    ) -> Result<Option<Answer>, ScriptEnd>
+    ) -> Result<Option<Answer>, AllocError>
         ensures ok { IfOk result (λ answer.
             TakesLine self.old.slots (line_of input line.now) self.old.solo answer self.new.solo) }
         ensures slots { self.new.slots ≡ self.old.slots }
-        ensures err { IfErr result (λ end.
-            (end ≡ ScriptEnd.Memory) × (self.new.solo ≡ self.old.solo)) }
+        ensures err { OnErr result (self.new.solo ≡ self.old.solo) }
+        ensures takes { OnErr result (IsText line.now) }
     {
         match input {
             Input::Line => self.take(alloc, line),
@@ -62,27 +65,27 @@ impl Own {
     }
 
     /// Takes the step of a line, and gives the answer; a line that is no step has none.
-    fn take(&mut self, alloc: Global, line: &[u8]) -> Result<Option<Answer>, ScriptEnd>
+    fn take(&mut self, alloc: Global, line: &[u8]) -> Result<Option<Answer>, AllocError>
         ensures ok { IfOk result (λ answer.
             TakesStep self.old.slots (step_in line.now) self.old.solo answer self.new.solo) }
         ensures slots { self.new.slots ≡ self.old.slots }
-        ensures err { IfErr result (λ end.
-            (end ≡ ScriptEnd.Memory) × (self.new.solo ≡ self.old.solo)) }
+        ensures err { OnErr result (self.new.solo ≡ self.old.solo) }
+        ensures takes { OnErr result (IsText line.now) }
     {
         let value = match value_of(alloc, line) {
             Ok(value) => value,
-            Err(Error::NoMemory) => return Err(ScriptEnd::Memory),
+            Err(Error::NoMemory) => return Err(AllocError),
             Err(_) => return Ok(None),
         };
         self.take_value(alloc, &value)
     }
 
-    fn take_value(&mut self, alloc: Global, value: &Value) -> Result<Option<Answer>, ScriptEnd>
+    fn take_value(&mut self, alloc: Global, value: &Value) -> Result<Option<Answer>, AllocError>
         ensures ok { IfOk result (λ answer.
             TakesStep self.old.slots (own_line (view value.now)) self.old.solo answer self.new.solo) }
         ensures slots { self.new.slots ≡ self.old.slots }
-        ensures err { IfErr result (λ end.
-            (end ≡ ScriptEnd.Memory) × (self.new.solo ≡ self.old.solo)) }
+        ensures err { OnErr result (self.new.solo ≡ self.old.solo) }
+        ensures takes { OnErr result (TakesMemory self.old.solo (own_line (view value.now))) }
     {
         match own_line(value) {
             Some(OwnLine::Ask(request)) => Ok(Some(Answer::Replied(self.ask(alloc, request)?))),
@@ -92,21 +95,21 @@ impl Own {
         }
     }
 
-    fn ask(&mut self, alloc: Global, value: &Value) -> Result<Reply, ScriptEnd>
+    fn ask(&mut self, alloc: Global, value: &Value) -> Result<Reply, AllocError>
         ensures ok { IfOk result (λ reply.
             Replies (request_in (view value.now)) self.old.solo reply self.new.solo) }
         ensures slots { self.new.slots ≡ self.old.slots }
-        ensures err { IfErr result (λ end.
-            (end ≡ ScriptEnd.Memory) × (self.new.solo ≡ self.old.solo)) }
+        ensures err { OnErr result (self.new.solo ≡ self.old.solo) }
+        ensures takes { OnErr result (HasJob (asked_by_value (view value.now))) }
     {
         match request_in(alloc, value) {
             Ok(request) => Ok(self.reply(request)),
-            Err(Error::NoMemory) => Err(ScriptEnd::Memory),
+            Err(Error::NoMemory) => Err(AllocError),
             Err(error) => Ok(Reply::Refused(error)),
         }
     }
 
-    /// The reply to a request. A growth that the evaluator was refused is an error like another.
+    /// The reply to a request: error 9, if it brings a job and an allocation of the evaluator failed.
     fn reply(&mut self, request: Request) -> Reply
         ensures reply { Replies (Ok request) self.old.solo result self.new.solo }
         ensures slots { self.new.slots ≡ self.old.slots }
@@ -125,12 +128,12 @@ impl Own {
         Some(Answer::Came(self.solo.arrive(slot)))
     }
 
-    fn advance(&mut self, slot: u64) -> Result<Option<Answer>, ScriptEnd>
+    fn advance(&mut self, slot: u64) -> Result<Option<Answer>, AllocError>
         ensures ok { IfOk result (λ answer.
             advancement self.old.slots self.old.solo slot ≡ (answer, self.new.solo)) }
         ensures slots { self.new.slots ≡ self.old.slots }
-        ensures err { IfErr result (λ end.
-            (end ≡ ScriptEnd.Memory) × (self.new.solo ≡ self.old.solo)) }
+        ensures err { OnErr result (self.new.solo ≡ self.old.solo) }
+        ensures takes { OnErr result (MakesRow self.old.solo slot) }
     {
         let Some(slot) = self.slot(slot) else {
             return Ok(None);
@@ -151,32 +154,30 @@ impl Own {
     }
 }
 
-/// The tenant that a line names.
-pub(crate) fn tenant_of(alloc: Global, line: &[u8]) -> Result<TenantConfig, ScriptEnd>
-    ensures ok { IfOk result (λ config. tenant_in line.now ≡ Some config) }
-    ensures no_tenant { result ≡ Err ScriptEnd.Config → tenant_in line.now ≡ None }
-    ensures err { IfErr result IsFault }
+/// The tenant that a line names, if it names one.
+pub(crate) fn tenant_of(alloc: Global, line: &[u8]) -> Result<Option<TenantConfig>, AllocError>
+    ensures ok { IfOk result (λ config. config ≡ tenant_in line.now) }
+    ensures takes { OnErr result (IsText line.now) }
 {
-    let value = match value_of(alloc, line) {
-        Ok(value) => value,
-        Err(Error::NoMemory) => return Err(ScriptEnd::Memory),
-        Err(_) => return Err(ScriptEnd::Config),
-    };
-    if !has_members(1, &value) {
-        return Err(ScriptEnd::Config);
+    match value_of(alloc, line) {
+        Ok(value) => Ok(tenant_of_value(&value)),
+        Err(Error::NoMemory) => Err(AllocError),
+        Err(_) => Ok(None),
     }
-    let Some(tenant) = value.get("tenant") else {
-        return Err(ScriptEnd::Config);
-    };
-    match read_tenant(tenant) {
-        Ok(config) => Ok(config),
-        Err(_) => Err(ScriptEnd::Config),
+}
+
+fn tenant_of_value(value: &Value) -> Option<TenantConfig>
+    ensures { result ≡ tenant_of_value (Ok (view value.now)) }
+{
+    if !has_members(1, value) {
+        return None;
     }
+    read_tenant(value.get("tenant")?).ok()
 }
 
 /// The request that a value spells, with its job read.
 pub(crate) fn request_in(alloc: Global, value: &Value) -> Result<Request, Error>
-    ensures { Readies result (request_in (view value.now)) }
+    ensures { ExactOrNoMemory (λ request. request) (HasJob (asked_by_value (view value.now))) result (request_in (view value.now)) }
 {
     ready(alloc, request_of(alloc, value)?)
 }

@@ -7,6 +7,7 @@ ghost use Rattle.arena_script.specs.DumpData.{dump_of, TellsVerdict, TellsBadLin
 ghost use Rattle.arena_script.specs.KnownWords.{are_known_words};
 ghost use Rattle.arena_script.specs.OwnAnswers.{told};
 ghost use Rattle.arena_script.specs.OwnEnds.{are_own_words, IsFault, IsOwnEnd};
+ghost use Rattle.arena_script.specs.Parts.{AnswersPart, AppendsPart, StartsScript, told_text};
 ghost use Rattle.arena_script.specs.ScriptAnswers.{AnswersAll, AnswersScript, NamesNoTenant};
 ghost use Rattle.arena_script.specs.ScriptLines.{script_lines, all_lines, lines_in};
 ghost use Rattle.arena_script.specs.SerialAnswers.{serial_answers};
@@ -57,6 +58,14 @@ pub fn script<R: Read, W: Write>(
         → TellsBadLine (dump_of (lines_in (R.remaining reader.old))) (W.contents writer.old) (W.contents writer.new) }
     ensures values { are_serial_words words.now ≡ true → result ≡ ScriptEnd.Done → IsSome (R.remaining reader.old)
         → Appends (W.contents writer.old) (W.contents writer.new) (serial_answers (all_lines (R.remaining reader.old))) }
+
+    // At each early end what is written is a first part of that.
+    ensures own_part { are_own_words words.now ≡ true → IsSome (R.remaining reader.old)
+        → StartsScript (all_lines (R.remaining reader.old)) (W.contents writer.old) (W.contents writer.new) }
+    ensures check_part { are_check_words words.now ≡ true → IsSome (R.remaining reader.old)
+        → AppendsPart (W.contents writer.old) (W.contents writer.new) (told_text (dump_of (lines_in (R.remaining reader.old)))) }
+    ensures serial_part { are_serial_words words.now ≡ true → IsSome (R.remaining reader.old)
+        → AppendsPart (W.contents writer.old) (W.contents writer.new) (serial_answers (all_lines (R.remaining reader.old))) }
 {
     let ended = match words {
         ["check"] => check_dump(alloc, reader, writer),
@@ -70,6 +79,7 @@ pub fn script<R: Read, W: Write>(
     }
 }
 
+#[tactic(auto, using(crate::proofs::Parts::starts_none))]
 fn own<R: Read, W: Write>(alloc: Global, reader: &mut R, writer: &mut W) -> Result<(), ScriptEnd>
     ensures ends { IfErr result IsFault }
     ensures unwritten { result ≡ Err ScriptEnd.Config → writer.new ≡ writer.old }
@@ -78,13 +88,17 @@ fn own<R: Read, W: Write>(alloc: Global, reader: &mut R, writer: &mut W) -> Resu
     ensures done { OnOk result (IsSome (R.remaining reader.old)
         → AnswersScript (all_lines (R.remaining reader.old))
         (W.contents writer.old) (W.contents writer.new)) }
+    ensures part { IsSome (R.remaining reader.old)
+        → StartsScript (all_lines (R.remaining reader.old)) (W.contents writer.old) (W.contents writer.new) }
 {
     let mut lines = LineReader::new(alloc, MAX_SCRIPT_LINE)?;
     if next_input(&mut lines, reader)? != Input::Line {
         return Err(ScriptEnd::Config);
     }
-    let own = Own::read(alloc, lines.line())?;
-    take_all(alloc, own, lines, reader, writer)
+    match Own::read(alloc, lines.line())? {
+        Some(own) => take_all(alloc, own, lines, reader, writer),
+        None => Err(ScriptEnd::Config),
+    }
 }
 
 /// Takes a tenant's steps to the end of a script.
@@ -99,6 +113,9 @@ fn take_all<R: Read, W: Write>(
     ensures done { OnOk result (IsSome (R.remaining reader.old) → (final : State)
         × AnswersAll own.slots (script_lines lines (R.remaining reader.old)) own.solo
         (W.contents writer.old) (W.contents writer.new) final) }
+    ensures part { IsSome (R.remaining reader.old)
+        → AnswersPart own.slots (script_lines lines (R.remaining reader.old)) own.solo
+        (W.contents writer.old) (W.contents writer.new) }
 {
     loop {
         let input = next_input(&mut lines, reader)?;

@@ -1,8 +1,10 @@
 // The serial values of jobs, one on each line.
-ghost use Rattle.std.specs.Prelude.{◌≡◌, IsSome, IfOk, IfErr, OnOk};
+ghost use Rattle.std.specs.Prelude.{◌≡◌, IsSome, IfOk, IfErr, OnErr, OnOk};
 ghost use Rattle.std.specs.Io.KnownBytes.{Appends};
 ghost use Rattle.serde_json.specs.View.{view};
 ghost use Rattle.job_language.specs.Job.{job_of};
+ghost use Rattle.request_reader.specs.LineAsks.{IsText};
+ghost use Rattle.arena_script.specs.Parts.{AppendsPart};
 ghost use Rattle.arena_script.specs.ScriptLines.{line_of, all_lines};
 ghost use Rattle.arena_script.specs.SerialAnswers.{serial_answer, serial_answers, serial_in, serial_of_job, serial_of_read};
 ghost use Rattle.arena_script.specs.SerialEnds.{IsSerialFault};
@@ -28,6 +30,8 @@ pub(crate) fn serial_values<R: Read, W: Write>(
     ensures ends { IfErr result IsSerialFault }
     ensures done { OnOk result (IsSome (R.remaining reader.old)
         → Appends (W.contents writer.old) (W.contents writer.new) (serial_answers (all_lines (R.remaining reader.old)))) }
+    ensures part { IsSome (R.remaining reader.old)
+        → AppendsPart (W.contents writer.old) (W.contents writer.new) (serial_answers (all_lines (R.remaining reader.old))) }
 {
     let mut lines = LineReader::new(alloc, MAX_SCRIPT_LINE)?;
     loop {
@@ -41,9 +45,9 @@ pub(crate) fn serial_values<R: Read, W: Write>(
 }
 
 /// The answer to an input, whose text is that line.
-fn serial_of_input(alloc: Global, input: Input, line: &[u8]) -> Result<SerialAnswer, ScriptEnd>
+fn serial_of_input(alloc: Global, input: Input, line: &[u8]) -> Result<SerialAnswer, AllocError>
     ensures ok { IfOk result (λ answer. answer ≡ serial_answer (line_of input line.now)) }
-    ensures err { IfErr result (λ end. end ≡ ScriptEnd.Memory) }
+    ensures takes { OnErr result (IsText line.now) }
 {
     match input {
         Input::Line => serial_in(alloc, line),
@@ -52,16 +56,16 @@ fn serial_of_input(alloc: Global, input: Input, line: &[u8]) -> Result<SerialAns
 }
 
 /// The answer to the job that a line spells.
-fn serial_in(alloc: Global, line: &[u8]) -> Result<SerialAnswer, ScriptEnd>
+fn serial_in(alloc: Global, line: &[u8]) -> Result<SerialAnswer, AllocError>
     ensures ok { IfOk result (λ answer. answer ≡ serial_in line.now) }
-    ensures err { IfErr result (λ end. end ≡ ScriptEnd.Memory) }
+    ensures takes { OnErr result (IsText line.now) }
 {
     let value = match value_of(alloc, line) {
         Ok(value) => value,
-        Err(Error::NoMemory) => return Err(ScriptEnd::Memory),
+        Err(Error::NoMemory) => return Err(AllocError),
         Err(error) => return Ok(SerialAnswer::Refused(error)),
     };
-    Ok(serial_of_value(alloc, &value)?)
+    serial_of_value(alloc, &value)
 }
 
 fn serial_of_value(alloc: Global, value: &Value) -> Result<SerialAnswer, AllocError>

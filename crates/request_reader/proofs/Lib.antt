@@ -1,3 +1,4 @@
+mod Exactness
 mod LineAnswers
 mod LineLaws
 mod NewlinePlaces

@@ -10,9 +10,11 @@ use Rattle.job_language.specs.declared.errors.Error.{Error}
 use Rattle.job_language.specs.declared.errors.Error.TheVariants as error
 use Rattle.job_language.specs.declared.requests.Asked.{Asked}
 use Rattle.request_reader.specs.declared.requests.TheConstants.{MAX_REQUEST}
-use Rattle.request_reader.specs.Answers.{Answers}
+use Rattle.request_reader.specs.Answers.{asked_data, HasJob}
+use Rattle.request_reader.specs.Exact.{ExactOrNoMemory}
 use Rattle.request_reader.specs.Asks.{asked_by_value}
-use Rattle.request_reader.specs.LineAsks.{value_of, asked_in, asked_by, IsText, AnswersLine}
+use Rattle.request_reader.proofs.Exactness.{Exact-same}
+use Rattle.request_reader.specs.LineAsks.{value_of, asked_in, asked_by, request_of, IsShortText, IsText}
 
 pub value_of-not_text : (line : List ℕ) → ¬ IsUtf8 line → value_of line ≡ Err error.BadJson
 value_of-not_text line h = rw (false_from_ne_true (is_utf8 line) (λ e. h (IsUtf8-from_is_utf8 line e))) refl
@@ -27,20 +29,11 @@ IsText-from_value line d true e h = e
 IsText-from_value line d false e h = cc
 
 module _ (line : List ℕ) (d : Data) (short : length line ≤ MAX_REQUEST) (is : value_of line ≡ Ok d) where
-  asked_by-value : asked_by line ≡ ok_or (asked_by_value d) error.BadRequest
+  asked_by-value : asked_by line ≡ request_of d
   asked_by-value = rw (le-ltb MAX_REQUEST (length line) short) (ap asked_in is)
 
-  pub AnswersLine-from_value : (answer : Result Asked Error) → Answers answer (asked_by_value d) → AnswersLine answer line
-  AnswersLine-from_value (Ok asked) h = asked_by-value ∙ ap (λ want. ok_or want error.BadRequest) h
-  AnswersLine-from_value (Err error.BadRequest) h = asked_by-value ∙ ap (λ want. ok_or want error.BadRequest) h
-  AnswersLine-from_value (Err error.NoMemory) h = (IsText-from_value line d (is_utf8 line) refl is, short)
-  AnswersLine-from_value (Err error.LineTooLong) h = absurd h
-  AnswersLine-from_value (Err error.BadJson) h = absurd h
-  AnswersLine-from_value (Err error.BadProgram) h = absurd h
-  AnswersLine-from_value (Err error.UnknownTenant) h = absurd h
-  AnswersLine-from_value (Err error.UnknownJob) h = absurd h
-  AnswersLine-from_value (Err error.JobLimit) h = absurd h
-  AnswersLine-from_value (Err error.HistoryFull) h = absurd h
-  AnswersLine-from_value (Err error.TaskLimit) h = absurd h
-  AnswersLine-from_value (Err error.NoTenant) h = absurd h
-  AnswersLine-from_value (Err error.Busy) h = absurd h
+  takes-memory : HasJob (asked_by_value d) → IsShortText line
+  takes-memory h = (IsText-from_value line d (is_utf8 line) refl is, short)
+
+  pub exact-line : (answer : Result Asked Error) → ExactOrNoMemory asked_data (HasJob (asked_by_value d)) answer (request_of d) → ExactOrNoMemory asked_data (IsShortText line) answer (asked_by line)
+  exact-line answer h = Exact-same asked_data (HasJob (asked_by_value d)) (IsShortText line) (request_of d) (asked_by line) takes-memory asked_by-value answer h

@@ -2,6 +2,7 @@ pub mod Answers
 pub mod Asks
 pub mod Blank
 pub mod Buffered
+pub mod Exact
 pub mod LineAsks
 pub mod LineReads
 pub mod Lines

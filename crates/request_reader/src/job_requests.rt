@@ -1,18 +1,20 @@
 // Requests with their jobs read.
-ghost use Rattle.std.specs.Prelude.{◌≡◌};
+ghost use Rattle.std.specs.Prelude.{Some, ⊤};
 ghost use Rattle.serde_json.specs.View.{view};
 ghost use Rattle.job_language.specs.Job.{job_of};
-ghost use Rattle.request_reader.specs.Answers.{asked_data};
-ghost use Rattle.request_reader.specs.Ready.{Readies, ReadsJob, ready_of};
+ghost use Rattle.request_reader.specs.Answers.{asked_data, HasJob};
+ghost use Rattle.request_reader.specs.Exact.{ExactOrNoMemory};
+ghost use Rattle.request_reader.specs.Ready.{job_or_refused, ready_of};
 
 use job_language::{Asked, Error, Job, Refused, Request, read_job};
 use serde_json::Value;
 use std::alloc::Global;
 
-/// The request that is asked for, with its job read. A job that is not valid is error 4; want of
-/// memory is told where it is met.
+/// The request that is asked for, with its job read. A job that is not valid is error 4; only a
+/// job takes memory.
+#[tactic(auto, using(crate::proofs::Exactness::refuses_with_job))]
 pub fn ready(alloc: Global, asked: Asked) -> Result<Request, Error>
-    ensures { Readies result (ready_of (asked_data asked)) }
+    ensures { ExactOrNoMemory (λ request. request) (HasJob (Some (asked_data asked))) result (ready_of (asked_data asked)) }
 {
     match asked {
         Asked::Plain(request) => Ok(request),
@@ -22,7 +24,7 @@ pub fn ready(alloc: Global, asked: Asked) -> Result<Request, Error>
 }
 
 fn job_in(alloc: Global, value: &Value) -> Result<Job, Error>
-    ensures { ReadsJob result (job_of (view value.now)) }
+    ensures { ExactOrNoMemory (λ job. job) ⊤ result (job_or_refused (job_of (view value.now))) }
 {
     match read_job(alloc, value) {
         Ok(job) => Ok(job),

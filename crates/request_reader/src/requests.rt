@@ -3,9 +3,10 @@ ghost use Rattle.std.specs.Prelude.{◌≡◌, option_map};
 ghost use Rattle.std.specs.List.{list_all};
 ghost use Rattle.serde_json.specs.View.{view};
 ghost use Rattle.request_reader.specs.Asks.{asked_by_value, plain_of, hello_of, number_of, key_of, job_value, alone, operand};
-ghost use Rattle.request_reader.specs.Answers.{Answers};
+ghost use Rattle.request_reader.specs.Answers.{asked_data, HasJob};
 ghost use Rattle.request_reader.specs.Blank.{is_blank_byte};
-ghost use Rattle.request_reader.specs.LineAsks.{AnswersLine, AnswersText};
+ghost use Rattle.request_reader.specs.Exact.{ExactOrNoMemory};
+ghost use Rattle.request_reader.specs.LineAsks.{asked_by, request_of, value_of, IsShortText, IsText};
 ghost use Rattle.request_reader.specs.Shape.{asked_in};
 
 use job_language::values::has_members;
@@ -37,10 +38,10 @@ fn is_blank_byte(b: u8) -> bool
     b == b' ' || b == b'\t' || b == b'\r'
 }
 
-/// The request that a line spells. Errors come in this order: too long, no JSON, no request. Want
-/// of memory is told where it is met, which only a text can come to.
+/// The request that a line spells. Errors come in this order: too long, no JSON, no request. Only a
+/// text takes memory.
 pub fn read_request(alloc: Global, line: &[u8]) -> Result<Asked, Error>
-    ensures { AnswersLine result line.now }
+    ensures { ExactOrNoMemory asked_data (IsShortText line.now) result (asked_by line.now) }
 {
     if line.len() > MAX_REQUEST {
         return Err(Error::LineTooLong);
@@ -51,7 +52,7 @@ pub fn read_request(alloc: Global, line: &[u8]) -> Result<Asked, Error>
 
 /// The JSON value that a line is. Its errors are no JSON and want of memory.
 pub fn value_of(alloc: Global, line: &[u8]) -> Result<Value, Error>
-    ensures { AnswersText result line.now }
+    ensures { ExactOrNoMemory view (IsText line.now) result (value_of line.now) }
 {
     let Ok(text) = str::from_utf8(line) else {
         return Err(Error::BadJson);
@@ -66,7 +67,7 @@ pub fn value_of(alloc: Global, line: &[u8]) -> Result<Value, Error>
 /// The request that a value spells. The job of `submit` and `execute` is copied, whatever it is:
 /// that alone takes memory.
 pub fn request_of(alloc: Global, value: &Value) -> Result<Asked, Error>
-    ensures { Answers result (asked_by_value (view value.now)) }
+    ensures { ExactOrNoMemory asked_data (HasJob (asked_by_value (view value.now))) result (request_of (view value.now)) }
 {
     let Some(shape) = shape_of(value) else {
         return Err(Error::BadRequest);

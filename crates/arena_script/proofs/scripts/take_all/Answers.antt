@@ -2,6 +2,7 @@ use Rattle.std.proofs.Common.{◌≡◌, ◌≢◌, rules, List, ℕ, [], ◌∷
 use Rattle.arena_script.specs.declared.inputs.Input.{Input}
 use Rattle.arena_script.specs.declared.inputs.Input.TheVariants as input
 use Rattle.arena_script.proofs.Answering.{answers_step, answers_end}
+use Rattle.arena_script.proofs.Parts.{answers_part_none, answers_part_step, answers_part_cut}
 use Rattle.arena_script.proofs.scripts.take_all.Goals as goal
 
 pub returns-then-eq-clause-done : goal.returns-then-eq-clause-done
@@ -9,6 +10,23 @@ returns-then-eq-clause-done g c known =
     let so_far = c.loop-lines.invariant.1 known in
     let ended : c.in_ok-input.input ≡ input.End = search rules in
     (c.loop-lines.own.solo, so_far.1 _ _ (answers_end _ _ _ _ _ _ _ ended (c.in_ok-input.ensures.lines so_far.0) (c.in_ok-input.ensures.end (ap (λ (i : Input). Ok i) ended))))
+
+pub returns-in_err-input-clause-part : goal.returns-in_err-input-clause-part
+returns-in_err-input-clause-part g c known = (c.loop-lines.invariant.1 known).2 _ (answers_part_none _ _ _ _)
+
+pub returns-then-eq-clause-part : goal.returns-then-eq-clause-part
+returns-then-eq-clause-part g c known = (c.loop-lines.invariant.1 known).2 _ (answers_part_none _ _ _ _)
+
+pub returns-in_err-answer-clause-part : goal.returns-in_err-answer-clause-part
+returns-in_err-answer-clause-part g c known = (c.loop-lines.invariant.1 known).2 _ (answers_part_none _ _ _ _)
+
+pub returns-in_err-put-clause-part : goal.returns-in_err-put-clause-part
+returns-in_err-put-clause-part g c known =
+    let so_far = c.loop-lines.invariant.1 known in
+    let going : c.in_ok-input.input ≢ input.End = search rules in
+    so_far.2 _
+    (answers_part_cut _ _ _ _ _ _ _ _ _ _ _ c.loop-lines.invariant.0 c.line.ensures going (c.in_ok-input.ensures.lines so_far.0) c.in_ok-answer.ensures.ok
+    (c.line-in-loop-lines.ensures.value ∙ ap (λ (t : List ℕ). t ++ 10 ∷ []) c.told.ensures) _ _ c.in_err-put.ensures.part)
 
 pub loop-lines-preserved : goal.loop-lines-preserved
 loop-lines-preserved g c =
@@ -19,5 +37,8 @@ loop-lines-preserved g c =
         λ after final others. so_far.1 after final
             (answers_step _ _ _ _ _ _ _ _ _ _ _ _ _ _ _ c.loop-lines.invariant.0 c.line.ensures going (c.in_ok-input.ensures.lines so_far.0) c.in_ok-answer.ensures.ok
             (c.line-in-loop-lines.ensures.value ∙ ap (λ (t : List ℕ). t ++ 10 ∷ []) c.told.ensures) c.in_ok-put.ensures.ok others),
+        λ after others. so_far.2 after
+            (answers_part_step _ _ _ _ _ _ _ _ _ _ _ c.loop-lines.invariant.0 c.line.ensures going (c.in_ok-input.ensures.lines so_far.0) c.in_ok-answer.ensures.ok
+            (c.line-in-loop-lines.ensures.value ∙ ap (λ (t : List ℕ). t ++ 10 ∷ []) c.told.ensures) _ _ after c.in_ok-put.ensures.ok others),
       ),
     )

@@ -1,11 +1,12 @@
 use Rattle.std.proofs.Common.{◌≡◌, ℕ, List, Option, IsSome}
 use Rattle.request_reader.specs.Reading.{work_left}
 use Rattle.tenant_model.specs.State.{State}
+use Rattle.arena_script.specs.Parts.{AnswersPart}
 use Rattle.arena_script.specs.ScriptAnswers.{AnswersAll}
 use Rattle.arena_script.specs.ScriptLines.{script_lines}
 use Rattle.arena_script.proofs.scripts.take_all.Given as goal
 
--- whoever answers the lines that are left has answered all
+-- whoever answers the lines that are left has answered all, and whoever answers a part of them a part of all
 abbrev pub invariant-loop-lines : goal.invariant-loop-lines
 invariant-loop-lines g l =
     (l.own.slots ≡ l.initial.own.slots)
@@ -13,7 +14,10 @@ invariant-loop-lines g l =
     IsSome (g.R.Read.remaining l.reader)
     × ((after : Option (List ℕ)) (final : State) →
     AnswersAll l.initial.own.slots (script_lines l.lines (g.R.Read.remaining l.reader)) l.own.solo (g.W.Write.contents l.writer) after final →
-    AnswersAll l.initial.own.slots (script_lines l.initial.lines (g.R.Read.remaining l.initial.reader)) l.initial.own.solo (g.W.Write.contents l.initial.writer) after final))
+    AnswersAll l.initial.own.slots (script_lines l.initial.lines (g.R.Read.remaining l.initial.reader)) l.initial.own.solo (g.W.Write.contents l.initial.writer) after final)
+    × ((after : Option (List ℕ)) →
+    AnswersPart l.initial.own.slots (script_lines l.lines (g.R.Read.remaining l.reader)) l.own.solo (g.W.Write.contents l.writer) after →
+    AnswersPart l.initial.own.slots (script_lines l.initial.lines (g.R.Read.remaining l.initial.reader)) l.initial.own.solo (g.W.Write.contents l.initial.writer) after))
 
 abbrev pub decreases-loop-lines : goal.decreases-loop-lines
 decreases-loop-lines g l = work_left l.lines

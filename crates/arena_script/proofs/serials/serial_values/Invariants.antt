@@ -1,11 +1,12 @@
 use Rattle.std.proofs.Common.{ℕ, List, Option, IsSome}
 use Rattle.std.specs.Io.KnownBytes.{Appends}
 use Rattle.request_reader.specs.Reading.{work_left}
+use Rattle.arena_script.specs.Parts.{AppendsPart}
 use Rattle.arena_script.specs.ScriptLines.{script_lines, all_lines}
 use Rattle.arena_script.specs.SerialAnswers.{serial_answers}
 use Rattle.arena_script.proofs.serials.serial_values.Given as goal
 
--- whoever answers the lines that are left has answered all
+-- whoever answers the lines that are left has answered all, and whoever answers a part of them a part of all
 abbrev pub invariant-loop-lines : goal.invariant-loop-lines
 invariant-loop-lines g l =
     IsSome (g.R.Read.remaining l.initial.reader) →
@@ -13,6 +14,9 @@ invariant-loop-lines g l =
     × ((after : Option (List ℕ)) →
     Appends (g.W.Write.contents l.writer) after (serial_answers (script_lines l.lines (g.R.Read.remaining l.reader))) →
     Appends (g.W.Write.contents l.initial.writer) after (serial_answers (all_lines (g.R.Read.remaining l.initial.reader))))
+    × ((after : Option (List ℕ)) →
+    AppendsPart (g.W.Write.contents l.writer) after (serial_answers (script_lines l.lines (g.R.Read.remaining l.reader))) →
+    AppendsPart (g.W.Write.contents l.initial.writer) after (serial_answers (all_lines (g.R.Read.remaining l.initial.reader))))
 
 abbrev pub decreases-loop-lines : goal.decreases-loop-lines
 decreases-loop-lines g l = work_left l.lines
