@@ -30,3 +30,4 @@ pub mod CellsHeld
 pub mod Taken
 pub mod Posted
 pub mod Regioned
+pub mod SpawnedRow

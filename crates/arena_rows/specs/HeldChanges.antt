@@ -85,6 +85,10 @@ entered a e = record a {
 abbrev pub posted_entry : Held → (job context : ℕ) → Frame → OpenRow
 posted_entry a j c f = record { number = a.made + 1; source = Posted; job = j; made_on = None; stage = stage.Waiting f; groups = no_members; group_contexts = replicate GROUPS None; context = c }
 
+-- the entry of a row that was spawned
+abbrev pub spawned_entry : Held → (maker : RowId) → (group job context slot : ℕ) → Frame → OpenRow
+spawned_entry a m g j c slot f = record { number = a.made + 1; source = Spawned m g; job = j; made_on = Some slot; stage = stage.Waiting f; groups = no_members; group_contexts = replicate GROUPS None; context = c }
+
 -- the entry of a region on top of its maker
 abbrev pub region_entry : Held → (maker : RowId) → (job context slot : ℕ) → OpenRow
 region_entry a m j c slot = record { number = a.made + 1; source = Region m; job = j; made_on = Some slot; stage = stage.Live slot (length (stack a.nests slot) + 1); groups = no_members; group_contexts = replicate GROUPS None; context = c }
