@@ -31,3 +31,4 @@ pub mod Taken
 pub mod Posted
 pub mod Regioned
 pub mod SpawnedRow
+pub mod Capacity

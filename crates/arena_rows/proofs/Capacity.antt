@@ -1,0 +1,55 @@
+-- There is room for one more context.
+use Rattle.std.proofs.Common.{◌≡◌, ◌≢◌, ℕ, zero, suc, ◌+◌, ◌-◌, ◌*◌, ◌<◌, ◌≤◌, List, [], ◌∷◌, length, Option, Some, None, Bool, true, false, refl, sym, ap, ◌∙◌, arith, get_or}
+use Rattle.std.specs.Prelude.{sum_by, count_by, is_some, slice_index_or}
+use Rattle.std.proofs.lemmas.List.Sums.{sum_by-cons, count_by-le-length}
+use Rattle.job_language.specs.declared.instructions.TheConstants.{GROUPS}
+use Rattle.cancel_context.specs.Forest.{held_count}
+use Rattle.cancel_context.specs.declared.contexts.TheConstants.{BASE_CONTEXTS, CONTEXTS_PER_ROW}
+use Rattle.tenant_model.specs.declared.works.TheConstants.{MAX_JOBS}
+use Rattle.tenant_model.specs.State.{State, row}
+use Rattle.arena_rows.specs.declared.rows.OpenRow.{OpenRow}
+use Rattle.arena_rows.specs.declared.rows.Source.{Source}
+use Rattle.arena_rows.specs.declared.rows.Source.TheVariants as source
+use Rattle.arena_rows.specs.Held.{Held}
+use Rattle.arena_rows.specs.Represents.{at_place, one_if, is_spawned, held_by, Stands, Holds}
+use Rattle.arena_rows.proofs.Started.{some_is}
+
+sum_most : {X : Type 0} (f : X → ℕ) (xs : List X) (d : X) → ((i : ℕ) → i < length xs → f (get_or xs i d) ≤ 5) → sum_by f xs ≤ 5 * length xs
+sum_most f [] d each = omega arith
+sum_most f (x ∷ xs) d each =
+    let rest = sum_most f xs d (λ i below. each (suc i) (omega (arith, below))) in
+    let first : f x ≤ 5 = each 0 (omega arith) in
+    omega (arith, sum_by-cons f x xs, rest, first)
+
+-- where one is less
+sum_less : {X : Type 0} (f : X → ℕ) (xs : List X) (d : X) (p : ℕ) → ((i : ℕ) → i < length xs → f (get_or xs i d) ≤ 5) → p < length xs → f (get_or xs p d) < 5 → sum_by f xs < 5 * length xs
+sum_less f [] d p each within less = absurd (omega (arith, within))
+sum_less f (x ∷ xs) d zero each within less =
+    let rest = sum_most f xs d (λ i below. each (suc i) (omega (arith, below))) in
+    let first : f x < 5 = less in
+    omega (arith, sum_by-cons f x xs, rest, first)
+sum_less f (x ∷ xs) d (suc p) each within less =
+    let rest = sum_less f xs d p (λ i below. each (suc i) (omega (arith, below))) (omega (arith, within)) less in
+    let first : f x ≤ 5 = each 0 (omega arith) in
+    omega (arith, sum_by-cons f x xs, rest, first)
+
+one_at_most : (b : Bool) → one_if b ≤ 1
+one_at_most true = omega arith
+one_at_most false = omega arith
+
+module _ (a : Held) (s : State) (is : Holds a s) where
+  held_at_most : (p : ℕ) (o : Option OpenRow) → at_place a.table p ≡ o → held_by o ≤ 5
+  held_at_most p None here = omega arith
+  held_at_most p (Some e) here =
+      let opened = (is.table.only p e here).0 in
+      let stands = is.table.each e.number opened in
+      let place = (is.table.only p e here).1 in
+      let one : stands.entry ≡ e = some_is stands.entry e (sym stands.there ∙ ap (at_place a.table) place ∙ here) in
+      let long : length e.group_contexts ≡ GROUPS = ap (λ (x : OpenRow). length x.group_contexts) (sym one) ∙ stands.is.all_contexts in
+      let few = count_by-le-length (λ (c : Option ℕ). is_some c) e.group_contexts in
+      omega (arith, one_at_most (is_spawned e.source), few, long)
+
+  pub context_room : (p : ℕ) → p < length a.table → held_by (at_place a.table p) < 5 → held_count a.contexts < length a.contexts
+  context_room p within less =
+      let most = sum_less held_by a.table None p (λ i below. held_at_most i (at_place a.table i) refl) within less in
+      omega (arith, most, is.contexts.count, is.room, is.free.long, is.jobs.few)
