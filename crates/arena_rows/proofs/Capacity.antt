@@ -13,6 +13,7 @@ use Rattle.arena_rows.specs.declared.rows.Source.TheVariants as source
 use Rattle.arena_rows.specs.Held.{Held}
 use Rattle.arena_rows.specs.Represents.{at_place, one_if, is_spawned, held_by, Stands, Holds}
 use Rattle.arena_rows.proofs.Started.{some_is}
+use Rattle.arena_rows.proofs.Alike.{count_cons}
 
 sum_most : {X : Type 0} (f : X → ℕ) (xs : List X) (d : X) → ((i : ℕ) → i < length xs → f (get_or xs i d) ≤ 5) → sum_by f xs ≤ 5 * length xs
 sum_most f [] d each = omega arith
@@ -53,3 +54,18 @@ module _ (a : Held) (s : State) (is : Holds a s) where
   context_room p within less =
       let most = sum_less held_by a.table None p (λ i below. held_at_most i (at_place a.table i) refl) within less in
       omega (arith, most, is.contexts.count, is.room, is.free.long, is.jobs.few)
+
+-- an entry with a group that has no context
+none_fewer : (cs : List (Option ℕ)) (g : ℕ) → g < length cs → slice_index_or cs g None ≡ None → count_by (λ (c : Option ℕ). is_some c) cs < length cs
+none_fewer [] g within none = absurd (omega (arith, within))
+none_fewer (x ∷ cs) zero within none =
+    let nothing : one_if (is_some x) ≡ 0 = rw none refl in
+    omega (arith, count_cons (λ (c : Option ℕ). is_some c) x cs, count_by-le-length (λ (c : Option ℕ). is_some c) cs, nothing)
+none_fewer (x ∷ cs) (suc g) within none =
+    omega (arith, count_cons (λ (c : Option ℕ). is_some c) x cs, none_fewer cs g (omega (arith, within)) none, one_at_most (is_some x))
+
+pub group_room : (a : Held) (s : State) (is : Holds a s) (p g : ℕ) (e : OpenRow) → p < length a.table → at_place a.table p ≡ Some e → length e.group_contexts ≡ GROUPS → g < GROUPS → slice_index_or e.group_contexts g None ≡ None → held_count a.contexts < length a.contexts
+group_room a s is p g e within there long few none =
+    let fewer = none_fewer e.group_contexts g (omega (arith, few, long)) none in
+    let less : held_by (at_place a.table p) < 5 = rw there (omega (arith, fewer, long, one_at_most (is_spawned e.source))) in
+    context_room a s is p within less

@@ -32,3 +32,4 @@ pub mod Posted
 pub mod Regioned
 pub mod SpawnedRow
 pub mod Capacity
+pub mod RowHeld

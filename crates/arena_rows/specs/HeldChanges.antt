@@ -146,6 +146,9 @@ bound_to a c parent = record a { contexts = with_bound a.contexts c parent }
 abbrev pub with_group : ℕ → ℕ → OpenRow → OpenRow
 with_group g c e = record e { group_contexts = slice_set e.group_contexts g (Some c) }
 
+abbrev pub group_given : Held → (place group context : ℕ) → OpenRow → Held
+group_given a p g c e = with_entry (bound_to a c (Some e.context)) p (with_group g c e)
+
 -- what the pool asks of a new row that is to wait
 pub record CanWait (a : Held) (id : RowId) (made_on : Option ℕ) : Type 0 where
   pub room : length a.pool.rows < a.pool.limit

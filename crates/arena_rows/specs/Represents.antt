@@ -237,3 +237,9 @@ HoldsSomehow a = (s : State) × Holds a s
 -- A row is on a slot, in some state that is held.
 abbrev pub HasTop : Held → (slot : ℕ) → Type 0
 HasTop a slot = (s : State) × (n : ℕ) × Holds a s × (top s.rows slot ≡ Some n)
+
+-- What is held after a group of row n was given the context c.
+pub record IsGiven (a b : Held) (s : State) (is : Holds a s) (n g c : ℕ) : Type 0 where
+  pub holds : Holds b s
+  pub places : (m : ℕ) → holds.places m ≡ is.places m
+  pub given : holds.assigned.of_group n g ≡ Some c

@@ -15,7 +15,7 @@ use job_language::JobFault;
 
 impl Parts {
     /// The entry at a place.
-    fn entry_at(&self, place: usize) -> OpenRow
+    pub(crate) fn entry_at(&self, place: usize) -> OpenRow
         requires within { place < length self.now.table }
         requires there { IsSome (at_place self.now.table place) }
         ensures { at_place self.now.table place ≡ Some result }

@@ -9,6 +9,7 @@ mod limits;
 mod parts;
 mod posts;
 mod rows;
+mod spawns;
 mod taking;
 
 pub use parts::Parts;
