@@ -1,7 +1,8 @@
 // Checking a tenant's history against the evaluator.
-ghost use Rattle.std.specs.Prelude.{◌≡◌, ◌↔◌, IsTrue, ◌≤◌, ℕ, IfOk, Ok, length, map};
+ghost use Rattle.std.specs.Prelude.{◌≡◌, ◌↔◌, IsTrue, ◌≤◌, ℕ, IfOk, OnErr, Ok, length, map};
 ghost use Rattle.tenant_model.specs.Solo.{answers};
 ghost use Rattle.tenant_model.specs.State.{empty};
+ghost use Rattle.history_check.specs.Checked.{SomeTakesMemory};
 ghost use Rattle.history_check.specs.SameAnswer.{same_answer, same_reply, same_status, same_came, same_moved};
 ghost use Rattle.history_check.specs.Verdicts.{verdict_of};
 
@@ -19,12 +20,14 @@ pub enum Verdict {
 }
 
 /// Takes the steps of a history anew, from a tenant that has done nothing yet, and compares the
-/// answers. An answer that changes nothing, as that of an idle advance, is no entry of a history.
+/// answers. An answer that changes nothing, as that of an idle advance, is no entry of a history. It
+/// fails only if a step brings a job or makes a row and an allocation failed.
 pub fn check(alloc: Global, config: TenantConfig, entries: &[Entry]) -> Result<Verdict, AllocError>
     ensures verdict { IfOk result (λ verdict. verdict ≡ verdict_of config entries.now) }
 
     // The answers of a history that passes are those that its tenant gives to its steps.
     ensures yes { result ≡ Ok Verdict.Yes → answers (empty config) (map (λ e. e.step) entries.now) ≡ map (λ e. e.answer) entries.now }
+    ensures takes { OnErr result (SomeTakesMemory (empty config) entries.now) }
     ensures no { (k : ℕ) → result ≡ Ok (Verdict.No k) → (1 ≤ k) × (k ≤ length entries.now) }
 {
     let mut solo = Solo::new(alloc, config);
