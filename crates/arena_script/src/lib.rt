@@ -11,8 +11,6 @@ mod own;
 mod scripts;
 mod serials;
 mod steps;
-#[cfg(test)]
-mod tests;
 
 pub use ends::ScriptEnd;
 pub use inputs::MAX_SCRIPT_LINE;

@@ -117,7 +117,7 @@ fn take_all<R: Read, W: Write>(
         → AnswersPart own.slots (script_lines lines (R.remaining reader.old)) own.solo
         (W.contents writer.old) (W.contents writer.new) }
 {
-    loop {
+    'steps: loop {
         let input = next_input(&mut lines, reader)?;
         if input == Input::End {
             return Ok(());

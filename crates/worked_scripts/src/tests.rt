@@ -12,6 +12,7 @@ mod regions;
 mod retiring;
 mod serial_values;
 mod spawning;
+mod whole_scripts;
 
 const RAN: &str = r#"{"moved":"ran"}"#;
 

@@ -7,38 +7,38 @@ use Rattle.arena_script.proofs.scripts.take_all.Goals as goal
 
 pub returns-then-eq-clause-done : goal.returns-then-eq-clause-done
 returns-then-eq-clause-done g c known =
-    let so_far = c.loop-lines.invariant.1 known in
+    let so_far = c.steps.invariant.1 known in
     let ended : c.in_ok-input.input ≡ input.End = search rules in
-    (c.loop-lines.own.solo, so_far.1 _ _ (answers_end _ _ _ _ _ _ _ ended (c.in_ok-input.ensures.lines so_far.0) (c.in_ok-input.ensures.end (ap (λ (i : Input). Ok i) ended))))
+    (c.steps.own.solo, so_far.1 _ _ (answers_end _ _ _ _ _ _ _ ended (c.in_ok-input.ensures.lines so_far.0) (c.in_ok-input.ensures.end (ap (λ (i : Input). Ok i) ended))))
 
 pub returns-in_err-input-clause-part : goal.returns-in_err-input-clause-part
-returns-in_err-input-clause-part g c known = (c.loop-lines.invariant.1 known).2 _ (answers_part_none _ _ _ _)
+returns-in_err-input-clause-part g c known = (c.steps.invariant.1 known).2 _ (answers_part_none _ _ _ _)
 
 pub returns-then-eq-clause-part : goal.returns-then-eq-clause-part
-returns-then-eq-clause-part g c known = (c.loop-lines.invariant.1 known).2 _ (answers_part_none _ _ _ _)
+returns-then-eq-clause-part g c known = (c.steps.invariant.1 known).2 _ (answers_part_none _ _ _ _)
 
 pub returns-in_err-answer-clause-part : goal.returns-in_err-answer-clause-part
-returns-in_err-answer-clause-part g c known = (c.loop-lines.invariant.1 known).2 _ (answers_part_none _ _ _ _)
+returns-in_err-answer-clause-part g c known = (c.steps.invariant.1 known).2 _ (answers_part_none _ _ _ _)
 
 pub returns-in_err-put-clause-part : goal.returns-in_err-put-clause-part
 returns-in_err-put-clause-part g c known =
-    let so_far = c.loop-lines.invariant.1 known in
+    let so_far = c.steps.invariant.1 known in
     let going : c.in_ok-input.input ≢ input.End = search rules in
     so_far.2 _
-    (answers_part_cut _ _ _ _ _ _ _ _ _ _ _ c.loop-lines.invariant.0 c.line.ensures going (c.in_ok-input.ensures.lines so_far.0) c.in_ok-answer.ensures.ok
-    (c.line-in-loop-lines.ensures.value ∙ ap (λ (t : List ℕ). t ++ 10 ∷ []) c.told.ensures) _ _ c.in_err-put.ensures.part)
+    (answers_part_cut _ _ _ _ _ _ _ _ _ _ _ c.steps.invariant.0 c.line.ensures going (c.in_ok-input.ensures.lines so_far.0) c.in_ok-answer.ensures.ok
+    (c.line-in-steps.ensures.value ∙ ap (λ (t : List ℕ). t ++ 10 ∷ []) c.told.ensures) _ _ c.in_err-put.ensures.part)
 
-pub loop-lines-preserved : goal.loop-lines-preserved
-loop-lines-preserved g c =
+pub steps-preserved : goal.steps-preserved
+steps-preserved g c =
     let going : c.in_ok-input.input ≢ input.End = search rules in (
-      c.in_ok-answer.ensures.slots ∙ c.loop-lines.invariant.0,
-      λ known. let so_far = c.loop-lines.invariant.1 known in (
+      c.in_ok-answer.ensures.slots ∙ c.steps.invariant.0,
+      λ known. let so_far = c.steps.invariant.1 known in (
         c.in_ok-input.ensures.known so_far.0,
         λ after final others. so_far.1 after final
-            (answers_step _ _ _ _ _ _ _ _ _ _ _ _ _ _ _ c.loop-lines.invariant.0 c.line.ensures going (c.in_ok-input.ensures.lines so_far.0) c.in_ok-answer.ensures.ok
-            (c.line-in-loop-lines.ensures.value ∙ ap (λ (t : List ℕ). t ++ 10 ∷ []) c.told.ensures) c.in_ok-put.ensures.ok others),
+            (answers_step _ _ _ _ _ _ _ _ _ _ _ _ _ _ _ c.steps.invariant.0 c.line.ensures going (c.in_ok-input.ensures.lines so_far.0) c.in_ok-answer.ensures.ok
+            (c.line-in-steps.ensures.value ∙ ap (λ (t : List ℕ). t ++ 10 ∷ []) c.told.ensures) c.in_ok-put.ensures.ok others),
         λ after others. so_far.2 after
-            (answers_part_step _ _ _ _ _ _ _ _ _ _ _ c.loop-lines.invariant.0 c.line.ensures going (c.in_ok-input.ensures.lines so_far.0) c.in_ok-answer.ensures.ok
-            (c.line-in-loop-lines.ensures.value ∙ ap (λ (t : List ℕ). t ++ 10 ∷ []) c.told.ensures) _ _ after c.in_ok-put.ensures.ok others),
+            (answers_part_step _ _ _ _ _ _ _ _ _ _ _ c.steps.invariant.0 c.line.ensures going (c.in_ok-input.ensures.lines so_far.0) c.in_ok-answer.ensures.ok
+            (c.line-in-steps.ensures.value ∙ ap (λ (t : List ℕ). t ++ 10 ∷ []) c.told.ensures) _ _ after c.in_ok-put.ensures.ok others),
       ),
     )

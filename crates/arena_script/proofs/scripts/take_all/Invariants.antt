@@ -7,8 +7,8 @@ use Rattle.arena_script.specs.ScriptLines.{script_lines}
 use Rattle.arena_script.proofs.scripts.take_all.Given as goal
 
 -- whoever answers the lines that are left has answered all, and whoever answers a part of them a part of all
-abbrev pub invariant-loop-lines : goal.invariant-loop-lines
-invariant-loop-lines g l =
+abbrev pub invariant-steps : goal.invariant-steps
+invariant-steps g l =
     (l.own.slots ≡ l.initial.own.slots)
     × (IsSome (g.R.Read.remaining l.initial.reader) →
     IsSome (g.R.Read.remaining l.reader)
@@ -19,5 +19,5 @@ invariant-loop-lines g l =
     AnswersPart l.initial.own.slots (script_lines l.lines (g.R.Read.remaining l.reader)) l.own.solo (g.W.Write.contents l.writer) after →
     AnswersPart l.initial.own.slots (script_lines l.initial.lines (g.R.Read.remaining l.initial.reader)) l.initial.own.solo (g.W.Write.contents l.initial.writer) after))
 
-abbrev pub decreases-loop-lines : goal.decreases-loop-lines
-decreases-loop-lines g l = work_left l.lines
+abbrev pub decreases-steps : goal.decreases-steps
+decreases-steps g l = work_left l.lines

@@ -1,6 +1,6 @@
 // Worked examples: steps and their answers.
 use super::{ANSWERS, STEPS, TENANT, joined, run};
-use crate::ScriptEnd;
+use arena_script::ScriptEnd;
 use std::alloc::Global;
 use std::test::Fail;
 

@@ -1,6 +1,6 @@
 // Readers and writers that fail.
 use super::{ANSWERS, STEPS, TENANT, joined};
-use crate::{ScriptEnd, script};
+use arena_script::{ScriptEnd, script};
 use std::alloc::Global;
 use std::io;
 use std::io::{ErrorKind, Read, Write};

@@ -1,6 +1,6 @@
 // Dumps and their verdicts.
 use super::{TENANT, joined, run};
-use crate::{MAX_SCRIPT_LINE, ScriptEnd, script};
+use arena_script::{MAX_SCRIPT_LINE, ScriptEnd, script};
 use std::alloc::Global;
 use std::io::Read;
 use std::test::Fail;

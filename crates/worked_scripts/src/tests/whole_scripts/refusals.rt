@@ -1,6 +1,6 @@
 // Words, first lines and step lines that are none.
 use super::{ANSWERS, BAD_STEP, STEPS, TENANT, joined, run};
-use crate::{MAX_SCRIPT_LINE, ScriptEnd};
+use arena_script::{MAX_SCRIPT_LINE, ScriptEnd};
 use std::alloc::{AllocError, Global};
 use std::test::Fail;
 

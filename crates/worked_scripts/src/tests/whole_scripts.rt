@@ -6,7 +6,7 @@ mod memory;
 mod refusals;
 mod serials;
 
-use crate::{ScriptEnd, script};
+use arena_script::{ScriptEnd, script};
 use std::alloc::{AllocError, Global};
 
 /// A tenant of one slot, which is a worker's.

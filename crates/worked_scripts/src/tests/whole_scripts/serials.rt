@@ -1,6 +1,6 @@
 // Serial values: lines that are no serial jobs, and want of memory.
 use super::run;
-use crate::{MAX_SCRIPT_LINE, ScriptEnd, script};
+use arena_script::{MAX_SCRIPT_LINE, ScriptEnd, script};
 use std::alloc::{AllocError, Global};
 use std::test::Fail;
 

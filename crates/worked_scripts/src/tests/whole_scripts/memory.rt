@@ -1,6 +1,6 @@
 // Each growth may be refused: then the script ends, or the answer is error 9 and nothing has changed.
 use super::{ANSWERS, STEPS, TENANT};
-use crate::{ScriptEnd, script};
+use arena_script::{ScriptEnd, script};
 use std::alloc::Global;
 use std::io::Read;
 
