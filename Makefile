@@ -14,10 +14,12 @@ run: ## runs an example within a minute, unproved unless it is built: make run E
 build: ## proves arena-script and builds it into out/
 	@python3 checks/build/run.py
 
-test: ## passes everything: the examples, each proof from scratch, each edit, test and program, each failed allocation
+test: ## passes everything: examples, each proof from scratch, each edit, test and program, stored runs, failed allocations
 	checks/examples/run.sh
 	checks/gate/run.py
+	checks/stored_runs/run.sh
 	checks/failed_allocations/run.sh
+	@tail -n 1 out/gate.md
 
 check: ## proves each crate again where it has changed
 	rt all check

@@ -1,6 +1,7 @@
 #!/usr/bin/env python3
 """Runs `rt ci`, passes its lines on as they come, each with the minutes since the start, and prints at the end how
-many processor minutes each crate took: for its proofs, for its tests, and for its must-fail edits.
+many processor minutes each crate took: for its proofs, for its tests, and for its must-fail edits. The end stays in
+out/gate.md.
 
 usage: checks/gate/run.py, at the top of the repository. It exits as `rt ci` does.
 """
@@ -84,11 +85,12 @@ def main():
                 print(f"{(time.monotonic() - start) / 60:6.1f}  {last}", flush=True)
     is_over.set()
     watcher.join()
-    print()
-    for line in table(spent):
-        print(line)
-    print(f"\n{(time.monotonic() - start) / 60:.1f} minutes on {len(os.sched_getaffinity(0))} processors")
-    print(last)
+    minutes = f"{(time.monotonic() - start) / 60:.1f} minutes on {len(os.sched_getaffinity(0))} processors"
+    said = "\n".join([*table(spent), "", minutes, last])
+    print(f"\n{said}")
+    os.makedirs("out", exist_ok=True)
+    with open("out/gate.md", "w") as kept:
+        print(said, file=kept)
     return run.returncode
 
 
