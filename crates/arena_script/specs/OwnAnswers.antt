@@ -60,11 +60,11 @@ TakesStep slots (Some (arrive slot)) old answer new = arrival slots old slot ≡
 TakesStep slots (Some (advance slot)) old answer new = advancement slots old slot ≡ (answer, new)
 
 -- The step brings a job or makes a row: no other takes memory.
-abbrev pub TakesMemory : State → Option OwnData → Type 0
-TakesMemory s (Some (ask d)) = HasJob (asked_by_value d)
-TakesMemory s (Some (arrive slot)) = ⊥
-TakesMemory s (Some (advance slot)) = MakesRow s slot
-TakesMemory s None = ⊥
+abbrev pub OwnTakesMemory : State → Option OwnData → Type 0
+OwnTakesMemory s (Some (ask d)) = HasJob (asked_by_value d)
+OwnTakesMemory s (Some (arrive slot)) = ⊥
+OwnTakesMemory s (Some (advance slot)) = MakesRow s slot
+OwnTakesMemory s None = ⊥
 
 abbrev pub step_of_value : Result Data Error → Option OwnData
 step_of_value (Ok d) = own_line d

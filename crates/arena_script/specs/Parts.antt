@@ -37,7 +37,7 @@ StartsScript [] before after = Appends before after []
 StartsScript (too_long ∷ lines) before after = Appends before after []
 StartsScript (whole line ∷ lines) before after = AnswersSteps (tenant_in line) lines before after
 
--- the line that tells what a dump comes to
+-- the line that tells the verdict on a dump, or its first bad line
 abbrev pub told_text : Result DumpData ℕ → List ℕ
 told_text (Ok dump) = verdict_text (verdict_on dump.config dump.entries dump.has_foreign)
 told_text (Err number) = bad_line_text number

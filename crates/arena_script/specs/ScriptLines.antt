@@ -39,7 +39,7 @@ abbrev pub lines_read : {E : Type 0} → Result Input E → List ℕ → List Li
 lines_read (Ok i) text = input_lines i text
 lines_read (Err e) text = []
 
--- The reader of bytes failed, or may not be called again: no line that is held whole is left, and none was told last.
+-- The reader of bytes failed, or may not be called again: no whole line is held, and none was read last.
 pub record WasLost (old new : Reading) : Type 0 where
   pub pending : IsPending new
   pub called : (new.turns < old.turns) ⊎ (new.turns ≡ 0)

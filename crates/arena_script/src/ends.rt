@@ -19,7 +19,7 @@ pub enum ScriptEnd {
     Config,
     /// The reader or the writer failed, or the reader was called too often.
     Device,
-    /// A growth was refused.
+    /// An allocation failed.
     Memory,
 }
 
@@ -35,7 +35,7 @@ impl ScriptEnd {
         }
     }
 
-    /// What is told on standard error.
+    /// What the process writes to standard error.
     pub fn fault(self) -> Option<&'static str>
         ensures { option_map (λ text. text.now) result ≡ fault_of self }
     {

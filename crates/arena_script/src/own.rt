@@ -10,7 +10,7 @@ ghost use Rattle.solo_eval.specs.Execution.{MakesRow};
 ghost use Rattle.arena_script.specs.Steps.{own_line};
 ghost use Rattle.arena_script.specs.ScriptAnswers.{tenant_in, tenant_of_value, TakesLine};
 ghost use Rattle.arena_script.specs.ScriptLines.{line_of};
-ghost use Rattle.arena_script.specs.OwnAnswers.{request_in, Replies, arrival, advancement, step_in, TakesMemory, TakesStep};
+ghost use Rattle.arena_script.specs.OwnAnswers.{request_in, Replies, arrival, advancement, step_in, OwnTakesMemory, TakesStep};
 
 use crate::inputs::Input;
 use crate::steps::{OwnLine, own_line};
@@ -85,7 +85,7 @@ impl Own {
             TakesStep self.old.slots (own_line (view value.now)) self.old.solo answer self.new.solo) }
         ensures slots { self.new.slots ≡ self.old.slots }
         ensures err { OnErr result (self.new.solo ≡ self.old.solo) }
-        ensures takes { OnErr result (TakesMemory self.old.solo (own_line (view value.now))) }
+        ensures takes { OnErr result (OwnTakesMemory self.old.solo (own_line (view value.now))) }
     {
         match own_line(value) {
             Some(OwnLine::Ask(request)) => Ok(Some(Answer::Replied(self.ask(alloc, request)?))),
