@@ -19,10 +19,10 @@ apart forest c d free held e =
     let wrong : false ≡ true = sym (ap is_some free) ∙ there in
     cc
 
-binding-with_bound : (forest : Forest) (c : ℕ) (p : Option ℕ) → c < length forest → binding (with_bound forest c p) c ≡ Some (record { parent = p; is_asked = false; is_orphan = false })
+pub binding-with_bound : (forest : Forest) (c : ℕ) (p : Option ℕ) → c < length forest → binding (with_bound forest c p) c ≡ Some (record { parent = p; is_asked = false; is_orphan = false })
 binding-with_bound forest c p within = get_or-set_same forest c (Some (record { parent = p; is_asked = false; is_orphan = false })) None within
 
-binding-with_bound_other : (forest : Forest) (c : ℕ) (p : Option ℕ) (d : ℕ) → d ≢ c → binding (with_bound forest c p) d ≡ binding forest d
+pub binding-with_bound_other : (forest : Forest) (c : ℕ) (p : Option ℕ) (d : ℕ) → d ≢ c → binding (with_bound forest c p) d ≡ binding forest d
 binding-with_bound_other forest c p d ne = get_or-set_other forest c d (Some (record { parent = p; is_asked = false; is_orphan = false })) None ne
 
 newest-with_bound : (forest : Forest) (c : ℕ) (p : Option ℕ) (order : List ℕ) → binding forest c ≡ None → IsNewestFirst forest order → IsNewestFirst (with_bound forest c p) order

@@ -3,3 +3,4 @@ pub mod Mapped
 pub mod Requests
 pub mod Bound
 pub mod Released
+pub mod Free

@@ -19,12 +19,12 @@ is_some-without_parent c (Some b) = refl
 binding-without_other : (forest : Forest) (c d : ℕ) → d ≢ c → binding (without forest c) d ≡ without_parent c (binding forest d)
 binding-without_other forest c d ne = get_or-set_other (map (without_parent c) forest) c d None None ne ∙ get_or-map (without_parent c) forest d None
 
-binding-without : (forest : Forest) (c : ℕ) → IsHeld forest c → binding (without forest c) c ≡ None
+pub binding-without : (forest : Forest) (c : ℕ) → IsHeld forest c → binding (without forest c) c ≡ None
 binding-without forest c h =
     let within : c < length (map (without_parent c) forest) = subst (λ n. c < n) (sym (length-map forest (without_parent c))) (IsHeld-within forest c h) in
     get_or-set_same (map (without_parent c) forest) c None None within
 
-held_other : (forest : Forest) (c d : ℕ) → d ≢ c → is_some (binding (without forest c) d) ≡ is_some (binding forest d)
+pub held_other : (forest : Forest) (c d : ℕ) → d ≢ c → is_some (binding (without forest c) d) ≡ is_some (binding forest d)
 held_other forest c d ne = ap is_some (binding-without_other forest c d ne) ∙ is_some-without_parent c (binding forest d)
 
 -- an order without one context
@@ -105,6 +105,9 @@ held_count-without forest c h =
     let held : is_some (slice_index_or left c None) ≡ true = ap is_some (get_or-map (without_parent c) forest c None) ∙ is_some-without_parent c (binding forest c) ∙ h in
     let counted : one (slice_index_or left c None) ≡ 1 = ap (λ b. if b then 1 else 0) held in
     omega (arith, counted, held_count-map c forest, sum_by-set one left c None None within)
+
+pub held_count-is : (after forest : Forest) → after ≡ forest → held_count after + 1 ≡ held_count forest + 1
+held_count-is after forest e = ap (λ (f : Forest). held_count f + 1) e
 
 not_released : (forest : Forest) (c d : ℕ) → IsHeld forest c → IsHeld (without forest c) d → d ≢ c
 not_released forest c d h held e =

@@ -33,7 +33,7 @@ pub parent-with_request : (forest : Forest) (c : ℕ) (asked : Bool) → IsHeld 
 parent-with_request forest c asked h d =
     elim (eqb_tells d c) [ inl e ↦ ap parent_in (binding-with_request forest c d asked h e.1) ∙ parent_in-asking asked (binding forest d) | inr e ↦ ap parent_in (binding-with_request_other forest c d asked e.1) ]
 
-is_some-with_request : (forest : Forest) (c : ℕ) (asked : Bool) → IsHeld forest c → (d : ℕ) → is_some (binding (with_request forest c asked) d) ≡ is_some (binding forest d)
+pub is_some-with_request : (forest : Forest) (c : ℕ) (asked : Bool) → IsHeld forest c → (d : ℕ) → is_some (binding (with_request forest c asked) d) ≡ is_some (binding forest d)
 is_some-with_request forest c asked h d =
     elim (eqb_tells d c) [ inl e ↦ ap is_some (binding-with_request forest c d asked h e.1) ∙ is_some-asking asked (binding forest d) | inr e ↦ ap is_some (binding-with_request_other forest c d asked e.1) ]
 

@@ -1,7 +1,8 @@
 // A forest of contexts.
-ghost use Rattle.std.specs.Prelude.{◌≡◌, ◌≢◌, ◌+◌, ◌*◌, ◌<◌, ◌≤◌, ◌||◌, ℕ, IsTrue, true, false, not, Some, None, length, map, replicate, IfOk};
+ghost use Rattle.std.specs.Prelude.{◌≡◌, ◌≢◌, ◌+◌, ◌*◌, ◌-◌, ◌^◌, ◌<◌, ◌≤◌, ◌||◌, ℕ, IsTrue, true, false, not, Some, None, length, map, replicate, IfOk};
 ghost use Rattle.std.specs.Option.{ForSome, option_map_or};
 ghost use Rattle.cancel_context.specs.Forest.{IsHeld, held_count, binding, parent, is_within, is_cancelled, IsForest, with_bound, asking, with_request, without_parent, without};
+ghost use Rattle.cancel_context.specs.Free.{next_of};
 
 use crate::bindings::{Binding, ContextId};
 use std::alloc::{AllocError, Global};
@@ -23,6 +24,9 @@ const _: () = prove!(BASE_CONTEXTS == 256 && CONTEXTS_PER_ROW == 5 && MAX_ROWS =
 #[derive(Drop)]
 pub struct Contexts {
     bindings: Vec<Option<Binding>>,
+    /// The free place that comes after each free place.
+    next_free: Vec<Option<ContextId>>,
+    first_free: Option<ContextId>,
 }
 
 impl Model for Contexts {
@@ -30,11 +34,11 @@ impl Model for Contexts {
 
     ghost Value = { Forest };
 
-    ghost use Rattle.cancel_context.specs.Order.{IsSound};
-
     ghost view = { λ c. c.bindings.items };
 
-    ghost invariant = { λ c. IsSound c.bindings.items };
+    ghost use Rattle.cancel_context.specs.Free.{IsKept};
+
+    ghost invariant = { λ c. IsKept c.bindings.items c.next_free.items c.first_free };
 }
 
 impl Contexts {
@@ -44,8 +48,15 @@ impl Contexts {
         ensures empty { IfOk result (λ forest. forest ≡ replicate (BASE_CONTEXTS + CONTEXTS_PER_ROW * rows) None) }
         ensures forest { IfOk result IsForest }
     {
-        let bindings = vec![in alloc; None; BASE_CONTEXTS + CONTEXTS_PER_ROW * rows]?;
-        Ok(Contexts { bindings })
+        let count = BASE_CONTEXTS + CONTEXTS_PER_ROW * rows;
+        let bindings = vec![in alloc; None; count]?;
+        let mut next_free = vec![in alloc; None; count]?;
+        let first_free = link_all(&mut next_free);
+        Ok(Contexts {
+            bindings,
+            next_free,
+            first_free,
+        })
     }
 
     /// A new context, bound to another or to none. It has no request of its own.
@@ -61,13 +72,16 @@ impl Contexts {
         ensures others { (c : ℕ) → c ≢ result → is_cancelled self.new c ≡ is_cancelled self.old c }
         ensures forest { IsForest self.new }
     {
-        let place = free_place(&self.bindings);
-        self.bindings[place] = Some(Binding {
+        let Some(place) = self.first_free else {
+            unreachable!()
+        };
+        self.first_free = self.next_free[place.index()];
+        self.bindings[place.index()] = Some(Binding {
             parent,
             is_asked: false,
             is_orphan: false,
         });
-        ContextId(place as u16)
+        place
     }
 
     /// Asks for the cancellation of a context. Answers whether it was not cancelled before, by itself
@@ -123,6 +137,8 @@ impl Contexts {
     {
         leave(&mut self.bindings, context);
         self.bindings[context.index()] = None;
+        self.next_free[context.index()] = self.first_free;
+        self.first_free = Some(context);
     }
 
     /// Makes the request of a context, or takes it back.
@@ -138,18 +154,22 @@ impl Contexts {
     }
 }
 
-/// The first place where no context is held.
-fn free_place(bindings: &[Option<Binding>]) -> usize
-    requires { held_count bindings.now < length bindings.now }
-    ensures in_range { result < length bindings.now }
-    ensures free { binding bindings.now result ≡ None }
+/// Puts all places into the list of the free ones, the last place first. Answers the first of the list.
+fn link_all(next_free: &mut [Option<ContextId>]) -> Option<ContextId>
+    requires few { length next_free.old ≤ 2 ^ 16 }
+    requires unlinked { next_of next_free.old 0 ≡ None }
+    ensures size { length next_free.new ≡ length next_free.old }
+    ensures last { (x : ℕ) → result ≡ Some x → x + 1 ≡ length next_free.old }
+    ensures first { 0 < length next_free.old → result ≡ Some (length next_free.old - 1) }
+    ensures end { next_of next_free.new 0 ≡ None }
+    ensures linked { (c : ℕ) → c + 1 < length next_free.old → next_of next_free.new (c + 1) ≡ Some c }
 {
-    for (place, binding) in bindings.iter().enumerate() {
-        if binding.is_none() {
-            return place;
-        }
+    let mut previous = None;
+    for place in 0..next_free.len() {
+        next_free[place] = previous;
+        previous = Some(ContextId(place as u16));
     }
-    unreachable!()
+    previous
 }
 
 /// Whether the walk up from a context finds a request.

@@ -1,4 +1,4 @@
-// What a cancellation reaches, and what stays when a context ends. The one allocation of `new` may be
+// What a cancellation reaches, and what stays when a context ends. An allocation of `new` may be
 // refused, and then the next call succeeds.
 use super::*;
 use std::test::Fail;
