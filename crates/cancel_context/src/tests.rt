@@ -39,3 +39,30 @@ fn what_a_cancelled_context_leaves_stays_cancelled(rt: HostRuntime) -> Result<()
     assert!(rt; !contexts.is_cancelled(next));
     Ok(())
 }
+
+#[test]
+fn a_context_goes_from_between_two_siblings(rt: HostRuntime) -> Result<(), Fail> {
+    let mut contexts = match Contexts::new(rt.alloc(), 1) {
+        Ok(contexts) => contexts,
+        Err(_) => Contexts::new(rt.alloc(), 1)?,
+    };
+    let root = contexts.bind(None);
+    let first = contexts.bind(Some(root));
+    let middle = contexts.bind(Some(root));
+    let last = contexts.bind(Some(root));
+    contexts.cancel(middle);
+    contexts.release(middle);
+    assert!(rt; !contexts.is_cancelled(first));
+    contexts.cancel(root);
+    assert!(rt; contexts.is_cancelled(first));
+    assert!(rt; contexts.is_cancelled(last));
+    contexts.reset(root);
+    assert!(rt;
+        !contexts.is_cancelled(first),
+        "a reset reaches what is below"
+    );
+    assert!(rt; !contexts.is_cancelled(last));
+    let next = contexts.bind(Some(root));
+    assert!(rt; !contexts.is_cancelled(next));
+    Ok(())
+}
