@@ -17,7 +17,7 @@ moved_to e = None
 abbrev pub next_of : List (List Instr) → (slot width : ℕ) → Frame → Option Frame
 next_of procs slot width f = option_and_then (λ i. moved_to (effect i slot width f)) (instr_at procs f)
 
--- and after so many, unless one of them stops it
+-- and after n instructions, unless one of them stops it
 abbrev pub frame_after : List (List Instr) → (slot width : ℕ) → Frame → ℕ → Option Frame
 frame_after procs slot width f zero = Some f
 frame_after procs slot width f (suc k) = option_and_then (next_of procs slot width) (frame_after procs slot width f k)

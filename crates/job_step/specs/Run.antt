@@ -23,12 +23,12 @@ run_on start f c (Moves g) i next = next g
 run_on start f c DividesByZero i next = record { start = start; end = f; count = c + 1; stop = Fault }
 run_on start f c IsShared i next = record { start = start; end = f; count = c; stop = stop_at i }
 
--- at most so many more instructions, after c of them
+-- a run of at most `left` more instructions, after c of them
 unfoldable pub run_for : (left : ℕ) → List (List Instr) → (slot width : ℕ) (start : Frame) (c : ℕ) → Frame → Run
 run_for zero procs slot width start c f = record { start = start; end = f; count = c; stop = Yield }
 run_for (suc left) procs slot width start c f =
     run_on start f c (effect_at (instr_at procs f) slot width f) (instr_at procs f) (run_for left procs slot width start (c + 1))
 
--- the run of a frame on a slot, in an arena of so many slots
+-- the run of a frame on a slot, in an arena of `width` slots
 abbrev pub run_of : List (List Instr) → (slot width : ℕ) → Frame → Run
 run_of procs slot width f = run_for 1000 procs slot width f 0 f

@@ -1,6 +1,7 @@
 // What one instruction does to a frame by itself.
 ghost use Rattle.std.specs.Prelude.{◌≡◌, ◌<◌, false};
 ghost use Rattle.job_language.specs.Program.{is_last};
+ghost use Rattle.job_step.specs.declared.frames.TheConstants.{LAST_PLACE};
 ghost use Rattle.job_step.specs.Frame.{effect};
 
 use crate::frames::Frame;
@@ -12,6 +13,7 @@ use job_language::Instr;
 pub enum Effect {
     /// The frame after the instruction.
     Moves(Frame),
+    /// It divides by zero, which is a fault of the job.
     DividesByZero,
     /// The instruction is shared: it touches more than its frame.
     IsShared,
@@ -19,7 +21,7 @@ pub enum Effect {
 
 /// What an instruction does to a frame by itself, on a slot, in an arena of `width` slots.
 pub fn effect_on(frame: &Frame, instr: &Instr, slot: u8, width: u8) -> Effect
-    requires { is_last instr.now ≡ false → frame.now.place < 255 }
+    requires { is_last instr.now ≡ false → frame.now.place < LAST_PLACE }
     ensures { result ≡ effect instr.now slot width frame.now }
 {
     let procedure = frame.procedure;

@@ -1,9 +1,15 @@
-// Frames of work.
+// Frames: where a task stands in its program.
 ghost use Rattle.std.specs.Prelude.{◌≡◌, ◌+◌, ◌<◌, false, IfSome};
 ghost use Rattle.job_language.specs.Program.{is_last};
+ghost use Rattle.job_step.specs.declared.frames.TheConstants.{LAST_PLACE};
 ghost use Rattle.job_step.specs.Frame.{at_place, instr_at, new_frame, write_and_step};
 
-use job_language::{Instr, Program, REGISTERS, Register};
+use job_language::{Instr, MAX_INSTRS, Program, REGISTERS, Register};
+
+/// The last place that an instruction can have in a procedure. Places count from 0.
+pub const LAST_PLACE: u8 = 255;
+
+const _: () = prove!(LAST_PLACE as usize + 1 == MAX_INSTRS);
 
 /// Where the work of a row stands: a procedure of its job, the place of the next instruction there,
 /// and the registers.
@@ -29,7 +35,7 @@ impl Frame {
 
     /// The frame at the next place of its procedure.
     pub fn next(&self) -> Frame
-        requires { self.now.place < 255 }
+        requires { self.now.place < LAST_PLACE }
         ensures { result ≡ at_place self.now (self.now.place + 1) }
     {
         let registers = self.registers;
@@ -42,7 +48,7 @@ impl Frame {
 
     /// The frame at the next place of its procedure, with one register changed.
     pub fn write_and_step(&self, register: Register, value: i64) -> Frame
-        requires { self.now.place < 255 }
+        requires { self.now.place < LAST_PLACE }
         ensures { result ≡ write_and_step self.now register value }
     {
         let mut registers = self.registers;
@@ -57,8 +63,8 @@ impl Frame {
     /// The instruction of a program that comes next.
     pub fn instr_in(&self, program: &Program) -> Option<Instr>
         ensures value { result ≡ instr_at program.now self.now }
-        // Only a `ret` or a `jmp` ends a procedure, so another instruction has one behind it.
-        ensures next { IfSome result (λ i. is_last i ≡ false → self.now.place < 255) }
+        // Only a `ret` or a `jmp` ends a procedure, so another instruction has one after it.
+        ensures next { IfSome result (λ i. is_last i ≡ false → self.now.place < LAST_PLACE) }
     {
         let procs = program.procs();
         let procedure = usize::from(self.procedure);

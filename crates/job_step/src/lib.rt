@@ -7,6 +7,6 @@ mod laws;
 mod runs;
 
 pub use effects::{Effect, effect_on};
-pub use frames::Frame;
+pub use frames::{Frame, LAST_PLACE};
 pub use laws::runs_are_least;
 pub use runs::{RUN_LIMIT, Run, Stop, run_private};

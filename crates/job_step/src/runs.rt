@@ -1,7 +1,9 @@
-// Private runs.
+// Private runs: what a frame executes before it meets a shared instruction.
 ghost use Rattle.std.specs.Prelude.{◌≡◌, ◌+◌, ◌<◌, [], ℕ, List, length, false, slice_index_or};
 ghost use Rattle.job_language.specs.declared.instructions.Instr.{Instr};
 ghost use Rattle.job_language.specs.Program.{IsValidProc, IsInRange, is_last};
+ghost use Rattle.job_language.specs.declared.programs.TheConstants.{MAX_INSTRS};
+ghost use Rattle.job_step.specs.declared.frames.TheConstants.{LAST_PLACE};
 ghost use Rattle.job_step.specs.Frame.{effect};
 ghost use Rattle.job_step.specs.Run.{run_of};
 ghost use Rattle.job_step.specs.InsideRun.{frame_of, effect_of, GoesWithin};
@@ -45,8 +47,8 @@ pub(crate) enum Next {
 /// instruction of the program has the run of no instruction that ends in a yield.
 pub fn run_private(program: &Program, start: Frame, slot: u8, width: u8) -> Run
     ensures run { result ≡ run_of program.now slot width start }
-    // Only a `ret` or a `jmp` ends a procedure, so another shared instruction has one behind it.
-    ensures next { (i : Instr) → result.stop ≡ Stop.Shared i → is_last i ≡ false → result.end.place < 255 }
+    // Only a `ret` or a `jmp` ends a procedure, so another shared instruction has one after it.
+    ensures next { (i : Instr) → result.stop ≡ Stop.Shared i → is_last i ≡ false → result.end.place < LAST_PLACE }
 {
     let procs = program.procs();
     let procedure = usize::from(start.procedure);
@@ -96,7 +98,7 @@ fn run_in(instrs: &[Instr], start: Frame, slot: u8, width: u8) -> Run
     requires place { start.place < length instrs.now }
     ensures run { (procs : List (List Instr)) → slice_index_or procs start.procedure [] ≡ instrs.now
         → result ≡ run_of procs slot width start }
-    ensures next { (i : Instr) → result.stop ≡ Stop.Shared i → is_last i ≡ false → result.end.place < 255 }
+    ensures next { (i : Instr) → result.stop ≡ Stop.Shared i → is_last i ≡ false → result.end.place < LAST_PLACE }
 {
     let procedure = start.procedure;
     let mut place = start.place;
@@ -125,7 +127,7 @@ pub(crate) fn execute(
     place: u8,
     registers: &mut [i64; REGISTERS],
 ) -> Next
-    requires { is_last instr.now ≡ false → place + 1 < 256 }
+    requires { is_last instr.now ≡ false → place + 1 < MAX_INSTRS }
     ensures effect { effect instr.now slot width (frame_of procedure place registers.old)
         ≡ effect_of procedure result registers.new }
     ensures shared { result ≡ Next.IsShared → registers.new ≡ registers.old }

@@ -40,6 +40,6 @@ regions_from-for table None j nested enough = grind (arith, common_steps)
 regions_from-for table (Some r) zero nested enough = absurd (omega arith)
 regions_from-for table (Some r) (suc j) nested enough = regions_for-agree table nested (suc j) (suc r.number) (Some r) enough (omega arith)
 
--- A walk goes on with the walk from the region around.
+-- A walk continues with the walk from the region around.
 pub goes_on : (table : Table) (r : RowId) → IsNested table → regions_from table (Some r) ≡ r ∷ regions_from table (around table r)
 goes_on table r nested = ap (λ rs. r ∷ rs) (regions_from-for table (around table r) r.number nested (around_earlier table r nested))

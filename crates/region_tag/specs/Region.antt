@@ -12,7 +12,7 @@ Table = List (Option Tagged)
 abbrev pub is_same : RowId → RowId → Bool
 is_same a b = (a.number == b.number) && (a.place == b.place)
 
--- Two tags are the same where both name one region, or none.
+-- Two tags are the same if both name the same region, or none.
 abbrev pub same_region : Option RowId → Option RowId → Bool
 same_region a b = option_eq is_same a b
 
@@ -34,7 +34,7 @@ region_of table row = option_and_then (λ t. t.tag) (get table row)
 abbrev pub around : Table → RowId → Option RowId
 around table region = option_and_then (λ t. t.around) (get table region)
 
--- A row is tagged by itself where it is a region, and else by its maker's tag.
+-- A region is tagged with itself, and any other row with its maker's tag.
 abbrev pub tagged : RowId → (outer : Option RowId) → (is_region : Bool) → Tagged
 tagged row outer is_region = record {
   number = row.number;
@@ -47,12 +47,12 @@ regions_for left table None = []
 regions_for zero table (Some r) = []
 regions_for (suc left) table (Some r) = r ∷ regions_for left table (around table r)
 
--- The region of that tag, the region around it, and so on. Their numbers fall, so there are no more than the first number says.
+-- The region of a tag, the region around it, and so on. Their numbers decrease, so there are at most as many as the first number.
 abbrev pub regions_from : Table → Option RowId → List RowId
 regions_from table None = []
 regions_from table (Some r) = r ∷ regions_for r.number table (around table r)
 
--- Is the region of that tag the other one, or inside it?
+-- Is the region of a tag the other one, or inside it?
 abbrev pub is_within : Table → Option RowId → RowId → Bool
 is_within table tag outer = list_any (λ r. is_same r outer) (regions_from table tag)
 

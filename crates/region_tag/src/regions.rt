@@ -12,7 +12,7 @@ use std::marker::Model;
 pub struct Tagged {
     /// The row's number.
     pub number: u64,
-    /// The region that the row is in: the row itself where it is a region. It is none outside all
+    /// The region that the row is in, which is the row itself if it is a region; `None` outside all
     /// regions.
     pub tag: Option<RowId>,
     /// The region around the row, where that is a region inside another one.
@@ -44,8 +44,7 @@ impl Regions {
         Ok(Regions { rows })
     }
 
-    /// Enters a row that has been made: `outer` is the tag of its maker, and none where it has no
-    /// maker.
+    /// Enters a row that has been made: `outer` is the tag of its maker, `None` if it has no maker.
     pub fn enter(&mut self, row: RowId, outer: Option<RowId>, is_region: bool)
         requires place { row.place < length self.old }
         requires free { IsNone (slice_index_or self.old row.place None) }
@@ -77,11 +76,12 @@ impl Regions {
         self.rows[row.place] = None;
     }
 
-    /// The region that a row is in: none outside all regions, and for a row that is not there.
+    /// The region that a row is in; `None` outside all regions, and for a row that was not entered.
     pub fn region_of(&self, row: RowId) -> Option<RowId>
         ensures value { result ≡ region_of self.now row }
         ensures nested { IsNested self.now }
     {
+        // Proof hint: brings the type's invariant into scope for the clause `nested`.
         let _ = &self.rows;
         self.get(row)?.tag
     }
@@ -115,6 +115,7 @@ impl Regions {
         ensures nested { IsNested self.now }
         ensures earlier { IfSome result (λ outer. outer.number < region.number) }
     {
+        // Proof hint: brings the type's invariant into scope for the clause `nested`.
         let _ = &self.rows;
         self.get(region)?.around
     }

@@ -19,14 +19,14 @@ chain_for-agree rows precede (suc j) (suc k) n from to j-enough k-enough =
     with_makers-agree n (maker_of (row rows n).kind) _ _ (IfSome_then (maker_of (row rows n).kind) (precede n from to)
     (λ m before. chain_for-agree rows precede j k m before.0 (omega arith) (omega arith) (omega arith)))
 
--- a chain goes on with the chain of the maker
+-- A chain continues with the chain of the maker,
 pub chain_goes_on : (rows : List Row) → MakersPrecede rows → (n m : ℕ) → 1 ≤ n → n ≤ length rows → maker_of (row rows n).kind ≡ Some m → chain rows n ≡ n ∷ chain rows m
 chain_goes_on rows precede zero m from to is = absurd (omega arith)
 chain_goes_on rows precede (suc n) m from to is =
     let before : IfSome (Some m) (λ k. (1 ≤ k) × (k < suc n)) = rw is at (precede (suc n) from to) in
     rw is (ap (λ ms. suc n ∷ ms) (chain_for-agree rows precede n m m before.0 (omega arith) (omega arith) (omega arith)))
 
--- and it ends where there is none
+-- and ends if there is none.
 pub chain_ends : (rows : List Row) (n : ℕ) → 1 ≤ n → maker_of (row rows n).kind ≡ None → chain rows n ≡ n ∷ []
 chain_ends rows zero from is = absurd (omega arith)
 chain_ends rows (suc n) from is = rw is refl

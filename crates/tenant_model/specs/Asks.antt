@@ -22,7 +22,7 @@ use Rattle.tenant_model.specs.Walks.{is_open, is_job_cancelled, value_in, height
 use Rattle.tenant_model.specs.Changes.{on_job, new_row, add_row, is_row_limit_met, is_full, entry}
 use Rattle.tenant_model.specs.Cells.{no_cells, cell_sum, cell_count}
 
--- A job has an outcome where none of its rows is open.
+-- A job has an outcome if none of its rows is open.
 abbrev pub has_outcome : List Row → ℕ → Bool
 has_outcome rows j = not (list_any (λ (r : Row). (r.job == j) && is_open r.phase) rows)
 
@@ -62,7 +62,7 @@ unless_limit s made =
 abbrev pub submit : State → Job → Reply × State
 submit s j = (reply.Made (length s.jobs + 1), entry (add_job s j Unstarted))
 
--- placed on a free slot, where there is one
+-- The job is placed on a free slot, if there is one.
 abbrev pub submit_placed : State → Job → Option ℕ → Reply × State
 submit_placed s j None = submit s j
 submit_placed s j (Some slot) = (reply.Placed (length s.jobs + 1) slot, entry (add_job s j (Live slot 1)))
@@ -74,7 +74,7 @@ abbrev pub collect : State → ℕ → Status → Reply × State
 collect s j Running = (reply.Pending, s)
 collect s j status = (reply.Job j status, entry s)
 
--- A cancel is the first where the job's context was not cancelled and it has no outcome.
+-- A cancel is the first if the job's context was not cancelled and it has no outcome.
 abbrev pub cancel_by_request : State → ℕ → Work → Reply × State
 cancel_by_request s j w =
     if is_job_cancelled w || has_outcome s.rows j then (reply.Cancelled j false, entry s)
@@ -89,7 +89,7 @@ retire s =
     if list_any (λ (r : Row). is_open r.phase) s.rows then (reply.Refused Busy, entry s)
     else (reply.Epoch (s.epoch + 1), entry (record s { jobs = map retired_work s.jobs; cells = no_cells; epoch = s.epoch + 1 }))
 
--- an ask while the history has room
+-- the reply to an ask, if the history has room
 abbrev pub reply_to : State → Request → Reply × State
 reply_to s (Hello name) = (reply.Refused BadRequest, s)
 reply_to s (Submit j) = unless_limit s (submit s j)

@@ -1,10 +1,10 @@
--- The cells of a tenant: one for each key on each slot, where a row has made it.
+-- The cells of a tenant: at most one for each key on each slot, made by the first row that uses it.
 use Rattle.std.specs.Prelude.{ℕ, ℤ, pos, List, [], replicate, Option, Some, None, is_some, unwrap_or, slice_index_or, slice_set, fold, count_by}
 use Rattle.std.specs.Int.{int_wrapping_add, w64}
 use Rattle.job_language.specs.declared.instructions.TheConstants.{KEYS}
 use Rattle.job_language.specs.declared.tenants.TheConstants.{MAX_SLOTS}
 
--- by key and by slot
+-- the cells, by key and by slot
 abbrev pub Table : Type 0
 Table = List (List (Option ℤ))
 

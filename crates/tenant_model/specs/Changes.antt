@@ -41,7 +41,7 @@ is_full s = nat_le s.config.steps s.entries
 abbrev pub entry : State → State
 entry s = settle (record s { entries = s.entries + 1 })
 
--- the frame of a row moved on
+-- a row at another frame
 abbrev pub with_frame : State → ℕ → Frame → State
 with_frame s n f = on_row s n (λ r. record r { frame = f })
 
@@ -52,7 +52,7 @@ nest s slot n = on_row s n (λ r. record r { phase = Live slot (height s.rows sl
 abbrev pub with_cells : State → Table → State
 with_cells s cells = record s { cells = cells }
 
--- a step that ran: a reserved slot is freed where nothing is left on it
+-- A step ran: a reserved slot is freed if nothing is left on it.
 abbrev pub finish_step : ℕ → State → Moved × State
 finish_step slot s = (if nat_lt slot s.config.reserved && (height s.rows slot == 0) then Freed else Ran, entry s)
 
@@ -60,11 +60,11 @@ abbrev pub height_of : Phase → ℕ
 height_of (Live t h) = h
 height_of p = 0
 
--- the height of a row that is on the slot and no region
+-- the height of a row on the slot, if it is not a region
 abbrev pub task_height_of : ℕ → Row → ℕ
 task_height_of slot r = if is_live_on slot r.phase && not (is_region r.kind) then height_of r.phase else 0
 
--- the height of the highest row on a slot that is no region
+-- the height of the highest row on a slot that is not a region
 abbrev pub task_height : List Row → ℕ → ℕ
 task_height rows slot = fold (λ most r. max most (task_height_of slot r)) 0 rows
 
@@ -80,7 +80,7 @@ abbrev pub first_fault : Option JobFault → JobFault → Option JobFault
 first_fault None fault = Some fault
 first_fault (Some f) fault = Some f
 
--- A fault ends the topmost row and those below it, down to and with the first that is no region.
+-- A fault ends the topmost row and those below it, down to and including the first that is not a region.
 abbrev pub faults : (slot job : ℕ) → JobFault → State → Moved × State
 faults slot j fault s =
     finish_step slot (on_job (record s { rows = map (faulted_row slot (task_height s.rows slot)) s.rows }) j (λ w. record w { fault = first_fault w.fault fault }))

@@ -8,7 +8,7 @@ use Rattle.job_language.specs.Program.{IsValidProgram}
 use Rattle.job_step.specs.declared.frames.Frame.{Frame}
 use Rattle.tenant_model.specs.State.{State, row, job}
 
--- The frame stands at an instruction of the program.
+-- The frame names an instruction of the program.
 pub record Stands (procs : List (List Instr)) (f : Frame) : Type 0 where
   pub procedure : f.procedure < length procs
   pub place : f.place < length (slice_index_or procs f.procedure [])

@@ -44,7 +44,7 @@ change_of t slot f (Load d k) = if is_some (cell t k slot) then None else Some (
 change_of t slot f (Store k a) = Some (k, register f a)
 change_of t slot f i = None
 
--- after a run of so many instructions: the instruction must not be blocked, and be paid
+-- the same, after a run of `count` instructions: the instruction must not be blocked, and its fuel must be paid
 abbrev pub change_after : State → (slot n count : ℕ) → Frame → Stop → Option Change
 change_after s slot n count f (Shared i) = if is_blocked s n i then None else if is_poor s n (count + 1) then None else change_of s.cells slot f i
 change_after s slot n count f stop = None
@@ -53,7 +53,7 @@ abbrev pub touch_by : State → (slot : ℕ) → Option ℕ → Option Touch
 touch_by s slot None = None
 touch_by s slot (Some n) = let r = run_on s slot n in option_map (λ (c : Change). (n, c)) (change_after s slot n r.count r.end r.stop)
 
--- The touch of an advance: the cell of its slot that its top row's load makes or its store sets.
+-- The touch of an advance: the cell of its slot that the topmost row's load makes or its store sets.
 abbrev pub touch : State → ℕ → Option Touch
 touch s slot = if nat_lt slot s.config.slots then if is_full s then None else touch_by s slot (top s.rows slot) else None
 
@@ -76,7 +76,7 @@ IsolatesRows s =
     (slot r n low high : ℕ) → is_region (row s.rows r).kind ≡ true → (row s.rows r).phase ≡ Live slot low → (row s.rows n).phase ≡ Live slot high → low ≤ high →
     is_within s.rows n r ≡ true
 
--- While a region is live on a slot, the slot advances by rows within it alone.
+-- While a region is live on a slot, only rows within it advance there.
 abbrev pub AdvancesWithin : State → Type 0
 AdvancesWithin s =
     (slot r n : ℕ) → is_region (row s.rows r).kind ≡ true → is_live_on slot (row s.rows r).phase ≡ true → top s.rows slot ≡ Some n → is_within s.rows n r ≡ true
@@ -91,7 +91,7 @@ abbrev pub TouchesAreWithin : State → List Step → Type 0
 TouchesAreWithin s xs =
     (slot r : ℕ) → is_region (row s.rows r).kind ≡ true → IsInterval s slot r xs → All (λ (t : Touch). is_within (after s xs).rows t.0 r ≡ true) (touches s slot xs)
 
--- Two intervals that begin with equal cells and have equal changes end with equal cells, of whatever tenants they are.
+-- Two intervals, even of different tenants, that begin with equal cells and have equal changes end with equal cells.
 abbrev pub EqualChangesEqualCells : State → List Step → Type 0
 EqualChangesEqualCells s xs =
     (slot r : ℕ) → IsInterval s slot r xs →

@@ -1,4 +1,4 @@
--- The serial value of a program: what its root gives where each task runs as soon as it is made, and to its end.
+-- The serial value of a program: the result of its root if each task runs as soon as it is made, to its end.
 use Rattle.std.specs.Prelude.{ℕ, zero, suc, ◌<◌, ◌≡◌, ℤ, pos, Bool, if◌then◌else◌, List, replicate, Option, Some, None, IfSome, is_some, unwrap_or, slice_index_or, slice_set}
 use Rattle.std.specs.Int.{int_wrapping_add, w64}
 use Rattle.std.specs.List.{list_any}
@@ -26,7 +26,7 @@ begun f = record { frame = f; sums = replicate GROUPS None }
 abbrev pub sum_of : SerialTask → ℕ → ℤ
 sum_of t g = unwrap_or (slice_index_or t.sums g None) (pos 0)
 
--- a group was given a value since its last wait
+-- Has a group been given a value since its last wait?
 abbrev pub is_owing : SerialTask → Bool
 is_owing t = list_any (λ (sum : Option ℤ). is_some sum) t.sums
 
@@ -34,21 +34,21 @@ abbrev pub with_value_to : ValueTo → SerialTask → ℤ → SerialTask
 with_value_to (to.Group g) t v = record t { sums = slice_set t.sums g (Some (int_wrapping_add w64 (sum_of t g) v)) }
 with_value_to (to.Register d) t v = record t { frame = record t.frame { registers = slice_set t.frame.registers d v } }
 
--- the maker of a task, with that task's value
+-- the maker of a task, after that task returned a value
 abbrev pub with_value : SerialMaker → ℤ → SerialTask
 with_value m v = with_value_to m.to m.task v
 
 abbrev pub making : SerialTask → (p a b : ℕ) → ValueTo → SerialTurn
 making t p a b to = Makes (begun (called_frame t.frame p a b)) (record { task = record t { frame = next_place t.frame }; to = to })
 
--- the task behind a wait: nothing was cancelled, so the status is 1
+-- the task after a wait: nothing was cancelled, so the status is 1
 abbrev pub waited : SerialTask → (d e g : ℕ) → SerialTask
 waited t d e g = record {
   frame = write_and_step (record t.frame { registers = slice_set t.frame.registers d (sum_of t g) }) e (pos 1);
   sums = slice_set t.sums g None;
 }
 
--- A private instruction that neither reads the slot nor the width has one effect on all slots of all arenas.
+-- A private instruction that reads neither the slot nor the width has the same effect on every slot of every arena.
 abbrev pub turn_by : SerialTask → Effect → SerialTurn
 turn_by t (Moves f) = Goes (record t { frame = f })
 turn_by t DividesByZero = Fails
@@ -66,7 +66,7 @@ abbrev pub turn_at : Option Instr → SerialTask → SerialTurn
 turn_at (Some i) t = turn_of i t
 turn_at None t = Fails
 
--- a value, with how many instructions are left
+-- the value that a task returns, with the number of instructions that are left then
 abbrev pub Given : Type 0
 Given = Option (ℤ × ℕ)
 
@@ -74,33 +74,33 @@ abbrev pub given_then : Given → (ℤ → ℕ → Given) → Given
 given_then None next = None
 given_then (Some p) next = next p.0 p.1
 
--- what a task gives by its turn, with so many instructions left behind it, where `next` says what each task gives with the instructions that are left
+-- the result of a task whose next turn is known, with `left` instructions after that turn; `next` evaluates the rest
 abbrev pub given_by : (next : ℕ → SerialTask → Given) → (left : ℕ) → SerialTurn → Given
 given_by next left (Goes t) = next left t
 given_by next left (Makes t m) = given_then (next left t) (λ v rest. next rest (with_value m v))
 given_by next left (Gives v) = Some (v, left)
 given_by next left Fails = None
 
--- what a task gives with so many instructions, of which no more than a bound are executed one behind or inside another
+-- the result of a task with `left` instructions; `bound` limits the recursion, so that the definition ends
 unfoldable pub given_within : (bound : ℕ) → List (List Instr) → (left : ℕ) → SerialTask → Given
 given_within zero procs left t = None
 given_within (suc bound) procs zero t = None
 given_within (suc bound) procs (suc left) t = given_by (given_within bound procs) left (turn_at (instr_at procs t.frame) t)
 
--- The serial value of a task with so many instructions, and how many of them are left. Each instruction takes one, so their number is bound enough.
+-- the result of a task with `left` instructions; each turn takes one, so `left` is also a sufficient bound
 abbrev pub given_of : List (List Instr) → (left : ℕ) → SerialTask → Given
 given_of procs left t = given_within left procs left t
 
--- The rule of serial values: a task takes its turn, and goes on with one instruction less.
+-- The rule of serial values: a task takes its turn, and continues with one instruction fewer.
 unfoldable pub FollowsItsTurn : Type 0
 FollowsItsTurn =
     (procs : List (List Instr)) (left : ℕ) (t : SerialTask) → given_of procs (suc left) t ≡ given_by (given_of procs) left (turn_at (instr_at procs t.frame) t)
 
--- without an instruction left nothing is given
+-- Without an instruction left there is no result.
 unfoldable pub NeedsInstructions : Type 0
 NeedsInstructions = (procs : List (List Instr)) (t : SerialTask) → given_of procs 0 t ≡ None
 
--- no task gives back as many instructions as it was given
+-- Every task takes at least one instruction.
 unfoldable pub TakesInstructions : Type 0
 TakesInstructions = (procs : List (List Instr)) (left : ℕ) (t : SerialTask) → IfSome (given_of procs left t) (λ p. p.1 < left)
 
@@ -108,6 +108,6 @@ TakesInstructions = (procs : List (List Instr)) (left : ℕ) (t : SerialTask) �
 abbrev pub root_task : List ℤ → SerialTask
 root_task args = begun (new_frame 0 (slice_index_or args 0 (pos 0)) (slice_index_or args 1 (pos 0)))
 
--- the serial value of a program, where n instructions suffice and nothing fails
+-- the serial value of a program, if n instructions suffice and nothing fails
 abbrev pub serial_value : List (List Instr) → (args : List ℤ) → (n : ℕ) → Option ℤ
 serial_value procs args n = option_map (λ (p : ℤ × ℕ). p.0) (given_of procs n (root_task args))

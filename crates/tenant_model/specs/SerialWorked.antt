@@ -13,7 +13,7 @@ serial_value_of j = serial_value j.program j.args j.fuel
 abbrev pub zero_divisor : Job
 zero_divisor = worked_job ((Div 2 0 1 ∷ Ret 2 ∷ []) ∷ []) (pos 7) (pos 0) 1000
 
--- returns with a task that nothing waited for
+-- returns although nothing waited for its task
 abbrev pub unwaited : Job
 unwaited = worked_job ((Spawn 0 1 0 1 ∷ Ret 0 ∷ []) ∷ (Ret 0 ∷ []) ∷ []) (pos 7) (pos 0) 1000
 
@@ -37,7 +37,7 @@ FibGives8With172 = serial_value_of (record fib { fuel = 172 }) ≡ Some (pos 8)
 unfoldable pub FibGivesNoneWith171 : Type 0
 FibGivesNoneWith171 = serial_value_of (record fib { fuel = 171 }) ≡ None
 
--- tasks nest as deep as they like
+-- tasks nest to any depth
 unfoldable pub ChainGives7 : Type 0
 ChainGives7 = serial_value_of (record chain { args = pos 128 ∷ pos 7 ∷ [] }) ≡ Some (pos 7)
 

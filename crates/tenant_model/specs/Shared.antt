@@ -35,18 +35,18 @@ post s slot n f p a b =
     if is_row_limit_met s then faults slot (row s.rows n).job TaskLimit s
     else finish_step slot (add_row (with_frame s n (next_place f)) (new_row Posted (row s.rows n).job None (called_frame f p a b) Unstarted))
 
--- While the region runs, its maker stands at the isolate (`this_task_arena::isolate`).
+-- While the region runs, its maker stays at the isolate (`this_task_arena::isolate`).
 abbrev pub isolate_at : State → (slot n : ℕ) → (f called_frame : Frame) → Moved × State
 isolate_at s slot n f g =
     if height s.rows slot == MAX_HEIGHT then faults slot (row s.rows n).job TooDeep s
     else if is_row_limit_met s then faults slot (row s.rows n).job TaskLimit s
     else finish_step slot (add_row (with_frame s n f) (new_row (Region n) (row s.rows n).job (Some slot) g (Live slot (height s.rows slot + 1))))
 
--- what the members of a group learn of a cancel: 2 where their context is cancelled, else 1
+-- the status that a wait stores: 2 if the group was cancelled, directly or from above, else 1
 abbrev pub group_status : State → (n g : ℕ) → ℤ
 group_status s n g = if (mark s.rows n g).cancelled || is_context_cancelled s n then pos 2 else pos 1
 
--- A passed wait: the total, then the status, and the group begins anew (`task_group::wait`).
+-- A wait passes: it stores the total, then the status, and the group starts afresh (`task_group::wait`).
 abbrev pub wait : State → (slot n : ℕ) → Frame → (d e g : ℕ) → Moved × State
 wait s slot n f d e g = finish_step slot (on_row s n (λ r. record r {
   frame = write_and_step (record f { registers = slice_set f.registers d (total s.rows n g) }) e (group_status s n g);
@@ -64,7 +64,7 @@ cancel s slot n f g = finish_step slot (on_row s n (λ r. record r {
 abbrev pub write_register : State → (slot n : ℕ) → Frame → (d : ℕ) → ℤ → Moved × State
 write_register s slot n f d v = finish_step slot (with_frame s n (write_and_step f d v))
 
--- The cell is made where it is absent (`enumerable_thread_specific::local`).
+-- The cell is made if it is absent (`enumerable_thread_specific::local`).
 abbrev pub load : State → (slot n : ℕ) → Frame → (d k : ℕ) → Moved × State
 load s slot n f d k = let v = unwrap_or (cell s.cells k slot) (pos 0) in finish_step slot (with_cells (with_frame s n (write_and_step f d v)) (with_cell s.cells k slot v))
 
@@ -74,12 +74,12 @@ store s slot n f k a = finish_step slot (with_cells (with_frame s n (next_place 
 abbrev pub has_used_group : State → ℕ → Bool
 has_used_group s n = is_used s.rows n 0 || is_used s.rows n 1 || is_used s.rows n 2 || is_used s.rows n 3
 
--- the frame that stands at an isolate, with the value of its region; a frame elsewhere stays
+-- the frame at an isolate, after its region returned a value; a frame elsewhere is unchanged
 abbrev pub handed_frame : Option Instr → ℤ → Frame → Frame
 handed_frame (Some (Isolate d p a b)) v f = write_and_step f d v
 handed_frame i v f = f
 
--- the value of a region goes to the register that its maker's isolate names, and the maker goes on
+-- The value of a region goes to the register that its maker's isolate names, and the maker continues.
 abbrev pub hand_to : State → (maker : ℕ) → ℤ → State
 hand_to s m v = on_row s m (λ r. record r { frame = handed_frame (instr_at (job s.jobs r.job).program r.frame) v r.frame })
 

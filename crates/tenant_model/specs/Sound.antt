@@ -1,4 +1,4 @@
--- What each state that a tenant reaches keeps, beside being well formed: how makers, marks, frames and jobs agree.
+-- What holds of each state that a tenant reaches, apart from being well formed: how makers, marks, frames and jobs agree.
 use Rattle.std.specs.Prelude.{ℕ, ◌≡◌, ◌<◌, ◌≤◌, ◌⊎◌, true, false, Option, Some, None, IsSome, List, length}
 use Rattle.job_language.specs.declared.instructions.Instr.{Instr}
 use Rattle.job_language.specs.declared.instructions.Instr.TheVariants.{Isolate}
@@ -11,7 +11,7 @@ use Rattle.tenant_model.specs.State.{State, row, job}
 use Rattle.tenant_model.specs.Walks.{maker_of, is_unstarted, is_open, mark, is_context_cancelled}
 use Rattle.tenant_model.specs.WellFormed.{IsWellFormed}
 
--- A row is of its maker's job.
+-- A row belongs to its maker's job.
 abbrev pub ShareJobs : List Row → Type 0
 ShareJobs rows = (n m : ℕ) → maker_of (row rows n).kind ≡ Some m → (row rows n).job ≡ (row rows m).job
 
@@ -23,12 +23,12 @@ MakersStarted rows = (n m : ℕ) → maker_of (row rows n).kind ≡ Some m → i
 abbrev pub PastHasEnded : List Row → Type 0
 PastHasEnded rows = (n m g : ℕ) → (row rows n).kind ≡ Spawned m g → n ≤ (mark rows m g).rows → is_open (row rows n).phase ≡ false
 
--- a frame has all registers, and its row a mark for each group
+-- A frame has all registers, and its row has a mark for each group.
 pub record IsShaped (r : Row) : Type 0 where
   pub registers : length r.frame.registers ≡ REGISTERS
   pub marks : length r.marks ≡ GROUPS
 
--- What is on a slot is on a slot of the tenant.
+-- A live row is on one of the tenant's slots.
 abbrev pub AreOnSlots : State → Type 0
 AreOnSlots s = (n slot h : ℕ) → (row s.rows n).phase ≡ Live slot h → slot < s.config.slots
 
@@ -36,7 +36,7 @@ abbrev pub IsIsolate : Option Instr → Type 0
 IsIsolate (Some (Isolate d p a b)) = Unit {0}
 IsIsolate i = ⊥
 
--- The maker of a live region stands at its isolate.
+-- The maker of a live region is at its isolate.
 abbrev pub StandAtIsolates : State → Type 0
 StandAtIsolates s = (n m slot h : ℕ) → (row s.rows n).kind ≡ Region m → (row s.rows n).phase ≡ Live slot h → IsIsolate (instr_at (job s.jobs (row s.rows m).job).program (row s.rows m).frame)
 
@@ -47,7 +47,7 @@ pub record IsRoot (s : State) (j : ℕ) : Type 0 where
   pub kind : (row s.rows (job s.jobs j).root).kind ≡ Root
   pub job : (row s.rows (job s.jobs j).root).job ≡ j
 
--- What a state keeps at each change of a step.
+-- What each change within a step preserves.
 pub record IsTended (s : State) : Type 0 where
   pub shared : ShareJobs s.rows
   pub started : MakersStarted s.rows
@@ -63,7 +63,7 @@ pub record IsCounted (s : State) : Type 0 where
   pub rows : length s.rows ≤ s.entries
   pub jobs : length s.jobs ≤ s.entries
 
--- No row waits whose context is cancelled.
+-- No unstarted row has a cancelled context.
 abbrev pub IsSettled : State → Type 0
 IsSettled s = (n : ℕ) → is_unstarted (row s.rows n).phase ≡ true → is_context_cancelled s n ≡ false
 
@@ -74,12 +74,12 @@ pub record IsSound (s : State) : Type 0 where
   pub counted : IsCounted s
   pub settled : IsSettled s
 
--- What holds where the programs of all jobs are valid: groups are those of a frame, and what made an open row is open, unless the job has a fault.
+-- What holds if the programs of all jobs are valid: every group exists in its frame, and the maker of an open row is open unless the job has a fault.
 pub record MakersStay (s : State) : Type 0 where
   pub groups : (n m g : ℕ) → (row s.rows n).kind ≡ Spawned m g → g < GROUPS
   pub makers : (n m : ℕ) → is_open (row s.rows n).phase ≡ true → maker_of (row s.rows n).kind ≡ Some m → (is_open (row s.rows m).phase ≡ true) ⊎ IsSome (job s.jobs (row s.rows n).job).fault
 
--- What a state keeps at each change of a step, where the groups that instructions name are those of a frame.
+-- What each change within a step preserves, if instructions name groups that a frame has.
 pub record IsSteady (s : State) : Type 0 where
   pub formed : IsWellFormed s
   pub tended : IsTended s

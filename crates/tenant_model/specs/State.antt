@@ -10,7 +10,7 @@ use Rattle.tenant_model.specs.declared.rows.Mark.{Mark}
 use Rattle.tenant_model.specs.declared.rows.Row.{Row}
 use Rattle.tenant_model.specs.declared.works.Work.{Work}
 
--- Rows and jobs are numbered from 1, in order of making. The cells stand by key and by slot.
+-- Rows and jobs are numbered from 1, in the order in which they were made. Cells are listed by key and by slot.
 pub record State : Type 0 where
   pub config : Tenant
   pub rows : List Row
@@ -35,10 +35,10 @@ at_number xs (suc n) = slice_get xs n
 abbrev pub with_at_number : {A : Type 0} → List A → ℕ → A → List A
 with_at_number xs n x = slice_set xs (n - 1) x
 
--- the row of a number, or where there is none a row that does nothing
+-- the row of a number; if there is none, a row that does nothing
 abbrev pub row : List Row → ℕ → Row
 row rows n = unwrap_or (at_number rows n) (record { kind = Root; job = 0; made_on = None; frame = new_frame 0 (pos 0) (pos 0); phase = Dropped; marks = no_marks })
 
--- the job of a number, or where there is none a job without a program
+-- the job of a number; if there is none, a job without a program
 abbrev pub job : List Work → ℕ → Work
 job jobs n = unwrap_or (at_number jobs n) (record { program = []; fuel = 0; root = 0; cancelled = false; fault = None; retired = false })

@@ -1,4 +1,4 @@
--- What the answer to a step tells: whether it is an entry, on which slot it changed what is there, and whether that slot is free.
+-- What the answer to a step shows: whether it is an entry, which slot the step changed, and whether that slot is free.
 use Rattle.std.specs.Prelude.{ℕ, ◌≡◌, ◌≢◌, ◌+◌, ◌==◌, ◌<◌, Bool, true, false, Option, Some, None}
 use Rattle.job_language.specs.declared.answers.Answer.{Answer}
 use Rattle.job_language.specs.declared.answers.Answer.TheVariants.{Replied, Came, Moved}
@@ -32,16 +32,16 @@ abbrev pub is_left : Answer → Bool
 is_left (Moved Left) = true
 is_left a = false
 
--- What is answered is an entry exactly where the count of entries grows, by one; what is none changes nothing.
+-- An answer is an entry if and only if the count of entries grows, by one; a step without an entry changes nothing.
 pub record IsEntryCounted (s : State) (x : Step) : Type 0 where
   pub entry : is_entry (step s x).0 ≡ true → (step s x).1.entries ≡ s.entries + 1
   pub none : is_entry (step s x).0 ≡ false → (step s x).1 ≡ s
 
 -- What a step does to the slots.
 pub record TellsOfSlots (s : State) (x : Step) : Type 0 where
-  -- as many rows are on every other slot
+  -- The other slots have as many rows as before.
   pub others : (o : ℕ) → slot_of x (step s x).0 ≢ Some o → height (step s x).1.rows o ≡ height s.rows o
-  -- After an entry a reserved slot is empty exactly where it is freed.
+  -- After an entry a reserved slot is empty if and only if it is freed.
   pub freed : (slot : ℕ) → slot_of x (step s x).0 ≡ Some slot → slot < s.config.reserved → is_entry (step s x).0 ≡ true → (height (step s x).1.rows slot == 0) ≡ is_freed (step s x).0
-  -- A worker leaves an empty slot, where no row waits.
+  -- A worker leaves only an empty slot, and only if no row waits.
   pub left : (slot : ℕ) → slot_of x (step s x).0 ≡ Some slot → is_left (step s x).0 ≡ true → height s.rows slot ≡ 0 × (has_unstarted s ≡ false)

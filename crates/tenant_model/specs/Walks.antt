@@ -83,16 +83,16 @@ total rows f g = fold (λ sum (p : NumberedRow). int_wrapping_add w64 sum (value
 abbrev pub is_used : List Row → ℕ → ℕ → Bool
 is_used rows f g = nat_lt 0 (length (members rows f g))
 
--- the job was cancelled by request, or has a fault
+-- Was the job cancelled by request, or does it have a fault?
 abbrev pub is_job_cancelled : Work → Bool
 is_job_cancelled w = w.cancelled || is_some w.fault
 
--- a row was spawned into a group that was cancelled since its last passed wait
+-- Was the row spawned into a group that was cancelled since its last passed wait?
 abbrev pub is_group_cancelled : List Row → Kind → Bool
 is_group_cancelled rows (Spawned m g) = (mark rows m g).cancelled
 is_group_cancelled rows k = false
 
--- The context of a row is cancelled where its job is, or the group of some row on its chain.
+-- The context of a row is cancelled if its job is, or the group of some row on its chain.
 abbrev pub is_context_cancelled : State → ℕ → Bool
 is_context_cancelled s n = is_job_cancelled (job s.jobs (row s.rows n).job) || list_any (λ m. is_group_cancelled s.rows (row s.rows m).kind) (chain s.rows n)
 
@@ -143,14 +143,14 @@ abbrev pub last_or : Option ℕ → List NumberedRow → Option ℕ
 last_or n [] = n
 last_or n (p ∷ ps) = last_or (Some p.0) ps
 
--- the newest row that the slot may take and that was made on it; where there is none, the oldest that it may take
+-- the newest row that the slot may take and that was made on it; if there is none, the oldest that it may take
 abbrev pub pick_of : Isolation → List Row → ℕ → Option ℕ
 pick_of mode rows slot = last_or (first_of (eligible mode rows slot)) (filter (λ (p : NumberedRow). is_made_on slot p.1.made_on) (eligible mode rows slot))
 
 abbrev pub pick : State → ℕ → Option ℕ
 pick s slot = pick_of s.config.isolation s.rows slot
 
--- A row that is not started is dropped where its context is cancelled.
+-- An unstarted row is dropped if its context is cancelled.
 abbrev pub settled_row : Row → (is_cancelled : Bool) → Row
 settled_row r is_cancelled = record r { phase = if is_unstarted r.phase && is_cancelled then Dropped else r.phase }
 

@@ -1,4 +1,4 @@
-// Rows: frames of work, with where they come from and how far they are.
+// Rows: tasks with their numbers, makers, frames and phases.
 ghost use Rattle.std.specs.Prelude.{◌≡◌};
 ghost use Rattle.tenant_model.specs.Walks.{maker_of, is_region, is_unstarted, is_open, value_in, is_live_on, is_live_at};
 
@@ -10,16 +10,16 @@ pub const MAX_HEIGHT: u64 = 128;
 
 const _: () = prove!(MAX_HEIGHT == 128);
 
-/// What made a row, and what for. Rows are numbered from 1.
+/// What a row was made by, and for. Rows are numbered from 1.
 #[derive(Clone, Copy, Debug, PartialEq, Eq)]
 pub enum Kind {
     /// The root of a job.
     Root,
     /// Posted by some row of the job.
     Posted,
-    /// Spawned by the row of that number into one of its groups.
+    /// Spawned by the row of this number into one of its groups.
     Spawned(u64, Group),
-    /// A region that the row of that number isolated.
+    /// A region that the row of this number isolated.
     Region(u64),
 }
 
@@ -44,13 +44,13 @@ impl Kind {
     }
 }
 
-/// How far a row is.
+/// How far a row has come.
 #[derive(Clone, Copy, Debug, PartialEq, Eq)]
 pub enum Phase {
     Unstarted,
     /// It is on the stack of a slot, at a height from 1.
     Live(u8, u64),
-    /// It ended with that value.
+    /// It returned a value.
     Done(i64),
     /// It was cancelled before it started.
     Dropped,
@@ -72,7 +72,7 @@ impl Phase {
         matches!(self, Phase::Unstarted | Phase::Live(_, _))
     }
 
-    /// The value of a row that is done, and 0 of another one.
+    /// The value of a row that is done; 0 for any other.
     pub fn value(&self) -> i64
         ensures { result ≡ value_in self.now }
     {
@@ -103,8 +103,8 @@ impl Phase {
     }
 }
 
-/// What a group of a row is remembered by: how many rows there were at its last passed wait, and
-/// whether it was cancelled since.
+/// What a row keeps of one of its groups: how many rows there were at the last wait that passed, and
+/// whether the group was cancelled since.
 #[derive(Clone, Copy, Debug, PartialEq, Eq)]
 pub struct Mark {
     pub rows: u64,

@@ -1,4 +1,4 @@
-// What holds of serial values, and worked examples, as laws.
+// Laws of serial values, and worked examples.
 ghost use Rattle.tenant_model.specs.Serial.{FollowsItsTurn, NeedsInstructions, TakesInstructions};
 ghost use Rattle.tenant_model.specs.SerialWorked.{FibGives8, FibGives8With172, FibGivesNoneWith171, ChainGives7, RegionGives7, ZeroDivisorGivesNone, UnwaitedGivesNone, SpinGivesNone};
 
@@ -15,7 +15,7 @@ pub fn serial_examples()
     ensures spin_gives_none { SpinGivesNone }
 {}
 
-/// By which rule serial values come about. It does nothing: its contract is the law.
+/// The rule that determines serial values. It does nothing: its contract is the law.
 pub fn serial_rule()
     ensures follows_its_turn { FollowsItsTurn }
     ensures needs_instructions { NeedsInstructions }

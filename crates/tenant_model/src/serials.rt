@@ -1,4 +1,4 @@
-// Tasks that run one inside another: each as soon as it is made, and to its end.
+// Serial execution: each task runs as soon as it is made, to its end, inside its maker.
 use job_language::{GROUPS, Group, Register};
 use job_step::Frame;
 
@@ -6,19 +6,19 @@ use job_step::Frame;
 #[derive(Clone, Copy, Debug)]
 pub struct SerialTask {
     pub frame: Frame,
-    /// By group, the wrapping sum of the values since its last wait; `None` where no task was spawned
+    /// By group, the wrapping sum of the values since its last wait; `None` if no task was spawned
     /// since.
     pub sums: [Option<i64>; GROUPS],
 }
 
-/// Where the value of a task goes, in the task that made it.
+/// The place in its maker that receives a task's value.
 #[derive(Clone, Copy, Debug)]
 pub enum ValueTo {
     Group(Group),
     Register(Register),
 }
 
-/// A task that waits at the instruction behind the one that made another task.
+/// A task that made another one, and continues at the next instruction with its value.
 #[derive(Clone, Copy, Debug)]
 pub struct SerialMaker {
     pub task: SerialTask,
@@ -28,11 +28,11 @@ pub struct SerialMaker {
 /// What a task does by one instruction.
 #[derive(Clone, Copy, Debug)]
 pub enum SerialTurn {
-    /// It goes on so.
+    /// It continues in this state.
     Goes(SerialTask),
-    /// It makes that task, and waits for its value.
+    /// It makes a task, and waits for its value.
     Makes(SerialTask, SerialMaker),
-    /// It ends with that value.
+    /// It returns a value.
     Gives(i64),
     /// It ends without a value.
     Fails,

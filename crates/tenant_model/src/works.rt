@@ -1,4 +1,4 @@
-// Jobs, and what is known of them.
+// Jobs: their programs, fuel and outcomes.
 ghost use Rattle.std.specs.Prelude.{◌≡◌};
 ghost use Rattle.tenant_model.specs.Walks.{is_job_cancelled};
 
@@ -15,7 +15,7 @@ pub struct Work {
     pub program: Program,
     /// How much fuel is left.
     pub fuel: u64,
-    /// The number of its root's row.
+    /// The number of its root row.
     pub root: u64,
     /// It was cancelled by request.
     pub cancelled: bool,
