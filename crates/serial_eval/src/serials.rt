@@ -2,6 +2,7 @@
 ghost use Rattle.std.specs.Prelude.{◌≡◌, ◌<◌, true, false, IfOk};
 ghost use Rattle.job_language.specs.Program.{is_last};
 ghost use Rattle.job_language.specs.Serial.{is_serial};
+ghost use Rattle.job_step.specs.declared.frames.TheConstants.{LAST_PLACE};
 ghost use Rattle.job_step.specs.Frame.{effect, instr_at};
 ghost use Rattle.tenant_model.specs.Serial.{begun, is_owing, making, root_task, serial_value, sum_of, turn_at, turn_by, turn_of, waited, with_value_to};
 ghost use Rattle.serial_eval.specs.InsideNest.{Turns};
@@ -11,24 +12,25 @@ use job_step::{Effect, Frame, effect_on};
 use std::alloc::{AllocError, Global};
 use tenant_model::{SerialMaker, SerialTask, SerialTurn, ValueTo};
 
-/// The task at work, and those that wait: each for the next, and the last for the one at work.
+/// The running task and its makers, outermost first: each waits for the next one, the last for the
+/// running task.
 #[derive(Drop)]
 struct Nest {
     makers: Vec<SerialMaker>,
     task: SerialTask,
 }
 
-/// What a turn came to.
+/// The outcome of a turn.
 #[derive(Clone, Copy)]
 enum Turned {
     GoesOn,
-    /// The root ended with that value, or some task without one.
+    /// The root returned a value, or some task ended without one.
     Ends(Option<i64>),
 }
 
-/// The serial value of a program with its two arguments: what its root gives where no more than
-/// `n` instructions are executed, each task as soon as it is made. There is none where more are
-/// needed, at a divisor of 0, and where a task ends that did not wait for a group.
+/// The serial value of a program with its two arguments: the result of its root if each task runs as
+/// soon as it is made. It is `None` if that takes more than `n` instructions, at a divisor of 0, and
+/// if a task ends that did not wait for one of its groups. It fails only if an allocation failed.
 pub fn serial(
     alloc: Global,
     program: &Program,
@@ -51,7 +53,7 @@ pub fn serial(
 }
 
 impl Nest {
-    /// Executes the next instruction. Where a growth was refused the nest is as before.
+    /// Executes the next instruction. If an allocation failed, the nest is unchanged.
     fn turn(&mut self, program: &Program) -> Result<Turned, AllocError>
         ensures { IfOk result (λ turned. Turns program.now self.old turned self.new) }
     {
@@ -71,14 +73,14 @@ impl Nest {
     }
 }
 
-/// The root of a program.
+/// The root of a program with its two arguments.
 fn root_task(args: [i64; 2]) -> SerialTask
     ensures { result ≡ root_task args }
 {
     begun(Frame::new(0, args[0], args[1]))
 }
 
-/// A task that begins.
+/// A task that begins at a frame.
 fn begun(frame: Frame) -> SerialTask
     ensures { result ≡ begun frame }
 {
@@ -88,7 +90,7 @@ fn begun(frame: Frame) -> SerialTask
     }
 }
 
-/// What a task does by its next instruction.
+/// The turn of a task at its next instruction.
 fn turn_at(program: &Program, task: &SerialTask) -> SerialTurn
     ensures { result ≡ turn_at (instr_at program.now task.now.frame) task.now }
 {
@@ -99,7 +101,7 @@ fn turn_at(program: &Program, task: &SerialTask) -> SerialTurn
 }
 
 fn turn_of(instr: &Instr, task: &SerialTask) -> SerialTurn
-    requires { is_last instr.now ≡ false → task.now.frame.place < 255 }
+    requires { is_last instr.now ≡ false → task.now.frame.place < LAST_PLACE }
     ensures { result ≡ turn_of instr.now task.now }
 {
     match *instr {
@@ -118,9 +120,9 @@ fn turn_of(instr: &Instr, task: &SerialTask) -> SerialTurn
     }
 }
 
-/// What a task does by a private instruction. No other is left in a serial program.
+/// The turn of a task at a private instruction. No other is left in a serial program.
 fn turn_alone(instr: &Instr, task: &SerialTask) -> SerialTurn
-    requires { is_last instr.now ≡ false → task.now.frame.place < 255 }
+    requires { is_last instr.now ≡ false → task.now.frame.place < LAST_PLACE }
     ensures { result ≡ turn_by task.now (effect instr.now 0 0 task.now.frame) }
 {
     match effect_on(&task.frame, instr, 0, 0) {
@@ -139,7 +141,7 @@ fn making(
     second: Register,
     to: ValueTo,
 ) -> SerialTurn
-    requires { task.now.frame.place < 255 }
+    requires { task.now.frame.place < LAST_PLACE }
     ensures { result ≡ making task.now procedure first second to }
 {
     let registers = &task.frame.registers;
@@ -155,9 +157,9 @@ fn making(
     SerialTurn::Makes(begun(frame), SerialMaker { task, to })
 }
 
-/// The task behind a wait for a group.
+/// The task after a wait for a group.
 fn waited(task: &SerialTask, total_to: Register, status_to: Register, group: Group) -> SerialTask
-    requires { task.now.frame.place < 255 }
+    requires { task.now.frame.place < LAST_PLACE }
     ensures { result ≡ waited task.now total_to status_to group }
 {
     let mut waited = *task;
@@ -167,7 +169,7 @@ fn waited(task: &SerialTask, total_to: Register, status_to: Register, group: Gro
     waited
 }
 
-/// The maker of a task, with that task's value.
+/// The maker of a task, after that task returned a value.
 fn with_value(maker: SerialTask, to: ValueTo, value: i64) -> SerialTask
     ensures { result ≡ with_value_to to maker value }
 {
@@ -189,7 +191,7 @@ fn sum_of(task: &SerialTask, group: Group) -> i64
     task.sums[group.index()].unwrap_or(0)
 }
 
-/// Was a group given a value since its last wait?
+/// Whether a group was given a value since its last wait.
 fn is_owing(task: &SerialTask) -> bool
     ensures { result ≡ is_owing task.now }
 {

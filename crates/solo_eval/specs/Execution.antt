@@ -11,14 +11,14 @@ use Rattle.tenant_model.specs.State.{State}
 use Rattle.tenant_model.specs.Walks.{top}
 use Rattle.tenant_model.specs.Advance.{run_on}
 
--- does it make a row?
+-- Does the instruction make a row?
 abbrev pub makes_row : Instr → Bool
 makes_row (Spawn g p a b) = true
 makes_row (Post p a b) = true
 makes_row (Isolate d p a b) = true
 makes_row i = false
 
--- a run stops at an instruction that makes a row
+-- The run stops at an instruction that makes a row.
 abbrev pub StopsToMake : Stop → Type 0
 StopsToMake (Shared i) = makes_row i ≡ true
 StopsToMake Yield = ⊥

@@ -2,6 +2,8 @@
 ghost use Rattle.std.specs.Prelude.{◌≡◌, ◌+◌, ◌<◌, ◌≤◌, ◌==◌, ◌&&◌, length, false, true, OnErr, IfOk, IfSome, Some};
 ghost use Rattle.job_language.specs.declared.instructions.Instr.{Instr};
 ghost use Rattle.job_language.specs.Program.{is_last};
+ghost use Rattle.job_language.specs.declared.tenants.TheConstants.{MAX_SLOTS};
+ghost use Rattle.job_step.specs.declared.frames.TheConstants.{LAST_PLACE};
 ghost use Rattle.solo_eval.specs.Execution.{MakesRow, StopsToMake};
 ghost use Rattle.tenant_model.specs.State.{row};
 ghost use Rattle.tenant_model.specs.Walks.{top, pick};
@@ -25,7 +27,7 @@ impl TenantState {
         pick(&self.config().isolation, self.rows(), slot)
     }
 
-    /// Whether a row stands at a wait for pending members.
+    /// Whether a row is at a wait for pending members.
     fn is_blocked(&self, number: u64, instr: &Instr) -> bool
         requires from { 1 ≤ number }
         requires to { number ≤ length self.now.rows }
@@ -42,9 +44,9 @@ impl TenantState {
         requires room { is_full self.old ≡ false }
         requires from { 1 ≤ number }
         requires to { number ≤ length self.old.rows }
-        requires slot { slot < 16 }
+        requires slot { slot < MAX_SLOTS }
         requires next { (i : Instr) → run.now.stop ≡ Stop.Shared i → is_last i ≡ false
-            → run.now.end.place < 255 }
+            → run.now.end.place < LAST_PLACE }
         ensures ok { IfOk result (λ moved. after_run self.old slot number run.now.count run.now.end run.now.stop
             ≡ (moved, self.new)) }
         ensures err { OnErr result (self.new ≡ self.old) }
@@ -55,7 +57,7 @@ impl TenantState {
             Stop::Yield => Ok(self.move_on(slot, number, run)),
             Stop::Fault => {
                 if self.is_poor(number, cost) {
-                    return Ok(self.run_dry(slot, number));
+                    return Ok(self.fault_out_of_fuel(slot, number));
                 }
                 self.pay(number, cost);
                 let job = self.row(number).job;
@@ -71,7 +73,7 @@ impl TenantState {
         }
     }
 
-    /// Moves the frame of the topmost row on by a run.
+    /// Pays for a run of the topmost row, which continues from the run's last frame.
     fn move_on(&mut self, slot: u8, number: u64, run: &Run) -> Moved
         requires room { is_full self.old ≡ false }
         requires from { 1 ≤ number }
@@ -80,14 +82,14 @@ impl TenantState {
     {
         let cost = u64::from(run.count);
         if self.is_poor(number, cost) {
-            return self.run_dry(slot, number);
+            return self.fault_out_of_fuel(slot, number);
         }
         self.pay(number, cost);
         self.set_frame(number, run.end);
         self.finish_step(slot)
     }
 
-    /// Whether a row stands at a wait for pending members and ran nothing before it.
+    /// Whether a row is at a wait for pending members and ran nothing before it.
     fn is_idle_wait(&self, number: u64, run: &Run) -> bool
         requires from { 1 ≤ number }
         requires to { number ≤ length self.now.rows }
@@ -148,7 +150,7 @@ impl TenantState {
     fn advance_row(&mut self, slot: u8, number: u64) -> Result<Moved, AllocError>
         requires from { 1 ≤ number }
         requires to { number ≤ length self.old.rows }
-        requires slot { slot < 16 }
+        requires slot { slot < MAX_SLOTS }
         ensures ok { IfOk result (λ moved. unless_full self.old
             (advance_run self.old slot number (run_on self.old slot number)) ≡ (moved, self.new)) }
         ensures err { OnErr result (self.new ≡ self.old) }
@@ -166,7 +168,7 @@ impl TenantState {
         self.record(slot, number, &run)
     }
 
-    /// Advances a slot. A growth that is refused leaves everything as it was.
+    /// Advances a slot. If an allocation failed, nothing has changed.
     pub(crate) fn advance(&mut self, slot: u8) -> Result<Moved, AllocError>
         ensures ok { IfOk result (λ moved. advance self.old slot ≡ (moved, self.new)) }
         ensures err { OnErr result (self.new ≡ self.old) }

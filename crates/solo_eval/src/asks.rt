@@ -14,7 +14,7 @@ use std::alloc::AllocError;
 use tenant_model::{MAX_JOBS, Phase, Work};
 
 impl TenantState {
-    /// Answers an ask. A growth that is refused leaves everything as it was.
+    /// Answers an ask. If an allocation failed, nothing has changed.
     pub(crate) fn ask(&mut self, request: Request) -> Result<Reply, AllocError>
         ensures ok { IfOk result (λ reply. ask self.old request ≡ (reply, self.new)) }
         ensures err { OnErr result (self.new ≡ self.old) }
@@ -54,7 +54,7 @@ impl TenantState {
         Ok(Reply::Made(number))
     }
 
-    /// Makes a job, and places its root on a free reserved slot where there is one.
+    /// Makes a job, and places its root on a free reserved slot if there is one.
     fn submit_placed(&mut self, job: Job) -> Result<Reply, AllocError>
         requires { is_full self.old ≡ false }
         ensures ok { IfOk result (λ reply. unless_limit self.old (submit_placed self.old job (free_slot self.old))

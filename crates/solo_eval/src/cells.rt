@@ -1,15 +1,16 @@
 // The cells of a tenant, by key and by slot.
 ghost use Rattle.std.specs.Prelude.{◌≡◌, ◌<◌, ◌≤◌, fold, unwrap_or, pos, length, count_by, is_some};
 ghost use Rattle.std.specs.Int.{int_wrapping_add, w64};
+ghost use Rattle.job_language.specs.declared.tenants.TheConstants.{MAX_SLOTS};
 ghost use Rattle.tenant_model.specs.Cells.{no_cells, cell, with_cell, cell_sum, cell_count};
 
-use job_language::{KEYS, Key};
+use job_language::{KEYS, Key, MAX_SLOTS};
 use std::marker::Model;
 
-/// A cell for each key on each slot, where a row has made it.
+/// At most one cell for each key on each slot, made by the first row that uses it.
 #[derive(Clone, Copy)]
 pub(crate) struct Cells {
-    table: [[Option<i64>; 16]; KEYS],
+    table: [[Option<i64>; MAX_SLOTS as usize]; KEYS],
 }
 
 impl Model for Cells {
@@ -27,13 +28,13 @@ impl Cells {
     pub(crate) fn new() -> Cells
         ensures { result ≡ no_cells }
     {
-        let table = [[None; 16]; KEYS];
+        let table = [[None; MAX_SLOTS as usize]; KEYS];
         Cells { table }
     }
 
     /// The cell of a key on a slot.
     pub(crate) fn get(&self, key: Key, slot: u8) -> Option<i64>
-        requires { slot < 16 }
+        requires { slot < MAX_SLOTS }
         ensures { result ≡ cell self.now key slot }
     {
         self.table[key.index()][usize::from(slot)]
@@ -41,7 +42,7 @@ impl Cells {
 
     /// Sets the cell of a key on a slot.
     pub(crate) fn set(&mut self, key: Key, slot: u8, value: i64)
-        requires { slot < 16 }
+        requires { slot < MAX_SLOTS }
         ensures { self.new ≡ with_cell self.old key slot value }
     {
         self.table[key.index()][usize::from(slot)] = Some(value);
@@ -58,7 +59,7 @@ impl Cells {
     /// The number of a key's cells.
     pub(crate) fn count(&self, key: Key) -> u64
         ensures value { result ≡ cell_count self.now key }
-        ensures few { result ≤ 16 }
+        ensures few { result ≤ MAX_SLOTS }
     {
         let cells = &self.table[key.index()];
         count_of(cells)

@@ -1,6 +1,7 @@
 // Rows by their numbers, and their chains of makers.
 ghost use Rattle.std.specs.Prelude.{◌≡◌, ◌<◌, ◌≤◌, length, find, Some, IfSome};
 ghost use Rattle.std.specs.List.{list_any};
+ghost use Rattle.job_language.specs.declared.instructions.TheConstants.{GROUPS};
 ghost use Rattle.tenant_model.specs.State.{row};
 ghost use Rattle.tenant_model.specs.Walks.{maker_of, is_region, is_within, region_of, is_group_cancelled, mark, chain};
 ghost use Rattle.tenant_model.specs.Linked.{MakersPrecede};
@@ -57,11 +58,11 @@ pub(crate) fn is_within(rows: &[Row], number: u64, region: u64) -> bool
     }
 }
 
-/// What a group of a row is remembered by.
+/// The mark that a row keeps of one of its groups.
 pub(crate) fn mark(rows: &[Row], number: u64, group: usize) -> Mark
     requires from { 1 ≤ number }
     requires to { number ≤ length rows.now }
-    requires group { group < 4 }
+    requires group { group < GROUPS }
     ensures { result ≡ mark rows.now number group }
 {
     row(rows, number).marks[group]

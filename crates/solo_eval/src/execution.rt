@@ -1,6 +1,8 @@
-// Executing what a private run of the topmost row of a slot stops at.
+// The shared instruction that a private run of a slot's topmost row stops at.
 ghost use Rattle.std.specs.Prelude.{◌≡◌, ◌+◌, ◌<◌, ◌≤◌, length, false, true, OnErr, IfOk, IfSome, Some, if◌then◌else◌};
 ghost use Rattle.job_language.specs.Program.{is_last};
+ghost use Rattle.job_language.specs.declared.tenants.TheConstants.{MAX_SLOTS};
+ghost use Rattle.job_step.specs.declared.frames.TheConstants.{LAST_PLACE};
 ghost use Rattle.solo_eval.specs.Execution.{makes_row};
 ghost use Rattle.tenant_model.specs.State.{row};
 ghost use Rattle.tenant_model.specs.Walks.{maker_of};
@@ -25,7 +27,7 @@ struct NewRow {
 }
 
 impl TenantState {
-    /// Makes a row, and moves the frame of its maker on, where one more row may be open.
+    /// Makes a row, and moves its maker to its next frame, if one more row may be open.
     fn make(
         &mut self,
         slot: u8,
@@ -44,7 +46,7 @@ impl TenantState {
         ensures err { OnErr result (self.new ≡ self.old) }
     {
         if self.is_poor(number, cost) {
-            return Ok(self.run_dry(slot, number));
+            return Ok(self.fault_out_of_fuel(slot, number));
         }
         let job = self.row(number).job;
         if self.is_row_limit_met() {
@@ -57,7 +59,7 @@ impl TenantState {
         Ok(self.finish_step(slot))
     }
 
-    /// Executes a shared instruction of the topmost row, whose frame stands at it, for a cost.
+    /// Executes a shared instruction of the topmost row, whose frame is at it, for a cost.
     pub(crate) fn execute(
         &mut self,
         slot: u8,
@@ -69,8 +71,8 @@ impl TenantState {
         requires room { is_full self.old ≡ false }
         requires from { 1 ≤ number }
         requires to { number ≤ length self.old.rows }
-        requires slot { slot < 16 }
-        requires place { is_last instr.now ≡ false → frame.place < 255 }
+        requires slot { slot < MAX_SLOTS }
+        requires place { is_last instr.now ≡ false → frame.place < LAST_PLACE }
         ensures ok { IfOk result (λ moved. pay self.old slot number cost (λ t. execute t slot number frame instr.now) ≡ (moved, self.new)) }
         ensures err { OnErr result (self.new ≡ self.old) }
         ensures makes { OnErr result (makes_row instr.now ≡ true) }
@@ -100,7 +102,7 @@ impl TenantState {
             }
             _ => {
                 if self.is_poor(number, cost) {
-                    return Ok(self.run_dry(slot, number));
+                    return Ok(self.fault_out_of_fuel(slot, number));
                 }
                 self.pay(number, cost);
                 Ok(self.execute_in_place(slot, number, frame, instr))
@@ -126,7 +128,7 @@ impl TenantState {
         let height = height(self.rows(), slot);
         if height == MAX_HEIGHT {
             if self.is_poor(number, cost) {
-                return Ok(self.run_dry(slot, number));
+                return Ok(self.fault_out_of_fuel(slot, number));
             }
             self.pay(number, cost);
             let job = self.row(number).job;

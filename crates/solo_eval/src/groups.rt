@@ -1,5 +1,6 @@
 // Task groups: the members of a group of a row.
 ghost use Rattle.std.specs.Prelude.{◌≡◌, ◌<◌, ◌≤◌, ◌&&◌, nat_lt, length};
+ghost use Rattle.job_language.specs.declared.instructions.TheConstants.{GROUPS};
 ghost use Rattle.tenant_model.specs.Walks.{is_spawned_by, is_pending, total, is_used};
 
 use crate::chains::mark;
@@ -9,7 +10,7 @@ use tenant_model::{Kind, Phase, Row};
 pub(crate) fn is_pending(rows: &[Row], maker: u64, group: usize) -> bool
     requires from { 1 ≤ maker }
     requires to { maker ≤ length rows.now }
-    requires group { group < 4 }
+    requires group { group < GROUPS }
     ensures { result ≡ is_pending rows.now maker group }
 {
     let since = mark(rows, maker, group).rows;
@@ -25,7 +26,7 @@ pub(crate) fn is_pending(rows: &[Row], maker: u64, group: usize) -> bool
 pub(crate) fn total(rows: &[Row], maker: u64, group: usize) -> i64
     requires from { 1 ≤ maker }
     requires to { maker ≤ length rows.now }
-    requires group { group < 4 }
+    requires group { group < GROUPS }
     ensures { result ≡ total rows.now maker group }
 {
     let since = mark(rows, maker, group).rows;
@@ -42,7 +43,7 @@ pub(crate) fn total(rows: &[Row], maker: u64, group: usize) -> i64
 pub(crate) fn is_used(rows: &[Row], maker: u64, group: usize) -> bool
     requires from { 1 ≤ maker }
     requires to { maker ≤ length rows.now }
-    requires group { group < 4 }
+    requires group { group < GROUPS }
     ensures { result ≡ is_used rows.now maker group }
 {
     let since = mark(rows, maker, group).rows;
@@ -54,7 +55,7 @@ pub(crate) fn is_used(rows: &[Row], maker: u64, group: usize) -> bool
     false
 }
 
-/// Whether a row was spawned into the group after so many rows.
+/// Whether a row was spawned into the group after the first `since` rows.
 fn is_member(row: &Row, number: u64, maker: u64, group: usize, since: u64) -> bool
     ensures { result ≡ (is_spawned_by maker group row.now.kind && nat_lt since number) }
 {

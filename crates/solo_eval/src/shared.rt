@@ -1,6 +1,8 @@
 // Shared instructions of the topmost row of a slot.
 ghost use Rattle.std.specs.Prelude.{◌≡◌, ◌<◌, ◌≤◌, length, false, true, OnOk, OnErr, IfOk, IfSome, Some};
 ghost use Rattle.job_language.specs.Program.{is_last};
+ghost use Rattle.job_language.specs.declared.tenants.TheConstants.{MAX_SLOTS};
+ghost use Rattle.job_step.specs.declared.frames.TheConstants.{LAST_PLACE};
 ghost use Rattle.solo_eval.specs.Execution.{makes_row};
 ghost use Rattle.tenant_model.specs.State.{row};
 ghost use Rattle.tenant_model.specs.Walks.{height, is_context_cancelled, maker_of};
@@ -17,7 +19,7 @@ use std::alloc::AllocError;
 use tenant_model::{Kind, MAX_HEIGHT, Mark, Phase, Row};
 
 impl TenantState {
-    /// Whether the fuel of a row's job does not suffice.
+    /// Whether a row's job lacks the fuel for a cost.
     pub(crate) fn is_poor(&self, number: u64, cost: u64) -> bool
         requires from { 1 ≤ number }
         requires to { number ≤ length self.now.rows }
@@ -30,7 +32,7 @@ impl TenantState {
     pub(crate) fn pay(&mut self, number: u64, cost: u64)
         requires from { 1 ≤ number }
         requires to { number ≤ length self.old.rows }
-        requires rich { is_poor self.old number cost ≡ false }
+        requires fuel { is_poor self.old number cost ≡ false }
         ensures { self.new ≡ with_fuel_paid self.old number cost }
     {
         let fuel = self.job_of(number).fuel - cost;
@@ -38,8 +40,8 @@ impl TenantState {
         self.set_fuel(job, fuel);
     }
 
-    /// What a row's job meets whose fuel does not suffice.
-    pub(crate) fn run_dry(&mut self, slot: u8, number: u64) -> Moved
+    /// Ends the slot's task with the fault `Fuel`, and leaves the row's job no fuel.
+    pub(crate) fn fault_out_of_fuel(&mut self, slot: u8, number: u64) -> Moved
         requires room { is_full self.old ≡ false }
         requires from { 1 ≤ number }
         requires to { number ≤ length self.old.rows }
@@ -50,7 +52,7 @@ impl TenantState {
         self.fault(slot, job, JobFault::Fuel)
     }
 
-    /// What the members of a group learn of a cancel.
+    /// The status that a wait stores: 2 if the group was cancelled, directly or from above; else 1.
     fn group_status(&self, number: u64, group: Group) -> i64
         requires from { 1 ≤ number }
         requires to { number ≤ length self.now.rows }
@@ -75,7 +77,7 @@ impl TenantState {
         requires room { is_full self.old ≡ false }
         requires from { 1 ≤ number }
         requires to { number ≤ length self.old.rows }
-        requires place { frame.place < 255 }
+        requires place { frame.place < LAST_PLACE }
         ensures { shared.wait self.old slot number frame total_to status_to group ≡ (result, self.new) }
     {
         let mut waited = frame;
@@ -95,7 +97,7 @@ impl TenantState {
         requires room { is_full self.old ≡ false }
         requires from { 1 ≤ number }
         requires to { number ≤ length self.old.rows }
-        requires place { frame.place < 255 }
+        requires place { frame.place < LAST_PLACE }
         ensures { shared.cancel self.old slot number frame group ≡ (result, self.new) }
     {
         let mark = self.row(number).marks[group.index()];
@@ -108,11 +110,18 @@ impl TenantState {
     }
 
     /// Writes a register of the topmost row.
-    fn learn(&mut self, slot: u8, number: u64, frame: Frame, to: Register, value: i64) -> Moved
+    fn write_register(
+        &mut self,
+        slot: u8,
+        number: u64,
+        frame: Frame,
+        to: Register,
+        value: i64,
+    ) -> Moved
         requires room { is_full self.old ≡ false }
         requires from { 1 ≤ number }
         requires to { number ≤ length self.old.rows }
-        requires place { frame.place < 255 }
+        requires place { frame.place < LAST_PLACE }
         ensures { shared.write_register self.old slot number frame to value ≡ (result, self.new) }
     {
         self.set_frame(number, frame.write_and_step(to, value));
@@ -123,8 +132,8 @@ impl TenantState {
         requires room { is_full self.old ≡ false }
         requires from { 1 ≤ number }
         requires to { number ≤ length self.old.rows }
-        requires place { frame.place < 255 }
-        requires slot { slot < 16 }
+        requires place { frame.place < LAST_PLACE }
+        requires slot { slot < MAX_SLOTS }
         ensures { shared.load self.old slot number frame to key ≡ (result, self.new) }
     {
         let value = self.cells().get(key, slot).unwrap_or(0);
@@ -137,8 +146,8 @@ impl TenantState {
         requires room { is_full self.old ≡ false }
         requires from { 1 ≤ number }
         requires to { number ≤ length self.old.rows }
-        requires place { frame.place < 255 }
-        requires slot { slot < 16 }
+        requires place { frame.place < LAST_PLACE }
+        requires slot { slot < MAX_SLOTS }
         ensures { shared.store self.old slot number frame key from ≡ (result, self.new) }
     {
         self.set_frame(number, frame.next());
@@ -157,7 +166,7 @@ impl TenantState {
             || is_used(self.rows(), number, 3)
     }
 
-    /// Hands the value of a region to its maker, which goes on.
+    /// Hands the value of a region to its maker, which continues.
     fn hand_back(&mut self, kind: &Kind, value: i64)
         requires { IfSome (maker_of kind.now) (λ m. (1 ≤ m) × (m ≤ length self.old.rows)) }
         ensures { self.new ≡ hand_back self.old kind.now value }
@@ -199,8 +208,8 @@ impl TenantState {
         requires room { is_full self.old ≡ false }
         requires from { 1 ≤ number }
         requires to { number ≤ length self.old.rows }
-        requires slot { slot < 16 }
-        requires place { is_last instr.now ≡ false → frame.place < 255 }
+        requires slot { slot < MAX_SLOTS }
+        requires place { is_last instr.now ≡ false → frame.place < LAST_PLACE }
         requires makes_none { makes_row instr.now ≡ false }
         ensures { shared.execute self.old slot number frame instr.now ≡ (result, self.new) }
     {
@@ -211,17 +220,17 @@ impl TenantState {
             Instr::Cancel(group) => self.cancel(slot, number, frame, group),
             Instr::Ask(to) => {
                 let is_cancelled = self.is_context_cancelled(number);
-                self.learn(slot, number, frame, to, i64::from(is_cancelled))
+                self.write_register(slot, number, frame, to, i64::from(is_cancelled))
             }
             Instr::Load(to, key) => self.load(slot, number, frame, to, key),
             Instr::Store(key, from) => self.store(slot, number, frame, key, from),
             Instr::Sum(to, key) => {
                 let sum = self.cells().sum(key);
-                self.learn(slot, number, frame, to, sum)
+                self.write_register(slot, number, frame, to, sum)
             }
             Instr::Count(to, key) => {
                 let count = self.cells().count(key);
-                self.learn(slot, number, frame, to, count as i64)
+                self.write_register(slot, number, frame, to, count as i64)
             }
             Instr::Ret(from) => self.ret(slot, number, frame, from),
             _ => {
@@ -232,9 +241,9 @@ impl TenantState {
     }
 }
 
-/// The frame that stands at an isolate, with the value of its region.
+/// The frame of a maker after its isolate, with the value of the region.
 fn handed_frame(instr: &Instr, frame: Frame, value: i64) -> Frame
-    requires { is_last instr.now ≡ false → frame.place < 255 }
+    requires { is_last instr.now ≡ false → frame.place < LAST_PLACE }
     ensures { result ≡ handed_frame (Some instr.now) value frame }
 {
     match *instr {

@@ -88,8 +88,8 @@ fn region_on(rows: &[Row], slot: u8) -> Option<u64>
     region_of(rows, top(rows, slot)?)
 }
 
-/// The newest row that the slot may take and that was made on it; where there is none, the oldest
-/// one that it may take.
+/// The newest row that the slot may take and that was made on it; if there is none, the oldest one
+/// that it may take.
 pub(crate) fn pick(isolation: &Isolation, rows: &[Row], slot: u8) -> Option<u64>
     requires { MakersPrecede rows.now }
     ensures value { result ≡ pick_of isolation.now rows.now slot }
@@ -110,7 +110,7 @@ pub(crate) fn pick(isolation: &Isolation, rows: &[Row], slot: u8) -> Option<u64>
     newest.or(oldest)
 }
 
-/// The height of a row that is on the slot and no region, and else 0.
+/// The height of a row on the slot if it is not a region; else 0.
 fn task_height_of(row: &Row, slot: u8) -> u64
     ensures { result ≡ task_height_of slot row.now }
 {
@@ -120,7 +120,7 @@ fn task_height_of(row: &Row, slot: u8) -> u64
     }
 }
 
-/// The height of the highest row on a slot that is no region, or 0.
+/// The height of the highest row on a slot that is not a region, or 0.
 pub(crate) fn task_height(rows: &[Row], slot: u8) -> u64
     ensures { result ≡ task_height rows.now slot }
 {

@@ -1,5 +1,6 @@
 // The state of a tenant as the evaluator holds it, and how a step ends.
 ghost use Rattle.std.specs.Prelude.{◌≡◌, ◌<◌, ◌≤◌, length};
+ghost use Rattle.job_language.specs.declared.tenants.TheConstants.{MAX_SLOTS};
 
 mod jobs;
 mod rows;
@@ -56,7 +57,7 @@ impl TenantState {
         }
     }
 
-    /// What the tenant is given.
+    /// The limits that the tenant was given.
     pub(crate) fn config(&self) -> &Tenant
         ensures value { result.now ≡ self.now.config }
         ensures valid { IsValidTenant self.now.config }
@@ -73,7 +74,7 @@ impl TenantState {
         self.settle();
     }
 
-    /// Counts an entry after a step that ran. A reserved slot is freed where nothing is left on it.
+    /// Counts an entry after a step that ran. A reserved slot is freed if nothing is left on it.
     pub(crate) fn finish_step(&mut self, slot: u8) -> Moved
         requires { is_full self.old ≡ false }
         ensures { finish_step slot self.old ≡ (result, self.new) }
@@ -83,8 +84,8 @@ impl TenantState {
         if freed { Moved::Freed } else { Moved::Ran }
     }
 
-    /// Ends the topmost row of a slot and those below it, down to and with the first that is no
-    /// region, for a fault of a job.
+    /// Ends the topmost row of a slot and those below it, down to and including the first that is not
+    /// a region, for a fault of a job.
     pub(crate) fn fault(&mut self, slot: u8, job: u64, fault: JobFault) -> Moved
         requires room { is_full self.old ≡ false }
         requires from { 1 ≤ job }
@@ -97,7 +98,7 @@ impl TenantState {
         self.finish_step(slot)
     }
 
-    /// The cells.
+    /// A copy of all cells.
     pub(crate) fn cells(&self) -> Cells
         ensures { result ≡ self.now.cells }
     {
@@ -106,13 +107,13 @@ impl TenantState {
 
     /// Sets the cell of a key on a slot.
     pub(crate) fn set_cell(&mut self, key: Key, slot: u8, value: i64)
-        requires { slot < 16 }
+        requires { slot < MAX_SLOTS }
         ensures { self.new ≡ with_cells self.old (with_cell self.old.cells key slot value) }
     {
         self.cells.set(key, slot, value);
     }
 
-    /// Whether no step may be an entry any more.
+    /// Whether the history has no room for another entry.
     pub(crate) fn is_full(&self) -> bool
         ensures { result ≡ is_full self.now }
     {

@@ -129,7 +129,7 @@ impl TenantState {
         self.jobs[job as usize - 1].cancelled = true;
     }
 
-    /// Retires all jobs, empties the cells and counts an entry. It gives the epoch that begins.
+    /// Retires all jobs, empties the cells and counts an entry. It returns the epoch that begins.
     pub(crate) fn retire_all(&mut self) -> u64
         requires { is_full self.old ≡ false }
         ensures epoch { result ≡ self.old.epoch + 1 }

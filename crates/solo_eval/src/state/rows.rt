@@ -36,7 +36,7 @@ impl TenantState {
         *row(self.rows.as_slice(), number)
     }
 
-    /// Puts another row in the place of one, with the same maker and job.
+    /// Replaces a row by one with the same maker and job.
     fn set_row(&mut self, number: u64, changed: Row)
         requires from { 1 ≤ number }
         requires to { number ≤ length self.old.rows }
@@ -47,7 +47,7 @@ impl TenantState {
         self.rows[number as usize - 1] = changed;
     }
 
-    /// Adds a row.
+    /// Adds a row with the next number. If an allocation failed, nothing has changed.
     pub(crate) fn add_row(
         &mut self,
         kind: Kind,
@@ -76,7 +76,7 @@ impl TenantState {
         Ok(())
     }
 
-    /// Moves the frame of a row on.
+    /// Sets the frame of a row.
     pub(crate) fn set_frame(&mut self, number: u64, frame: Frame)
         requires from { 1 ≤ number }
         requires to { number ≤ length self.old.rows }
@@ -98,7 +98,7 @@ impl TenantState {
         self.set_row(number, Row { phase, ..row });
     }
 
-    /// Puts another mark and another frame into a row.
+    /// Sets a mark and the frame of a row.
     pub(crate) fn set_mark(&mut self, number: u64, group: Group, mark: Mark, frame: Frame)
         requires from { 1 ≤ number }
         requires to { number ≤ length self.old.rows }
@@ -153,7 +153,7 @@ impl TenantState {
         self.job_of(number).is_cancelled() || has_cancelled_group(self.rows(), number)
     }
 
-    /// Drops a row that is not started where its context is cancelled.
+    /// Drops a row that has not started, if its context is cancelled.
     fn settle_row(&mut self, number: u64)
         requires from { 1 ≤ number }
         requires to { number ≤ length self.old.rows }
@@ -171,7 +171,7 @@ impl TenantState {
         }
     }
 
-    /// Drops the rows that are not started and whose context is cancelled.
+    /// Drops the rows that have not started and whose context is cancelled.
     pub(crate) fn settle(&mut self)
         ensures { self.new ≡ settle self.old }
     {
