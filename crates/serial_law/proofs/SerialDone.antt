@@ -23,7 +23,7 @@ fold_to-one : {A : Type 0} (f : ℕ → A → A) (z y : A) (n most : ℕ) → 1 
 fold_to-one f z y zero most from to others here = absurd (omega (arith, from))
 fold_to-one f z y (suc n) most from to others here = fold_to-rest f z (suc n) most to (λ k x after le. others k x (omega (arith, after)) le (omega (arith, after))) ∙ here (fold_to f z n)
 
--- Row n ended with v. Where it is a region, its maker goes on with v.
+-- Row n ended with v. If it is a region, its maker continues with v.
 pub record HasEnded (procs : List (List Instr)) (j n : ℕ) (a b : List Row) (v : ℤ) : Type 0 where
   pub from : 1 ≤ n
   pub to : n ≤ length a
@@ -87,7 +87,7 @@ module _ (procs : List (List Instr)) (start : SerialTask) (j root n : ℕ) (a b 
         rw (free-none j p b values free, waits, ended.handed_frame p from to maker, sum 0, sum 1, sum 2, sum 3, ended.marks p from to apart) refl
   ]
 
-  -- The row ended after so many instructions, by one more.
+  -- The row ended by one instruction more than its run has.
   pub Leads-ended : (x : ℕ) (f : Frame) (count spent : ℕ) → 1 ≤ root → root ≤ length a → GoesBack procs (row a n).frame f count → instr_at procs f ≡ Some (Ret x) → register f x ≡ v → HasChildren j n a →
       is_used a n 0 ≡ false → is_used a n 1 ≡ false → is_used a n 2 ≡ false → is_used a n 3 ≡ false → Leads procs start j root a spent → Leads procs start j root b (spent + (count + 1))
   Leads-ended x f count spent least most goes_back at gives children used0 used1 used2 used3 leads = record {

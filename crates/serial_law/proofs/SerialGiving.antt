@@ -25,7 +25,7 @@ use Rattle.tenant_model.specs.Serial.{Given, given_then, given_by, given_of, tur
 use Rattle.tenant_model.proofs.Running.{run_ends_at}
 use Rattle.tenant_model.proofs.SerialRule.{given_of-suc}
 
--- A task gives v by so many instructions, however many more are left.
+-- A task returns v after these instructions, however many more are left.
 pub record Gives (procs : List (List Instr)) (t : SerialTask) (v : ℤ) (count : ℕ) : Type 0 where
   pub gives : (more : ℕ) → given_of procs (count + more) t ≡ Some (v, more)
 
@@ -38,7 +38,7 @@ module _ (procs : List (List Instr)) (t : SerialTask) where
         ap (λ k. given_of procs k t) e ∙ given_of-suc procs (c + more) t ∙ ap (given_by (given_of procs) (c + more)) goes ∙ after.gives more;
   }
 
-  -- a task that makes another one, and goes on with its value
+  -- a task that makes another one, and continues with its value
   pub gives_makes : (u : SerialTask) (m : SerialMaker) (w v : ℤ) (c d : ℕ) → turn_at (instr_at procs t.frame) t ≡ turn.Makes u m → Gives procs u w c → Gives procs (with_value m w) v d → Gives procs t v (c + d + 1)
   gives_makes u m w v c d makes first second = record {
     gives = λ more.
@@ -111,7 +111,7 @@ is_fault stop = false
 abbrev pub task : Frame → List (Option ℤ) → SerialTask
 task f sums = record { frame = f; sums = sums }
 
--- what stands at g gives v, stands at f and gives v by so many instructions more
+-- A frame from which a run leads to g returns v, if g does.
 abbrev pub GoesBack : List (List Instr) → (f g : Frame) (n : ℕ) → Type 0
 GoesBack procs f g n = (sums : List (Option ℤ)) (v : ℤ) (d : ℕ) → Gives procs (task g sums) v d → Gives procs (task f sums) v (d + n)
 

@@ -118,7 +118,7 @@ module _ (procs : List (List Instr)) (start : SerialTask) (j root n : ℕ) (a b 
   worth : (values : Values) → value_by r.phase (values new) ≡ values new
   worth values = rw made.opens refl
 
-  -- Row n made the row after so many instructions, by one more.
+  -- Row n made the row by one instruction more than its run has.
   Leads-made : (spent count : ℕ) → 1 ≤ root → root ≤ length a →
       ((values : Values) (d e : ℕ) → Gives procs (begun r.frame) (values new) d → Gives procs (now procs j b values n) (values n) e → Gives procs (task (row a n).frame (sums_of j a values n)) (values n) (d + e + 1 + count)) →
       Leads procs start j root a spent → Leads procs start j root b (spent + (count + 1))

@@ -127,7 +127,7 @@ module _ (j n : ℕ) (a b : List Row) (moved : IsMoved n a b) where
       omega (arith, all, after, before)
 
 module _ (procs : List (List Instr)) (start : SerialTask) (j root n : ℕ) (a b : List Row) (moved : IsMoved n a b) (own : (row a n).job ≡ j) (opened : is_open (row a n).phase ≡ true) where
-  -- Row n did what gives the same by so many instructions more.
+  -- What row n did leaves its result unchanged, and takes `more` instructions.
   pub Leads-moved : (spent more : ℕ) (extra : Counts → ℕ) → 1 ≤ root → root ≤ length a →
       ((costs : Counts) → spent + more + cost_for j b costs ≡ spent + cost_for j a (put n (costs n + extra costs) costs)) →
       ((values : Values) (costs : Counts) → AreGiven procs j b values costs → Gives procs (now procs j a values n) (values n) (costs n + extra costs)) →
