@@ -6,7 +6,7 @@ use serial_eval::serial;
 use solo_eval::Solo;
 use std::alloc::{AllocError, Global};
 
-/// What a reply tells of a job.
+/// What a reply reports of a job.
 fn status_of(reply: &Reply) -> Option<Status> {
     match reply {
         Reply::Job(_, status) => Some(*status),
@@ -14,7 +14,7 @@ fn status_of(reply: &Reply) -> Option<Status> {
     }
 }
 
-/// The outcome that the last of the steps tells, each taken again by the evaluator that refused it.
+/// The outcome that the last step reports, if each step that fails is taken again on the same evaluator.
 pub(crate) fn stepped(alloc: Global) -> Option<Status> {
     let mut solo = Solo::new(alloc, tenant(alloc)?);
     let mut last = None;
@@ -31,7 +31,7 @@ pub(crate) fn stepped(alloc: Global) -> Option<Status> {
     last
 }
 
-/// The outcome that the last of the steps tells, where all are run at once.
+/// The outcome that the last step reports, if all are run at once.
 pub(crate) fn run_whole(alloc: Global) -> Option<Status> {
     match answers(alloc, &steps(alloc)?)?.last()? {
         Answer::Replied(reply) => status_of(reply),

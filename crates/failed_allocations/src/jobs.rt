@@ -1,4 +1,4 @@
-// The tenant, its job and its steps, read once more where memory was refused.
+// The tenant, its job and its steps; a reading is repeated if an allocation failed.
 use job_language::{Job, Request, Step, TenantConfig, read_job, read_tenant};
 use serde_json::Value;
 use std::alloc::Global;

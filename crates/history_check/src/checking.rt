@@ -13,9 +13,9 @@ use std::alloc::{AllocError, Global};
 /// Whether a history is one of its tenant.
 #[derive(Clone, Copy, Debug, PartialEq, Eq)]
 pub enum Verdict {
-    /// Each entry is answered as the history says.
+    /// The tenant answers each entry as the history does.
     Yes,
-    /// The entry of that number, from 1, is the first that is not.
+    /// The first entry, numbered from 1, that it answers differently or that is not recorded.
     No(u64),
 }
 
@@ -25,7 +25,7 @@ pub enum Verdict {
 pub fn check(alloc: Global, config: TenantConfig, entries: &[Entry]) -> Result<Verdict, AllocError>
     ensures verdict { IfOk result (λ verdict. verdict ≡ verdict_of config entries.now) }
 
-    // The answers of a history that passes are those that its tenant gives to its steps.
+    // The answers in a history that passes are those of its tenant to its steps.
     ensures yes { result ≡ Ok Verdict.Yes → answers (empty config) (map (λ e. e.step) entries.now) ≡ map (λ e. e.answer) entries.now }
     ensures takes { OnErr result (SomeTakesMemory (empty config) entries.now) }
     ensures no { (k : ℕ) → result ≡ Ok (Verdict.No k) → (1 ≤ k) × (k ≤ length entries.now) }

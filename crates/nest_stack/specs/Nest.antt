@@ -29,6 +29,6 @@ below nested height = take (height - 1) nested
 abbrev pub with_top_frame : List Nested → Frame → List Nested
 with_top_frame nested frame = option_map_or (λ t. slice_set nested (length nested - 1) (record t { frame = frame })) (top nested) nested
 
--- the height of the highest row that is no region, and 0 where there is none
+-- the height of the highest row that is not a region, or 0 if there is none
 abbrev pub task_height : List Nested → ℕ
 task_height nested = fold (λ height (p : ℕ × Nested). if p.1.is_region then height else p.0) 0 (enumerate_from 1 nested)

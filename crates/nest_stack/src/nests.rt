@@ -86,7 +86,7 @@ impl Nests {
         self.stacks[slot].pop()
     }
 
-    /// The height of a slot's highest row that is no region, and 0 where there is none. The rows
+    /// The height of a slot's highest row that is not a region, or 0 if there is none. The rows
     /// from there to the top are those that `pop_task` takes.
     pub fn task_height(&self, slot: usize) -> usize
         requires { slot < length self.now }
@@ -95,7 +95,7 @@ impl Nests {
         self.stacks[slot].task_height()
     }
 
-    /// Takes a slot's highest row that is no region, and the regions above it.
+    /// Takes a slot's highest row that is not a region, and the regions above it.
     pub fn pop_task(&mut self, slot: usize)
         requires { slot < length self.old }
         ensures { self.new ≡ with_stack self.old slot (below (stack self.old slot) (task_height (stack self.old slot))) }

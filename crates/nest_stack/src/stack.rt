@@ -15,7 +15,7 @@ const _: () = prove!(MAX_HEIGHT == 128);
 /// A row on the stack of a slot.
 #[derive(Clone, Copy, Debug, PartialEq, Eq)]
 pub struct Nested {
-    /// Where the work of the row stands.
+    /// Where the row is in its program.
     pub frame: Frame,
     pub row: RowId,
     pub is_region: bool,
@@ -111,7 +111,7 @@ impl Stack {
         self.rows.truncate(height.saturating_sub(1));
     }
 
-    /// The height of the highest row that is no region, and 0 where there is none.
+    /// The height of the highest row that is not a region, or 0 if there is none.
     pub(crate) fn task_height(&self) -> usize
         ensures { result ≡ task_height self.now }
     {

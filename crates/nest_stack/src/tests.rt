@@ -7,7 +7,7 @@ use region_tag::RowId;
 use std::alloc::{AllocError, Global};
 use std::test::Fail;
 
-/// Stacks for two slots. Where memory is refused they are made once more.
+/// Stacks for two slots. If an allocation failed they are made once more.
 fn two_slots(alloc: Global) -> Result<Nests, AllocError>
     ensures { IfOk result (λ nests. nests ≡ replicate 2 []) }
 {

@@ -36,7 +36,7 @@ pub(crate) fn requests_of(alloc: Global, count: usize) -> Result<String, AllocEr
     Ok(text)
 }
 
-/// How many requests the lines of a text spell, where they come in blocks of so many bytes.
+/// The number of requests in the lines of a text that arrives in blocks of `block` bytes.
 pub(crate) fn requests_in(alloc: Global, text: &str, block: usize) -> Result<u64, AllocError> {
     let mut lines = LineReader::new(alloc, MAX_REQUEST)?;
     let mut reader = Blocks {

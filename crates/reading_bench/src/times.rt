@@ -6,8 +6,8 @@ use std::time::CpuClock;
 /// How often each reading is done; the fastest counts.
 const ROUNDS: usize = 5;
 
-/// Prints how many bytes a microsecond are read as requests, in blocks of so many bytes, and as
-/// JSON values alone, and how much longer the first takes.
+/// Prints how many bytes a microsecond are read as requests, in blocks of `block` bytes, and as JSON
+/// values alone, and how much longer the first takes.
 pub(crate) fn compare<R: CpuClock + Print + AllocGlobal>(
     rt: &R,
     block: usize,

@@ -36,7 +36,7 @@ is_waiting pool row = list_any (is_of row) pool.rows
 abbrev pub without : Ready → RowId → Ready
 without pool row = record pool { rows = filter (λ w. not (is_of row w)) pool.rows }
 
--- Is a region, where there is one, among those that are entered?
+-- Is a region, if there is one, among those that are entered?
 abbrev pub IsRegionEntered : Table → Option RowId → Type 0
 IsRegionEntered table region = ForSome region (IsEntered table)
 
@@ -62,6 +62,6 @@ abbrev pub last_or : Option RowId → List Waiting → Option RowId
 last_or row [] = row
 last_or row (w ∷ ws) = last_or (Some w.row) ws
 
--- the newest row that the slot may take and that was made on it; where there is none, the oldest that it may take
+-- the newest row that the slot may take and that was made on it; if there is none, the oldest that it may take
 abbrev pub pick : Ready → Table → (slot : ℕ) → (top : Option RowId) → Option RowId
 pick pool table slot top = last_or (first_of (eligible pool table top)) (filter (λ w. is_made_on slot w.made_on) (eligible pool table top))

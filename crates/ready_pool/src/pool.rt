@@ -14,7 +14,7 @@ pub struct Waiting {
     pub row: RowId,
     /// The slot on which it was made, numbered from 0; roots and posts are made on none.
     pub made_on: Option<usize>,
-    /// The region that it is in, and none outside all regions.
+    /// The region that it is in; `None` outside all regions.
     pub region: Option<RowId>,
 }
 
@@ -39,7 +39,7 @@ impl Model for Pool {
 }
 
 impl Pool {
-    /// No row, and room for as many waiting rows as the limit of open rows says.
+    /// An empty pool, with room for as many rows as may be open.
     pub fn new(
         alloc: Global,
         rows: usize,
@@ -58,7 +58,7 @@ impl Pool {
         })
     }
 
-    /// Lets a row wait that has just been made.
+    /// Adds a row that has just been made.
     pub fn put(
         &mut self,
         row: RowId,
@@ -89,9 +89,9 @@ impl Pool {
         prove!(pushed.is_ok());
     }
 
-    /// The row that a slot takes next, of those that it may take while its topmost row is in that
-    /// region: the newest one made on the slot, which has the greatest number, and where there is none
-    /// the oldest, which has the least.
+    /// The row that a slot takes next, of those that it may take while its topmost row is in a region:
+    /// the newest one made on the slot, which has the greatest number; if there is none, the oldest,
+    /// which has the least.
     pub fn pick(&self, slot: usize, region: Option<RowId>, regions: &Regions) -> Option<RowId>
         requires { slot < self.now.slots }
         ensures value { result ≡ pick self.now regions.now slot region }
@@ -111,7 +111,7 @@ impl Pool {
         newest.or(oldest)
     }
 
-    /// Takes out a row that has started or was dropped. It answers whether the row was there.
+    /// Takes out a row that has started or was dropped, and returns whether the row was there.
     pub fn remove(&mut self, row: RowId, _regions: &Regions) -> bool
         ensures there { result ≡ is_waiting self.old row }
         ensures rest { self.new ≡ without self.old row }

@@ -19,7 +19,7 @@ const INNER: RowId = RowId {
     place: 5,
 };
 
-/// A pool for eight rows and two slots. Where memory is refused it is made once more.
+/// A pool for eight rows and two slots. If an allocation failed it is made once more.
 fn pool_of(alloc: Global, isolation: Isolation) -> Result<Pool, AllocError>
     ensures { IfOk result (λ pool. pool ≡ empty isolation 8 2) }
 {
@@ -29,7 +29,7 @@ fn pool_of(alloc: Global, isolation: Isolation) -> Result<Pool, AllocError>
     }
 }
 
-/// Regions for eight rows. Where memory is refused they are made once more.
+/// Regions for eight rows. If an allocation failed they are made once more.
 fn no_regions(alloc: Global) -> Result<Regions, AllocError>
     ensures { IfOk result (λ regions. regions ≡ replicate 8 None) }
 {

@@ -8,7 +8,7 @@ use Rattle.region_tag.specs.declared.row_id.RowId.{RowId}
 use Rattle.region_tag.specs.declared.regions.Tagged.{Tagged}
 use Rattle.region_tag.specs.Region.{Table, of_row, around, regions_for, regions_from, IsAroundEarlier, IsNested}
 
--- What stands at a place has an earlier region around it.
+-- The row at a place has an earlier region around it.
 earlier_at : (table : Table) → IsNested table → (place : ℕ) → IsAroundEarlier (get_or table place None)
 earlier_at [] nested place = tt
 earlier_at (t ∷ ts) nested zero = nested 0 None (omega arith)

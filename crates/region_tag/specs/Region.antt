@@ -16,7 +16,7 @@ is_same a b = (a.number == b.number) && (a.place == b.place)
 abbrev pub same_region : Option RowId → Option RowId → Bool
 same_region a b = option_eq is_same a b
 
--- of what stands at a row's place, what is the row's
+-- what is at a row's place, if it is the row's
 abbrev pub of_row : RowId → Tagged → Option Tagged
 of_row row t = if t.number == row.number then Some t else None
 

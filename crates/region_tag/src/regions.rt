@@ -36,7 +36,7 @@ impl Model for Regions {
 }
 
 impl Regions {
-    /// No row, and room for as many open rows as the limit says.
+    /// An empty map, with room for as many rows as may be open.
     pub fn new(alloc: Global, rows: usize) -> Result<Regions, AllocError>
         ensures { IfOk result (λ regions. regions ≡ replicate rows None) }
     {

@@ -5,7 +5,7 @@ use crate::{Regions, RowId};
 use std::alloc::{AllocError, Global};
 use std::test::Fail;
 
-/// Regions for four open rows. Where memory is refused they are made once more.
+/// Regions for four open rows. If an allocation failed they are made once more.
 fn four(alloc: Global) -> Result<Regions, AllocError>
     ensures { IfOk result (λ r. r ≡ replicate 4 None) }
 {

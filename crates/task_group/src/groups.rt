@@ -60,7 +60,7 @@ impl Groups {
         }
     }
 
-    /// A row joins the group, and is pending.
+    /// Adds a pending row to the group.
     pub fn add(&mut self, number: usize)
         requires number { number < GROUPS }
         requires room { (group self.old number).pending < u32.MAX }
@@ -72,7 +72,7 @@ impl Groups {
         group.is_used = true;
     }
 
-    /// A pending row of the group is done, with a value.
+    /// Ends a pending row of the group with a value.
     pub fn finish(&mut self, number: usize, value: i64)
         requires number { number < GROUPS }
         requires pending { 0 < (group self.old number).pending }
@@ -84,7 +84,7 @@ impl Groups {
         group.total = group.total.wrapping_add(value);
     }
 
-    /// A pending row of the group ends without a value. It stays a member.
+    /// Ends a pending row of the group without a value. It stays a member.
     pub fn drop_one(&mut self, number: usize)
         requires number { number < GROUPS }
         requires pending { 0 < (group self.old number).pending }
@@ -104,7 +104,7 @@ impl Groups {
         asked.pending
     }
 
-    /// Whether the group has a member, also one that has ended.
+    /// Whether the group has a member, open or ended.
     pub fn is_used(&self, number: usize) -> bool
         requires { number < GROUPS }
         ensures { result ≡ (group self.now number).is_used }
@@ -113,8 +113,8 @@ impl Groups {
         asked.is_used
     }
 
-    /// What a passed wait takes: the wrapping sum of the values of the group's rows. The group then
-    /// has no member. A wait passes only where nothing is pending.
+    /// Ends a wait that passed: returns the wrapping sum of the values of the group's rows, and leaves
+    /// the group without a member. A wait passes only if nothing is pending.
     pub fn take_total(&mut self, number: usize) -> i64
         requires number { number < GROUPS }
         requires nothing_pending { (group self.old number).pending ≡ 0 }

@@ -1,9 +1,9 @@
--- The cells: a number for each key on each slot, where one has been made.
+-- The cells: at most one number for each key on each slot.
 use Rattle.std.specs.Prelude.{ℕ, ℤ, pos, List, [], replicate, Option, Some, None, is_some, unwrap_or, slice_index_or, slice_set, fold, count_by}
 use Rattle.std.specs.Int.{int_wrapping_add, w64}
 use Rattle.thread_cells.specs.declared.tables.TheConstants.{KEYS, SLOTS}
 
--- by key and by slot
+-- the cells, by key and by slot
 abbrev pub Table : Type 0
 Table = List (List (Option ℤ))
 

@@ -1,4 +1,4 @@
-//! The cells of a tenant: a number for each key on each slot, where one has been made.
+//! The cells of a tenant: at most one number for each key on each slot.
 #![tactic(auto)]
 
 mod tables;

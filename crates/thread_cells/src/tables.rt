@@ -13,7 +13,7 @@ pub const SLOTS: usize = 16;
 
 const _: () = prove!(KEYS == 8 && SLOTS == 16);
 
-/// A cell for each key on each slot, where one has been made.
+/// At most one cell for each key on each slot.
 #[derive(Clone, Copy, Debug)]
 pub struct Cells {
     table: [[Option<i64>; SLOTS]; KEYS],
@@ -30,7 +30,7 @@ impl Model for Cells {
 }
 
 impl Cells {
-    /// No cell.
+    /// A table without cells.
     pub const fn new() -> Cells
         ensures { result ≡ no_cells }
     {
@@ -39,7 +39,7 @@ impl Cells {
         }
     }
 
-    /// The value of the cell of a key on a slot, which is made with 0 where there is none.
+    /// The value of the cell of a key on a slot; the cell is made with 0 if there is none.
     pub fn local(&mut self, key: usize, slot: usize) -> i64
         requires key { key < KEYS }
         requires slot { slot < SLOTS }
@@ -52,7 +52,7 @@ impl Cells {
         value
     }
 
-    /// Gives the cell of a key on a slot a value, and makes the cell where there is none.
+    /// Sets the cell of a key on a slot, and makes it if there is none.
     pub fn store(&mut self, key: usize, slot: usize, value: i64)
         requires key { key < KEYS }
         requires slot { slot < SLOTS }
@@ -61,7 +61,7 @@ impl Cells {
         self.table[key][slot] = Some(value);
     }
 
-    /// The wrapping sum of a key's cells, over all slots. No cell gives 0.
+    /// The wrapping sum of a key's cells over all slots; 0 if there is none.
     pub fn sum(&self, key: usize) -> i64
         requires { key < KEYS }
         ensures { result ≡ cell_sum self.now key }

@@ -145,7 +145,7 @@ impl TenantState {
     }
 }
 
-/// The value of the row of a number, or 0 where there is none.
+/// The value of the row of a number; 0 if there is no such row.
 fn value_of(rows: &[Row], number: u64) -> i64
     ensures { result ≡ value_in (row rows.now number).phase }
 {
