@@ -1,7 +1,7 @@
 // The pool of the rows that wait.
 ghost use Rattle.std.specs.Prelude.{◌≡◌, ◌≢◌, ◌<◌, ◌≤◌, ◌==◌, All, Any, IfOk, IfSome, length};
 ghost use Rattle.std.specs.Option.{ForSome};
-ghost use Rattle.ready_pool.specs.Ready.{AreRising, empty, with_row, is_waiting, without, IsRegionEntered, is_allowed, is_made_on, pick};
+ghost use Rattle.ready_pool.specs.Ready.{AreRising, empty, with_row, is_waiting, without, IsRegionEntered, is_allowed, pick};
 
 use job_language::{Isolation, MAX_ROWS, MAX_SLOTS};
 use region_tag::{Regions, RowId};

@@ -4,7 +4,7 @@ ghost use Rattle.job_language.specs.Program.{is_last};
 ghost use Rattle.job_language.specs.Serial.{is_serial};
 ghost use Rattle.job_step.specs.declared.frames.TheConstants.{LAST_PLACE};
 ghost use Rattle.job_step.specs.Frame.{effect, instr_at};
-ghost use Rattle.tenant_model.specs.Serial.{begun, is_owing, making, root_task, serial_value, sum_of, turn_at, turn_by, turn_of, waited, with_value_to};
+ghost use Rattle.tenant_model.specs.Serial.{new_task, is_owing, make_task, root_task, serial_value, sum_of, turn_at, turn_by, turn_of, after_wait, with_value_to};
 ghost use Rattle.serial_eval.specs.InsideNest.{Turns};
 
 use job_language::{GROUPS, Group, Instr, Program, Register};
@@ -77,12 +77,12 @@ impl Nest {
 fn root_task(args: [i64; 2]) -> SerialTask
     ensures { result ≡ root_task args }
 {
-    begun(Frame::new(0, args[0], args[1]))
+    new_task(Frame::new(0, args[0], args[1]))
 }
 
 /// A task that begins at a frame.
-fn begun(frame: Frame) -> SerialTask
-    ensures { result ≡ begun frame }
+fn new_task(frame: Frame) -> SerialTask
+    ensures { result ≡ new_task frame }
 {
     SerialTask {
         frame,
@@ -106,13 +106,13 @@ fn turn_of(instr: &Instr, task: &SerialTask) -> SerialTurn
 {
     match *instr {
         Instr::Spawn(group, procedure, first, second) => {
-            making(task, procedure, first, second, ValueTo::Group(group))
+            make_task(task, procedure, first, second, ValueTo::Group(group))
         }
         Instr::Isolate(to, procedure, first, second) => {
-            making(task, procedure, first, second, ValueTo::Register(to))
+            make_task(task, procedure, first, second, ValueTo::Register(to))
         }
         Instr::Wait(total_to, status_to, group) => {
-            SerialTurn::Goes(waited(task, total_to, status_to, group))
+            SerialTurn::Goes(after_wait(task, total_to, status_to, group))
         }
         Instr::Ret(_) if is_owing(task) => SerialTurn::Fails,
         Instr::Ret(from) => SerialTurn::Gives(task.frame.registers[from.index()]),
@@ -134,7 +134,7 @@ fn turn_alone(instr: &Instr, task: &SerialTask) -> SerialTurn
     }
 }
 
-fn making(
+fn make_task(
     task: &SerialTask,
     procedure: u8,
     first: Register,
@@ -142,7 +142,7 @@ fn making(
     to: ValueTo,
 ) -> SerialTurn
     requires { task.now.frame.place < LAST_PLACE }
-    ensures { result ≡ making task.now procedure first second to }
+    ensures { result ≡ make_task task.now procedure first second to }
 {
     let registers = &task.frame.registers;
     let frame = Frame::new(
@@ -154,19 +154,24 @@ fn making(
         frame: task.frame.next(),
         sums: task.sums,
     };
-    SerialTurn::Makes(begun(frame), SerialMaker { task, to })
+    SerialTurn::Makes(new_task(frame), SerialMaker { task, to })
 }
 
 /// The task after a wait for a group.
-fn waited(task: &SerialTask, total_to: Register, status_to: Register, group: Group) -> SerialTask
+fn after_wait(
+    task: &SerialTask,
+    total_to: Register,
+    status_to: Register,
+    group: Group,
+) -> SerialTask
     requires { task.now.frame.place < LAST_PLACE }
-    ensures { result ≡ waited task.now total_to status_to group }
+    ensures { result ≡ after_wait task.now total_to status_to group }
 {
-    let mut waited = *task;
-    waited.frame.registers[total_to.index()] = sum_of(task, group);
-    waited.frame = waited.frame.write_and_step(status_to, 1);
-    waited.sums[group.index()] = None;
-    waited
+    let mut after = *task;
+    after.frame.registers[total_to.index()] = sum_of(task, group);
+    after.frame = after.frame.write_and_step(status_to, 1);
+    after.sums[group.index()] = None;
+    after
 }
 
 /// The maker of a task, after that task returned a value.

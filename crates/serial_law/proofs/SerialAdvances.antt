@@ -24,7 +24,7 @@ use Rattle.tenant_model.specs.State.{State, row, job, with_at_number}
 use Rattle.tenant_model.specs.Walks.{is_open, is_unstarted, is_job_cancelled, value_in, height, top, pick}
 use Rattle.tenant_model.specs.Changes.{is_row_limit_met, is_full, with_frame, nest, finish_step, faults}
 use Rattle.tenant_model.specs.Shared.{execute, has_used_group}
-use Rattle.tenant_model.specs.Advance.{begin, nest_pick, job_of, is_poor, with_fuel, with_fuel_paid, pay, move_on, is_blocked, after_run, is_idle_wait, run_on, advance_run, advance_top, would_be_recorded, advance, arrive_at, is_open_to_workers, arrive}
+use Rattle.tenant_model.specs.Advance.{begin, nest_pick, work_of, is_poor, with_fuel, with_fuel_paid, pay, move_on, is_blocked, after_run, is_idle_wait, run_on, advance_run, advance_top, would_be_recorded, advance, arrive_at, is_open_to_workers, arrive}
 use Rattle.tenant_model.specs.WellFormed.{IsWellFormed}
 use Rattle.tenant_model.proofs.Changed.{at_number-with_same, row-with_same, row-with_other}
 use Rattle.tenant_model.proofs.Linked.{SameSources-set, IsLinked-set, IsLinked-more_jobs}
@@ -113,7 +113,7 @@ module _ (o : Origin) (s : State) (n fuel : ℕ) (from : 1 ≤ n) (to : n ≤ le
         news = λ k after t. absurd (omega (arith, after, t));
       }
 
-  fuel_own : (debt : ℕ) → (row s.rows n).job ≡ o.number → fuel + debt ≤ (job_of s n).fuel → Good o (with_fuel s n fuel) debt
+  fuel_own : (debt : ℕ) → (row s.rows n).job ≡ o.number → fuel + debt ≤ (work_of s n).fuel → Good o (with_fuel s n fuel) debt
   fuel_own debt own enough =
       let there = is.linked.jobs n from to in
       let here : job (with_at_number s.jobs (row s.rows n).job work) o.number ≡ work = ap (job (with_at_number s.jobs (row s.rows n).job work)) (sym own) ∙ at_number-with_same s.jobs _ (row s.rows n).job work there.0 there.1 in
@@ -129,7 +129,7 @@ module _ (o : Origin) (s : State) (n fuel : ℕ) (from : 1 ≤ n) (to : n ≤ le
               let before : is_job_cancelled (job s.jobs o.number) ≡ false = ap is_job_cancelled (sym old) ∙ ap is_job_cancelled (sym here) ∙ clear in
               let its = is.follows.follows some before in
               let left : (job (with_at_number s.jobs (row s.rows n).job work) o.number).fuel ≡ fuel = ap (λ (w : Work). w.fuel) here in
-              let had : (job_of s n).fuel ≡ (job s.jobs o.number).fuel = ap (λ (w : Work). w.fuel) old in
+              let had : (work_of s n).fuel ≡ (job s.jobs o.number).fuel = ap (λ (w : Work). w.fuel) old in
               record { from = its.from; to = its.to; own = its.own; marks = its.marks; groups = its.groups; spent = its.spent; fuel = omega (arith, its.fuel, left, had, enough); leads = its.leads };
         };
       }
@@ -142,8 +142,8 @@ module _ (o : Origin) (serial : is_serial o.program ≡ true) (s : State) (slot 
       Keeps o (pay s slot n cost next)
   pay_good cost next own other = elim (cases_eq (row s.rows n).job o.number) [
     | inl mine ↦ either o (is_poor s n cost) _ _ (λ _. fuel_faults 0 0 fault.Fuel (fuel_own o s n 0 top.from top.to is 0 mine (omega arith)))
-        (λ rich. own mine (fuel_own o s n ((job_of s n).fuel - cost) top.from top.to is cost mine (let enough : cost ≤ (job_of s n).fuel = grind (arith, rich) in omega (arith, enough))))
-    | inr apart ↦ either o (is_poor s n cost) _ _ (λ _. fuel_faults 0 0 fault.Fuel (fuel_other o s n 0 top.from top.to is apart)) (λ _. other apart (fuel_other o s n ((job_of s n).fuel - cost) top.from top.to is apart))
+        (λ rich. own mine (fuel_own o s n ((work_of s n).fuel - cost) top.from top.to is cost mine (let enough : cost ≤ (work_of s n).fuel = grind (arith, rich) in omega (arith, enough))))
+    | inr apart ↦ either o (is_poor s n cost) _ _ (λ _. fuel_faults 0 0 fault.Fuel (fuel_other o s n 0 top.from top.to is apart)) (λ _. other apart (fuel_other o s n ((work_of s n).fuel - cost) top.from top.to is apart))
   ]
 
   move_on_good : (count : ℕ) (f : Frame) → ((row s.rows n).job ≡ o.number → GoesBack o.program (row s.rows n).frame f count) → Keeps o (move_on s slot n count f)
@@ -155,7 +155,7 @@ module _ (o : Origin) (serial : is_serial o.program ≡ true) (s : State) (slot 
       ((row s.rows n).job ≡ o.number → (i : Instr) → stop ≡ Shared i → (instr_at o.program f ≡ Some i) × IfSome (group_of i) (λ g. g < GROUPS)) → Keeps o (after_run s slot n count f stop)
   after_run_good count f Yield back at = move_on_good count f (λ own. back own refl)
   after_run_good count f Fault back at = pay_good count (λ t. faults slot (row t.rows n).job fault.Division t)
-      (λ own good. fuel_faults ((job_of s n).fuel - count) count fault.Division good) (λ other good. fuel_faults ((job_of s n).fuel - count) 0 fault.Division good)
+      (λ own good. fuel_faults ((work_of s n).fuel - count) count fault.Division good) (λ other good. fuel_faults ((work_of s n).fuel - count) 0 fault.Division good)
   after_run_good count f (Shared i) back at =
       either o (is_blocked s n i) _ _ (λ _. move_on_good count f (λ own. back own refl))
       (λ open_way. pay_good (count + 1) (λ t. execute t slot n f i)

@@ -21,7 +21,7 @@ use Rattle.tenant_model.specs.declared.rows.Row.{Row}
 use Rattle.tenant_model.specs.declared.works.Work.{Work}
 use Rattle.tenant_model.specs.declared.works.TheConstants.{MAX_JOBS}
 use Rattle.tenant_model.specs.Cells.{no_cells}
-use Rattle.tenant_model.specs.Serial.{root_task, begun}
+use Rattle.tenant_model.specs.Serial.{root_task, new_task}
 use Rattle.serial_law.specs.SerialValues.{number_made}
 use Rattle.tenant_model.specs.State.{State, row, job, at_number, with_at_number}
 use Rattle.tenant_model.specs.Walks.{is_open, is_job_cancelled}
@@ -69,7 +69,7 @@ module _ (s : State) (b : Job) (phase : Phase) (linked : IsLinked s) (one : OneJ
           | inr before ↦ absurd (old k from before own)
         ] in
         let here = given.each (length s.rows + 1) (omega arith) (omega (arith, long)) (ap (λ (q : Row). q.job) new) (ap (λ (q : Row). is_open q.phase) new ∙ opened) in
-        let task : now b.program j rows values (length s.rows + 1) ≡ root_task b.args = now-childless j (length s.rows + 1) rows childless b.program values ∙ ap (λ (q : Row). begun q.frame) new in
+        let task : now b.program j rows values (length s.rows + 1) ≡ root_task b.args = now-childless j (length s.rows + 1) rows childless b.program values ∙ ap (λ (q : Row). new_task q.frame) new in
         let f : ℕ → ℕ → ℕ = λ k x. x + cost_of j costs k (row rows k) in
         let last : suc (length s.rows) ≡ length s.rows + 1 = omega arith in
         let mine : (j == j) ≡ true = grind arith in

@@ -17,7 +17,7 @@ use Rattle.tenant_model.specs.declared.rows.Kind.TheVariants.{Root, Posted, Spaw
 use Rattle.tenant_model.specs.declared.rows.Mark.{Mark}
 use Rattle.tenant_model.specs.declared.rows.Row.{Row}
 use Rattle.tenant_model.specs.declared.serials.SerialTask.{SerialTask}
-use Rattle.tenant_model.specs.Serial.{waited, turn_at}
+use Rattle.tenant_model.specs.Serial.{after_wait, turn_at}
 use Rattle.tenant_model.specs.State.{row}
 use Rattle.tenant_model.specs.Walks.{NumberedRow, is_open, is_spawned_by, mark, members, is_pending, value_in, total, is_used}
 use Rattle.tenant_model.proofs.Changed.{row-get_or}
@@ -189,10 +189,10 @@ module _ (procs : List (List Instr)) (start : SerialTask) (j root n : ℕ) (a b 
       let so_far : unwrap_or (slice_index_or sums g None) (pos 0) ≡ total a n g =
       ap (λ x. unwrap_or x (pos 0)) (sum_in g low (λ h. sum_for j a values n h (mark a n h).rows)) ∙ sum-total j n a children values g settled_row in
       let goes : turn_at (instr_at procs f) (task f sums) ≡ turn_at (Some (Wait d e g)) (task f sums) = ap (λ o. turn_at o (task f sums)) at in
-      let after : Gives procs (waited (task f sums) d e g) (values n) (costs n) =
+      let after : Gives procs (after_wait (task f sums) d e g) (values n) (costs n) =
       rw so_far (let same : now procs j b values n ≡ task (write_and_step (record f { registers = slice_set f.registers d (total a n g) }) e (pos 1)) (slice_set sums g None) =
       rw (hands-same j n a b values values alike none (moved-regions j n a b moved n), free-none j n a values free, frame, sum 0, sum 1, sum 2, sum 3) (ap (task _) (waited_sums g low _ _ _ _)) in
       rw same at here) in
       let sum_count : costs n + (1 + count) ≡ costs n + 1 + count = omega arith in
-      rw (free-none j n a values free, sum_count) (goes_back sums (values n) (costs n + 1) (gives_goes procs (task f sums) (waited (task f sums) d e g) (values n) (costs n) goes after)))
+      rw (free-none j n a values free, sum_count) (goes_back sums (values n) (costs n + 1) (gives_goes procs (task f sums) (after_wait (task f sums) d e g) (values n) (costs n) goes after)))
       leads

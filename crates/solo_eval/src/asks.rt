@@ -1,8 +1,7 @@
 // What a tenant asks, and what it is answered.
-ghost use Rattle.std.specs.Prelude.{◌≡◌, ◌+◌, ◌<◌, ◌≤◌, ◌==◌, length, false, OnErr, IfOk, IsSome, count_by, not};
+ghost use Rattle.std.specs.Prelude.{◌≡◌, ◌+◌, ◌<◌, ◌==◌, false, OnErr, IfOk, IsSome, count_by, not};
 ghost use Rattle.job_language.specs.Brought.{job_of};
 ghost use Rattle.tenant_model.specs.Changes.{is_full};
-ghost use Rattle.tenant_model.specs.Walks.{is_job_cancelled};
 ghost use Rattle.std.specs.Option.{option_map};
 ghost use Rattle.solo_eval.specs.Limits.{limit_of};
 ghost use Rattle.tenant_model.specs.Asks.{ask, cancel_by_request, collect, current_jobs, submit_placed, free_slot, has_outcome, known_job, outcome, reply_to, retire, status, submit, unless_limit};

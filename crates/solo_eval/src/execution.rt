@@ -6,7 +6,7 @@ ghost use Rattle.job_step.specs.declared.frames.TheConstants.{LAST_PLACE};
 ghost use Rattle.solo_eval.specs.Execution.{makes_row};
 ghost use Rattle.tenant_model.specs.State.{row};
 ghost use Rattle.tenant_model.specs.Walks.{maker_of};
-ghost use Rattle.tenant_model.specs.Advance.{pay, is_poor, with_fuel_paid};
+ghost use Rattle.tenant_model.specs.Advance.{pay, is_poor};
 ghost use Rattle.tenant_model.specs.Changes.{is_full, is_row_limit_met, finish_step, faults, add_row, new_row, with_frame};
 ghost use Rattle.tenant_model.specs.Shared.{execute, isolate_at, called_frame};
 

@@ -4,7 +4,7 @@ ghost use Rattle.job_language.specs.declared.instructions.TheConstants.{GROUPS};
 ghost use Rattle.tenant_model.specs.Walks.{is_spawned_by, is_pending, total, is_used};
 
 use crate::chains::mark;
-use tenant_model::{Kind, Phase, Row};
+use tenant_model::{Kind, Row};
 
 /// Whether a member of the group is open.
 pub(crate) fn is_pending(rows: &[Row], maker: u64, group: usize) -> bool

@@ -1,22 +1,21 @@
 // Shared instructions of the topmost row of a slot.
-ghost use Rattle.std.specs.Prelude.{◌≡◌, ◌<◌, ◌≤◌, length, false, true, OnOk, OnErr, IfOk, IfSome, Some};
+ghost use Rattle.std.specs.Prelude.{◌≡◌, ◌<◌, ◌≤◌, length, false, true, IfSome, Some};
 ghost use Rattle.job_language.specs.Program.{is_last};
 ghost use Rattle.job_language.specs.declared.tenants.TheConstants.{MAX_SLOTS};
 ghost use Rattle.job_step.specs.declared.frames.TheConstants.{LAST_PLACE};
 ghost use Rattle.solo_eval.specs.Execution.{makes_row};
 ghost use Rattle.tenant_model.specs.State.{row};
-ghost use Rattle.tenant_model.specs.Walks.{height, is_context_cancelled, maker_of};
+ghost use Rattle.tenant_model.specs.Walks.{is_context_cancelled, maker_of};
 ghost use Rattle.tenant_model.specs.Advance.{is_poor, with_fuel_paid, with_fuel, pay};
-ghost use Rattle.tenant_model.specs.Changes.{is_full, finish_step, faults, add_row, with_frame};
+ghost use Rattle.tenant_model.specs.Changes.{is_full, finish_step, faults};
 ghost use Rattle.tenant_model.specs.Shared as shared;
-ghost use Rattle.tenant_model.specs.Shared.{called_frame, group_status, hand_back, handed_frame, has_used_group};
+ghost use Rattle.tenant_model.specs.Shared.{group_status, hand_back, handed_frame, has_used_group};
 
 use crate::groups::{is_used, total};
 use crate::state::TenantState;
-use job_language::{GROUPS, Group, Instr, JobFault, Key, Moved, Register};
+use job_language::{Group, Instr, JobFault, Key, Moved, Register};
 use job_step::Frame;
-use std::alloc::AllocError;
-use tenant_model::{Kind, MAX_HEIGHT, Mark, Phase, Row};
+use tenant_model::{Kind, Mark};
 
 impl TenantState {
     /// Whether a row's job lacks the fuel for a cost.

@@ -29,19 +29,19 @@ abbrev pub nest_pick : State → (slot n : ℕ) → Option ℕ → Moved × Stat
 nest_pick s slot n None = (Idle, s)
 nest_pick s slot n (Some m) = if height s.rows slot == MAX_HEIGHT then faults slot (row s.rows n).job fault.TooDeep s else (Nested m, entry (nest s slot m))
 
-abbrev pub job_of : State → ℕ → Work
-job_of s n = job s.jobs (row s.rows n).job
+abbrev pub work_of : State → ℕ → Work
+work_of s n = job s.jobs (row s.rows n).job
 
 -- Does row n's job lack the fuel?
 abbrev pub is_poor : State → (n cost : ℕ) → Bool
-is_poor s n cost = nat_lt (job_of s n).fuel cost
+is_poor s n cost = nat_lt (work_of s n).fuel cost
 
 abbrev pub with_fuel : State → (n fuel : ℕ) → State
 with_fuel s n fuel = on_job s (row s.rows n).job (λ w. record w { fuel = fuel })
 
 -- the state after its job paid
 abbrev pub with_fuel_paid : State → (n cost : ℕ) → State
-with_fuel_paid s n cost = with_fuel s n ((job_of s n).fuel - cost)
+with_fuel_paid s n cost = with_fuel s n ((work_of s n).fuel - cost)
 
 -- The job pays for what row n executed. If it lacks the fuel, that is the fault.
 abbrev pub pay : State → (slot n cost : ℕ) → (State → Moved × State) → Moved × State

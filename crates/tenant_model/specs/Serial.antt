@@ -19,8 +19,8 @@ use Rattle.tenant_model.specs.declared.serials.SerialTurn.TheVariants.{Goes, Mak
 use Rattle.tenant_model.specs.Shared.{next_place, called_frame}
 
 -- a task that begins, with nothing in its groups
-abbrev pub begun : Frame → SerialTask
-begun f = record { frame = f; sums = replicate GROUPS None }
+abbrev pub new_task : Frame → SerialTask
+new_task f = record { frame = f; sums = replicate GROUPS None }
 
 -- the sum of a group so far
 abbrev pub sum_of : SerialTask → ℕ → ℤ
@@ -38,12 +38,12 @@ with_value_to (to.Register d) t v = record t { frame = record t.frame { register
 abbrev pub with_value : SerialMaker → ℤ → SerialTask
 with_value m v = with_value_to m.to m.task v
 
-abbrev pub making : SerialTask → (p a b : ℕ) → ValueTo → SerialTurn
-making t p a b to = Makes (begun (called_frame t.frame p a b)) (record { task = record t { frame = next_place t.frame }; to = to })
+abbrev pub make_task : SerialTask → (p a b : ℕ) → ValueTo → SerialTurn
+make_task t p a b to = Makes (new_task (called_frame t.frame p a b)) (record { task = record t { frame = next_place t.frame }; to = to })
 
 -- the task after a wait: nothing was cancelled, so the status is 1
-abbrev pub waited : SerialTask → (d e g : ℕ) → SerialTask
-waited t d e g = record {
+abbrev pub after_wait : SerialTask → (d e g : ℕ) → SerialTask
+after_wait t d e g = record {
   frame = write_and_step (record t.frame { registers = slice_set t.frame.registers d (sum_of t g) }) e (pos 1);
   sums = slice_set t.sums g None;
 }
@@ -56,9 +56,9 @@ turn_by t IsShared = Fails
 
 -- what a task does by an instruction of a serial program
 abbrev pub turn_of : Instr → SerialTask → SerialTurn
-turn_of (Spawn g p a b) t = making t p a b (to.Group g)
-turn_of (Isolate d p a b) t = making t p a b (to.Register d)
-turn_of (Wait d e g) t = Goes (waited t d e g)
+turn_of (Spawn g p a b) t = make_task t p a b (to.Group g)
+turn_of (Isolate d p a b) t = make_task t p a b (to.Register d)
+turn_of (Wait d e g) t = Goes (after_wait t d e g)
 turn_of (Ret a) t = if is_owing t then Fails else Gives (register t.frame a)
 turn_of i t = turn_by t (effect i 0 0 t.frame)
 
@@ -106,7 +106,7 @@ TakesInstructions = (procs : List (List Instr)) (left : ℕ) (t : SerialTask) �
 
 -- the root of a program with its two arguments
 abbrev pub root_task : List ℤ → SerialTask
-root_task args = begun (new_frame 0 (slice_index_or args 0 (pos 0)) (slice_index_or args 1 (pos 0)))
+root_task args = new_task (new_frame 0 (slice_index_or args 0 (pos 0)) (slice_index_or args 1 (pos 0)))
 
 -- the serial value of a program, if n instructions suffice and nothing fails
 abbrev pub serial_value : List (List Instr) → (args : List ℤ) → (n : ℕ) → Option ℤ

@@ -3,7 +3,7 @@ use Rattle.std.specs.Prelude.{◌≡◌, ℤ, pos, [], ◌∷◌, Option, Some, 
 use Rattle.job_language.specs.declared.instructions.Instr.TheVariants.{Div, Jmp, Ret, Spawn, Wait, Isolate}
 use Rattle.job_language.specs.declared.jobs.Job.{Job}
 use Rattle.tenant_model.specs.Serial.{serial_value}
-use Rattle.tenant_model.specs.Worked.{worked_job, fib, chain}
+use Rattle.tenant_model.specs.Worked.{worked_job, fib, task_chain}
 
 -- with its fuel as the number of instructions
 abbrev pub serial_value_of : Job → Option ℤ
@@ -39,7 +39,7 @@ FibGivesNoneWith171 = serial_value_of (record fib { fuel = 171 }) ≡ None
 
 -- tasks nest to any depth
 unfoldable pub ChainGives7 : Type 0
-ChainGives7 = serial_value_of (record chain { args = pos 128 ∷ pos 7 ∷ [] }) ≡ Some (pos 7)
+ChainGives7 = serial_value_of (record task_chain { args = pos 128 ∷ pos 7 ∷ [] }) ≡ Some (pos 7)
 
 unfoldable pub RegionGives7 : Type 0
 RegionGives7 = serial_value_of region ≡ Some (pos 7)

@@ -83,8 +83,8 @@ cancel_then_wait = worked_job (
     (Ret 0 ∷ []) ∷ []) (pos 7) (pos 0) 1000
 
 -- as many nested tasks as its first argument says
-abbrev pub chain : Job
-chain = worked_job (
+abbrev pub task_chain : Job
+task_chain = worked_job (
     (Jz 0 6 ∷ Set 2 (pos 1) ∷ Sub 3 0 2 ∷ Spawn 0 0 3 1 ∷ Wait 4 5 0 ∷ Ret 4 ∷ Ret 1 ∷ []) ∷ []) (pos 127) (pos 7) 1000
 
 -- a region, whose task on another slot makes a region of its own
@@ -190,13 +190,13 @@ CancelledGroupTellsOnce =
 -- a chain of 127 tasks below the root fills the stack of a slot
 unfoldable pub ChainReachesHeight128 : Type 0
 ChainReachesHeight128 =
-    answers (after (empty (tenant 1 1 Exact)) (Ask (Execute chain) ∷
+    answers (after (empty (tenant 1 1 Exact)) (Ask (Execute task_chain) ∷
     replicate 509 (Advance 0))) (Ask (Collect 1) ∷ []) ≡ Replied (reply.Job 1 (Complete (pos 7))) ∷ []
 
 -- and one more does not fit
 unfoldable pub ChainIsTooDeep : Type 0
 ChainIsTooDeep =
-    answers (after (empty (tenant 1 1 Exact)) (Ask (Execute (record chain { args = pos 128 ∷ pos 7 ∷ [] })) ∷
+    answers (after (empty (tenant 1 1 Exact)) (Ask (Execute (record task_chain { args = pos 128 ∷ pos 7 ∷ [] })) ∷
     replicate 510 (Advance 0))) (Ask (Collect 1) ∷ []) ≡ Replied (reply.Job 1 (Fault TooDeep)) ∷ []
 
 -- a waiter leaves the row of an inner region

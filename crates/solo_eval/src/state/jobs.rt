@@ -16,7 +16,7 @@ impl TenantState {
     ghost use Rattle.std.specs.Prelude.{true, false};
     ghost use Rattle.tenant_model.specs.Cells.{no_cells};
     ghost use Rattle.tenant_model.specs.Asks.{add_job, known_job, outcome};
-    ghost use Rattle.tenant_model.specs.Advance.{job_of};
+    ghost use Rattle.tenant_model.specs.Advance.{work_of};
     ghost use Rattle.tenant_model.specs.Changes.{entry, first_fault, on_job, is_full};
 
     /// All jobs, in order of their numbers.
@@ -30,7 +30,7 @@ impl TenantState {
     pub(crate) fn job_of(&self, number: u64) -> &Work
         requires from { 1 ≤ number }
         requires to { number ≤ length self.now.rows }
-        ensures { result.now ≡ job_of self.now number }
+        ensures { result.now ≡ work_of self.now number }
     {
         &self.jobs[row(self.rows.as_slice(), number).job as usize - 1]
     }
