@@ -1,0 +1,29 @@
+-- What the queues are told of the tenants: how many calls each level holds.
+use Rattle.std.specs.Prelude.{ℕ, ◌-◌, ◌≤◌, List, length, max, if◌then◌else◌, slice_index_or}
+use Rattle.std.specs.List.{sum_by, All}
+use Rattle.job_language.specs.declared.configs.TheConstants.{MAX_TENANTS}
+use Rattle.job_language.specs.declared.tenants.TheConstants.{MAX_SLOTS}
+use Rattle.job_language.specs.declared.tenants.Level.{Level}
+use Rattle.job_language.specs.declared.tenants.Level.TheVariants.{Normal}
+use Rattle.world_model.specs.Orderly.{is_level}
+use Rattle.call_queues.specs.declared.config.MarketTenant.{MarketTenant}
+
+-- as many tenants and slots as a configuration may have
+abbrev pub IsMarketConfig : List MarketTenant → Type 0
+IsMarketConfig config = (length config ≤ MAX_TENANTS) × All (λ t. (t.slots ≤ MAX_SLOTS) × (t.reserved ≤ t.slots)) config
+
+-- a tenant by its number; one that is not there has no slots
+abbrev pub tenant_of : List MarketTenant → ℕ → MarketTenant
+tenant_of config t = slice_index_or config t (record { level = Normal; slots = 0; reserved = 0 })
+
+-- the level of a tenant's calls
+abbrev pub level_of : List MarketTenant → ℕ → Level
+level_of config t = (tenant_of config t).level
+
+-- the slots for workers of the tenants of a level
+abbrev pub slots_at : Level → List MarketTenant → ℕ
+slots_at level config = sum_by (λ t. if is_level t.level level then t.slots - t.reserved else 0) config
+
+-- how many calls a level holds: as many as its tenants have slots for workers, and at least one
+abbrev pub room_at : List MarketTenant → Level → ℕ
+room_at config level = max 1 (slots_at level config)

@@ -1,0 +1,5 @@
+pub mod Config
+pub mod Order
+pub mod Rule
+pub mod Levels
+pub mod Queues

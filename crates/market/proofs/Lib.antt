@@ -1,0 +1,5 @@
+pub mod Rooms
+pub mod Rings
+pub mod Homes
+pub mod Keeping
+pub mod Starting
