@@ -4,6 +4,8 @@
 
 mod slots;
 mod state;
+#[cfg(test)]
+mod tests;
 mod waiting;
 
 pub use call_queues::{MarketConfig, MarketTenant};

@@ -1,0 +1,3 @@
+//! Worked examples, and four threads at one market.
+mod examples;
+mod threads;
