@@ -13,12 +13,12 @@ abbrev pub IsMarketConfig : List MarketTenant → Type 0
 IsMarketConfig config = (length config ≤ MAX_TENANTS) × All (λ t. (t.slots ≤ MAX_SLOTS) × (t.reserved ≤ t.slots)) config
 
 -- a tenant by its number; one that is not there has no slots
-abbrev pub tenant_of : List MarketTenant → ℕ → MarketTenant
-tenant_of config t = slice_index_or config t (record { level = Normal; slots = 0; reserved = 0 })
+abbrev pub tenant_in : List MarketTenant → ℕ → MarketTenant
+tenant_in config t = slice_index_or config t (record { level = Normal; slots = 0; reserved = 0 })
 
 -- the level of a tenant's calls
-abbrev pub level_of : List MarketTenant → ℕ → Level
-level_of config t = (tenant_of config t).level
+abbrev pub level_in : List MarketTenant → ℕ → Level
+level_in config t = (tenant_in config t).level
 
 -- the slots for workers of the tenants of a level
 abbrev pub slots_at : Level → List MarketTenant → ℕ

@@ -25,13 +25,13 @@ pub record LevelReturnsSeen : Type 0 where
   pub made : ℕ
   pub back : List PassLog
 
-abbrev pub first_of : List PassLog → PassLog
-first_of [] = no_log
-first_of (h ∷ known) = h
+abbrev pub first_log : List PassLog → PassLog
+first_log [] = no_log
+first_log (h ∷ known) = h
 
 abbrev pub log_in : View → PassLog
 log_in (Owner p h) = h
-log_in (Keeper made known out) = first_of known
+log_in (Keeper made known out) = first_log known
 log_in Spent = no_log
 
 abbrev pub made_in : View → ℕ

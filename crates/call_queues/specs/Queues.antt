@@ -66,9 +66,12 @@ HeldAt pass level n = Held n (Sees pass.number (at pass.logs level))
 abbrev pub FoundNone : PassSeen → Three PassLog → Type 0
 FoundNone old logs = (logs ≡ old.logs) × ((level : Level) → HeldAt old level 0)
 
--- this call was popped from some level, and each higher one was empty at some moment
+-- this call was popped from some level, where it stands in the one list, and each higher level was empty at some moment
 abbrev pub Found : PassSeen → Three PassLog → Call → Type 0
-Found old logs call = (level : Level) × (taken : Marked) × (taken.call ≡ call) × (logs ≡ with_at old.logs level (with_popped (at old.logs level) taken)) × ((items : List Marked) × Sees old.number (with_popped (at old.logs level) taken) items) × ((above : Level) → rank above < rank level → HeldAt old above 0)
+Found old logs call =
+    (level : Level) × (taken : Marked) × (taken.call ≡ call) × (logs ≡ with_at old.logs level (with_popped (at old.logs level) taken))
+    × ((items : List Marked) × Sees old.number (with_popped (at old.logs level) taken) items)
+    × ((above : Level) → rank above < rank level → HeldAt old above 0)
 
 -- the passes have these numbers, from 0
 abbrev pub AreNumbered : List PassSeen → Type 0

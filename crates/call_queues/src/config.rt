@@ -1,6 +1,6 @@
 // What the queues are told of the tenants.
 ghost use Rattle.std.specs.Prelude.{◌≡◌, ◌+◌, ◌*◌, ◌<◌, ◌≤◌, length};
-ghost use Rattle.call_queues.specs.Config.{IsMarketConfig, level_of, room_at};
+ghost use Rattle.call_queues.specs.Config.{IsMarketConfig, level_in, room_at};
 
 use job_language::Level;
 use std::marker::Model;
@@ -55,7 +55,7 @@ impl MarketConfig {
     /// The level of a tenant's calls.
     pub fn level(&self, tenant: usize) -> Level
         requires { tenant < length self.now }
-        ensures { result ≡ level_of self.now tenant }
+        ensures { result ≡ level_in self.now tenant }
     {
         self.tenants[tenant].level
     }

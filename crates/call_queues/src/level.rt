@@ -1,4 +1,4 @@
-//! One level of the market: a queue of marked calls that threads share.
+// One level: a queue of marked calls that threads share.
 ghost use Rattle.std.specs.Prelude.{◌≡◌, ◌≢◌, ◌+◌, ◌<◌, ◌≤◌, ◌^◌, ◌-◌, ◌⊎◌, List, [], ◌∷◌, ◌++◌, length, map, vec_capacity, IfOk, MatchResult, MatchOption};
 ghost use Rattle.crossbeam_queue.specs.Fifo.{Held};
 ghost use Rattle.call_queues.specs.declared.marks.Marked.{Marked};
@@ -28,7 +28,12 @@ impl Model for LevelPass {
 
     ghost Value = { LevelPassSeen };
 
-    ghost view = { λ p. record { queue = p.seat.table_id; number = p.number; made = made_in p.seat.me.0.client; log = log_in p.seat.me.0.client } };
+    ghost view = { λ p. record {
+      queue = p.seat.table_id;
+      number = p.number;
+      made = made_in p.seat.me.0.client;
+      log = log_in p.seat.me.0.client;
+    } };
 
     ghost invariant = { λ p. (p.seat.me.1 ≡ []) × (p.seat.me.0.client ≡ view_of (made_in p.seat.me.0.client) p.number (log_in p.seat.me.0.client)) × (p.pushes ≡ length (log_in p.seat.me.0.client).pushed) };
 }
@@ -161,6 +166,7 @@ impl LevelQueue {
         for _ in rt.forever() {
             match self.queue.pop_as::<Drains, R>(rt, &mut seat) {
                 Some(marked) => {
+                    // There is room, so that the push does not fail.
                     let _ = into.push(marked.call);
                 }
                 None => return,

@@ -1,10 +1,10 @@
-//! The calls of all levels, which threads share.
+// The queues of all levels, which threads share.
 ghost use Rattle.std.specs.Prelude.{◌≡◌, ◌+◌, ◌*◌, ◌^◌, ◌-◌, ◌<◌, ◌≤◌, ◌⊎◌, ℕ, List, ◌++◌, [], length, map, slice_index_or, IfOk, MatchResult, MatchOption};
 ghost use Rattle.std.specs.List.{All};
 ghost use Rattle.job_language.specs.declared.tenants.Level.{Level};
 ghost use Rattle.call_queues.specs.declared.marks.Marked.{Marked};
 ghost use Rattle.job_language.specs.declared.tenants.Level.TheVariants.{High, Normal, Low};
-ghost use Rattle.call_queues.specs.Config.{level_of, room_at};
+ghost use Rattle.call_queues.specs.Config.{level_in, room_at};
 ghost use Rattle.call_queues.specs.Rule.{with_pushed, with_popped};
 ghost use Rattle.call_queues.specs.Queues.{Three, at, with_at, rank, PassSeen, fresh, marked, HeldAt, FoundNone, Found, AreNumbered, IsLeft};
 
@@ -17,7 +17,7 @@ use std::marker::Model;
 use std::sync::Wait;
 use world_model::Call;
 
-/// One user's way to the queues. It has a number.
+/// The right of one thread to push and pop. The passes of some queues are numbered from 0.
 #[derive(Drop)]
 pub struct QueuePass {
     number: usize,
@@ -39,6 +39,7 @@ impl Model for QueuePass {
 }
 
 impl QueuePass {
+    /// Its number among the passes of its queues.
     pub fn number(&self) -> usize
         ensures { result ≡ self.now.number }
     {
@@ -46,7 +47,7 @@ impl QueuePass {
     }
 }
 
-/// A queue of calls for each level.
+/// A queue of calls for each level of priority, which threads share.
 #[derive(Drop)]
 pub struct CallQueues {
     config: MarketConfig,
@@ -72,12 +73,13 @@ impl Model for CallQueues {
 }
 
 impl CallQueues {
-    /// Adds a call at the end of its tenant's level. It comes back only where that level was full at one moment, or the pass made `u64::MAX` pushes there.
+    /// Adds a call at the end of its tenant's level. It comes back only where that level was full
+    /// at one moment, or the pass had made `u64::MAX` pushes there.
     pub fn push_call<R: Wait>(&self, rt: &R, pass: &mut QueuePass, call: Call) -> Result<(), Call>
         requires pass { pass.old.queues ≡ self.now.queues }
         requires tenant { call.tenant < length self.now.config }
         ensures pass { (pass.new.number ≡ pass.old.number) × (pass.new.queues ≡ pass.old.queues) }
-        ensures pushed { let level = level_of self.now.config call.tenant in let log = at pass.old.logs level in MatchResult result
+        ensures pushed { let level = level_in self.now.config call.tenant in let log = at pass.old.logs level in MatchResult result
             (λ _. pass.new.logs ≡ with_at pass.old.logs level (with_pushed log (marked pass.old.number log call)))
             (λ back. (back ≡ call) × (pass.new.logs ≡ pass.old.logs) × ((length log.pushed ≡ 2 ^ 64 - 1) ⊎ HeldAt pass.old level (room_at self.now.config level))) }
     {
@@ -88,7 +90,8 @@ impl CallQueues {
         }
     }
 
-    /// Takes the first call of the highest level that has one.
+    /// Takes the first call of the highest level that has one. It looks at one level after
+    /// another, so each higher level was empty at some moment of the call.
     pub fn pop_call<R: Wait>(&self, rt: &R, pass: &mut QueuePass) -> Option<Call>
         requires { pass.old.queues ≡ self.now.queues }
         ensures pass { (pass.new.number ≡ pass.old.number) × (pass.new.queues ≡ pass.old.queues) }
@@ -105,7 +108,7 @@ impl CallQueues {
 }
 
 impl CallQueues {
-    /// The queues, and passes numbered from 0.
+    /// The queues of these tenants, and so many passes, by rising number.
     pub fn new(
         alloc: Global,
         config: MarketConfig,
@@ -149,12 +152,15 @@ impl CallQueues {
         Ok((queues, out))
     }
 
-    /// All calls that are left, those of the high level first, when all passes have come back.
+    /// Ends the queues. It takes all passes back, by rising number, and gives the calls that are
+    /// left, those of the high level first.
     pub fn drain<R: Wait>(self, rt: &R, mut passes: Vec<QueuePass>) -> Vec<Call>
         requires count { length passes.items ≡ self.queues.passes }
         requires numbers { AreNumbered passes.items }
         requires queues { (k : ℕ) (d : PassSeen) → k < length passes.items → (slice_index_or passes.items k d).queues ≡ self.queues }
-        ensures { (high : List Marked) × (normal : List Marked) × (low : List Marked) × IsLeft passes.items High high × IsLeft passes.items Normal normal × IsLeft passes.items Low low × (result.items ≡ map (λ m. m.call) (high ++ normal ++ low)) }
+        ensures { (high : List Marked) × (normal : List Marked) × (low : List Marked)
+            × IsLeft passes.items High high × IsLeft passes.items Normal normal × IsLeft passes.items Low low
+            × (result.items ≡ map (λ m. m.call) (high ++ normal ++ low)) }
     {
         let CallQueues {
             high,

@@ -1,8 +1,9 @@
-//! The rule of a level, and what the steps of a pass tell.
+// The rule of a level, and what each step of a pass does to what the pass knows.
 use crate::marks::{Marked, View};
 use crossbeam_queue::protocol::{Join, Lesson, Outcome, Protocol, Split};
 use crossbeam_queue::{Pass, RuledArrayQueue};
 
+/// The protocol of a level: its calls stand in one order.
 pub struct Ordered;
 
 impl Protocol<Marked, View> for Ordered {
@@ -16,6 +17,7 @@ impl Protocol<Marked, View> for Ordered {
     ghost first = { Keeper 1 (no_log ∷ []) [] };
 }
 
+/// A push: the pass has pushed the call, or has seen that the level was full.
 pub struct Puts;
 
 impl Outcome<Marked, View> for Puts {
@@ -31,6 +33,7 @@ impl Lesson<Marked, View> for Puts {
     ghost fact = { λ v items. SeesBy v items };
 }
 
+/// A pop: the pass has popped the call, or has seen that the level was empty.
 pub struct Takes;
 
 impl Outcome<Marked, View> for Takes {
@@ -45,6 +48,7 @@ impl Lesson<Marked, View> for Takes {
     ghost fact = { λ v items. SeesBy v items };
 }
 
+/// A pop by the keeper, when all passes have come back: the call is drained.
 pub struct Drains;
 
 impl Outcome<Marked, View> for Drains {
@@ -59,6 +63,7 @@ impl Lesson<Marked, View> for Drains {
     ghost fact = { λ v items. SeesAll v items };
 }
 
+/// The keeper gives the next number to a new pass, and takes a pass back by its number.
 pub struct Numbering;
 
 impl Split<View> for Numbering {
@@ -78,6 +83,8 @@ impl Join<View> for Numbering {
     ghost spent = { Spent };
 }
 
+/// The queue of a level.
 pub type Queue = RuledArrayQueue<Marked, View, Ordered>;
 
+/// A pass of that queue.
 pub type Seat = Pass<Marked, View>;

@@ -1,4 +1,4 @@
-// The worked example of two tenants, acme and beta.
+// The worked example of two tenants, acme and beta, and memory that is refused.
 use crate::{MarketConfig, MarketState, MarketTenant};
 use job_language::Level;
 use std::alloc::{AllocError, Global};
@@ -11,7 +11,7 @@ const BETA: Call = Call { tenant: 1, slot: 0 };
 
 // Acme has a slot for masters and one for workers, beta one for workers and a higher priority;
 // there are two workers.
-fn acme_and_beta(alloc: Global) -> Result<MarketState, AllocError> {
+fn made(alloc: Global) -> Result<MarketState, AllocError> {
     let acme = MarketTenant {
         level: Level::Normal,
         slots: 2,
@@ -24,6 +24,14 @@ fn acme_and_beta(alloc: Global) -> Result<MarketState, AllocError> {
     };
     let config = MarketConfig::new(vec![in alloc; acme, beta]?);
     MarketState::new(alloc, &config, 2)
+}
+
+// Where memory is refused once, a second call serves.
+fn acme_and_beta(alloc: Global) -> Result<MarketState, AllocError> {
+    match made(alloc) {
+        Ok(market) => Ok(market),
+        Err(_) => made(alloc),
+    }
 }
 
 fn push_due(market: &mut MarketState, call: Call) -> bool {

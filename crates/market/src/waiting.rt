@@ -39,6 +39,7 @@ impl WaitingCalls {
         ensures calls { (m : Market) → holding m self.new ≡ with_calls (holding m self.old) level (calls_at (holding m self.old) level ++ call ∷ []) }
         ensures room { (l : Level) → (ring_at self.new l).capacity ≡ (ring_at self.old l).capacity }
     {
+        // The ring has room, so that no call falls out at its front.
         let _ = match level {
             Level::High => self.high.push_back(call),
             Level::Normal => self.normal.push_back(call),
