@@ -1,6 +1,6 @@
 -- What is drained of the three levels together.
 use Rattle.std.specs.List.{remove}
-use Rattle.std.proofs.Common.{◌<◌, ◌+◌, ℕ, suc, length, get_or, arith, length-append, ◌≡◌, List, [], ◌∷◌, ◌++◌, map, refl, sym, ap, ◌∙◌, subst}
+use Rattle.std.proofs.Common.{◌<◌, ◌+◌, ℕ, suc, length, get_or, arith, length-append, ◌≡◌, List, [], ◌∷◌, ◌++◌, map, sym, ap, ◌∙◌, subst}
 use Rattle.std.proofs.lemmas.List.{map-append, length-map}
 use Rattle.world_model.specs.declared.calls.Call.{Call}
 use Rattle.call_queues.specs.declared.marks.Marked.{Marked}

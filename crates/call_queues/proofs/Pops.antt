@@ -1,5 +1,5 @@
 -- What pops of the three levels tell together.
-use Rattle.std.proofs.Common.{◌≡◌, ℕ, ◌<◌, List, Option, Some, None, MatchOption, refl, sym, ap, ◌∙◌, subst, arith}
+use Rattle.std.proofs.Common.{◌≡◌, ℕ, ◌<◌, List, Option, Some, None, MatchOption, subst, arith}
 use Rattle.crossbeam_queue.specs.Fifo.{Held}
 use Rattle.world_model.specs.declared.calls.Call.{Call}
 use Rattle.call_queues.specs.declared.marks.Marked.{Marked}
@@ -8,7 +8,7 @@ use Rattle.job_language.specs.declared.tenants.Level.{Level}
 use Rattle.job_language.specs.declared.tenants.Level.TheVariants.{High, Normal, Low}
 use Rattle.call_queues.specs.Rule.{Sees, with_popped}
 use Rattle.call_queues.specs.Levels.{LevelPassSeen}
-use Rattle.call_queues.specs.Queues.{Three, three, at, with_at, rank, QueueSet, PassSeen, HeldAt, FoundNone, Found}
+use Rattle.call_queues.specs.Queues.{three, rank, QueueSet, PassSeen, HeldAt, FoundNone, Found}
 
 -- what a pop of one level tells
 abbrev pub LevelNone : LevelPassSeen → PassLog → Type 0

@@ -15,7 +15,7 @@ use Rattle.call_queues.specs.declared.marks.View.{View}
 use Rattle.call_queues.specs.declared.marks.View.TheVariants.{Owner, Keeper, Spent}
 use Rattle.call_queues.specs.Order.{LevelOrder, no_log, log_of}
 use Rattle.call_queues.specs.declared.marks.TheConstants.{MAX_CALLS}
-use Rattle.call_queues.specs.Rule.{Fits, IsKept, with_pushed, with_popped, after_push, after_pop, Drained, rest_of, next_of, with_log, both_of, view_of, Sees, SeesBy, SeesAll, Took}
+use Rattle.call_queues.specs.Rule.{Fits, IsKept, with_pushed, with_popped, after_push, after_pop, Drained, rest_of, next_of, both_of, view_of, Sees, SeesBy, SeesAll, Took}
 use Rattle.call_queues.specs.Levels.{taken_in}
 use Rattle.call_queues.proofs.Orders.{LevelOrder-push, LevelOrder-pop, LevelOrder-more, LevelOrder-none}
 

@@ -1,6 +1,6 @@
 -- Passes that a test takes from their list, the last one first.
 use Rattle.std.specs.List.{remove}
-use Rattle.std.proofs.Common.{◌≡◌, ℕ, zero, suc, ◌+◌, ◌<◌, List, [], ◌∷◌, length, get_or, refl, ap, ◌∙◌, arith}
+use Rattle.std.proofs.Common.{◌≡◌, ℕ, zero, suc, ◌+◌, ◌<◌, List, [], ◌∷◌, get_or, refl, ap, ◌∙◌, arith}
 use Rattle.call_queues.specs.Queues.{PassSeen, QueueSet, fresh}
 
 before : (xs : List PassSeen) (n k : ℕ) (d : PassSeen) → k < n → get_or (remove xs n) k d ≡ get_or xs k d

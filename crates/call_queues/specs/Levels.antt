@@ -1,5 +1,5 @@
 -- A level and its passes, as contracts see them.
-use Rattle.std.specs.Prelude.{◌≡◌, ℕ, ◌+◌, ◌≤◌, ◌<◌, List, [], ◌∷◌, ◌++◌, length, map}
+use Rattle.std.specs.Prelude.{ℕ, List, [], ◌∷◌}
 use Rattle.atomic_table.specs.Seated.{TableId}
 use Rattle.call_queues.specs.declared.marks.Marked.{Marked}
 use Rattle.call_queues.specs.declared.marks.PassLog.{PassLog}

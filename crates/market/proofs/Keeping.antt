@@ -1,5 +1,5 @@
 -- Each rule keeps what the lists of a market keep.
-use Rattle.std.proofs.Common.{◌≡◌, ℕ, ◌+◌, ◌<◌, ◌≤◌, List, [], ◌∷◌, ◌++◌, length, get_or, Option, Some, None, Bool, true, false, refl, sym, ap, ◌∙◌, arith, subst}
+use Rattle.std.proofs.Common.{◌≡◌, ℕ, ◌+◌, ◌<◌, List, [], ◌∷◌, ◌++◌, length, get_or, Option, Some, None, Bool, true, false, refl, sym, ap, ◌∙◌, arith, subst}
 use Rattle.std.specs.Prelude.{if◌then◌else◌, slice_set}
 use Rattle.std.proofs.lemmas.Option.{slice_get_within}
 use Rattle.std.proofs.lemmas.List.{length_push, get_or_read, set-get_or}
@@ -11,12 +11,12 @@ use Rattle.world_model.specs.declared.calls.SlotState.TheVariants as slot
 use Rattle.world_model.specs.declared.calls.WorkerState.{WorkerState}
 use Rattle.world_model.specs.declared.calls.WorkerState.TheVariants as worker
 use Rattle.world_model.specs.Market.{Market, call, slots_of, slot_at, with_slot, with_worker, worker_at, level_of, calls_at, with_calls, is_due, is_free, lowest_home, made_due, wake, push, first_call, hold, handed, pop, go_home, go_in, came, left, held_by, call_of}
-use Rattle.world_model.specs.Orderly.{is_reserved, is_level, room, IsOrderly, IsCounted}
+use Rattle.world_model.specs.Orderly.{is_reserved, is_level, room, IsOrderly}
 use Rattle.world_model.proofs.Ruling.{due_is, free_is, held_at, in_at, IsFirst, first_is, first_queued, calls_with, calls_at-slots, wake_orderly, push_orderly, pop_orderly, came_orderly, left_orderly}
 use Rattle.world_model.proofs.Counting.{there_is, wake_counted, push_counted, pop_counted, came_counted, left_counted, has_room}
 use Rattle.market.specs.declared.waiting.WaitingCalls.{WaitingCalls}
 use Rattle.market.specs.Slots.{woken}
-use Rattle.market.specs.Waiting.{ring_at, market_of, holding, leaving, Fits, IsKept}
+use Rattle.market.specs.Waiting.{ring_at, market_of, holding, Fits, IsKept}
 use Rattle.market.proofs.Rooms.{wake_room, push_room, pop_room, came_room, left_room}
 
 -- the rings have the capacities that they had

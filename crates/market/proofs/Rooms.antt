@@ -1,5 +1,5 @@
 -- The rules of the market leave each level its room.
-use Rattle.std.proofs.Common.{◌≡◌, ℕ, zero, suc, ◌+◌, ◌<◌, ◌≤◌, List, [], ◌∷◌, ◌++◌, length, Option, Some, None, Bool, true, false, refl, sym, ap, ◌∙◌, arith, inl, inr}
+use Rattle.std.proofs.Common.{◌≡◌, ℕ, zero, suc, ◌+◌, List, [], ◌∷◌, ◌++◌, length, Option, Some, None, Bool, true, false, refl, ap, ◌∙◌, arith, inl, inr}
 use Rattle.std.specs.Prelude.{if◌then◌else◌, slice_set, slice_index_or, count_by}
 use Rattle.std.proofs.lemmas.Bool.{cases_lt}
 use Rattle.std.proofs.lemmas.List.{get_or_past}
@@ -8,9 +8,7 @@ use Rattle.job_language.specs.declared.tenants.Level.{Level}
 use Rattle.world_model.specs.declared.calls.Call.{Call}
 use Rattle.world_model.specs.declared.calls.SlotState.{SlotState}
 use Rattle.world_model.specs.declared.calls.SlotState.TheVariants as slot
-use Rattle.world_model.specs.declared.calls.WorkerState.{WorkerState}
-use Rattle.world_model.specs.declared.calls.WorkerState.TheVariants as worker
-use Rattle.world_model.specs.Market.{Market, call, slots_of, slot_at, with_slot, with_worker, worker_at, level_of, calls_at, with_calls, is_due, home_slot, made_due, wake, push, first_call, hold, handed, pop, go_home, go_in, came, left, held_by, call_of}
+use Rattle.world_model.specs.Market.{Market, call, slot_at, with_slot, worker_at, level_of, calls_at, is_due, home_slot, made_due, wake, push, first_call, hold, handed, pop, go_home, go_in, came, left, held_by, call_of}
 use Rattle.world_model.specs.Orderly.{is_reserved, is_level, is_for_workers, tally, room, IsOrderly}
 use Rattle.world_model.proofs.Ruling.{home_at, due_is, held_at, in_at, IsFirst, first_is, first_queued, calls_rest}
 

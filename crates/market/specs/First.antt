@@ -1,5 +1,5 @@
 -- The market in which nothing was done yet.
-use Rattle.std.specs.Prelude.{◌≡◌, ℕ, ◌-◌, List, [], ◌++◌, map, replicate}
+use Rattle.std.specs.Prelude.{ℕ, ◌-◌, List, [], ◌++◌, map, replicate}
 use Rattle.call_queues.specs.declared.config.MarketTenant.{MarketTenant}
 use Rattle.world_model.specs.declared.calls.SlotState.{SlotState}
 use Rattle.world_model.specs.declared.calls.SlotState.TheVariants as slot

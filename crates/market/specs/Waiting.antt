@@ -1,5 +1,5 @@
 -- The calls that wait, in the words of the market.
-use Rattle.std.specs.Prelude.{ℕ, ◌≤◌, List, Option, Some, None}
+use Rattle.std.specs.Prelude.{◌≤◌, List, Option, Some, None}
 use Rattle.circular_buffer.specs.Buffer.{Buffer}
 use Rattle.job_language.specs.declared.tenants.Level.{Level}
 use Rattle.job_language.specs.declared.tenants.Level.TheVariants.{High, Normal, Low}

@@ -1,7 +1,7 @@
-use Rattle.std.proofs.Common.{◌≡◌, ◌≤◌, ◌<◌, ◌++◌, ◌∷◌, [], true, if◌then◌else◌, length, map, vec_capacity, vec_len, sym, ap, ◌∙◌, arith, append_assoc, subst}
+use Rattle.std.proofs.Common.{◌≡◌, ◌<◌, ◌++◌, ◌∷◌, [], length, vec_capacity, ◌∙◌, arith}
 use Rattle.std.proofs.lemmas.Grind.{common_steps}
-use Rattle.std.specs.Result.{is_ok, IsOk}
-use Rattle.call_queues.proofs.Rules.{drains_at, drained, drained_all, written_more, room_left}
+use Rattle.std.specs.Result.{IsOk}
+use Rattle.call_queues.proofs.Rules.{drains_at, drained, written_more, room_left}
 use Rattle.call_queues.proofs.level.LevelQueue.drain.Goals as goal
 
 pub pop_as-requires-clause-rule : goal.pop_as-requires-clause-rule

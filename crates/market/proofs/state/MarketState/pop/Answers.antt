@@ -1,8 +1,8 @@
-use Rattle.std.proofs.Common.{◌≡◌, true, Option, Some, sym, ap, ◌∙◌, subst, arith}
+use Rattle.std.proofs.Common.{◌≡◌, true, Option, sym, ap, ◌∙◌, subst, arith}
 use Rattle.world_model.specs.declared.calls.Call.{Call}
 use Rattle.world_model.specs.declared.calls.SlotState.TheVariants as slot
 use Rattle.world_model.specs.declared.calls.WorkerState.TheVariants as worker
-use Rattle.world_model.specs.Market.{Market, worker_at, is_free, first_call, pop}
+use Rattle.world_model.specs.Market.{Market, worker_at, is_free, pop}
 use Rattle.market.specs.Waiting.{market_of, holding, leaving}
 use Rattle.market.proofs.Keeping.{pop_kept, pop_there, pop_some, worker_there, there_row, both_set}
 use Rattle.market.proofs.state.MarketState.pop.Goals as goal
