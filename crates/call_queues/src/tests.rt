@@ -1,3 +1,4 @@
 //! Worked examples, and four threads at one market.
 mod examples;
+mod spawned;
 mod threads;
