@@ -1,4 +1,4 @@
-// The calls, each made again where memory was refused.
+// The calls, each made again if an allocation failed.
 use crate::jobs::{serial_job, steps, tenant};
 use history_check::{Verdict, check};
 use job_language::{Answer, Entry, Reply, Status, Step};

@@ -1,4 +1,4 @@
-//! Makes each call of the evaluator that takes memory, and makes it again where memory was refused,
+//! Makes each call of the evaluator that takes memory, and makes it again if an allocation failed,
 //! and prints the answers. What it prints is the same whichever allocation was refused.
 #![tactic(auto)]
 

@@ -1,4 +1,4 @@
--- Whether a history is one of its tenant, and where it first is not.
+-- Whether a history is one of its tenant, and which entry is the first that is not.
 use Rattle.std.specs.Prelude.{ℕ, ◌+◌, ◌&&◌, ◌⊎◌, Bool, if◌then◌else◌, List, [], ◌∷◌, Option, Some, None}
 use Rattle.job_language.specs.Recorded.{is_entry}
 use Rattle.job_language.specs.declared.steps.Entry.{Entry}
@@ -12,7 +12,7 @@ use Rattle.history_check.specs.SameAnswer.{same_answer}
 abbrev pub is_right : State → Entry → Bool
 is_right s e = is_entry e.answer && same_answer (step s e.step).0 e.answer
 
--- the number of the first entry that is not right, where the first has the number k
+-- the number of the first wrong entry in a list whose first entry has the number k
 abbrev pub wrong_from : State → ℕ → List Entry → Option ℕ
 wrong_from s k [] = None
 wrong_from s k (e ∷ es) = if is_right s e then wrong_from (step s e.step).1 (k + 1) es else Some k

@@ -19,9 +19,9 @@ pub enum Verdict {
     No(u64),
 }
 
-/// Takes the steps of a history anew, from a tenant that has done nothing yet, and compares the
-/// answers. An answer that changes nothing, as that of an idle advance, is no entry of a history. It
-/// fails only if a step brings a job or makes a row and an allocation failed.
+/// Takes the steps of a history again, from a tenant that has done nothing yet, and compares the
+/// answers. An answer that changes nothing, such as that of an idle advance, is not an entry of a
+/// history. It fails only if a step brings a job or makes a row and an allocation failed.
 pub fn check(alloc: Global, config: TenantConfig, entries: &[Entry]) -> Result<Verdict, AllocError>
     ensures verdict { IfOk result (λ verdict. verdict ≡ verdict_of config entries.now) }
 

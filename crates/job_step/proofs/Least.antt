@@ -11,7 +11,7 @@ use Rattle.job_step.specs.Frame.{instr_at, effect}
 use Rattle.job_step.specs.Run.{effect_at, run_on, run_for, run_of}
 use Rattle.job_step.specs.Least.{moved_to, next_of, frame_after, IsLeastRun}
 
--- f is where the frame that started stands after c instructions
+-- f is the frame that the first one has become after c instructions
 module _ (procs : List (List Instr)) (slot width : ℕ) (start : Frame) where
   abbrev IsReached : ℕ → Frame → Type 0
   IsReached c f = frame_after procs slot width start c ≡ Some f

@@ -1,4 +1,4 @@
-// Frames: where a task stands in its program.
+// Frames: how far a task has come in its program.
 ghost use Rattle.std.specs.Prelude.{◌≡◌, ◌+◌, ◌<◌, false, IfSome};
 ghost use Rattle.job_language.specs.Program.{is_last};
 ghost use Rattle.job_step.specs.declared.frames.TheConstants.{LAST_PLACE};
@@ -11,8 +11,8 @@ pub const LAST_PLACE: u8 = 255;
 
 const _: () = prove!(LAST_PLACE as usize + 1 == MAX_INSTRS);
 
-/// Where the work of a row stands: a procedure of its job, the place of the next instruction there,
-/// and the registers.
+/// The state of a row's task: a procedure of its job, the place of the next instruction there, and
+/// the registers.
 #[derive(Clone, Copy, Debug, PartialEq, Eq)]
 pub struct Frame {
     pub procedure: u8,

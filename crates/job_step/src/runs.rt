@@ -35,7 +35,7 @@ pub struct Run {
     pub stop: Stop,
 }
 
-/// Where a frame stands after an instruction that it executes by itself.
+/// What follows an instruction that a frame executes by itself.
 #[derive(Clone, Copy)]
 pub(crate) enum Next {
     Place(u8),

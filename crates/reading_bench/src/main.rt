@@ -1,5 +1,5 @@
 //! Reads small requests from memory, in blocks of the size that its first word says, and as many as
-//! its second word says, and prints how long that took beside `serde_json` alone on the same lines.
+//! its second word says, and prints how long that took, compared with `serde_json` alone on the same lines.
 //! Without words it prints how many requests it read of a few.
 #![tactic(auto)]
 
@@ -11,7 +11,7 @@ use std::env::Env;
 use std::{env, io};
 use times::compare;
 
-/// How many requests are read where no word says it.
+/// How many requests are read if no argument says it.
 const FEW: usize = 1000;
 
 fn main(rt: HostRuntime) -> io::Result<()> {

@@ -15,7 +15,7 @@ pub struct Tagged {
     /// The region that the row is in, which is the row itself if it is a region; `None` outside all
     /// regions.
     pub tag: Option<RowId>,
-    /// The region around the row, where that is a region inside another one.
+    /// The region around the row, if the row is a region inside another one.
     pub around: Option<RowId>,
 }
 

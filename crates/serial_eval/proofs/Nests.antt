@@ -12,7 +12,7 @@ use Rattle.tenant_model.proofs.SerialRule.{given_of-zero, given_of-suc}
 use Rattle.serial_eval.specs.declared.serials.Nest.{Nest}
 use Rattle.serial_eval.specs.InsideNest.{given_to, value_given, nest_value}
 
--- what is given where one more maker waits, for the last of the others to wait for
+-- the result with one more maker, innermost
 given_to-append : (procs : List (List Instr)) (makers : List SerialMaker) (m : SerialMaker) (given : Given) →
     given_to procs (makers ++ m ∷ []) given ≡ given_to procs makers (given_then given (λ v rest. given_of procs rest (with_value m v)))
 given_to-append procs [] m given = refl

@@ -61,7 +61,7 @@ nobody_good s well one = record {
 nobody_names : NamesGroups []
 nobody_names f i at = absurd (grind (arith, ap is_some at))
 
--- what a row makes is of its job, whatever the step
+-- In every step, what a row makes belongs to its job.
 pub step_one : (s : State) (x : Step) → IsWellFormed s → OneJob s.rows → OneJob (step s x).1.rows
 step_one s x well one = (step_good nobody refl nobody_names s x well (nobody_good s well one)).one
 
@@ -122,7 +122,7 @@ complete_is o s v some is complete = elim (either_way (has_outcome s.rows o.numb
     no_cost true = refl
     no_cost false = refl
 
--- a job that came by an ask behind the first steps
+-- a job that an ask brought after the first steps
 gives_from : (s : State) (ys zs : List Step) (r : Request) (b : Job) (j : ℕ) (v : ℤ) → IsWellFormed s → OneJob s.rows → job_of r ≡ Some b → IsValidProgram b.program → number_made (ask (after s ys) r).0 ≡ Some j →
     is_serial b.program ≡ true → let t = after s (ys ++ steps.Ask r ∷ zs) in status t.rows j (job t.jobs j) ≡ Complete v → serial_value b.program b.args b.fuel ≡ Some v
 gives_from s [] zs r b j v well one brings valid made serial complete =

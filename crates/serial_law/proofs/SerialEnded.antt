@@ -106,7 +106,7 @@ module _ (j n : ℕ) (rows : List Row) (children : HasChildren j n rows) where
       go [] none = refl
       go (p ∷ ps) none = absurd (grind (arith, none))
 
-  -- where nothing is pending, the sum is the total
+  -- If nothing is pending, the sum is the total.
   pub sum-total : (values : Values) (g : ℕ) → is_pending rows n g ≡ false → unwrap_or (sum_for j rows values n g (mark rows n g).rows) (pos 0) ≡ total rows n g
   sum-total values g settled_row = ap (λ x. unwrap_or x (pos 0)) (sum-members values g) ∙ go None (members rows n g) settled_row
     where

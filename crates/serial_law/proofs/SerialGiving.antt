@@ -30,7 +30,7 @@ pub record Gives (procs : List (List Instr)) (t : SerialTask) (v : ℤ) (count :
   pub gives : (more : ℕ) → given_of procs (count + more) t ≡ Some (v, more)
 
 module _ (procs : List (List Instr)) (t : SerialTask) where
-  -- a task that goes on as another one
+  -- a task that continues in another state
   pub gives_goes : (u : SerialTask) (v : ℤ) (c : ℕ) → turn_at (instr_at procs t.frame) t ≡ turn.Goes u → Gives procs u v c → Gives procs t v (c + 1)
   gives_goes u v c goes after = record {
     gives = λ more.

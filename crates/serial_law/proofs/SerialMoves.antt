@@ -23,7 +23,7 @@ sum_except t u n (suc most) from to each = elim (cases_eq n (suc most)) [
       omega (arith, before, last)
 ]
 
--- the rows of a job are as they were, but for where they are live
+-- The rows of a job are unchanged, except for where they are live.
 pub record SameJob (j : ℕ) (a b : List Row) : Type 0 where
   pub long : length a ≤ length b
   pub kinds : (k : ℕ) → 1 ≤ k → k ≤ length a → (row b k).kind ≡ (row a k).kind
@@ -113,7 +113,7 @@ module _ (j n : ℕ) (a b : List Row) (moved : IsMoved n a b) where
   pub moved-regions : (p : ℕ) → SameRegions j p a b
   moved-regions p = λ k from to own is_one. ap is_open (moved-phases k from to)
 
-  -- what the rows that were there cost, where n costs more
+  -- the cost of the earlier rows, if n costs more
   pub moved-costs : (costs : Counts) (extra : ℕ) → (row a n).job ≡ j → is_open (row a n).phase ≡ true →
       fold_to (λ k x. x + cost_of j costs k (row b k)) 0 (length a) + extra ≡ cost_for j a (put n (costs n + extra) costs)
   moved-costs costs extra own opened =

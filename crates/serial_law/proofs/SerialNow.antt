@@ -1,4 +1,4 @@
--- How far the rows of a serial job are, where each row that is open gives some value by some number of instructions.
+-- How far the rows of a serial job have come, if each open row returns some value after some number of instructions.
 use Rattle.std.proofs.Common.{◌≡◌, ℕ, zero, suc, ◌+◌, ◌==◌, ◌<◌, ◌≤◌, List, [], ◌∷◌, length, Option, Some, None, Bool, true, false, ◌&&◌, nat_lt, refl, ap, ◌∙◌, arith, inl, inr, ◌⊎◌, ℤ, pos, unwrap_or}
 use Rattle.std.specs.Prelude.{if◌then◌else◌}
 use Rattle.std.specs.Int.{int_wrapping_add, w64}
@@ -63,7 +63,7 @@ added b so_far v = if b then Some (int_wrapping_add w64 (unwrap_or so_far (pos 0
 abbrev pub add_row_to : (j : ℕ) → List Row → Values → (n g from : ℕ) → ℕ → Option ℤ → Option ℤ
 add_row_to j rows values n g from k so_far = added (counts j n g from k (row rows k)) so_far (value_by (row rows k).phase (values k))
 
--- the sum of a group, none where it has no member
+-- the sum of a group, `None` if it has no member
 abbrev pub sum_for : (j : ℕ) → List Row → Values → (n g from : ℕ) → Option ℤ
 sum_for j rows values n g from = fold_to (add_row_to j rows values n g from) None (length rows)
 

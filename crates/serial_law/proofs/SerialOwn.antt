@@ -1,4 +1,4 @@
--- What a row of a serial job does, where it is on top of its slot.
+-- What a row of a serial job does on top of its slot.
 use Rattle.std.proofs.Common.{◌≡◌, ◌≢◌, ℕ, zero, suc, ◌+◌, ◌-◌, ◌==◌, ◌<◌, ◌≤◌, List, [], ◌∷◌, ◌++◌, length, Option, Some, true, false, refl, sym, ap, ◌∙◌, arith, inl, inr, length-set, ℤ, pos}
 use Rattle.std.specs.Prelude.{slice_set}
 use Rattle.std.proofs.lemmas.Bool.{cases_eq, cases_lt}
@@ -320,7 +320,7 @@ module _ (o : Origin) (s : State) (slot n count debt : ℕ) (f : Frame) (run : H
   abbrev done : ℤ → Row
   done v = record (row s.rows n) { frame = f; phase = Done v }
 
-  -- the row ended, and its maker goes on where it is a region
+  -- The row ended, and its maker continues if the row is a region.
   ended_good : (t : State) (x : ℕ) (v : ℤ) → count + 1 ≤ debt → instr_at o.program f ≡ Some (Ret x) → register f x ≡ v → has_used_group s n ≡ false → t.jobs ≡ s.jobs → IsLinked t → OneJob t.rows → HasEnded o.program o.number n s.rows t.rows v →
       (IsFollowed o s.rows left debt → (k : ℕ) → 1 ≤ k → k ≤ length t.rows → (row t.rows k).job ≡ o.number → AreClear (row t.rows k).marks) → Good o t 0
   ended_good t x v le at gives unused same linked one ended clear =

@@ -24,10 +24,10 @@ pub one_more : (n c : ℕ) → c < n → range_with_len c (n - c) ≡ c ∷ rang
 one_more n c below = let e : n - c ≡ suc (n - (c + 1)) = omega arith in rw e (grind (arith, common_steps))
 
 module _ (p : ℕ → Bool) (n c : ℕ) (below : c < n) where
-  -- The first number of a range is found where it passes.
+  -- The first number of a range is found if it passes.
   pub find-here : p c ≡ true → find p (range_with_len c (n - c)) ≡ Some c
   find-here passes = rw (one_more n c below, passes) refl
 
-  -- The search goes on after a number that does not.
+  -- The search continues after a number that does not.
   pub find-next : p c ≡ false → find p (range_with_len c (n - c)) ≡ find p (range_with_len (c + 1) (n - (c + 1)))
   find-next fails = rw (one_more n c below, fails) refl

@@ -210,7 +210,7 @@ attended_asks = record {
   enter = entry_stays;
 }
 
--- Each step keeps that makers stay, where the programs of all jobs are valid.
+-- Each step preserves that makers stay, if the programs of all jobs are valid.
 pub advance_attended : (s : State) (slot : ℕ) → IsWellFormed s → IsUnstuck s → Both s → Both (advance s slot).1
 advance_attended s slot well unstuck is = advance_keeps IsUnstuck Both Both slot (attended_advances slot) s well unstuck is
 

@@ -18,7 +18,7 @@ use Rattle.tenant_model.specs.Changes.{is_full, is_row_limit_met, finish_step, f
 use Rattle.tenant_model.specs.Shared.{execute, has_used_group}
 use Rattle.tenant_model.specs.Advance.{would_be_recorded, unless_full, pay, is_poor, with_fuel, with_fuel_paid, is_blocked, move_on, after_run}
 
--- a step is as it is where the history has room
+-- If the history has room, a step is answered as it is without the limit.
 pub unless_full-room : (s : State) (r : Moved × State) → is_full s ≡ false → unless_full s r ≡ r
 unless_full-room s r room = rw (room, and_right (would_be_recorded r.0) false refl) refl
 

@@ -48,7 +48,7 @@ live_low rows stacked n slot h live =
       ],
     )
 
--- fewer rows are live, where they stood
+-- Fewer rows are live, each at the place where it was.
 pub AreInside-fewer : (a b : List Row) → ((n : ℕ) → (row b n).kind ≡ (row a n).kind) → ((n slot h : ℕ) → (row b n).phase ≡ Live slot h → (row a n).phase ≡ Live slot h) → AreInside a → AreInside b
 AreInside-fewer a b kinds lives inside x y slot low high q x_live y_live le is_one within =
     let region : is_region (row a q).kind ≡ true = ap is_region (sym (kinds q)) ∙ is_one in

@@ -15,7 +15,7 @@ use Rattle.tenant_model.proofs.Stacked.{IsOff}
 use Rattle.tenant_model.proofs.Insides.{live_there, live_low}
 use Rattle.tenant_model.proofs.Parts.{off_live, same_place, row-settle, SameSources-settle, settle-lives}
 
--- no row starts to wait, and none is live but where it was
+-- No row starts to wait, and the live rows are where they were.
 pub record StartFewer (a b : List Row) : Type 0 where
   pub kinds : (n : ℕ) → (row b n).kind ≡ (row a n).kind
   pub waits : (n : ℕ) → is_unstarted (row b n).phase ≡ true → is_unstarted (row a n).phase ≡ true

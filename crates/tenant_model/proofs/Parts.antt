@@ -106,7 +106,7 @@ module _ (rows : List Row) (n : ℕ) (r : Row) (from : 1 ≤ n) (to : n ≤ leng
     | inr other ↦ ap (λ (q : Row). q.kind) (row-with_other rows n m r from other)
   ]
 
-  -- a row that is live no more, or where it was
+  -- The row is no longer live, or is where it was.
   pub AreInside-set : ((slot h : ℕ) → r.phase ≡ Live slot h → (row rows n).phase ≡ Live slot h) → AreInside rows → AreInside (with_at_number rows n r)
   AreInside-set lives inside = AreInside-fewer rows (with_at_number rows n r) kinds_set (λ m slot h live. elim (cases_eq m n) [
     | inl same ↦

@@ -1,4 +1,4 @@
--- Where a private run ends: with as many registers as it began, at the instruction that it stops at. What an instruction of a valid program names.
+-- The end of a private run: it has as many registers as at its start, and is at the instruction that stops it. What an instruction of a valid program names.
 use Rattle.std.proofs.Common.{◌≡◌, ℕ, zero, suc, ◌+◌, ◌<◌, List, [], length, get_or, inl, inr, arith, unwrap_or, Option, Some, None, refl, sym, ap, ◌∙◌, length-set, ℤ, pos}
 use Rattle.std.specs.Prelude.{int_lt, if◌then◌else◌, is_some, slice_get, slice_index_or, slice_set, IfSome}
 use Rattle.std.specs.Int.{int_wrapping_add, int_wrapping_sub, int_wrapping_mul, int_wrapping_div, w64}

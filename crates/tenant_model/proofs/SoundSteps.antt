@@ -189,7 +189,7 @@ empty_sound c slots reserved = record {
   settled = λ n waits. let there = unstarted_there [] n waits in absurd (omega (arith, there));
 }
 
--- makers stay, where the programs of all jobs are valid
+-- Makers stay, if the programs of all jobs are valid.
 pub step_attended : (s : State) (x : Step) → IsSound s → IsUnstuck s → MakersStay s → MakersStay (step s x).1
 step_attended s (Ask r) is unstuck stay = (ask_attended s r is.well_formed unstuck (is.tended, stay)).1
 step_attended s (Arrive slot) is unstuck stay = (arrive_attended s slot is.well_formed unstuck (is.tended, stay)).1

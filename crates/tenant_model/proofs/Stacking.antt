@@ -11,7 +11,7 @@ use Rattle.tenant_model.specs.Walks.{height}
 use Rattle.tenant_model.specs.WellFormed.{rows_at, AreStacked}
 use Rattle.tenant_model.proofs.Changed.{row-get_or}
 
--- one where the test holds
+-- one if the test holds
 abbrev pub one_if : Bool → ℕ
 one_if b = if b then 1 else 0
 

@@ -83,7 +83,7 @@ settled_opens r b (Done v) is opens = rw is at opens
 settled_opens r b Dropped is opens = rw is at opens
 settled_opens r b Faulted is opens = rw is at opens
 
--- a row by what it is where it is there
+-- What holds of the two rows of each number in the lists holds for every number.
 pub by_place : (a b : List Row) → length b ≡ length a → (P : Row → Row → Type 0) → ((r : Row) → P r r) → ((n : ℕ) → 1 ≤ n → n ≤ length a → P (row a n) (row b n)) → (n : ℕ) → P (row a n) (row b n)
 by_place a b long P same there zero = same (row a 0)
 by_place a b long P same there (suc n) = elim (cases_lt (length a) (suc n)) [

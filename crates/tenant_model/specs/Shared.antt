@@ -1,4 +1,4 @@
--- Shared instructions: what the topmost row n of a slot does, whose frame f stands at one.
+-- Shared instructions: what the topmost row n of a slot does if its frame f is at one.
 use Rattle.std.specs.Prelude.{ℕ, ◌+◌, ◌==◌, ℤ, pos, Bool, true, false, ◌||◌, if◌then◌else◌, Option, Some, None, unwrap_or, length, slice_set}
 use Rattle.job_language.specs.declared.errors.JobFault.TheVariants.{TooDeep, TaskLimit, MissingWait}
 use Rattle.job_language.specs.declared.instructions.Instr.{Instr}
