@@ -10,7 +10,7 @@ use Rattle.world_model.specs.declared.calls.SlotState.{SlotState}
 use Rattle.world_model.specs.declared.calls.SlotState.TheVariants as slot
 use Rattle.world_model.specs.declared.calls.WorkerState.{WorkerState}
 use Rattle.world_model.specs.declared.calls.WorkerState.TheVariants as worker
-use Rattle.world_model.specs.Market.{Market, call, slots_of, slot_at, with_slot, with_worker, worker_at, level_of, calls_at, with_calls, is_due, is_free, lowest_home, made_due, wake, push, first_call, hold, handed, pop, go_home, go_in, came, left, held_by, call_of}
+use Rattle.world_model.specs.Market.{Market, call, slots_of, slot_at, with_slot, with_worker, worker_at, level_of, calls_at, with_calls, is_due, is_free, lowest_home, with_due, wake, push, first_call, hold, hand_over, pop, go_home, go_in, came, left, held_by, call_of}
 use Rattle.world_model.specs.Orderly.{is_reserved, is_level, room, IsOrderly}
 use Rattle.world_model.proofs.Ruling.{due_is, free_is, held_at, in_at, IsFirst, first_is, first_queued, calls_with, calls_at-slots, wake_orderly, push_orderly, pop_orderly, came_orderly, left_orderly}
 use Rattle.world_model.proofs.Counting.{there_is, wake_counted, push_counted, pop_counted, came_counted, left_counted, has_room}
@@ -73,10 +73,10 @@ pub worker_there : (m : Market) (k : ℕ) → is_free (worker_at m k) ≡ true �
 worker_there m k free = slice_get_within m.workers k worker.Free (free_is (worker_at m k) free)
 
 pub pop_none : (m : Market) (k : ℕ) → first_call m m.high m.normal m.low ≡ None → pop m k ≡ (None, m)
-pop_none m k none = ap (handed m k) none
+pop_none m k none = ap (hand_over m k) none
 
 pub pop_some : (m : Market) (k : ℕ) (c : Call) (n : Market) → first_call m m.high m.normal m.low ≡ Some (c, n) → pop m k ≡ (Some c, hold n k c)
-pop_some m k c n some = ap (handed m k) some
+pop_some m k c n some = ap (hand_over m k) some
 
 ring_calls : (levels : List Level) (slots : List (List SlotState)) (v : WaitingCalls) (workers : List WorkerState) (k : Level) → calls_at (market_of levels slots v workers) k ≡ (ring_at v k).items
 ring_calls levels slots v workers High = refl
@@ -123,7 +123,7 @@ push_is levels slots v w workers c k row new read there set level_read level_the
     ∙ ap (λ cs. with_calls n k (cs ++ c ∷ [])) (calls_at-slots m k c.tenant c.slot slot.Queued)
     ∙ ap (λ l. with_calls n l (calls_at m l ++ c ∷ [])) level
 
-woken_is : (levels : List Level) (slots : List (List SlotState)) (v : WaitingCalls) (workers : List WorkerState) (t : ℕ) (o : Option ℕ) → market_of levels (slice_set slots t (woken (get_or slots t []) o)) v workers ≡ made_due (market_of levels slots v workers) t o
+woken_is : (levels : List Level) (slots : List (List SlotState)) (v : WaitingCalls) (workers : List WorkerState) (t : ℕ) (o : Option ℕ) → market_of levels (slice_set slots t (woken (get_or slots t []) o)) v workers ≡ with_due (market_of levels slots v workers) t o
 woken_is levels slots v workers t None = ap (λ rows. market_of levels rows v workers) (set-get_or slots t [])
 woken_is levels slots v workers t (Some s) = refl
 

@@ -8,7 +8,7 @@ use Rattle.job_language.specs.declared.tenants.Level.{Level}
 use Rattle.world_model.specs.declared.calls.Call.{Call}
 use Rattle.world_model.specs.declared.calls.SlotState.{SlotState}
 use Rattle.world_model.specs.declared.calls.SlotState.TheVariants as slot
-use Rattle.world_model.specs.Market.{Market, call, slot_at, with_slot, worker_at, level_of, calls_at, is_due, home_slot, made_due, wake, push, first_call, hold, handed, pop, go_home, go_in, came, left, held_by, call_of}
+use Rattle.world_model.specs.Market.{Market, call, slot_at, with_slot, worker_at, level_of, calls_at, is_due, home_slot, with_due, wake, push, first_call, hold, hand_over, pop, go_home, go_in, came, left, held_by, call_of}
 use Rattle.world_model.specs.Orderly.{is_reserved, is_level, is_for_workers, tally, room, IsOrderly}
 use Rattle.world_model.proofs.Ruling.{home_at, due_is, held_at, in_at, IsFirst, first_is, first_queued, calls_rest}
 
@@ -46,7 +46,7 @@ rows_room level (k ∷ ks) (row ∷ rows) (suc t) s x was is = ap (λ n. (if is_
 kept_room : (m n : Market) (t s : ℕ) (b : SlotState) → n.levels ≡ m.levels → n.slots ≡ (with_slot m t s b).slots → is_reserved (slot_at m t s) ≡ false → is_reserved b ≡ false → (l : Level) → room n l ≡ room m l
 kept_room m n t s b levels slots was is l = (λ i. tally is_for_workers l (levels i) (slots i)) ∙ rows_room l m.levels m.slots t s b was is
 
-made_room : (m : Market) (t : ℕ) (o : Option ℕ) → home_slot m t ≡ o → (l : Level) → room (made_due m t o) l ≡ room m l
+made_room : (m : Market) (t : ℕ) (o : Option ℕ) → home_slot m t ≡ o → (l : Level) → room (with_due m t o) l ≡ room m l
 made_room m t None found l = refl
 made_room m t (Some s) found l = kept_room m (with_slot m t s slot.Due) t s slot.Due refl refl (ap is_reserved (home_at m t s found)) refl l
 
@@ -58,7 +58,7 @@ push_room m t s due l =
     let rest = calls_rest (with_slot m t s slot.Queued) (level_of m t) (calls_at m (level_of m t) ++ call t s ∷ []) in
     kept_room m (push m t s) t s slot.Queued rest.2 rest.0 (ap is_reserved (due_is (slot_at m t s) due)) refl l
 
-handed_room : (m : Market) (k : ℕ) (o : Option (Call × Market)) → IsFirst m o → IsOrderly m → (l : Level) → room (handed m k o).1 l ≡ room m l
+handed_room : (m : Market) (k : ℕ) (o : Option (Call × Market)) → IsFirst m o → IsOrderly m → (l : Level) → room (hand_over m k o).1 l ≡ room m l
 handed_room m k None first is l = refl
 handed_room m k (Some p) first is l =
     let rest = calls_rest m first.0 first.1 in
