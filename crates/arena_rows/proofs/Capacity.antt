@@ -1,17 +1,22 @@
 -- There is room for one more context.
-use Rattle.std.proofs.Common.{◌≡◌, ◌≢◌, ℕ, zero, suc, ◌+◌, ◌-◌, ◌*◌, ◌<◌, ◌≤◌, List, [], ◌∷◌, length, Option, Some, None, Bool, true, false, refl, sym, ap, ◌∙◌, arith, get_or}
+use Rattle.std.proofs.Common.{◌≡◌, ◌&&◌, nat_lt, ◌≢◌, ℕ, zero, suc, ◌+◌, ◌-◌, ◌*◌, ◌<◌, ◌≤◌, List, [], ◌∷◌, length, Option, Some, None, Bool, true, false, refl, sym, ap, ◌∙◌, arith, get_or}
 use Rattle.std.specs.Prelude.{sum_by, count_by, is_some, slice_index_or}
-use Rattle.std.proofs.lemmas.List.Sums.{sum_by-cons, count_by-le-length}
+use Rattle.std.proofs.lemmas.List.Sums.{sum_by-cons, count_by-le-length, length-filter}
+use Rattle.std.proofs.lemmas.List.FromFn.{length-enumerate_from}
 use Rattle.job_language.specs.declared.instructions.TheConstants.{GROUPS}
 use Rattle.cancel_context.specs.Forest.{held_count}
 use Rattle.cancel_context.specs.declared.contexts.TheConstants.{BASE_CONTEXTS, CONTEXTS_PER_ROW}
 use Rattle.tenant_model.specs.declared.works.TheConstants.{MAX_JOBS}
 use Rattle.tenant_model.specs.State.{State, row}
+use Rattle.tenant_model.specs.Walks.{NumberedRow, numbered_rows, members, mark, is_open, is_spawned_by}
+use Rattle.task_group.specs.Groups.{group}
 use Rattle.arena_rows.specs.declared.rows.OpenRow.{OpenRow}
 use Rattle.arena_rows.specs.declared.rows.Source.{Source}
 use Rattle.arena_rows.specs.declared.rows.Source.TheVariants as source
 use Rattle.arena_rows.specs.Held.{Held}
-use Rattle.arena_rows.specs.Represents.{at_place, one_if, is_spawned, held_by, Stands, Holds}
+use Rattle.arena_rows.specs.Represents.{at_place, one_if, is_spawned, held_by, Stands, IsRow, Holds}
+use Rattle.arena_rows.specs.HeldChanges.{next_place}
+use Rattle.arena_rows.proofs.Making.{has_next}
 use Rattle.arena_rows.proofs.Started.{some_is}
 use Rattle.arena_rows.proofs.Alike.{count_cons}
 
@@ -69,3 +74,19 @@ group_room a s is p g e within there long few none =
     let fewer = none_fewer e.group_contexts g (omega (arith, few, long)) none in
     let less : held_by (at_place a.table p) < 5 = rw there (omega (arith, fewer, long, one_at_most (is_spawned e.source))) in
     context_room a s is p within less
+
+-- while a place is free
+pub row_room : (a : Held) (s : State) (is : Holds a s) → 0 < length a.free → held_count a.contexts < length a.contexts
+row_room a s is some =
+    let next = has_next a s is some in
+    let vacant = next.vacant in
+    let less : held_by (at_place a.table (next_place a)) < 5 = rw vacant (omega arith) in
+    context_room a s is (next_place a) next.within less
+
+-- The members of a group that are open are at most the rows.
+pub pending_most : (a : Held) (s : State) (is : Holds a s) (n g : ℕ) (e : OpenRow) → IsRow s.rows is.places n e → g < GROUPS → (group e.groups g).pending ≤ a.made
+pending_most a s is n g e its few =
+    let open_members = count_by-le-length (λ (p : NumberedRow). is_open p.1.phase) (members s.rows n g) in
+    let all_members = length-filter (λ (p : NumberedRow). is_spawned_by n g p.1.kind && nat_lt (mark s.rows n g).rows p.0) (numbered_rows s.rows) in
+    let all_rows = count_by-le-length (λ (p : NumberedRow). is_spawned_by n g p.1.kind && nat_lt (mark s.rows n g).rows p.0) (numbered_rows s.rows) in
+    omega (arith, (its.groups g few).pending, open_members, all_members, all_rows, length-enumerate_from 1 s.rows, is.made)

@@ -33,3 +33,4 @@ pub mod Regioned
 pub mod SpawnedRow
 pub mod Capacity
 pub mod RowHeld
+pub mod SpawnSteps

@@ -82,7 +82,7 @@ module _ (a : Held) (s : State) (rests : Rests a s) where
       let same : (stands.entry.number == n) ≡ true = grind (arith, number) in
       rw (rests.holds.tags.each (rests.holds.places n), stands.there, same) (grind arith)
 
-  tag_entered : (n : ℕ) (o : Option ℕ) → region_of s.rows n ≡ o → 1 ≤ n → n ≤ length s.rows → is_open (row s.rows n).phase ≡ true → HasNoFault s n → IsRegionEntered a.regions (option_map (id_of rests.holds.places) o)
+  pub tag_entered : (n : ℕ) (o : Option ℕ) → region_of s.rows n ≡ o → 1 ≤ n → n ≤ length s.rows → is_open (row s.rows n).phase ≡ true → HasNoFault s n → IsRegionEntered a.regions (option_map (id_of rests.holds.places) o)
   tag_entered n None found from to opened fine = λ x same. absurd (grind (arith, ap is_some same))
   tag_entered n (Some q) found from to opened fine = λ x same.
       let e : id_of rests.holds.places q ≡ x = ap (λ o. unwrap_or o x) same in

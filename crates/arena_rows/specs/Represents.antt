@@ -243,3 +243,7 @@ pub record IsGiven (a b : Held) (s : State) (is : Holds a s) (n g c : ℕ) : Typ
   pub holds : Holds b s
   pub places : (m : ℕ) → holds.places m ≡ is.places m
   pub given : holds.assigned.of_group n g ≡ Some c
+
+-- A row of a job without a fault is on a slot, in some settled state that is held, and a group of it has the context c.
+abbrev pub HasGroup : Held → (slot g c : ℕ) → Type 0
+HasGroup a slot g c = (s : State) × (n : ℕ) × (is : Holds a s) × IsSettled s × (top s.rows slot ≡ Some n) × (is.assigned.of_group n g ≡ Some c) × ((job s.jobs (row s.rows n).job).fault ≡ None)

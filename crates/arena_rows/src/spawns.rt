@@ -1,15 +1,21 @@
 // Rows that rows spawn into their groups, for every state that the parts stand for.
 ghost use Rattle.std.specs.Prelude.{◌≡◌, ◌<◌, ◌+◌, ◌^◌, ℕ, length, Some, None, IsSome};
 ghost use Rattle.cancel_context.specs.Forest.{binding, held_count, IsHeld};
-ghost use Rattle.tenant_model.specs.State.{State, row};
+ghost use Rattle.tenant_model.specs.State.{State, row, job};
 ghost use Rattle.tenant_model.specs.Walks.{top};
+ghost use Rattle.tenant_model.specs.Changes.{new_row, add_row};
+ghost use Rattle.tenant_model.specs.Sound.{IsSteady, IsSettled};
+ghost use Rattle.tenant_model.specs.declared.rows.Kind.TheVariants.{Spawned};
+ghost use Rattle.tenant_model.specs.declared.rows.Phase.TheVariants.{Unstarted};
 ghost use Rattle.arena_rows.specs.declared.rows.OpenRow.{OpenRow};
-ghost use Rattle.arena_rows.specs.Represents.{at_place, Holds, HasTop, IsGiven};
+ghost use Rattle.arena_rows.specs.Represents.{at_place, Holds, HasTop, HasGroup, IsGiven};
 ghost use Rattle.arena_rows.specs.HeldChanges.{bound_to, group_given};
 
 use crate::parts::Parts;
+use crate::rows::{Source, Stage};
 use cancel_context::ContextId;
 use job_language::Group;
+use job_step::Frame;
 
 impl Parts {
     /// Binds a context of its own for a group of the open row at a place.
@@ -43,7 +49,7 @@ impl Parts {
     }
 
     /// The context of a group of a slot's topmost row, made where there is none yet.
-    fn group_context(&mut self, slot: u8, group: Group) -> ContextId
+    pub fn group_context(&mut self, slot: u8, group: Group) -> ContextId
         requires { HasTop self.old slot }
         ensures given { (s : State) (n : ℕ) (is : Holds self.old s) → top s.rows slot ≡ Some n → IsGiven self.old self.new s is n group result }
         ensures free { self.new.free ≡ self.old.free }
@@ -55,5 +61,27 @@ impl Parts {
         }
         let row = self.top_row(slot);
         self.bind_group(row.place, group)
+    }
+
+    /// Makes a row that waits, in a group of a slot's topmost row whose context is there
+    /// (`task_group::run`). The row's job has no fault: otherwise the new row would be dropped at once.
+    pub fn spawn_waiting(&mut self, slot: u8, group: Group, context: ContextId, frame: Frame)
+        requires given { HasGroup self.old slot group context }
+        requires free { 0 < length self.old.free }
+        requires few { self.old.made + 1 < 2 ^ 32 }
+        ensures { (s : State) (n : ℕ) (is : Holds self.old s) → IsSettled s → top s.rows slot ≡ Some n → is.assigned.of_group n group ≡ Some context
+            → (job s.jobs (row s.rows n).job).fault ≡ None → IsSteady (add_row s (new_row (Spawned n group) (row s.rows n).job (Some slot) frame Unstarted))
+            → Holds self.new (add_row s (new_row (Spawned n group) (row s.rows n).job (Some slot) frame Unstarted)) }
+    {
+        // Proof hint: the group's number is in range.
+        let _ = group.index();
+        let maker = self.top_row(slot);
+        let job = self.top_entry(slot).job;
+        let own = self.bind_row(context);
+        self.join(maker.place, group);
+        let source = Source::Spawned(maker, group);
+        let row = self.enter_row(source, job, Some(slot), Stage::Waiting(frame), own);
+        self.count_row(job);
+        self.wait(row, Some(slot));
     }
 }
