@@ -7,7 +7,7 @@ use Rattle.tenant_model.specs.WellFormed.{IsTable}
 use Rattle.tenant_model.proofs.KeptSteps.{with_cell_kept}
 use Rattle.tenant_model.proofs.Steady.{steady_cells}
 use Rattle.arena_rows.specs.Held.{Held}
-use Rattle.arena_rows.specs.Represents.{Holds}
+use Rattle.arena_rows.specs.Represents.{Holds, Rests}
 use Rattle.arena_rows.specs.HeldChanges.{with_cells_held}
 
 pub cells_hold : (a : Held) (s : State) (t : Table) → IsTable t → Holds a s → Holds (with_cells_held a t) (with_cells s t)
@@ -33,3 +33,6 @@ cells_hold a s t table is = record {
 -- with one cell changed
 pub cell_holds : (a : Held) (s : State) (key slot : ℕ) (v : ℤ) → Holds a s → Holds (with_cells_held a (with_cell a.cells key slot v)) (with_cells s (with_cell s.cells key slot v))
 cell_holds a s key slot v is = let same = is.cells in rw same (cells_hold a s (with_cell s.cells key slot v) (with_cell_kept s.cells key slot v is.steady.formed.table) is)
+
+pub cell_rests : (a : Held) (s : State) (key slot : ℕ) (v : ℤ) → Rests a s → Rests (with_cells_held a (with_cell a.cells key slot v)) (with_cells s (with_cell s.cells key slot v))
+cell_rests a s key slot v is = record { holds = cell_holds a s key slot v is.holds; settled = is.settled }

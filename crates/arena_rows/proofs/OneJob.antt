@@ -1,12 +1,16 @@
 -- A job that changes.
-use Rattle.std.proofs.Common.{◌≡◌, ℕ, ◌+◌, ◌-◌, ◌<◌, ◌≤◌, List, length, Option, Some, Bool, true, false, refl, sym, ap, ◌∙◌, arith, get_or, length-set, subst, inl, inr}
+use Rattle.std.proofs.Common.{◌≡◌, ◌||◌, ℕ, ◌+◌, ◌-◌, ◌<◌, ◌≤◌, List, length, Option, Some, Bool, true, false, refl, sym, ap, ◌∙◌, arith, get_or, length-set, subst, inl, inr}
 use Rattle.cancel_context.proofs.Chains.{IsHeld-within}
 use Rattle.std.specs.Prelude.{slice_index_or, IsSome, None}
 use Rattle.std.proofs.lemmas.List.{get_or-set_same, get_or-set_other}
 use Rattle.cancel_context.specs.Forest.{Forest, binding, IsHeld, held_count, with_request, asking}
 use Rattle.tenant_model.specs.State.{State, row, job}
 use Rattle.tenant_model.specs.declared.works.Work.{Work}
-use Rattle.tenant_model.specs.Walks.{top, is_job_cancelled}
+use Rattle.std.specs.List.{list_any}
+use Rattle.std.proofs.lemmas.Bool.{cases_eq}
+use Rattle.tenant_model.specs.Sound.{IsSettled}
+use Rattle.tenant_model.specs.Walks.{top, chain, is_group_cancelled, is_job_cancelled}
+use Rattle.tenant_model.proofs.Changed.{at_number-with_same, at_number-with_other}
 use Rattle.tenant_model.specs.Changes.{on_job}
 use Rattle.tenant_model.specs.Advance.{with_fuel}
 use Rattle.tenant_model.proofs.Steady.{steady_job}
@@ -69,3 +73,12 @@ module _ (a : Held) (s : State) (is : Holds a s) (slot n : ℕ) (on_top : top s.
   paid_holds fuel d = job_changed_holds a s is j (with_fuel_left fuel) d a.contexts current.0 current.1
       (record { long = refl; here = (is.contexts.of_jobs j current.0 current.1).1; others = λ x other. refl; held = refl }) refl refl
       (steady_job s is.steady j (with_fuel_left fuel) (omega (arith, current.0)) current.1 refl refl (λ some. some))
+
+-- Fuel cancels nothing.
+pub settled_fuel : (s : State) (j fuel : ℕ) → 1 ≤ j → j ≤ length s.jobs → IsSettled s → IsSettled (on_job s j (with_fuel_left fuel))
+settled_fuel s j fuel from to settled n waits =
+    let same : is_job_cancelled (job (on_job s j (with_fuel_left fuel)).jobs (row s.rows n).job) ≡ is_job_cancelled (job s.jobs (row s.rows n).job) = elim (cases_eq (row s.rows n).job j) [
+      | inl here ↦ ap (λ k. is_job_cancelled (job (on_job s j (with_fuel_left fuel)).jobs k)) here ∙ ap is_job_cancelled (at_number-with_same s.jobs _ j (with_fuel_left fuel (job s.jobs j)) from to) ∙ sym (ap (λ k. is_job_cancelled (job s.jobs k)) here)
+      | inr other ↦ ap is_job_cancelled (at_number-with_other s.jobs _ j (row s.rows n).job (with_fuel_left fuel (job s.jobs j)) from other)
+    ] in
+    ap (λ b. b || list_any (λ m. is_group_cancelled s.rows (row s.rows m).kind) (chain s.rows n)) same ∙ settled n waits

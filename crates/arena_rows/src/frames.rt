@@ -4,7 +4,7 @@ ghost use Rattle.tenant_model.specs.State.{State, row};
 ghost use Rattle.tenant_model.specs.Cells.{cell, with_cell};
 ghost use Rattle.tenant_model.specs.Changes.{with_frame, with_cells};
 ghost use Rattle.tenant_model.specs.Walks.{top};
-ghost use Rattle.arena_rows.specs.Represents.{Holds, HasTop};
+ghost use Rattle.arena_rows.specs.Represents.{Rests, HasTop};
 ghost use Rattle.arena_rows.specs.HeldChanges.{with_cells_held};
 
 use crate::parts::Parts;
@@ -15,18 +15,18 @@ impl Parts {
     /// Moves the frame of a slot's topmost row on.
     pub fn move_on(&mut self, slot: u8, frame: Frame)
         requires { HasTop self.old slot }
-        ensures { (s : State) (n : ℕ) → Holds self.old s → top s.rows slot ≡ Some n
-            → length frame.registers ≡ length (row s.rows n).frame.registers → Holds self.new (with_frame s n frame) }
+        ensures { (s : State) (n : ℕ) → Rests self.old s → top s.rows slot ≡ Some n
+            → length frame.registers ≡ length (row s.rows n).frame.registers → Rests self.new (with_frame s n frame) }
     {
         self.set_frame(slot, frame);
     }
 
     /// The value of a slot's cell of a key. The cell is made as 0 where there is none.
-    #[tactic(auto, using(crate::proofs::CellsHeld::cell_holds))]
+    #[tactic(auto, using(crate::proofs::CellsHeld::cell_rests))]
     pub fn local(&mut self, slot: u8, key: Key) -> i64
         requires { slot < 16 }
-        ensures { (s : State) → Holds self.old s → (result ≡ unwrap_or (cell s.cells key slot) (pos 0))
-            × Holds self.new (with_cells s (with_cell s.cells key slot result)) }
+        ensures { (s : State) → Rests self.old s → (result ≡ unwrap_or (cell s.cells key slot) (pos 0))
+            × Rests self.new (with_cells s (with_cell s.cells key slot result)) }
     {
         self.local_cell(slot, key)
     }
@@ -40,10 +40,10 @@ impl Parts {
     }
 
     /// Gives a slot's cell of a key a value, and makes the cell where there is none.
-    #[tactic(auto, using(crate::proofs::CellsHeld::cell_holds))]
+    #[tactic(auto, using(crate::proofs::CellsHeld::cell_rests))]
     pub fn store(&mut self, slot: u8, key: Key, value: i64)
         requires { slot < 16 }
-        ensures { (s : State) → Holds self.old s → Holds self.new (with_cells s (with_cell s.cells key slot value)) }
+        ensures { (s : State) → Rests self.old s → Rests self.new (with_cells s (with_cell s.cells key slot value)) }
     {
         self.store_cell(slot, key, value);
     }

@@ -6,7 +6,7 @@ ghost use Rattle.cancel_context.specs.Forest.{IsHeld, held_count};
 ghost use Rattle.tenant_model.specs.Walks.{top};
 ghost use Rattle.tenant_model.specs.Advance.{is_poor, with_fuel_paid};
 ghost use Rattle.arena_rows.specs.declared.rows.CurrentJob.{CurrentJob};
-ghost use Rattle.arena_rows.specs.Represents.{at_place, IsRow, Holds, HasTop, HoldsSomehow};
+ghost use Rattle.arena_rows.specs.Represents.{at_place, IsRow, Holds, Rests, HasTop, HoldsSomehow};
 ghost use Rattle.arena_rows.specs.HeldChanges.{index_of, job_changed, job_asked, with_fuel_left, with_fault, cancelled_work};
 
 use crate::parts::Parts;
@@ -64,8 +64,8 @@ impl Parts {
     /// sufficed; where it did not, none is left.
     pub fn pay(&mut self, slot: u8, cost: u64) -> bool
         requires { HasTop self.old slot }
-        ensures pays { (s : State) (n : ℕ) → Holds self.old s → top s.rows slot ≡ Some n
-            → (result ≡ not (is_poor s n cost)) × Holds self.new (with_fuel_paid s n cost) }
+        ensures pays { (s : State) (n : ℕ) → Rests self.old s → top s.rows slot ≡ Some n
+            → (result ≡ not (is_poor s n cost)) × Rests self.new (with_fuel_paid s n cost) }
     {
         let job = self.top_entry(slot).job;
         let fuel = self.fuel_of(job);

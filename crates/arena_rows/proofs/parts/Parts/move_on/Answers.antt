@@ -1,5 +1,5 @@
 use Rattle.arena_rows.proofs.TopRows.{top_within, some_row, on_slot, top_at}
-use Rattle.arena_rows.proofs.Moves.{framed_holds}
+use Rattle.arena_rows.proofs.Moves.{framed_holds, framed_settled}
 use Rattle.tenant_model.proofs.Steady.{steady_framed}
 use Rattle.arena_rows.proofs.parts.Parts.move_on.Goals as goal
 
@@ -10,8 +10,10 @@ pub set_frame-requires-clause-height : goal.set_frame-requires-clause-height
 set_frame-requires-clause-height c = some_row c.args.self.now c.args.slot c.requires
 
 pub returns : goal.returns
-returns c = λ s n is on_top as_many.
+returns c = λ s n rests on_top as_many.
+    let is = rests.holds in
     let a = c.args.self.now in
     let within = on_slot a s is c.args.slot n on_top in
     let new = c.set_frame.ensures in
-    rw new (framed_holds a s is c.args.slot n c.args.frame within on_top (steady_framed s c.args.slot n (top_at a s is c.args.slot n on_top) is.steady c.args.frame as_many))
+    let steady = steady_framed s c.args.slot n (top_at a s is c.args.slot n on_top) is.steady c.args.frame as_many in
+    rw new (record { holds = framed_holds a s is c.args.slot n c.args.frame within on_top steady; settled = framed_settled a s is c.args.slot n c.args.frame within on_top steady rests.settled })
