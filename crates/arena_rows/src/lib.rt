@@ -1,6 +1,7 @@
 //! The open rows of one tenant in the parts that answer at a cost that does not grow, and which states they stand for.
 #![tactic(auto)]
 
+mod arrivals;
 mod changes;
 mod frames;
 mod isolated;
