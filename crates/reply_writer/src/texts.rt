@@ -7,8 +7,10 @@ use arrayvec::ArrayString;
 use itoa::Buffer;
 use std::marker::Model;
 
-/// How long the line of a reply may be, with its newline.
-pub const MAX_LINE: usize = 128;
+/// How long the line of a reply may be, with its newline: fewer than 128 bytes.
+pub const MAX_LINE: usize = 127;
+
+const _: () = prove!(MAX_LINE < 128);
 
 /// The text of a reply, on a line of its own. It takes no memory.
 #[derive(Drop)]
