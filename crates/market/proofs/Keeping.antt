@@ -17,7 +17,7 @@ use Rattle.world_model.proofs.Counting.{there_is, wake_counted, push_counted, po
 use Rattle.market.specs.declared.waiting.WaitingCalls.{WaitingCalls}
 use Rattle.market.specs.Slots.{woken}
 use Rattle.market.specs.Waiting.{ring_at, market_of, holding, Fits, IsKept}
-use Rattle.market.proofs.Rooms.{wake_room, push_room, pop_room, came_room, left_room}
+use Rattle.world_model.proofs.Rooms.{wake_room, push_room, pop_room, came_room, left_room}
 
 -- the rings have the capacities that they had
 abbrev pub AreAsLarge : WaitingCalls → WaitingCalls → Type 0

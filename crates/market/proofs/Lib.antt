@@ -1,4 +1,3 @@
-pub mod Rooms
 pub mod Rings
 pub mod Homes
 pub mod Keeping

@@ -19,6 +19,7 @@ use Rattle.world_model.specs.World as world
 use Rattle.world_model.specs.Orderly.{is_level, is_for_workers, tally, room, IsOrderly, IsCounted}
 use Rattle.world_model.proofs.Forgetting.{start_orderly}
 use Rattle.world_model.proofs.Counting.{start_counted}
+use Rattle.world_model.proofs.Rooms.{counted_none, counted_all}
 use Rattle.call_queues.specs.declared.config.MarketTenant.{MarketTenant}
 use Rattle.call_queues.specs.Config.{slots_at, room_at}
 use Rattle.market.specs.declared.waiting.WaitingCalls.{WaitingCalls}
@@ -45,14 +46,6 @@ start_is config workers = λ i. record { levels = levels_for config i; slots = s
 
 abbrev one_if : Bool → ℕ
 one_if b = if b then 1 else 0
-
-counted_none : (n : ℕ) → count_by is_for_workers (replicate n slot.Reserved) ≡ 0
-counted_none zero = refl
-counted_none (suc n) = omega (arith, sum_by-cons (λ (y : SlotState). one_if (is_for_workers y)) slot.Reserved (replicate n slot.Reserved), counted_none n)
-
-counted_all : (n : ℕ) → count_by is_for_workers (replicate n slot.Home) ≡ n
-counted_all zero = refl
-counted_all (suc n) = omega (arith, sum_by-cons (λ (y : SlotState). one_if (is_for_workers y)) slot.Home (replicate n slot.Home), counted_all n)
 
 row_counted : (t : MarketTenant) → count_by is_for_workers (first_slots t) ≡ t.slots - t.reserved
 row_counted t = omega (arith, sum_by-append (λ (y : SlotState). one_if (is_for_workers y)) (replicate t.reserved slot.Reserved) (replicate (t.slots - t.reserved) slot.Home), counted_none t.reserved, counted_all (t.slots - t.reserved))

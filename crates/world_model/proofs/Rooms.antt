@@ -1,15 +1,30 @@
 -- The rules of the market leave each level its room.
-use Rattle.std.proofs.Common.{◌≡◌, ℕ, zero, suc, ◌+◌, List, [], ◌∷◌, ◌++◌, length, Option, Some, None, Bool, true, false, refl, ap, ◌∙◌, arith, inl, inr}
-use Rattle.std.specs.Prelude.{if◌then◌else◌, slice_set, slice_index_or, count_by}
-use Rattle.std.proofs.lemmas.Bool.{cases_lt}
+use Rattle.std.proofs.Common.{◌≡◌, Result, Ok, Err, ◌&&◌, ℕ, zero, suc, ◌+◌, ◌-◌, List, [], ◌∷◌, ◌++◌, length, Option, Some, None, Bool, true, false, refl, ap, ◌∙◌, arith, inl, inr}
+use Rattle.std.specs.Prelude.{if◌then◌else◌, slice_set, slice_index_or, count_by, replicate, map}
+use Rattle.std.proofs.lemmas.Bool.{cases_lt, cond_both}
 use Rattle.std.proofs.lemmas.List.{get_or_past}
-use Rattle.std.proofs.lemmas.List.Sums.{sum_by-set}
+use Rattle.std.proofs.lemmas.List.Sums.{sum_by-append, sum_by-cons, sum_by-set}
 use Rattle.job_language.specs.declared.tenants.Level.{Level}
+use Rattle.job_language.specs.declared.tenants.Tenant.{Tenant}
+use Rattle.job_language.specs.declared.errors.Error.{Error}
+use Rattle.job_language.specs.declared.answers.Answer.{Answer}
+use Rattle.job_language.specs.declared.steps.Step.{Step}
+use Rattle.job_language.specs.Configuration.{Configuration}
+use Rattle.job_language.specs.Recorded.{is_entry}
+use Rattle.tenant_model.specs.State.{State}
+use Rattle.tenant_model.specs.Solo as solo
+use Rattle.tenant_model.specs.Told.{is_left}
+use Rattle.tenant_model.specs.Walks.{has_unstarted}
+use Rattle.world_model.specs.declared.outcomes.Outcome.{Outcome}
+use Rattle.world_model.specs.OwnSteps.{OwnStep, step_of}
+use Rattle.world_model.specs.Raw.{Raw}
+use Rattle.world_model.specs.Raw as raw
+use Rattle.world_model.specs.World.{World, start, first_slots, state_of, own_of, is_in, market_after, wake_after, answer_step, pop_outcome, at_market, step_own, step}
 use Rattle.world_model.specs.declared.calls.Call.{Call}
 use Rattle.world_model.specs.declared.calls.SlotState.{SlotState}
 use Rattle.world_model.specs.declared.calls.SlotState.TheVariants as slot
-use Rattle.world_model.specs.Market.{Market, call, slot_at, with_slot, worker_at, level_of, calls_at, is_due, home_slot, with_due, wake, push, first_call, hold, hand_over, pop, go_home, go_in, came, left, held_by, call_of}
-use Rattle.world_model.specs.Orderly.{is_reserved, is_level, is_for_workers, tally, room, IsOrderly}
+use Rattle.world_model.specs.Market.{Market, call, slot_at, with_slot, worker_at, level_of, calls_at, is_due, is_free, home_slot, with_due, wake, push, first_call, hold, hand_over, pop, go_home, go_in, came, left, held_by, call_of}
+use Rattle.world_model.specs.Orderly.{is_reserved, is_level, is_for_workers, tally, room, worker_slots, IsOrderly}
 use Rattle.world_model.proofs.Ruling.{home_at, due_is, held_at, in_at, IsFirst, first_is, first_queued, calls_rest}
 
 abbrev one_if : Bool → ℕ
@@ -87,3 +102,59 @@ came_room m k false is l = home_room m k (held_by (worker_at m k)) refl is l
 
 pub left_room : (m : Market) (k : ℕ) → IsOrderly m → (l : Level) → room (left m k) l ≡ room m l
 left_room m k is l = gone_room m k (call_of (worker_at m k)) refl is l
+
+-- a step of the world
+woken_room : (m : Market) (u : ℕ) (a : Answer) (s : State) (l : Level) → room (wake_after m u a s) l ≡ room m l
+woken_room m u a s l = cond_both (is_entry a && has_unstarted s) _ _ (λ n. room n l ≡ room m l) (λ _. wake_room m u l) (λ _. refl)
+
+after_room : (m : Market) (x : Raw) (a : Answer) → IsOrderly m → (l : Level) → room (market_after m x a) l ≡ room m l
+after_room m (raw.line t text) a orderly l = refl
+after_room m (raw.master t v) a orderly l = refl
+after_room m (raw.push t v) a orderly l = refl
+after_room m (raw.pop k) a orderly l = refl
+after_room m (raw.arrive k) a orderly l = came_room m k (is_in a) orderly l
+after_room m (raw.advance k) a orderly l = cond_both (is_left a) _ _ (λ n. room n l ≡ room m l) (λ _. left_room m k orderly l) (λ _. refl)
+
+answered_room : (w : World) (x : Raw) (u : ℕ) (y : Result Step Error) → IsOrderly w.market → (l : Level) → room (answer_step w x u y).1.market l ≡ room w.market l
+answered_room w x u (Err e) orderly l = refl
+answered_room w x u (Ok y) orderly l = let a = solo.step (state_of w u) y in woken_room (market_after w.market x a.0) u a.0 a.1 l ∙ after_room w.market x a.0 orderly l
+
+popped_room : (w : World) (r : Option Call × Market) (l : Level) → room r.1 l ≡ room w.market l → room (pop_outcome w r).1.market l ≡ room w.market l
+popped_room w (None, m) l now = refl
+popped_room w (Some c, m) l now = now
+
+at_market_room : (w : World) (x : Raw) → IsOrderly w.market → (l : Level) → room (at_market w x).1.market l ≡ room w.market l
+at_market_room w (raw.line t text) orderly l = refl
+at_market_room w (raw.master t v) orderly l = refl
+at_market_room w (raw.push t v) orderly l = cond_both (is_due (slot_at w.market t v)) _ _ (λ (r : Outcome × World). room r.1.market l ≡ room w.market l) (λ due. push_room w.market t v due l) (λ _. refl)
+at_market_room w (raw.pop k) orderly l = cond_both (is_free (worker_at w.market k)) _ _ (λ (r : Outcome × World). room r.1.market l ≡ room w.market l) (λ free. popped_room w (pop w.market k) l (pop_room w.market k orderly l)) (λ _. refl)
+at_market_room w (raw.arrive k) orderly l = refl
+at_market_room w (raw.advance k) orderly l = refl
+
+own_room : (w : World) (x : Raw) (o : Option (ℕ × OwnStep)) → IsOrderly w.market → (l : Level) → room (step_own w x o).1.market l ≡ room w.market l
+own_room w x None orderly l = at_market_room w x orderly l
+own_room w x (Some o) orderly l = answered_room w x o.0 (step_of o.1) orderly l
+
+pub step_room : (w : World) (x : Raw) → IsOrderly w.market → (l : Level) → room (step w x).1.market l ≡ room w.market l
+step_room w x orderly l = own_room w x (own_of w x) orderly l
+
+-- at the start
+pub counted_none : (n : ℕ) → count_by is_for_workers (replicate n slot.Reserved) ≡ 0
+counted_none zero = refl
+counted_none (suc n) = omega (arith, sum_by-cons (λ (y : SlotState). one_if (is_for_workers y)) slot.Reserved (replicate n slot.Reserved), counted_none n)
+
+pub counted_all : (n : ℕ) → count_by is_for_workers (replicate n slot.Home) ≡ n
+counted_all zero = refl
+counted_all (suc n) = omega (arith, sum_by-cons (λ (y : SlotState). one_if (is_for_workers y)) slot.Home (replicate n slot.Home), counted_all n)
+
+row_counted : (t : Tenant) → count_by is_for_workers (first_slots t) ≡ t.slots - t.reserved
+row_counted t = omega (arith, sum_by-append (λ (y : SlotState). one_if (is_for_workers y)) (replicate t.reserved slot.Reserved) (replicate (t.slots - t.reserved) slot.Home), counted_none t.reserved, counted_all (t.slots - t.reserved))
+
+first_tally : (level : Level) (ts : List Tenant) → tally is_for_workers level (map (λ (t : Tenant). t.priority) ts) (map first_slots ts) ≡ worker_slots ts level
+first_tally level [] = refl
+first_tally level (t ∷ ts) =
+    let here : (if is_level level t.priority then count_by is_for_workers (first_slots t) else 0) ≡ (if is_level level t.priority then t.slots - t.reserved else 0) = ap (λ n. if is_level level t.priority then n else 0) (row_counted t) in
+    omega (arith, here, first_tally level ts, sum_by-cons (λ (u : Tenant). if is_level level u.priority then u.slots - u.reserved else 0) t ts)
+
+pub start_room : (c : Configuration) (l : Level) → room (start c).market l ≡ worker_slots c.tenants l
+start_room c l = first_tally l c.tenants
