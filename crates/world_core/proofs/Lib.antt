@@ -1,0 +1,5 @@
+pub mod Keeping
+pub mod Reading
+pub mod Representing
+pub mod Stepping
+pub mod Origin
