@@ -3,3 +3,4 @@ pub mod Reading
 pub mod Representing
 pub mod Stepping
 pub mod Origin
+pub mod Running

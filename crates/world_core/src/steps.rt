@@ -19,7 +19,7 @@ fn wake_after<A: TenantArena>(market: &mut MarketState, arena: &A, tenant: usize
     ensures keeps { KeepsOrder market.old market.new }
 {
     if answer.is_entry() && arena.has_unstarted() {
-        let _ = market.wake(tenant);
+        market.wake(tenant);
     }
 }
 

@@ -1,8 +1,11 @@
 // The world.
 ghost use Rattle.std.specs.Prelude.{◌≡◌, ℕ, List, map, All, IfOk, OnErr};
 ghost use Rattle.world_model.specs.Raw as raw;
-ghost use Rattle.world_model.specs.Refusals.{IsAnswer, next};
-ghost use Rattle.world_model.specs.World.{start};
+ghost use Rattle.job_language.specs.Configuration.{Configuration};
+ghost use Rattle.job_language.specs.Tenant.{IsValidTenant};
+ghost use Rattle.world_model.specs.Laws.{TenantsAreIsolated};
+ghost use Rattle.world_model.specs.Refusals.{IsAnswer, AreAnswers, next, steps_taken};
+ghost use Rattle.world_model.specs.World.{start, after};
 ghost use Rattle.world_model.specs.World.{World as Known};
 ghost use Rattle.world_core.specs.RawOf.{raw_of};
 ghost use Rattle.world_core.specs.Represents.{Represents};
@@ -63,6 +66,25 @@ impl<A: TenantArena> World<A> {
             Raw::Arrive(worker) => self.arrive(*worker),
             Raw::Advance(worker) => self.advance(*worker),
         }
+    }
+
+    /// Takes steps, one after another. It fails only if the memory for its answers was refused, and then
+    /// it has taken no step. From the start, each tenant is as if it were alone: its state and its
+    /// answers are those of the plain evaluator on its own steps, its regions protect its cells, its
+    /// serial jobs that complete have their serial values, and no call of it is forgotten.
+    pub fn run(&mut self, alloc: Global, raws: &[Raw]) -> Result<Vec<Outcome>, AllocError>
+        ensures answers { (w : Known) → Represents A.stands_for self.old w → IfOk result (λ os. AreAnswers w (map raw_of raws.now) os.items) }
+        ensures world { (w : Known) → Represents A.stands_for self.old w → IfOk result (λ os. Represents A.stands_for self.new (after w (steps_taken (map raw_of raws.now) os.items))) }
+        ensures refused { OnErr result (self.new ≡ self.old) }
+        ensures isolated { (c : Configuration) → All IsValidTenant c.tenants → Represents A.stands_for self.old (start c) → IfOk result (λ os. TenantsAreIsolated c (map raw_of raws.now) os.items) }
+    {
+        let mut outcomes = Vec::with_capacity(alloc, raws.len())?;
+        for raw in raws {
+            let outcome = self.apply(alloc, raw);
+            let pushed = outcomes.push(outcome);
+            prove!(pushed.is_ok());
+        }
+        Ok(outcomes)
     }
 
     fn line(&mut self, alloc: Global, tenant: usize, text: &[u8]) -> Outcome
