@@ -7,6 +7,8 @@ mod lines;
 mod raws;
 mod starting;
 mod steps;
+#[cfg(test)]
+mod tests;
 mod worlds;
 
 pub use arenas::TenantArena;
