@@ -1,5 +1,5 @@
 -- What each rule of the market keeps.
-use Rattle.std.proofs.Common.{◌≡◌, ℕ, ◌<◌, List, [], ◌∷◌, length, Option, Some, None, Bool, true, false, refl, sym, ap, ◌∙◌, arith, length-set}
+use Rattle.std.proofs.Common.{◌≡◌, ℕ, ◌<◌, List, [], ◌∷◌, length, Option, Some, None, Bool, true, false, refl, ap, ◌∙◌, arith, length-set}
 use Rattle.std.specs.Prelude.{slice_set}
 use Rattle.world_model.specs.declared.calls.Call.{Call}
 use Rattle.world_model.specs.declared.calls.SlotState.TheVariants as slot
@@ -72,13 +72,6 @@ module _ {A : Type 0} (h : Held A) (is : IsHeld h) (k : ℕ) (c : Call) where
       let there = (there_is h.market c.tenant c.slot free).0 in
       omega (arith, there, is.aligned)
 
--- what is held is in order after the market's change, with one arena changed
-pub held_set : {A : Type 0} (arenas : List A) (m n : Market) (t : ℕ) (a : A) → IsHeld (record { arenas = arenas; market = m }) → KeepsOrder m n → IsHeld (record { arenas = slice_set arenas t a; market = n })
-held_set arenas m n t a is keeps = record {
-  orderly = keeps.orderly is.orderly;
-  aligned = keeps.aligned ∙ is.aligned ∙ sym (length-set arenas t a);
-}
-
--- and after a change of the market alone
+-- What is held is in order after a change of the market.
 pub held_market : {A : Type 0} (arenas : List A) (m n : Market) → IsHeld (record { arenas = arenas; market = m }) → KeepsOrder m n → IsHeld (record { arenas = arenas; market = n })
 held_market arenas m n is keeps = record { orderly = keeps.orderly is.orderly; aligned = keeps.aligned ∙ is.aligned }

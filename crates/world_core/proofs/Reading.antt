@@ -1,31 +1,14 @@
 -- What is known of a line from what is read in it.
 use Rattle.std.proofs.Common.{◌≡◌, ℕ, List, length, Result, Ok, Err, nat_lt, refl, sym, ◌∙◌, arith, inl, inr}
-use Rattle.std.specs.Prelude.{◌⊎◌}
 use Rattle.std.specs.Str.{is_utf8}
 use Rattle.tenant_model.proofs.Within.{either_way}
 use Rattle.job_language.specs.declared.errors.Error.{Error}
 use Rattle.job_language.specs.declared.errors.Error.TheVariants as error
 use Rattle.job_language.specs.declared.requests.Request.{Request}
 use Rattle.request_reader.specs.Asks.{AskedData}
-use Rattle.request_reader.specs.Exact.{Refuses}
 use Rattle.request_reader.specs.LineAsks.{value_of, asked_in, asked_by, IsText, IsShortText}
 use Rattle.request_reader.specs.declared.requests.TheConstants.{MAX_REQUEST}
 use Rattle.world_model.specs.OwnSteps.{ready_in, request_of}
-
--- An error says that memory ran out, or why the line asks for nothing.
-pub refused_is : {B : Type 0} (takes : Type 0) (want : Result B Error) (e : Error) → Refuses takes e want → ((e ≡ error.NoMemory) × takes) ⊎ (want ≡ Err e)
-refused_is takes want error.NoMemory h = inl (refl, h)
-refused_is takes want error.LineTooLong h = inr h
-refused_is takes want error.BadJson h = inr h
-refused_is takes want error.BadRequest h = inr h
-refused_is takes want error.BadProgram h = inr h
-refused_is takes want error.UnknownTenant h = inr h
-refused_is takes want error.UnknownJob h = inr h
-refused_is takes want error.JobLimit h = inr h
-refused_is takes want error.HistoryFull h = inr h
-refused_is takes want error.TaskLimit h = inr h
-refused_is takes want error.NoTenant h = inr h
-refused_is takes want error.Busy h = inr h
 
 ok_is_not_err : (a : AskedData) (e : Error) → Ok a ≡ Err e → ⊥
 ok_is_not_err a e same = cc
@@ -39,7 +22,7 @@ valued_text text a is = elim (either_way (is_utf8 text)) [
 ]
 
 -- A line that asks for something is a text, and not too long.
-pub asked_short : (text : List ℕ) (a : AskedData) → asked_by text ≡ Ok a → IsShortText text
+asked_short : (text : List ℕ) (a : AskedData) → asked_by text ≡ Ok a → IsShortText text
 asked_short text a is = elim (either_way (nat_lt MAX_REQUEST (length text))) [
   | inl long ↦
       let none : asked_by text ≡ Err error.LineTooLong = rw long refl in

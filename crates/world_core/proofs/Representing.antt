@@ -1,4 +1,4 @@
--- What represents a world goes on to do so after a step of one tenant, or of the market.
+-- What represents a world goes on to do so after a step of one tenant.
 use Rattle.std.proofs.Common.{◌≡◌, ℕ, ◌<◌, length, sym, ◌∙◌, arith, inl, inr, length-set}
 use Rattle.std.specs.Prelude.{slice_set}
 use Rattle.std.proofs.lemmas.Bool.{cases_eq}
@@ -40,7 +40,3 @@ module _ {A : Type 0} (stands_for : A → State → Type 0) (h : Held A) (w : Wo
           | inr other ↦ rw (get_or-set_other h.arenas t i a d other) (is.each i d there)
         ];
   }
-
-  -- the market alone has changed
-  pub represents_market : (m n : Market) → m ≡ n → Represents stands_for (record { arenas = h.arenas; market = m }) (record { states = w.states; market = n })
-  represents_market m n same = record { market_is = same; long = is.long; each = is.each }

@@ -1,63 +1,35 @@
 -- The steps of a world, by what is held.
-use Rattle.std.proofs.Common.{◌≡◌, ℕ, ◌<◌, List, [], ◌∷◌, length, Option, Some, None, Ok, true, false, nat_lt, refl, sym, ap, ◌∙◌, arith, subst, inl, inr}
+use Rattle.std.proofs.Common.{◌≡◌, ℕ, ◌<◌, List, length, Option, Some, Ok, true, false, nat_lt, refl, sym, ap, ◌∙◌, arith, subst, inl, inr}
 use Rattle.std.specs.Prelude.{slice_set, slice_index_or}
-use Rattle.job_language.specs.declared.errors.Error.{Error}
 use Rattle.job_language.specs.declared.answers.Answer.{Answer}
-use Rattle.job_language.specs.declared.answers.Answer.TheVariants.{Replied}
-use Rattle.job_language.specs.declared.answers.Reply.TheVariants.{Refused}
 use Rattle.job_language.specs.declared.requests.Request.{Request}
 use Rattle.job_language.specs.declared.steps.Step.{Step}
 use Rattle.job_language.specs.declared.steps.Step.TheVariants.{Ask, Arrive, Advance}
-use Rattle.request_reader.specs.Exact.{Refuses}
 use Rattle.request_reader.specs.LineAsks.{IsShortText}
 use Rattle.tenant_model.specs.State.{State}
 use Rattle.tenant_model.specs.Solo as solo
 use Rattle.world_model.specs.declared.calls.Call.{Call}
 use Rattle.world_model.specs.declared.outcomes.Outcome.{Outcome}
 use Rattle.world_model.specs.declared.outcomes.Outcome.TheVariants as outcome
-use Rattle.world_model.specs.Laws.{not_now, is_not_now}
-use Rattle.world_model.specs.Market.{Market, slot_at, worker_at, is_due, is_free, push, first_call, hand_over, pop, held_by, call_of}
+use Rattle.world_model.specs.Market.{Market, worker_at, held_by, call_of}
 use Rattle.world_model.specs.OwnSteps.{OwnStep, ask_of, request_of, step_of}
 use Rattle.world_model.specs.OwnSteps as own
 use Rattle.world_model.specs.Raw.{Raw}
 use Rattle.world_model.specs.Raw as raw
 use Rattle.world_model.specs.Refusals.{is_no_memory, no_memory, TakesMemory, next}
-use Rattle.world_model.specs.World.{World, state_of, is_blank, arrival_of, advance_of, own_of, market_after, wake_after, answer_step, pop_outcome, step_own, step}
+use Rattle.world_model.specs.World.{World, state_of, is_blank, arrival_of, advance_of, own_of, market_after, wake_after, answer_step, step_own, step}
 use Rattle.world_model.proofs.Taking.{never_no_memory}
-use Rattle.world_model.proofs.Telling.{told_now}
 use Rattle.world_core.specs.Held.{Held}
 use Rattle.world_core.specs.Represents.{Represents}
 use Rattle.world_core.specs.Steps.{IsTaken, Steps}
-use Rattle.world_core.proofs.Reading.{refused_is, request_short}
-use Rattle.world_core.proofs.Representing.{represents_step, represents_same, represents_market}
-
-is_not_now-is : (o : Outcome) → is_not_now o ≡ true → o ≡ outcome.NotNow
-is_not_now-is outcome.NotNow h = refl
-is_not_now-is (outcome.Own a) h = cc
-is_not_now-is outcome.Queued h = cc
-is_not_now-is (outcome.Held c) h = cc
-is_not_now-is outcome.NoCall h = cc
+use Rattle.world_core.proofs.Reading.{request_short}
+use Rattle.world_core.proofs.Representing.{represents_step, represents_same}
 
 -- the world after a step that is answered as the definitions say
 next_is : (w : World) (x : Raw) (o : Outcome) → o ≡ (step w x).0 → next w x o ≡ (step w x).1
 next_is w x o is =
     let own : is_no_memory o ≡ false = ap is_no_memory is ∙ never_no_memory w x in
     rw own refl
-
--- the outcome of a pop, by the call that was found
-abbrev pub pop_tells : Option Call → Outcome
-pop_tells None = outcome.NoCall
-pop_tells (Some c) = outcome.Held c
-
-popped_tells : (w : World) (r : Option Call × Market) → (r.0 ≡ None → r.1 ≡ w.market) → pop_outcome w r ≡ (pop_tells r.0, record w { market = r.1 })
-popped_tells w (None, m) same = λ i. (outcome.NoCall, record w { market = sym (same refl) i })
-popped_tells w (Some c, m) same = refl
-
-pop_none : (m : Market) (k : ℕ) (high normal low : List Call) → (hand_over m k (first_call m high normal low)).0 ≡ None → (hand_over m k (first_call m high normal low)).1 ≡ m
-pop_none m k (c ∷ cs) normal low none = cc
-pop_none m k [] (c ∷ cs) low none = cc
-pop_none m k [] [] (c ∷ cs) none = cc
-pop_none m k [] [] [] none = refl
 
 module _ {A : Type 0} (stands_for : A → State → Type 0) (h : Held A) where
   -- what is held then is a world that each step leads to
@@ -70,14 +42,8 @@ module _ {A : Type 0} (stands_for : A → State → Type 0) (h : Held A) where
         subst (λ (v : World). Represents stands_for k v) there e.2;
   }
 
-  -- what is not allowed now
-  pub not_now_steps : (x : Raw) → ((w : World) → Represents stands_for h w → not_now w x ≡ true) → Steps stands_for h h x outcome.NotNow
-  not_now_steps x now = exactly x outcome.NotNow h (λ w is.
-      let told = told_now w x in
-      (w, λ i. (is_not_now-is (step w x).0 (told.told ∙ now w is) i, told.unchanged (now w is) i), is))
-
   -- the tenant of the step has taken a step of its own
-  pub taken_steps : (x : Raw) (t : ℕ) (o : OwnStep) (y : Step) (a : A) (n : Market) (answer : Answer) (d : A) →
+  taken_steps : (x : Raw) (t : ℕ) (o : OwnStep) (y : Step) (a : A) (n : Market) (answer : Answer) (d : A) →
       ((w : World) → Represents stands_for h w → own_of w x ≡ Some (t, o)) → step_of o ≡ Ok y → t < length h.arenas →
       ((s : State) → stands_for (slice_index_or h.arenas t d) s → IsTaken stands_for s x t y h.market answer a n) →
       Steps stands_for h (record { arenas = slice_set h.arenas t a; market = n }) x (outcome.Own answer)
@@ -93,13 +59,13 @@ module _ {A : Type 0} (stands_for : A → State → Type 0) (h : Held A) where
       (v, told, represents_step stands_for h w is t a r.1 n m took.stands same))
 
   -- A line of a tenant that is there, which is not blank, is the tenant's own.
-  pub line_owned : (t : ℕ) (text : List ℕ) → t < length h.arenas → is_blank text ≡ false → (w : World) → Represents stands_for h w → own_of w (raw.line t text) ≡ Some (t, own.line text)
+  line_owned : (t : ℕ) (text : List ℕ) → t < length h.arenas → is_blank text ≡ false → (w : World) → Represents stands_for h w → own_of w (raw.line t text) ≡ Some (t, own.line text)
   line_owned t text there filled w is =
       let known : nat_lt t (length w.states) ≡ true = grind (arith, there, is.long) in
       rw (known, filled) refl
 
   -- it may be refused because an allocation failed, and then the arena stands for the same state
-  pub no_memory_steps : (t : ℕ) (text : List ℕ) (k : Held A) → t < length h.arenas → is_blank text ≡ false → IsShortText text →
+  no_memory_steps : (t : ℕ) (text : List ℕ) (k : Held A) → t < length h.arenas → is_blank text ≡ false → IsShortText text →
       ((w : World) → Represents stands_for h w → Represents stands_for k w) → Steps stands_for h k (raw.line t text) no_memory
   no_memory_steps t text k there filled short same = record {
     answer = λ w is.
@@ -107,18 +73,6 @@ module _ {A : Type 0} (stands_for : A → State → Type 0) (h : Held A) where
         inr (takes, refl);
     world = same;
   }
-
-  -- A line that brings no request is refused.
-  pub refused_steps : (t : ℕ) (text : List ℕ) (e : Error) → t < length h.arenas → is_blank text ≡ false → Refuses (IsShortText text) e (request_of text) →
-      Steps stands_for h h (raw.line t text) (outcome.Own (Replied (Refused e)))
-  refused_steps t text e there filled refused = elim (refused_is (IsShortText text) (request_of text) e refused) [
-    | inl memory ↦
-        let here = no_memory_steps t text h there filled memory.1 (λ w is. is) in
-        subst (λ (f : Error). Steps stands_for h h (raw.line t text) (outcome.Own (Replied (Refused f)))) (sym memory.0) here
-    | inr told ↦ exactly (raw.line t text) _ h (λ w is.
-        let here : step w (raw.line t text) ≡ (outcome.Own (Replied (Refused e)), w) = ap (step_own w (raw.line t text)) (line_owned t text there filled w is) ∙ ap (λ r. answer_step w (raw.line t text) t (ask_of r)) told in
-        (w, here, is))
-  ]
 
   -- The tenant answers a request.
   pub asked_steps : (t : ℕ) (text : List ℕ) (request : Request) (a : A) (n : Market) (answer : Answer) (d : A) → t < length h.arenas → is_blank text ≡ false → request_of text ≡ Ok request →
@@ -131,16 +85,6 @@ module _ {A : Type 0} (stands_for : A → State → Type 0) (h : Held A) where
       ((s : State) → stands_for (slice_index_or h.arenas t d) s → stands_for a s) → n ≡ h.market →
       Steps stands_for h (record { arenas = slice_set h.arenas t a; market = n }) (raw.line t text) no_memory
   unasked_steps t text request a n d there filled reads stays same = no_memory_steps t text _ there filled (request_short text request reads) (λ w is. represents_same stands_for h w is t a n (stays (state_of w t) (is.each t d there)) same)
-
-  -- A master advances a reserved slot.
-  pub master_steps : (t s : ℕ) (a : A) (n : Market) (answer : Answer) (d : A) → t < length h.arenas → ((u : State) → stands_for (slice_index_or h.arenas t d) u → s < u.config.reserved) →
-      ((u : State) → stands_for (slice_index_or h.arenas t d) u → IsTaken stands_for u (raw.master t s) t (Advance s) h.market answer a n) →
-      Steps stands_for h (record { arenas = slice_set h.arenas t a; market = n }) (raw.master t s) (outcome.Own answer)
-  master_steps t s a n answer d there reserved takes =
-      let owned : (w : World) → Represents stands_for h w → own_of w (raw.master t s) ≡ Some (t, own.advance s) = λ w is.
-      let within : nat_lt s (state_of w t).config.reserved ≡ true = grind (arith, reserved (state_of w t) (is.each t d there)) in
-      rw within refl in
-      taken_steps (raw.master t s) t (own.advance s) (Advance s) a n answer d owned refl there takes
 
   -- A worker arrives with the call that it holds.
   pub arrive_steps : (k : ℕ) (c : Call) (a : A) (n : Market) (answer : Answer) (d : A) → c.tenant < length h.arenas → held_by (worker_at h.market k) ≡ Some c →
@@ -155,23 +99,3 @@ module _ {A : Type 0} (stands_for : A → State → Type 0) (h : Held A) where
       Steps stands_for h (record { arenas = slice_set h.arenas c.tenant a; market = n }) (raw.advance k) (outcome.Own answer)
   advance_steps k c a n answer d there within takes = taken_steps (raw.advance k) c.tenant (own.advance c.slot) (Advance c.slot) a n answer d
       (λ w is. ap (λ (m : Market). advance_of (call_of (worker_at m k))) (sym is.market_is) ∙ ap advance_of within) refl there takes
-
-  -- A call that is due is pushed.
-  pub push_steps : (t s : ℕ) (n : Market) → is_due (slot_at h.market t s) ≡ true → n ≡ push h.market t s → Steps stands_for h (record { arenas = h.arenas; market = n }) (raw.push t s) outcome.Queued
-  push_steps t s n due same = exactly (raw.push t s) outcome.Queued _ (λ w is.
-      let now : is_due (slot_at w.market t s) ≡ true = ap (λ (m : Market). is_due (slot_at m t s)) (sym is.market_is) ∙ due in
-      let v : World = record w { market = push w.market t s } in
-      let here : step w (raw.push t s) ≡ (outcome.Queued, v) = rw now refl in
-      (v, here, represents_market stands_for h w is n (push w.market t s) (same ∙ ap (λ (m : Market). push m t s) is.market_is)))
-
-  -- A free worker asks for a call.
-  pub pop_steps : (k : ℕ) (n : Market) (o : Option Call) → is_free (worker_at h.market k) ≡ true → o ≡ (pop h.market k).0 → n ≡ (pop h.market k).1 →
-      Steps stands_for h (record { arenas = h.arenas; market = n }) (raw.pop k) (pop_tells o)
-  pop_steps k n o free told same = exactly (raw.pop k) (pop_tells o) _ (λ w is.
-      let now : is_free (worker_at w.market k) ≡ true = ap (λ (m : Market). is_free (worker_at m k)) (sym is.market_is) ∙ free in
-      let r = pop w.market k in
-      let v : World = record w { market = r.1 } in
-      let found : o ≡ r.0 = told ∙ ap (λ (m : Market). (pop m k).0) is.market_is in
-      let popped : step w (raw.pop k) ≡ (pop_tells r.0, v) = rw now (popped_tells w r (pop_none w.market k w.market.high w.market.normal w.market.low)) in
-      let here : step w (raw.pop k) ≡ (pop_tells o, v) = popped ∙ ap (λ (p : Option Call). (pop_tells p, v)) (sym found) in
-      (v, here, represents_market stands_for h w is n r.1 (same ∙ ap (λ (m : Market). (pop m k).1) is.market_is)))

@@ -49,8 +49,8 @@ impl<A: TenantArena> World<A> {
         Ok(World { arenas, market })
     }
 
-    /// Takes a step. Error 9, that an allocation failed, is answered only to a line; then nothing has
-    /// changed. No other step takes memory.
+    /// Takes a step. Error 9, that an allocation failed, is answered only to a line, and then nothing
+    /// has changed.
     pub fn apply(&mut self, alloc: Global, raw: &Raw) -> Outcome
         ensures answer { (w : Known) → Represents A.stands_for self.old w → IsAnswer w (raw_of raw.now) result }
         ensures world { (w : Known) → Represents A.stands_for self.old w → Represents A.stands_for self.new (next w (raw_of raw.now) result) }
