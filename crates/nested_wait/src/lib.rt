@@ -1,0 +1,10 @@
+//! Attending a slot: what one activity does there until the slot's stack is low enough.
+#![tactic(auto)]
+
+mod attending;
+mod doors;
+#[cfg(test)]
+mod tests;
+
+pub use attending::{Attended, attend};
+pub use doors::{Door, MAX_HEIGHT};
