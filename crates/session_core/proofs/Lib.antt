@@ -1,0 +1,4 @@
+mod Asking
+mod Growing
+mod Joining
+mod Pending

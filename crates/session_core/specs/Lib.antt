@@ -1,0 +1,4 @@
+pub mod Waiting
+pub mod Replies
+pub mod Texts
+pub mod Sessions

@@ -1,0 +1,51 @@
+// What a session asks of the tenants.
+ghost use Rattle.std.specs.Prelude.{◌≡◌, ℕ, List, Bool, Option};
+ghost use Rattle.job_language.specs.declared.requests.Request.{Request};
+ghost use Rattle.session_core.specs.declared.doors.Answered.{Answered};
+
+use job_language::{Reply, Request, TenantName};
+use nested_wait::Door;
+
+/// The answer to a request.
+#[derive(Clone, Copy, Debug, PartialEq, Eq)]
+pub struct Answered {
+    pub reply: Reply,
+    /// Whether the doors now lead to the slot that the job was placed on. They do until it is free,
+    /// or its history is full, or a pause says to stop.
+    pub placed: bool,
+}
+
+/// One session's ways to all tenants, of which it is bound to at most one. Others may act on the
+/// tenants between two calls, so what each call may answer and lead to is a relation that the
+/// implementation gives. Tenants are numbered from 0, jobs from 1.
+pub trait Doors: Door {
+    /// Which tenant may have a name.
+    ghost finds: { Self → List ℕ → Option ℕ → Type 0 };
+
+    /// What binding a tenant may lead to.
+    ghost binds: { Self → ℕ → Self → Type 0 };
+
+    /// What a request with this answer may lead to.
+    ghost asks: { Self → Request → Answered → Self → Type 0 };
+
+    /// What waiting for a job, with this answer, may lead to.
+    ghost waits: { Self → ℕ → Bool → Self → Type 0 };
+
+    /// The tenant of a name, if it has one.
+    fn find(&self, name: TenantName) -> Option<usize>
+        ensures { finds self.now name result };
+
+    /// Binds the session to a tenant. Requests are asked of it from then on.
+    fn bind(&mut self, tenant: usize)
+        ensures { binds self.old tenant self.new };
+
+    /// Asks the tenant that is bound.
+    fn ask(&mut self, request: Request) -> Answered
+        ensures answered { asks self.old request result self.new }
+        // A collect alone waits for an outcome.
+        ensures pending { result.reply ≡ Reply.Pending → (job : ℕ) × (request ≡ Request.Collect job) };
+
+    /// Waits while a job of the bound tenant has no outcome, and says whether to stop.
+    fn pause_for(&mut self, job: u64) -> bool
+        ensures { waits self.old job result self.new };
+}

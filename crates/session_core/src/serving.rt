@@ -1,0 +1,93 @@
+// The loop of a session.
+ghost use Rattle.std.specs.Prelude.{◌≡◌, false, IfOk, OnErr};
+ghost use Rattle.nested_wait.specs.Runs.{Attends};
+ghost use Rattle.nested_wait.specs.Turns.{Turn};
+ghost use Rattle.session_core.specs.Replies.{Replies};
+ghost use Rattle.session_core.specs.Sessions.{Serves, Answers, Refuses};
+
+use crate::doors::Doors;
+use crate::replying::reply_to;
+use job_language::{Error, Reply};
+use reply_writer::{reply_line, write_all_of};
+use request_reader::{LineRead, LineReader, MAX_REQUEST, is_blank};
+use std::alloc::{AllocError, Global};
+use std::io::{Read, Write};
+
+/// How a session ended.
+#[derive(Clone, Copy, Debug, PartialEq, Eq)]
+pub enum SessionEnd {
+    /// The reader has no more bytes, and each line is answered.
+    Ended,
+    /// The reader failed.
+    ReadFault,
+    /// The writer failed within a reply, of which so many bytes went out.
+    WriteFault { sent: usize },
+    /// The reader was called 1,048,576 times.
+    TurnLimit,
+    /// A pause said to stop while a reply was owed.
+    Stopped,
+}
+
+/// Serves one client: each line is read and answered, one after another, until an end comes. Its
+/// only memory of its own is the room for a line, so an error has read and written nothing.
+pub fn serve<R: Read, W: Write, D: Doors>(
+    alloc: Global,
+    reader: &mut R,
+    writer: &mut W,
+    doors: &mut D,
+) -> Result<SessionEnd, AllocError>
+    ensures serves { IfOk result (λ end.
+        Serves (Replies D.finds D.binds D.asks D.waits (Attends (Turn D.views D.commits D.advances) D.heights D.pauses 1))
+        (R.remaining reader.old) (R.remaining reader.new) (W.contents writer.old) (W.contents writer.new)
+        (false, doors.old) doors.new end) }
+    ensures refused { OnErr result ((reader.new ≡ reader.old) × (writer.new ≡ writer.old) × (doors.new ≡ doors.old)) }
+{
+    let mut lines = LineReader::new(alloc, MAX_REQUEST)?;
+    let mut is_bound = false;
+    loop {
+        let answered = match lines.read_line(reader) {
+            LineRead::Line => answer(alloc, lines.line(), writer, doors, &mut is_bound),
+            LineRead::TooLong => refuse(writer),
+            LineRead::End => Err(SessionEnd::Ended),
+            LineRead::ReadFault => Err(SessionEnd::ReadFault),
+            LineRead::TurnLimit => Err(SessionEnd::TurnLimit),
+        };
+        if let Err(end) = answered {
+            return Ok(end);
+        }
+    }
+}
+
+/// Answers a line that is too long.
+fn refuse<W: Write>(writer: &mut W) -> Result<(), SessionEnd>
+    ensures { Refuses (W.contents writer.old) (W.contents writer.new) result }
+{
+    let reply = reply_line(&Reply::Refused(Error::LineTooLong));
+    match write_all_of(writer, reply.line()) {
+        Ok(()) => Ok(()),
+        Err(fault) => Err(SessionEnd::WriteFault { sent: fault.sent }),
+    }
+}
+
+/// Answers a line. A blank one has no answer.
+fn answer<W: Write, D: Doors>(
+    alloc: Global,
+    line: &[u8],
+    writer: &mut W,
+    doors: &mut D,
+    is_bound: &mut bool,
+) -> Result<(), SessionEnd>
+    ensures { Answers (Replies D.finds D.binds D.asks D.waits (Attends (Turn D.views D.commits D.advances) D.heights D.pauses 1))
+        line.now (is_bound.old, doors.old) (is_bound.new, doors.new) (W.contents writer.old) (W.contents writer.new) result }
+{
+    if is_blank(line) {
+        return Ok(());
+    }
+    let Some(reply) = reply_to(alloc, doors, is_bound, line) else {
+        return Err(SessionEnd::Stopped);
+    };
+    match write_all_of(writer, reply_line(&reply).line()) {
+        Ok(()) => Ok(()),
+        Err(fault) => Err(SessionEnd::WriteFault { sent: fault.sent }),
+    }
+}
