@@ -9,7 +9,7 @@ use Rattle.request_reader.specs.Reading.{Reading, Reads, IsDone, IsPending}
 use Rattle.std.proofs.lemmas.Bool.{both_ways}
 use Rattle.session_core.proofs.Joining.{reads_then}
 use Rattle.session_core.specs.Texts.{Says, SaysAll, Stops}
-use Rattle.session_core.specs.Sessions.{unread, Served, Broke, Waited, ServesTo, Answers, Refuses, refusal}
+use Rattle.session_core.specs.Sessions.{unread, Served, Broke, Waited, ServesTo, Answers, RefusesLong, refusal}
 use Rattle.session_core.specs.declared.serving.SessionEnd.{SessionEnd}
 use Rattle.session_core.specs.declared.serving.SessionEnd.TheVariants.{Ended, ReadFault, WriteFault, TurnLimit, Stopped}
 
@@ -87,7 +87,7 @@ module _ {S : Type 0} (replies : List ℕ → S → Option Reply → S → Type 
     line_goes_on text new2 out2 (Ok u) not_err reads h = goes_on (whole text) h.0 new2 out2 reads h.1.0 h.1.1
     line_goes_on text new2 out2 (Err end) not_err reads h = absurd (not_err end refl)
 
-    pub long_goes_on : (out2 : Option (List ℕ)) (answered : Result (Unit {0}) SessionEnd) → ((end : SessionEnd) → answered ≡ Err end → ⊥) → Reads now next left left2 (too_long ∷ []) → Refuses out out2 answered → Served replies next bytes left2 written out2 old new
+    pub long_goes_on : (out2 : Option (List ℕ)) (answered : Result (Unit {0}) SessionEnd) → ((end : SessionEnd) → answered ≡ Err end → ⊥) → Reads now next left left2 (too_long ∷ []) → RefusesLong out out2 answered → Served replies next bytes left2 written out2 old new
     long_goes_on out2 (Ok u) not_err reads h = goes_on too_long refusal new out2 reads (refl, refl) h
     long_goes_on out2 (Err end) not_err reads h = absurd (not_err end refl)
 
@@ -104,16 +104,16 @@ module _ {S : Type 0} (replies : List ℕ → S → Option Reply → S → Type 
         let P : Result (Unit {0}) SessionEnd → Type 0 = λ x. Answers replies text new new2 out out2 x in
         line_ends_in text new2 out2 end reads (subst P is h)
 
-    long_ends_in : (out2 : Option (List ℕ)) (end : SessionEnd) → Reads now next left left2 (too_long ∷ []) → Refuses out out2 (Err end) → ServesTo replies next bytes left2 written out2 old new end
+    long_ends_in : (out2 : Option (List ℕ)) (end : SessionEnd) → Reads now next left left2 (too_long ∷ []) → RefusesLong out out2 (Err end) → ServesTo replies next bytes left2 written out2 old new end
     long_ends_in out2 (WriteFault sent) reads h = breaks too_long refusal sent new out2 reads (refl, refl) h.0 h.1
     long_ends_in out2 Stopped reads h = absurd h
     long_ends_in out2 Ended reads h = absurd h
     long_ends_in out2 ReadFault reads h = absurd h
     long_ends_in out2 TurnLimit reads h = absurd h
 
-    pub long_ends : (out2 : Option (List ℕ)) (answered : Result (Unit {0}) SessionEnd) (end : SessionEnd) → answered ≡ Err end → Reads now next left left2 (too_long ∷ []) → Refuses out out2 answered → ServesTo replies next bytes left2 written out2 old new end
+    pub long_ends : (out2 : Option (List ℕ)) (answered : Result (Unit {0}) SessionEnd) (end : SessionEnd) → answered ≡ Err end → Reads now next left left2 (too_long ∷ []) → RefusesLong out out2 answered → ServesTo replies next bytes left2 written out2 old new end
     long_ends out2 answered end is reads h =
-        let P : Result (Unit {0}) SessionEnd → Type 0 = λ x. Refuses out out2 x in
+        let P : Result (Unit {0}) SessionEnd → Type 0 = λ x. RefusesLong out out2 x in
         long_ends_in out2 end reads (subst P is h)
 
     -- no line is there

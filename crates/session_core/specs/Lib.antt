@@ -1,3 +1,4 @@
+pub mod Calls
 pub mod Waiting
 pub mod Replies
 pub mod Texts

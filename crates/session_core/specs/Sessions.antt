@@ -71,7 +71,7 @@ abbrev pub refusal : List ℕ
 refusal = reply_bytes (Refused LineTooLong)
 
 -- the refusal of a line that is too long, in whole or in part
-abbrev pub Refuses : (written out : Option (List ℕ)) → Result (Unit {0}) SessionEnd → Type 0
-Refuses written out (Ok u) = Appends written out refusal
-Refuses written out (Err (WriteFault sent)) = (sent < length refusal) × Appends written out (take sent refusal)
-Refuses written out (Err end) = ⊥
+abbrev pub RefusesLong : (written out : Option (List ℕ)) → Result (Unit {0}) SessionEnd → Type 0
+RefusesLong written out (Ok u) = Appends written out refusal
+RefusesLong written out (Err (WriteFault sent)) = (sent < length refusal) × Appends written out (take sent refusal)
+RefusesLong written out (Err end) = ⊥

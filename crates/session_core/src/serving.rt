@@ -3,7 +3,7 @@ ghost use Rattle.std.specs.Prelude.{◌≡◌, false, IfOk, OnErr};
 ghost use Rattle.nested_wait.specs.Runs.{Attends};
 ghost use Rattle.nested_wait.specs.Turns.{Turn};
 ghost use Rattle.session_core.specs.Replies.{Replies};
-ghost use Rattle.session_core.specs.Sessions.{Serves, Answers, Refuses};
+ghost use Rattle.session_core.specs.Sessions.{Serves, Answers, RefusesLong};
 
 use crate::doors::Doors;
 use crate::replying::reply_to;
@@ -60,7 +60,7 @@ pub fn serve<R: Read, W: Write, D: Doors>(
 
 /// Answers a line that is too long.
 fn refuse<W: Write>(writer: &mut W) -> Result<(), SessionEnd>
-    ensures { Refuses (W.contents writer.old) (W.contents writer.new) result }
+    ensures { RefusesLong (W.contents writer.old) (W.contents writer.new) result }
 {
     let reply = reply_line(&Reply::Refused(Error::LineTooLong));
     match write_all_of(writer, reply.line()) {
