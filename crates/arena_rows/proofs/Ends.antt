@@ -72,7 +72,7 @@ module _ (s : State) (retired current : ℕ) (table : List (Option OpenRow)) (fo
   go zero n enough from to opened = absurd (omega arith)
   go (suc k) n enough from to opened = by_kind n (row s.rows n).kind refl (λ m before least most opened_m. go k m (omega arith) least most opened_m) from to opened
 
-  not_group : (n m g : ℕ) → 1 ≤ n → n ≤ length s.rows → is_open (row s.rows n).phase ≡ true → at.owner (at.of_row n) ≡ OfGroup m g → ⊥
+  pub not_group : (n m g : ℕ) → 1 ≤ n → n ≤ length s.rows → is_open (row s.rows n).phase ≡ true → at.owner (at.of_row n) ≡ OfGroup m g → ⊥
   not_group n m g from to opened is = elim (go n n (omega arith) from to opened) [
     | inl job ↦ grind (arith, ap is_group (sym is ∙ job.1))
     | inr held ↦ grind (arith, ap is_group (sym is ∙ held.1))

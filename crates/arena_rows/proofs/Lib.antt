@@ -34,3 +34,12 @@ pub mod SpawnedRow
 pub mod Capacity
 pub mod RowHeld
 pub mod SpawnSteps
+pub mod Closed
+pub mod Left
+pub mod ContextsClosed
+pub mod TableClosed
+pub mod NestsPopped
+pub mod Parting
+pub mod Ended
+pub mod Ending
+pub mod EndSteps

@@ -1,3 +1,4 @@
 pub mod Held
 pub mod Represents
 pub mod HeldChanges
+pub mod Endings

@@ -3,6 +3,7 @@
 
 mod arrivals;
 mod changes;
+mod endings;
 mod frames;
 mod isolated;
 mod jobs;

@@ -56,3 +56,19 @@ pub struct CurrentJob {
     /// Its context.
     pub context: ContextId,
 }
+
+impl CurrentJob {
+    ghost use Rattle.std.specs.Prelude.{◌≡◌, ◌<◌};
+    ghost use Rattle.arena_rows.specs.Endings.{with_ended};
+
+    /// Counts one open row less, of that number, and takes its value if it was the root.
+    pub(crate) fn end_row(&mut self, number: u64, value: i64)
+        requires { 0 < self.old.open_rows }
+        ensures { self.new ≡ with_ended number value self.old }
+    {
+        self.open_rows -= 1;
+        if self.work.root == number {
+            self.value = value;
+        }
+    }
+}

@@ -1,0 +1,84 @@
+use Rattle.std.proofs.Common.{◌≡◌, ◌<◌, ◌≤◌, ◌-◌, ◌+◌, ℕ, ℤ, length, length-set, List, Option, Some, None, refl, sym, ap, ◌∙◌, arith, w64, to_z, of_z, subst}
+use Rattle.std.proofs.lemmas.Int.{to_z-of_z}
+use Rattle.std.specs.Prelude.{slice_index_or, slice_set, IsSome}
+use Rattle.region_tag.specs.declared.row_id.RowId.{RowId}
+use Rattle.cancel_context.specs.Forest.{Forest}
+use Rattle.task_group.specs.Groups.{group}
+use Rattle.tenant_model.specs.State.{State, row}
+use Rattle.tenant_model.specs.Walks.{is_open}
+use Rattle.arena_rows.specs.declared.rows.OpenRow.{OpenRow}
+use Rattle.arena_rows.specs.declared.rows.CurrentJob.{CurrentJob}
+use Rattle.arena_rows.specs.Held.{Held}
+use Rattle.arena_rows.specs.HeldChanges.{index_of, no_job}
+use Rattle.arena_rows.specs.Represents.{at_place}
+use Rattle.arena_rows.specs.Endings.{Left, contexts_of, open_maker, parted, with_ended, HasEnded, MayEnd, CanEnd}
+use Rattle.arena_rows.proofs.Ending.{may_end, can_leave, room_for_place, its_job, some_open}
+use Rattle.arena_rows.proofs.EndSteps.{entry_in, parted_long, told, taken_is, counted_is, has_ended}
+use Rattle.arena_rows.proofs.Started.{some_is}
+use Rattle.arena_rows.proofs.parts.Parts.end.Goals as goal
+
+pub release_all-requires : goal.release_all-requires
+release_all-requires c =
+    let h : CanEnd c.args.self.now c.args.row = c.requires in
+    let e = c.entry_at-entry.result in
+    let fine : MayEnd c.args.self.now.contexts e = may_end c.args.self.now h.0 h.2 h.1 e (entry_in c.args.self.now c.args.row h e c.entry_at-entry.ensures) h.5 in
+    subst (λ (a : Held). MayEnd a.contexts e) (sym c.self.view_is) fine
+
+pub leave_maker-requires-clause-pending : goal.leave_maker-requires-clause-pending
+leave_maker-requires-clause-pending c = λ p x found there.
+    let h : CanEnd c.args.self.now c.args.row = c.requires in
+    let e = c.entry_at-entry.result in
+    let found' : open_maker c.args.self.now.table e.source ≡ Some p = ap (λ (a : Held). open_maker a.table e.source) (sym c.self.view_is) ∙ found in
+    let there' : at_place c.args.self.now.table p.0 ≡ Some x = ap (λ (a : Held). at_place a.table p.0) (sym c.self.view_is) ∙ there in
+    (can_leave c.args.self.now h.0 h.2 h.1 e (entry_in c.args.self.now c.args.row h e c.entry_at-entry.ensures) p found').2 x there'
+
+pub take_out-requires-clause-room : goal.take_out-requires-clause-room
+take_out-requires-clause-room c =
+    let a = c.args.self.now in
+    let h : CanEnd a c.args.row = c.requires in
+    let e = c.entry_at-entry.result in
+    let v = c.args.value in
+    let forest : Forest = c.release_all.new.contexts in
+    let entry = entry_in a c.args.row h e c.entry_at-entry.ensures in
+    let tells : c.leave_maker.new.self ≡ told a forest e.source v = c.leave_maker.ensures ∙ ap (λ (x : Held). told x forest e.source (to_z w64 (of_z w64 v))) c.self.view_is ∙ ap (told a forest e.source) (to_z-of_z w64 c.args.value c.ranges.value) in
+    rw tells (omega (arith, room_for_place a h.0 h.2 h.1 e entry, parted_long a.table e.source v))
+
+pub count_out-requires-clause-below : goal.count_out-requires-clause-below
+count_out-requires-clause-below c =
+    let a = c.args.self.now in
+    let h : CanEnd a c.args.row = c.requires in
+    let e = c.entry_at-entry.result in
+    let v = c.args.value in
+    let forest : Forest = c.release_all.new.contexts in
+    let entry = entry_in a c.args.row h e c.entry_at-entry.ensures in
+    let tells : c.leave_maker.new.self ≡ told a forest e.source v = c.leave_maker.ensures ∙ ap (λ (x : Held). told x forest e.source (to_z w64 (of_z w64 v))) c.self.view_is ∙ ap (told a forest e.source) (to_z-of_z w64 c.args.value c.ranges.value) in
+    let takes = taken_is a c.leave_maker.new.self c.take_out.new.self forest c.args.row e.source v tells c.take_out.ensures in
+    rw takes (its_job a h.0 h.2 h.1 e entry).1
+
+pub count_out-requires-clause-some : goal.count_out-requires-clause-some
+count_out-requires-clause-some c =
+    let a = c.args.self.now in
+    let h : CanEnd a c.args.row = c.requires in
+    let e = c.entry_at-entry.result in
+    let v = c.args.value in
+    let forest : Forest = c.release_all.new.contexts in
+    let entry = entry_in a c.args.row h e c.entry_at-entry.ensures in
+    let tells : c.leave_maker.new.self ≡ told a forest e.source v = c.leave_maker.ensures ∙ ap (λ (x : Held). told x forest e.source (to_z w64 (of_z w64 v))) c.self.view_is ∙ ap (told a forest e.source) (to_z-of_z w64 c.args.value c.ranges.value) in
+    let takes = taken_is a c.leave_maker.new.self c.take_out.new.self forest c.args.row e.source v tells c.take_out.ensures in
+    rw takes (some_open a h.0 h.2 h.1 e entry)
+
+pub returns : goal.returns
+returns c = λ x there.
+    let a = c.args.self.now in
+    let h : CanEnd a c.args.row = c.requires in
+    let e = c.entry_at-entry.result in
+    let v = c.args.value in
+    let forest : Forest = c.release_all.new.contexts in
+    let entry = entry_in a c.args.row h e c.entry_at-entry.ensures in
+    let tells : c.leave_maker.new.self ≡ told a forest e.source v = c.leave_maker.ensures ∙ ap (λ (x : Held). told x forest e.source (to_z w64 (of_z w64 v))) c.self.view_is ∙ ap (told a forest e.source) (to_z-of_z w64 c.args.value c.ranges.value) in
+    let takes = taken_is a c.leave_maker.new.self c.take_out.new.self forest c.args.row e.source v tells c.take_out.ensures in
+    let counts : (d : CurrentJob) → c.count_out.new.self ≡ record c.take_out.new.self { jobs = slice_set c.take_out.new.self.jobs (index_of c.take_out.new.self e.job) (with_ended c.args.row.number v (slice_index_or c.take_out.new.self.jobs (index_of c.take_out.new.self e.job) d)) } =
+        λ d. c.count_out.ensures d ∙ ap (λ w. record c.take_out.new.self { jobs = slice_set c.take_out.new.self.jobs (index_of c.take_out.new.self e.job) (with_ended c.args.row.number w (slice_index_or c.take_out.new.self.jobs (index_of c.take_out.new.self e.job) d)) }) (to_z-of_z w64 c.args.value c.ranges.value) in
+    let left : Left a.contexts forest (contexts_of e) = subst (λ (y : Held). Left y.contexts forest (contexts_of e)) c.self.view_is c.release_all.ensures in
+    let over = has_ended a c.count_out.new.self forest c.args.row e v left (counted_is a c.take_out.new.self c.count_out.new.self forest c.args.row e v takes counts) in
+    subst (λ (y : OpenRow). HasEnded a c.count_out.new.self c.args.row y v) (some_is e x (sym c.entry_at-entry.ensures ∙ there)) over

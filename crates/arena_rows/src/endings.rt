@@ -1,0 +1,123 @@
+// Rows that end: what they held is given back.
+ghost use Rattle.std.specs.Prelude.{◌≡◌, ◌<◌, ◌≤◌, ◌-◌, ◌++◌, ◌∷◌, [], ℕ, length, slice_index_or, slice_set, Some, None, IsSome};
+ghost use Rattle.task_group.specs.Groups.{group};
+ghost use Rattle.region_tag.specs.Region.{IsEntered};
+ghost use Rattle.job_language.specs.declared.instructions.TheConstants.{GROUPS};
+ghost use Rattle.arena_rows.specs.declared.rows.OpenRow.{OpenRow};
+ghost use Rattle.arena_rows.specs.declared.rows.CurrentJob.{CurrentJob};
+ghost use Rattle.arena_rows.specs.Represents.{at_place};
+ghost use Rattle.arena_rows.specs.HeldChanges.{index_of, with_entry};
+ghost use Rattle.arena_rows.specs.Endings.{Left, below, contexts_of, MayLeave, MayEnd, member_left, open_maker, parted, with_ended, CanEnd, HasEnded};
+
+use crate::parts::Parts;
+use crate::rows::{OpenRow, Source};
+use cancel_context::{ContextId, Contexts};
+use job_language::{GROUPS, Group};
+use region_tag::RowId;
+
+/// Releases the contexts of groups.
+fn release_groups(contexts: &mut Contexts, groups: &[Option<ContextId>; GROUPS])
+    requires { MayLeave contexts.old groups.now }
+    ensures { Left contexts.old contexts.new (below groups.now GROUPS) }
+{
+    for number in 0..GROUPS {
+        if let Some(context) = groups[number] {
+            contexts.release(context);
+        }
+    }
+}
+
+/// Releases the contexts of an open row: those of its groups, and its own if it has one.
+fn release_all(contexts: &mut Contexts, entry: &OpenRow)
+    requires { MayEnd contexts.old entry.now }
+    ensures { Left contexts.old contexts.new (contexts_of entry.now) }
+{
+    release_groups(contexts, &entry.group_contexts);
+    if let Source::Spawned(_, _) = entry.source {
+        contexts.release(entry.context);
+    }
+}
+
+impl Parts {
+    /// The place of what spawned a row, if that is open, and the group that it was spawned into.
+    fn open_maker(&self, source: Source) -> Option<(usize, Group)>
+        ensures { result ≡ open_maker self.now.table source }
+    {
+        let Source::Spawned(maker, group) = source else {
+            return None;
+        };
+        let Some(entry) = self.table.get(maker.place)? else {
+            return None;
+        };
+        if entry.number == maker.number {
+            Some((maker.place, group))
+        } else {
+            None
+        }
+    }
+
+    /// Lets the row at a place have one pending member less in a group, which ended with a value.
+    fn leave(&mut self, place: usize, number: Group, value: i64)
+        requires place { place < length self.old.table }
+        requires pending { (e : OpenRow) → at_place self.old.table place ≡ Some e → 0 < (group e.groups number).pending }
+        ensures { (e : OpenRow) → at_place self.old.table place ≡ Some e → self.new ≡ with_entry self.old place (member_left number value e) }
+    {
+        let Some(mut maker) = self.table[place] else {
+            return;
+        };
+        maker.groups.finish(number.index(), value);
+        self.table[place] = Some(maker);
+    }
+
+    /// Lets what spawned a row have one pending member less, if it is open.
+    fn leave_maker(&mut self, source: Source, value: i64)
+        requires place { (p : ℕ × ℕ) → open_maker self.old.table source ≡ Some p → p.0 < length self.old.table }
+        requires there { (p : ℕ × ℕ) → open_maker self.old.table source ≡ Some p → IsSome (at_place self.old.table p.0) }
+        requires pending { (p : ℕ × ℕ) (e : OpenRow) → open_maker self.old.table source ≡ Some p → at_place self.old.table p.0 ≡ Some e → 0 < (group e.groups p.1).pending }
+        ensures { self.new ≡ record self.old { table = parted self.old.table source value } }
+    {
+        if let Some((place, group)) = self.open_maker(source) {
+            self.leave(place, group, value);
+        }
+    }
+
+    /// Takes a row out of the table, and out of the regions.
+    fn take_out(&mut self, row: RowId)
+        requires place { row.place < length self.old.table }
+        requires room { length self.old.free < length self.old.table }
+        requires entered { IsEntered self.old.regions row }
+        ensures { self.new ≡ record self.old {
+          table = slice_set self.old.table row.place None;
+          free = self.old.free ++ row.place ∷ [];
+          regions = slice_set self.old.regions row.place None;
+        } }
+    {
+        self.table[row.place] = None;
+        self.free.push_reserved(row.place);
+        self.regions.exit(row);
+    }
+
+    /// Counts one open row less of a job, whose number it was, and notes the value if it was the root.
+    fn count_out(&mut self, job: u64, number: u64, value: i64)
+        requires above { self.old.retired < job }
+        requires below { job - self.old.retired ≤ length self.old.jobs }
+        requires some { (d : CurrentJob) → 0 < (slice_index_or self.old.jobs (index_of self.old job) d).open_rows }
+        ensures { (d : CurrentJob) → self.new ≡ record self.old { jobs = slice_set self.old.jobs (index_of self.old job) (with_ended number value (slice_index_or self.old.jobs (index_of self.old job) d)) } }
+    {
+        let index = self.index_of(job);
+        self.jobs[index].end_row(number, value);
+    }
+
+    /// Ends an open row with a value, which is 0 where it has none. The caller takes it off its slot
+    /// or out of the pool.
+    fn end(&mut self, row: RowId, value: i64)
+        requires { CanEnd self.old row }
+        ensures { (e : OpenRow) → at_place self.old.table row.place ≡ Some e → HasEnded self.old self.new row e value }
+    {
+        let entry = self.entry_at(row.place);
+        release_all(&mut self.contexts, &entry);
+        self.leave_maker(entry.source, value);
+        self.take_out(row);
+        self.count_out(entry.job, row.number, value);
+    }
+}
