@@ -76,7 +76,7 @@ module _ (rows : List Row) (n : ℕ) (r : Row) (from : 1 ≤ n) (to : n ≤ leng
     | inr other ↦ ap f (row_old m other)
   ]
 
-  contexts_same : SameContexts rows rows'
+  pub contexts_same : SameContexts rows rows'
   contexts_same = record { sources = SameSources-set rows n r from to kind job; marks = part (λ (q : Row). q.marks) marks }
 
   pub kinds_same : (m : ℕ) → (row rows' m).kind ≡ (row rows m).kind

@@ -20,7 +20,7 @@ use Rattle.arena_rows.specs.declared.rows.OpenRow.{OpenRow}
 use Rattle.arena_rows.specs.declared.rows.CurrentJob.{CurrentJob}
 use Rattle.arena_rows.specs.Represents.{Places, Assigned, bound, IsRowContext, IsGroupContext, AreContexts}
 
-has_fault : (o : Option JobFault) → IsSome o → is_some o ≡ true
+pub has_fault : (o : Option JobFault) → IsSome o → is_some o ≡ true
 has_fault None some = grind (arith, some)
 has_fault (Some f) some = refl
 
@@ -58,7 +58,7 @@ module _ (s : State) (retired current : ℕ) (table : List (Option OpenRow)) (fo
   alone n from to opened none no_group context = rw (context, chain_ends s.rows n from none, no_group) (job_context n from to opened ∙ grind arith)
 
   -- the context of a group that has one
-  group_is : (m g c : ℕ) → is_open (row s.rows m).phase ≡ true → g < GROUPS → at.of_group m g ≡ Some c → Agrees m → is_cancelled forest c ≡ ((mark s.rows m g).cancelled || is_context_cancelled s m)
+  pub group_is : (m g c : ℕ) → is_open (row s.rows m).phase ≡ true → g < GROUPS → at.of_group m g ≡ Some c → Agrees m → is_cancelled forest c ≡ ((mark s.rows m g).cancelled || is_context_cancelled s m)
   group_is m g c opened few given agrees =
       let its : IsGroupContext s forest at m g (Some c) = rw given at (are.of_groups m g opened few) in
       by_binding forest is c _ its.1 ∙ rw agrees (or_none (mark s.rows m g).cancelled (is_context_cancelled s m))

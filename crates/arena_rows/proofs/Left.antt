@@ -5,7 +5,7 @@ use Rattle.std.specs.List.{list_any}
 use Rattle.std.proofs.lemmas.Bool.{cases_eq, cases_lt}
 use Rattle.std.proofs.lemmas.List.{get_or-set_same, get_or-set_other, length-map}
 use Rattle.std.proofs.Common.{length-set}
-use Rattle.cancel_context.specs.Forest.{Forest, Binding, binding, IsHeld, held_count, is_cancelled, parent, parent_in, leaving, without_parent, without}
+use Rattle.cancel_context.specs.Forest.{Forest, Binding, binding, IsHeld, IsForest, held_count, is_cancelled, parent, parent_in, leaving, without_parent, without}
 use Rattle.tenant_model.proofs.Within.{either_way}
 use Rattle.cancel_context.proofs.Chains.{IsHeld-within}
 use Rattle.arena_rows.specs.declared.rows.OpenRow.{OpenRow}
@@ -24,6 +24,7 @@ Left-none forest = record {
   kept = λ d out none. refl;
   cancelled = λ d out. refl;
   count = omega arith;
+  sound = λ is. is;
 }
 
 no_parent : (b : Binding) (c : ℕ) (o : Option ℕ) → (o ≡ Some c → ⊥) → leaving c b o ≡ b
@@ -55,9 +56,9 @@ out_of c d cs out = elim (cases_eq d c) [
 ]
 
 -- one more
-pub Left-more : (forest forest1 : Forest) (cs : List ℕ) (c : ℕ) → Left forest forest1 cs → is_in c cs ≡ false → c < length forest1 → held_count (without forest1 c) + 1 ≡ held_count forest1 → ((d : ℕ) → d ≢ c → is_cancelled (without forest1 c) d ≡ is_cancelled forest1 d) →
+pub Left-more : (forest forest1 : Forest) (cs : List ℕ) (c : ℕ) → Left forest forest1 cs → is_in c cs ≡ false → c < length forest1 → held_count (without forest1 c) + 1 ≡ held_count forest1 → ((d : ℕ) → d ≢ c → is_cancelled (without forest1 c) d ≡ is_cancelled forest1 d) → IsForest (without forest1 c) →
     Left forest (without forest1 c) (c ∷ cs)
-Left-more forest forest1 cs c left fresh within count others =
+Left-more forest forest1 cs c left fresh within count others is_forest =
     let forest2 = without forest1 c in
     record {
       long = length-set (map (without_parent c) forest1) c None ∙ length-map forest1 (without_parent c) ∙ left.long;
@@ -85,6 +86,7 @@ Left-more forest forest1 cs c left fresh within count others =
           without_other forest1 c d apart.0 ∙ kept_in c (binding forest1 d) (λ its. let q : parent forest d ≡ Some c = ap parent_in (sym still) ∙ its in (out_of c c cs (none c q)).0 refl) ∙ still;
       cancelled = λ d out. let apart = out_of c d cs out in others d apart.0 ∙ left.cancelled d apart.1;
       count = omega (arith, count, left.count);
+      sound = λ is. is_forest;
     }
 
 -- what is held after was held before
@@ -209,8 +211,8 @@ module _ (forest forest' : Forest) (groups : List (Option ℕ)) (g c : ℕ) (may
       let was = bound_before forest forest' (below groups g) left d c bound in
       left.cancelled c next_out ∙ may.ends g c d few here was.1
 
-  pub next_left : held_count (without forest' c) + 1 ≡ held_count forest' → ((d : ℕ) → d ≢ c → is_cancelled (without forest' c) d ≡ is_cancelled forest' d) → Left forest (without forest' c) (below groups (g + 1))
-  next_left count others = subst (λ k. Left forest (without forest' c) (below groups k)) (one_more g) (subst (λ o. Left forest (without forest' c) (with_some o (below groups g))) (sym here) (Left-more forest forest' (below groups g) c left next_out (IsHeld-within forest' c next_held) count others))
+  pub next_left : held_count (without forest' c) + 1 ≡ held_count forest' → ((d : ℕ) → d ≢ c → is_cancelled (without forest' c) d ≡ is_cancelled forest' d) → IsForest (without forest' c) → Left forest (without forest' c) (below groups (g + 1))
+  next_left count others is_forest = subst (λ k. Left forest (without forest' c) (below groups k)) (one_more g) (subst (λ o. Left forest (without forest' c) (with_some o (below groups g))) (sym here) (Left-more forest forest' (below groups g) c left next_out (IsHeld-within forest' c next_held) count others is_forest))
 
 -- and at last its own.
 module _ (forest forest' : Forest) (e : OpenRow) (may : MayEnd forest e) (spawned : is_spawned e.source ≡ true) (left : Left forest forest' (below e.group_contexts GROUPS)) where
@@ -229,8 +231,8 @@ module _ (forest forest' : Forest) (e : OpenRow) (may : MayEnd forest e) (spawne
       let released = may.alone e.context d own_is was.1 in
       absurd (grind (arith, was.0, released))
 
-  pub own_left : held_count (without forest' e.context) + 1 ≡ held_count forest' → ((d : ℕ) → d ≢ e.context → is_cancelled (without forest' e.context) d ≡ is_cancelled forest' d) → Left forest (without forest' e.context) (contexts_of e)
-  own_left count others = subst (λ o. Left forest (without forest' e.context) (with_some o (below e.group_contexts GROUPS))) (sym own_is) (Left-more forest forest' (below e.group_contexts GROUPS) e.context left own_out (IsHeld-within forest' e.context own_held) count others)
+  pub own_left : held_count (without forest' e.context) + 1 ≡ held_count forest' → ((d : ℕ) → d ≢ e.context → is_cancelled (without forest' e.context) d ≡ is_cancelled forest' d) → IsForest (without forest' e.context) → Left forest (without forest' e.context) (contexts_of e)
+  own_left count others is_forest = subst (λ o. Left forest (without forest' e.context) (with_some o (below e.group_contexts GROUPS))) (sym own_is) (Left-more forest forest' (below e.group_contexts GROUPS) e.context left own_out (IsHeld-within forest' e.context own_held) count others is_forest)
 
 -- A group without a context changes nothing.
 pub next_none : (forest forest' : Forest) (groups : List (Option ℕ)) (g : ℕ) → slice_index_or groups g None ≡ None → Left forest forest' (below groups g) → Left forest forest' (below groups (g + 1))

@@ -43,3 +43,6 @@ pub mod Parting
 pub mod Ended
 pub mod Ending
 pub mod EndSteps
+pub mod Loose
+pub mod EndHolds
+pub mod EndTop

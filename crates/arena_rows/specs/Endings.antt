@@ -1,15 +1,18 @@
 -- What the parts of an arena are after a row has ended.
-use Rattle.std.specs.Prelude.{◌≡◌, ◌≢◌, ℕ, zero, suc, ◌+◌, ◌-◌, ◌<◌, ◌==◌, ℤ, Bool, true, false, if◌then◌else◌, List, [], ◌∷◌, ◌++◌, Option, Some, None, slice_index_or, slice_set, length}
+use Rattle.std.specs.Prelude.{◌≡◌, ◌≢◌, ℕ, zero, suc, ◌+◌, ◌-◌, ◌<◌, ◌==◌, ℤ, Bool, true, false, if◌then◌else◌, List, [], ◌∷◌, ◌++◌, Option, Some, None, slice_index_or, slice_set, length, IsSome}
 use Rattle.std.specs.List.{list_any}
 use Rattle.std.specs.Option.{option_map}
 use Rattle.std.specs.Int.{int_wrapping_add, w64}
 use Rattle.job_language.specs.declared.instructions.TheConstants.{GROUPS}
 use Rattle.region_tag.specs.declared.row_id.RowId.{RowId}
 use Rattle.task_group.specs.Groups.{group}
-use Rattle.cancel_context.specs.Forest.{Forest, Binding, binding, IsHeld, held_count, is_cancelled, parent}
+use Rattle.cancel_context.specs.Forest.{Forest, Binding, binding, IsHeld, IsForest, held_count, is_cancelled, parent}
 use Rattle.tenant_model.specs.declared.rows.Kind.TheVariants as kind
-use Rattle.tenant_model.specs.State.{State, row}
-use Rattle.tenant_model.specs.Walks.{is_open}
+use Rattle.nest_stack.specs.Nest as nest
+use Rattle.nest_stack.specs.Nest.{stack, with_stack}
+use Rattle.tenant_model.specs.State.{State, row, job}
+use Rattle.tenant_model.specs.Walks.{is_open, is_unstarted, top}
+use Rattle.tenant_model.specs.Shared.{has_used_group}
 use Rattle.arena_rows.specs.declared.rows.OpenRow.{OpenRow}
 use Rattle.arena_rows.specs.declared.rows.CurrentJob.{CurrentJob}
 use Rattle.arena_rows.specs.declared.rows.Source.{Source}
@@ -33,6 +36,7 @@ pub record Left (forest forest' : Forest) (cs : List ℕ) : Type 0 where
   pub kept : (d : ℕ) → is_in d cs ≡ false → ((c : ℕ) → parent forest d ≡ Some c → is_in c cs ≡ false) → binding forest' d ≡ binding forest d
   pub cancelled : (d : ℕ) → is_in d cs ≡ false → is_cancelled forest' d ≡ is_cancelled forest d
   pub count : held_count forest' + length cs ≡ held_count forest
+  pub sound : IsForest forest → IsForest forest'
 
 abbrev pub with_some : Option ℕ → List ℕ → List ℕ
 with_some None cs = cs
@@ -113,3 +117,19 @@ pub record IsLoose (a : Held) (s : State) (at : Assigned) (n : ℕ) : Type 0 whe
 -- A row is open and can end, in some state that is held.
 abbrev pub CanEnd : Held → RowId → Type 0
 CanEnd a id = (s : State) × (n : ℕ) × (is : Holds a s) × (is_open (row s.rows n).phase ≡ true) × (id ≡ id_of is.places n) × IsLoose a s is.assigned n
+
+-- a slot without its topmost row
+abbrev pub popped : Held → (slot : ℕ) → Held
+popped a slot = record a { nests = with_stack a.nests slot (nest.below (stack a.nests slot) (length (stack a.nests slot))) }
+
+-- The topmost row of a slot has no used group, in some state that is held.
+abbrev pub HasUnused : Held → (slot : ℕ) → Type 0
+HasUnused a slot = (s : State) × (n : ℕ) × Holds a s × (top s.rows slot ≡ Some n) × (has_used_group s n ≡ false)
+
+-- The job of a slot's topmost row has a fault, in some state that is held.
+abbrev pub HasFaulty : Held → (slot : ℕ) → Type 0
+HasFaulty a slot = (s : State) × (n : ℕ) × Holds a s × (top s.rows slot ≡ Some n) × IsSome (job s.jobs (row s.rows n).job).fault
+
+-- A row waits, in some state that is held.
+abbrev pub IsWaiting : Held → RowId → Type 0
+IsWaiting a id = (s : State) × (n : ℕ) × (is : Holds a s) × (is_unstarted (row s.rows n).phase ≡ true) × (id ≡ id_of is.places n)

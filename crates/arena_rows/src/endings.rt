@@ -110,7 +110,7 @@ impl Parts {
 
     /// Ends an open row with a value, which is 0 where it has none. The caller takes it off its slot
     /// or out of the pool.
-    fn end(&mut self, row: RowId, value: i64)
+    pub(crate) fn end(&mut self, row: RowId, value: i64)
         requires { CanEnd self.old row }
         ensures { (e : OpenRow) → at_place self.old.table row.place ≡ Some e → HasEnded self.old self.new row e value }
     {

@@ -4,6 +4,7 @@
 mod arrivals;
 mod changes;
 mod endings;
+mod finishing;
 mod frames;
 mod isolated;
 mod jobs;

@@ -2,7 +2,7 @@ use Rattle.std.proofs.Common.{◌≡◌, ◌≢◌, ◌≤◌, ◌+◌, ◌<◌,
 use Rattle.std.specs.Prelude.{slice_index_or}
 use Rattle.std.proofs.lemmas.List.{get_or_default}
 use Rattle.cancel_context.specs.declared.bindings.ContextId.{ContextId}
-use Rattle.cancel_context.specs.Forest.{without, held_count, is_cancelled}
+use Rattle.cancel_context.specs.Forest.{IsForest, without, held_count, is_cancelled}
 use Rattle.arena_rows.specs.Endings.{Left, below}
 use Rattle.arena_rows.proofs.Left.{Left-none, next_held, next_ends, next_left, next_none}
 use Rattle.arena_rows.proofs.endings.release_groups.Goals.{in-Some, in_default}
@@ -30,7 +30,7 @@ loop-number-preserved c =
           let released = w.contexts-is ∙ w.release.ensures.released in
           let count : held_count (without before w.in-Some.context) + 1 ≡ held_count before = ap (λ f. held_count f + 1) (sym w.release.ensures.released) ∙ w.release.ensures.count in
           let others : (d : ℕ) → d ≢ w.in-Some.context → is_cancelled (without before w.in-Some.context) d ≡ is_cancelled before d = λ d apart. ap (λ f. is_cancelled f d) (sym w.release.ensures.released) ∙ w.release.ensures.others d apart in
-          subst (λ f. Left start f (below groups (number + 1))) (sym released) (next_left start before groups number w.in-Some.context c.requires c.loop-number-test.true here c.loop-number.invariant count others)
+          subst (λ f. Left start f (below groups (number + 1))) (sym released) (next_left start before groups number w.in-Some.context c.requires c.loop-number-test.true here c.loop-number.invariant count others (subst IsForest w.release.ensures.released w.release.ensures.forest))
       | in_default w ↦
           let none : slice_index_or groups number None ≡ None = get_or_default groups number None _ within ∙ w.in_default.is in
           subst (λ f. Left start f (below groups (number + 1))) (sym w.contexts-is) (next_none start before groups number none c.loop-number.invariant)

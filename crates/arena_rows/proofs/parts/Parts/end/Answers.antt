@@ -78,7 +78,7 @@ returns c = λ x there.
     let tells : c.leave_maker.new.self ≡ told a forest e.source v = c.leave_maker.ensures ∙ ap (λ (x : Held). told x forest e.source (to_z w64 (of_z w64 v))) c.self.view_is ∙ ap (told a forest e.source) (to_z-of_z w64 c.args.value c.ranges.value) in
     let takes = taken_is a c.leave_maker.new.self c.take_out.new.self forest c.args.row e.source v tells c.take_out.ensures in
     let counts : (d : CurrentJob) → c.count_out.new.self ≡ record c.take_out.new.self { jobs = slice_set c.take_out.new.self.jobs (index_of c.take_out.new.self e.job) (with_ended c.args.row.number v (slice_index_or c.take_out.new.self.jobs (index_of c.take_out.new.self e.job) d)) } =
-        λ d. c.count_out.ensures d ∙ ap (λ w. record c.take_out.new.self { jobs = slice_set c.take_out.new.self.jobs (index_of c.take_out.new.self e.job) (with_ended c.args.row.number w (slice_index_or c.take_out.new.self.jobs (index_of c.take_out.new.self e.job) d)) }) (to_z-of_z w64 c.args.value c.ranges.value) in
+    λ d. c.count_out.ensures d ∙ ap (λ w. record c.take_out.new.self { jobs = slice_set c.take_out.new.self.jobs (index_of c.take_out.new.self e.job) (with_ended c.args.row.number w (slice_index_or c.take_out.new.self.jobs (index_of c.take_out.new.self e.job) d)) }) (to_z-of_z w64 c.args.value c.ranges.value) in
     let left : Left a.contexts forest (contexts_of e) = subst (λ (y : Held). Left y.contexts forest (contexts_of e)) c.self.view_is c.release_all.ensures in
     let over = has_ended a c.count_out.new.self forest c.args.row e v left (counted_is a c.take_out.new.self c.count_out.new.self forest c.args.row e v takes counts) in
     subst (λ (y : OpenRow). HasEnded a c.count_out.new.self c.args.row y v) (some_is e x (sym c.entry_at-entry.ensures ∙ there)) over

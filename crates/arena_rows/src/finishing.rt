@@ -1,0 +1,70 @@
+// Rows that are done, that fault and that are dropped, for every state that the parts stand for.
+ghost use Rattle.std.specs.Prelude.{◌≡◌, ◌<◌, ℕ, true, false, length, Some, IsSome};
+ghost use Rattle.cancel_context.specs.Forest.{IsForest};
+ghost use Rattle.job_step.specs.declared.frames.Frame.{Frame};
+ghost use Rattle.nest_stack.specs.Nest.{stack};
+ghost use Rattle.ready_pool.specs.Ready as ready;
+ghost use Rattle.tenant_model.specs.State.{State, row, job};
+ghost use Rattle.tenant_model.specs.Walks.{top, is_unstarted};
+ghost use Rattle.tenant_model.specs.Changes.{on_row};
+ghost use Rattle.tenant_model.specs.Shared.{has_used_group};
+ghost use Rattle.tenant_model.specs.declared.rows.Phase.TheVariants.{Done, Faulted, Dropped};
+ghost use Rattle.arena_rows.specs.Represents.{id_of, Holds, Rests};
+ghost use Rattle.arena_rows.specs.Endings.{popped, HasUnused, HasFaulty, IsWaiting};
+
+use crate::parts::Parts;
+use region_tag::RowId;
+
+impl Parts {
+    /// Takes the topmost row off a slot.
+    fn pop(&mut self, slot: u8)
+        requires slot { slot < length self.old.nests }
+        requires height { 0 < length (stack self.old.nests slot) }
+        ensures { self.new ≡ popped self.old slot }
+    {
+        self.nests.pop(usize::from(slot));
+    }
+
+    /// Takes a row out of those that wait.
+    fn unwait(&mut self, row: RowId)
+        ensures { self.new ≡ record self.old { pool = ready.without self.old.pool row } }
+    {
+        self.pool.remove(row, &self.regions);
+    }
+
+    /// A slot's topmost row, which has no used group, is done with a value.
+    pub fn finish(&mut self, slot: u8, value: i64)
+        requires { HasUnused self.old slot }
+        ensures { (s : State) (n : ℕ) (frame : Frame) → Rests self.old s → top s.rows slot ≡ Some n → has_used_group s n ≡ false
+            → length frame.registers ≡ length (row s.rows n).frame.registers
+            → Rests self.new (on_row s n (λ r. record r { frame = frame; phase = Done value })) }
+    {
+        let row = self.top_row(slot);
+        self.end(row, value);
+        self.pop(slot);
+    }
+
+    /// A slot's topmost row faults, whose job has a fault.
+    pub fn fault_top(&mut self, slot: u8)
+        requires faulty { HasFaulty self.old slot }
+        requires forest { IsForest self.old.contexts }
+        ensures holds { (s : State) (n : ℕ) → Holds self.old s → top s.rows slot ≡ Some n → IsSome (job s.jobs (row s.rows n).job).fault
+            → Holds self.new (on_row s n (λ r. record r { phase = Faulted })) }
+        ensures forest { IsForest self.new.contexts }
+    {
+        let row = self.top_row(slot);
+        self.end(row, 0);
+        self.pop(slot);
+    }
+
+    /// A row that waits is dropped.
+    pub fn drop_row(&mut self, id: RowId)
+        requires { IsWaiting self.old id }
+        ensures holds { (s : State) (n : ℕ) (is : Holds self.old s) → is_unstarted (row s.rows n).phase ≡ true → id ≡ id_of is.places n
+            → Holds self.new (on_row s n (λ r. record r { phase = Dropped })) }
+        ensures forest { IsForest self.old.contexts → IsForest self.new.contexts }
+    {
+        self.end(id, 0);
+        self.unwait(id);
+    }
+}
