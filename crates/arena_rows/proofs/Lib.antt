@@ -46,3 +46,4 @@ pub mod EndSteps
 pub mod Loose
 pub mod EndHolds
 pub mod EndTop
+pub mod SettledRows

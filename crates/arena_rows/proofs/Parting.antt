@@ -4,7 +4,7 @@ use Rattle.std.specs.Prelude.{IfSome, slice_index_or, slice_set, sum_by, if◌th
 use Rattle.std.specs.Option.{option_map}
 use Rattle.std.specs.Int.{int_wrapping_add, w64}
 use Rattle.std.proofs.lemmas.Bool.{cases_eq, cases_lt}
-use Rattle.std.proofs.lemmas.List.{get_or-set_same, get_or-set_other}
+use Rattle.std.proofs.lemmas.List.{get_or-set_same, get_or-set_other, set_past}
 use Rattle.std.proofs.lemmas.List.Sums.{sum_by-set}
 use Rattle.job_language.specs.declared.instructions.TheConstants.{GROUPS}
 use Rattle.region_tag.specs.declared.regions.Tagged.{Tagged}
@@ -17,9 +17,10 @@ use Rattle.tenant_model.specs.Walks.{maker_of, is_open, is_spawned_by, mark, val
 use Rattle.tenant_model.proofs.AttendedSteps.{open_there}
 use Rattle.tenant_model.proofs.Within.{either_way}
 use Rattle.arena_rows.specs.declared.rows.OpenRow.{OpenRow}
+use Rattle.arena_rows.specs.declared.rows.Source.{Source}
 use Rattle.arena_rows.specs.Held.{Held}
 use Rattle.arena_rows.specs.Represents.{Places, at_place, id_of, source_of, stage_of, tag_of, around_of, tagged_of, IsGroup, IsRow, Stands, held_by, Holds}
-use Rattle.arena_rows.specs.Endings.{member_left, is_of_row, open_maker, parted_by, parted}
+use Rattle.arena_rows.specs.Endings.{member_left, is_of_row, open_maker, parted_by, parted, number_at}
 use Rattle.arena_rows.proofs.Closed.{row_old, IsGroup-other, IsGroup-left}
 use Rattle.arena_rows.proofs.Grouped.{IsEntry, is_entry}
 use Rattle.arena_rows.proofs.Started.{at_same, at_other, some_is, some_none}
@@ -219,3 +220,29 @@ module _ (a : Held) (s : State) (is : Holds a s) (n : ℕ) (e : OpenRow) (entry 
   -- The table with its maker's group as it is now.
   pub parted_as : PartedAs a s is n e r (parted a.table e.source v)
   parted_as = subst (λ source. PartedAs a s is n e r (parted a.table source v)) (sym entry.its.source) (by_kind (row s.rows n).kind refl)
+
+numbers_by : (table : List (Option OpenRow)) (v : ℤ) (o : Option (ℕ × ℕ)) (q : ℕ) → number_at (parted_by table v o) q ≡ number_at table q
+numbers_by table v None q = refl
+numbers_by table v (Some p) q = elim (cases_lt p.0 (length table)) [
+  | inl within ↦ elim (cases_eq q p.0) [
+    | inl same ↦
+        ap (λ k. number_at (slice_set table p.0 (option_map (member_left p.1 v) (at_place table p.0))) k) same ∙ ap (option_map (λ (e : OpenRow). e.number)) (at_same table p.0 (option_map (member_left p.1 v) (at_place table p.0)) within) ∙
+        by_entry p.1 (at_place table p.0) ∙ ap (number_at table) (sym same)
+    | inr other ↦ ap (option_map (λ (e : OpenRow). e.number)) (at_other table p.0 (option_map (member_left p.1 v) (at_place table p.0)) within q other)
+  ]
+  | inr past ↦ ap (λ t. number_at t q) (set_past table p.0 (option_map (member_left p.1 v) (at_place table p.0)) past)
+]
+  where
+    by_entry : (g : ℕ) (o : Option OpenRow) → option_map (λ (e : OpenRow). e.number) (option_map (member_left g v) o) ≡ option_map (λ (e : OpenRow). e.number) o
+    by_entry g None = refl
+    by_entry g (Some e) = refl
+
+-- The rows stand where they stood.
+pub parted_numbers : (table : List (Option OpenRow)) (source : Source) (v : ℤ) (q : ℕ) → number_at (parted table source v) q ≡ number_at table q
+parted_numbers table source v q = numbers_by table v (open_maker table source) q
+
+pub ended_numbers : (table : List (Option OpenRow)) (p : ℕ) (q : ℕ) (e : OpenRow) → p < length table → at_place (slice_set table p None) q ≡ Some e → number_at table q ≡ Some e.number
+ended_numbers table p q e within here = elim (cases_eq q p) [
+  | inl same ↦ absurd (some_none e (sym here ∙ ap (at_place (slice_set table p None)) same ∙ at_same table p None within))
+  | inr other ↦ ap (option_map (λ (x : OpenRow). x.number)) (sym (at_other table p None within q other) ∙ here)
+]

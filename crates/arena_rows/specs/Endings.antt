@@ -1,5 +1,5 @@
 -- What the parts of an arena are after a row has ended.
-use Rattle.std.specs.Prelude.{◌≡◌, ◌≢◌, ℕ, zero, suc, ◌+◌, ◌-◌, ◌<◌, ◌==◌, ℤ, Bool, true, false, if◌then◌else◌, List, [], ◌∷◌, ◌++◌, Option, Some, None, slice_index_or, slice_set, length, IsSome}
+use Rattle.std.specs.Prelude.{◌≡◌, ◌≢◌, ℕ, zero, suc, ◌+◌, ◌-◌, ◌<◌, ◌==◌, ◌&&◌, ℤ, Bool, true, false, if◌then◌else◌, List, [], ◌∷◌, ◌++◌, Option, Some, None, slice_index_or, slice_set, length, IsSome}
 use Rattle.std.specs.List.{list_any}
 use Rattle.std.specs.Option.{option_map}
 use Rattle.std.specs.Int.{int_wrapping_add, w64}
@@ -11,7 +11,9 @@ use Rattle.tenant_model.specs.declared.rows.Kind.TheVariants as kind
 use Rattle.nest_stack.specs.Nest as nest
 use Rattle.nest_stack.specs.Nest.{stack, with_stack}
 use Rattle.tenant_model.specs.State.{State, row, job}
-use Rattle.tenant_model.specs.Walks.{is_open, is_unstarted, top}
+use Rattle.tenant_model.specs.Walks.{is_open, is_unstarted, is_context_cancelled, top}
+use Rattle.tenant_model.specs.Changes.{on_row}
+use Rattle.tenant_model.specs.declared.rows.Phase.TheVariants.{Dropped}
 use Rattle.tenant_model.specs.Shared.{has_used_group}
 use Rattle.arena_rows.specs.declared.rows.OpenRow.{OpenRow}
 use Rattle.arena_rows.specs.declared.rows.CurrentJob.{CurrentJob}
@@ -133,3 +135,12 @@ HasFaulty a slot = (s : State) × (n : ℕ) × Holds a s × (top s.rows slot ≡
 -- A row waits, in some state that is held.
 abbrev pub IsWaiting : Held → RowId → Type 0
 IsWaiting a id = (s : State) × (n : ℕ) × (is : Holds a s) × (is_unstarted (row s.rows n).phase ≡ true) × (id ≡ id_of is.places n)
+
+-- the number of the row that stands at a place
+abbrev pub number_at : List (Option OpenRow) → ℕ → Option ℕ
+number_at table q = option_map (λ (e : OpenRow). e.number) (at_place table q)
+
+-- a state without the row of an entry, if that waits and its context is cancelled
+abbrev pub settled_in : State → Option OpenRow → State
+settled_in t None = t
+settled_in t (Some e) = if is_unstarted (row t.rows e.number).phase && is_context_cancelled t e.number then on_row t e.number (λ r. record r { phase = Dropped }) else t

@@ -9,8 +9,9 @@ ghost use Rattle.tenant_model.specs.Walks.{top, is_unstarted};
 ghost use Rattle.tenant_model.specs.Changes.{on_row};
 ghost use Rattle.tenant_model.specs.Shared.{has_used_group};
 ghost use Rattle.tenant_model.specs.declared.rows.Phase.TheVariants.{Done, Faulted, Dropped};
-ghost use Rattle.arena_rows.specs.Represents.{id_of, Holds, Rests};
-ghost use Rattle.arena_rows.specs.Endings.{popped, HasUnused, HasFaulty, IsWaiting};
+ghost use Rattle.arena_rows.specs.declared.rows.OpenRow.{OpenRow};
+ghost use Rattle.arena_rows.specs.Represents.{at_place, id_of, Holds, Rests};
+ghost use Rattle.arena_rows.specs.Endings.{popped, number_at, HasUnused, HasFaulty, IsWaiting};
 
 use crate::parts::Parts;
 use region_tag::RowId;
@@ -63,6 +64,8 @@ impl Parts {
         ensures holds { (s : State) (n : ℕ) (is : Holds self.old s) → is_unstarted (row s.rows n).phase ≡ true → id ≡ id_of is.places n
             → Holds self.new (on_row s n (λ r. record r { phase = Dropped })) }
         ensures forest { IsForest self.old.contexts → IsForest self.new.contexts }
+        ensures long { length self.new.table ≡ length self.old.table }
+        ensures numbers { (q : ℕ) (e : OpenRow) → at_place self.new.table q ≡ Some e → number_at self.old.table q ≡ Some e.number }
     {
         self.end(id, 0);
         self.unwait(id);

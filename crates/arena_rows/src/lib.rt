@@ -12,6 +12,7 @@ mod limits;
 mod parts;
 mod posts;
 mod rows;
+mod settling;
 mod spawns;
 mod taking;
 

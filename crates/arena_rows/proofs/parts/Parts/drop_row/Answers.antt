@@ -1,4 +1,5 @@
-use Rattle.std.proofs.Common.{◌≡◌, ℕ, pos, sym, ap, ◌∙◌, subst}
+use Rattle.std.proofs.Common.{◌≡◌, ◌<◌, ℕ, pos, length, length-set, Some, None, sym, ap, ◌∙◌, arith, subst}
+use Rattle.std.specs.Prelude.{slice_set}
 use Rattle.region_tag.specs.declared.row_id.RowId.{RowId}
 use Rattle.ready_pool.specs.Ready as ready
 use Rattle.tenant_model.specs.State.{State, row}
@@ -6,9 +7,11 @@ use Rattle.tenant_model.specs.Changes.{on_row}
 use Rattle.tenant_model.specs.declared.rows.Phase.TheVariants.{Dropped}
 use Rattle.tenant_model.proofs.Tended.{unstarted_open}
 use Rattle.arena_rows.specs.Held.{Held}
-use Rattle.arena_rows.specs.Represents.{id_of, Holds}
-use Rattle.arena_rows.specs.Endings.{IsWaiting}
+use Rattle.arena_rows.specs.Represents.{at_place, id_of, Holds}
+use Rattle.arena_rows.specs.Endings.{IsWaiting, parted}
 use Rattle.arena_rows.proofs.EndHolds.{dropped_holds}
+use Rattle.arena_rows.proofs.EndSteps.{parted_long}
+use Rattle.arena_rows.proofs.Parting.{parted_numbers, ended_numbers}
 use Rattle.arena_rows.proofs.EndTop.{over_of}
 use Rattle.arena_rows.proofs.Grouped.{entry_of}
 use Rattle.arena_rows.proofs.Loose.{loose_waiting}
@@ -39,3 +42,23 @@ returns-clause-forest c = λ forest.
     let found = entry_of a h.0 h.2 h.1 (unstarted_open (row h.0.rows h.1).phase h.3) in
     let it = over_of a c.end.new.self c.args.id (pos 0) c.end.ensures h.0 h.2 h.1 found.0 found.1 h.4 in
     rw c.unwait.ensures (it.over.left.sound forest)
+
+pub returns-clause-long : goal.returns-clause-long
+returns-clause-long c =
+    let a = c.args.self.now in
+    let h : IsWaiting a c.args.id = c.requires in
+    let found = entry_of a h.0 h.2 h.1 (unstarted_open (row h.0.rows h.1).phase h.3) in
+    let it = over_of a c.end.new.self c.args.id (pos 0) c.end.ensures h.0 h.2 h.1 found.0 found.1 h.4 in
+    rw c.unwait.ensures (ap (λ (x : Held). length x.table) it.over.rest ∙ length-set (parted a.table it.e.source (pos 0)) (h.2.places h.1) None ∙ parted_long a.table it.e.source (pos 0))
+
+pub returns-clause-numbers : goal.returns-clause-numbers
+returns-clause-numbers c = λ q e there.
+    let a = c.args.self.now in
+    let h : IsWaiting a c.args.id = c.requires in
+    let found = entry_of a h.0 h.2 h.1 (unstarted_open (row h.0.rows h.1).phase h.3) in
+    let it = over_of a c.end.new.self c.args.id (pos 0) c.end.ensures h.0 h.2 h.1 found.0 found.1 h.4 in
+    let table1 = parted a.table it.e.source (pos 0) in
+    let within : h.2.places h.1 < length table1 = omega (arith, it.entry.within, parted_long a.table it.e.source (pos 0)) in
+    let here : at_place c.end.new.self.table q ≡ Some e = rw c.unwait.ensures at there in
+    let before : at_place (slice_set table1 (h.2.places h.1) None) q ≡ Some e = ap (λ (x : Held). at_place x.table q) (sym it.over.rest) ∙ here in
+    sym (parted_numbers a.table it.e.source (pos 0) q) ∙ ended_numbers table1 (h.2.places h.1) q e within before
