@@ -47,3 +47,4 @@ pub mod Loose
 pub mod EndHolds
 pub mod EndTop
 pub mod SettledRows
+pub mod Counters

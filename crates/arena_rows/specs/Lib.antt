@@ -2,3 +2,4 @@ pub mod Held
 pub mod Represents
 pub mod HeldChanges
 pub mod Endings
+pub mod MarkedGroups

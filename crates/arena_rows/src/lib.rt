@@ -11,6 +11,7 @@ mod jobs;
 mod limits;
 mod parts;
 mod posts;
+mod reads;
 mod rows;
 mod settling;
 mod spawns;
