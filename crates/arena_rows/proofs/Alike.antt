@@ -29,13 +29,13 @@ pub record Alike (a b : List Row) : Type 0 where
   pub values : (n : ℕ) → value_in (row b n).phase ≡ value_in (row a n).phase
 
 -- a row that counts as another one
-record IsLike (x y : Row) : Type 0 where
-  kind : y.kind ≡ x.kind
-  job : y.job ≡ x.job
-  opens : is_open y.phase ≡ is_open x.phase
-  value : value_in y.phase ≡ value_in x.phase
+pub record IsLike (x y : Row) : Type 0 where
+  pub kind : y.kind ≡ x.kind
+  pub job : y.job ≡ x.job
+  pub opens : is_open y.phase ≡ is_open x.phase
+  pub value : value_in y.phase ≡ value_in x.phase
 
-abbrev AreLike : List Row → List Row → Type 0
+abbrev pub AreLike : List Row → List Row → Type 0
 AreLike [] [] = Unit {0}
 AreLike [] (y ∷ ys) = ⊥
 AreLike (x ∷ xs) [] = ⊥
@@ -46,14 +46,14 @@ row-later : (x : Row) (xs : List Row) (n : ℕ) → 1 ≤ n → row (x ∷ xs) (
 row-later x xs zero from = absurd (omega arith)
 row-later x xs (suc n) from = refl
 
-are_like : (a b : List Row) → length b ≡ length a → ((n : ℕ) → 1 ≤ n → IsLike (row a n) (row b n)) → AreLike a b
+pub are_like : (a b : List Row) → length b ≡ length a → ((n : ℕ) → 1 ≤ n → IsLike (row a n) (row b n)) → AreLike a b
 are_like [] [] long each = tt
 are_like [] (y ∷ ys) long each = absurd (omega arith)
 are_like (x ∷ xs) [] long each = absurd (omega arith)
 are_like (x ∷ xs) (y ∷ ys) long each =
     (each 1 (omega arith), are_like xs ys (omega arith) (λ n from. rw (← row-later x xs n from, ← row-later y ys n from) (each (suc n) (omega arith))))
 
-count-like : (p q : Row → Bool) (a b : List Row) → ((x y : Row) → IsLike x y → q y ≡ p x) → AreLike a b → count_by q b ≡ count_by p a
+pub count-like : (p q : Row → Bool) (a b : List Row) → ((x y : Row) → IsLike x y → q y ≡ p x) → AreLike a b → count_by q b ≡ count_by p a
 count-like p q [] [] same like = refl
 count-like p q [] (y ∷ ys) same like = absurd like
 count-like p q (x ∷ xs) [] same like = absurd like
@@ -70,7 +70,7 @@ count_append p xs ys = sum_by-append (λ r. one_if (p r)) xs ys
 abbrev pub member : (f g since : ℕ) → NumberedRow → Bool
 member f g since p = is_spawned_by f g p.1.kind && nat_lt since p.0
 
-members-like : (f g since k : ℕ) (a b : List Row) → AreLike a b →
+pub members-like : (f g since k : ℕ) (a b : List Row) → AreLike a b →
     (count_by (λ (p : NumberedRow). is_open p.1.phase) (filter (member f g since) (enumerate_from k b)) ≡ count_by (λ (p : NumberedRow). is_open p.1.phase) (filter (member f g since) (enumerate_from k a))) ×
     (length (filter (member f g since) (enumerate_from k b)) ≡ length (filter (member f g since) (enumerate_from k a)))
 members-like f g since k [] [] like = (refl, refl)
@@ -83,7 +83,7 @@ members-like f g since k (x ∷ xs) (y ∷ ys) like =
       | inr not_so ↦ rw (like.0.kind, not_so) rest
     ]
 
-total-like : (f g since k : ℕ) (sum sum' : ℤ) (a b : List Row) → sum' ≡ sum → AreLike a b →
+pub total-like : (f g since k : ℕ) (sum sum' : ℤ) (a b : List Row) → sum' ≡ sum → AreLike a b →
     fold (λ sum (p : NumberedRow). int_wrapping_add w64 sum (value_in p.1.phase)) sum' (filter (member f g since) (enumerate_from k b)) ≡ fold (λ sum (p : NumberedRow). int_wrapping_add w64 sum (value_in p.1.phase)) sum (filter (member f g since) (enumerate_from k a))
 total-like f g since k sum sum' [] [] same like = same
 total-like f g since k sum sum' [] (y ∷ ys) same like = absurd like

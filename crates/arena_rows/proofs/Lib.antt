@@ -48,3 +48,8 @@ pub mod EndHolds
 pub mod EndTop
 pub mod SettledRows
 pub mod Counters
+pub mod MarkedRows
+pub mod MarkedContexts
+pub mod MarkedHeld
+pub mod SameTop
+pub mod GroupCalls

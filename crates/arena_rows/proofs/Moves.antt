@@ -43,7 +43,7 @@ AreRows-alike rows rows' places table alike stages are = record {
 }
 
 -- a row that does not wait changed, so those that wait are the same
-waiting-same : (k i : ℕ) (r d : Row) (xs : List Row) → i < length xs → is_unstarted r.phase ≡ false → is_unstarted (get_or xs i d).phase ≡ false → filter waits (enumerate_from k (slice_set xs i r)) ≡ filter waits (enumerate_from k xs)
+pub waiting-same : (k i : ℕ) (r d : Row) (xs : List Row) → i < length xs → is_unstarted r.phase ≡ false → is_unstarted (get_or xs i d).phase ≡ false → filter waits (enumerate_from k (slice_set xs i r)) ≡ filter waits (enumerate_from k xs)
 waiting-same k i r d [] within new old = absurd (omega arith)
 waiting-same k zero r d (x ∷ xs) within new old = rw (new, old) refl
 waiting-same k (suc i) r d (x ∷ xs) within new old = elim (either_way (is_unstarted x.phase)) [

@@ -9,6 +9,7 @@ mod frames;
 mod isolated;
 mod jobs;
 mod limits;
+mod marks;
 mod parts;
 mod posts;
 mod reads;
