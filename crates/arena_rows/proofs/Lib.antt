@@ -53,3 +53,5 @@ pub mod MarkedContexts
 pub mod MarkedHeld
 pub mod SameTop
 pub mod GroupCalls
+pub mod BornDropped
+pub mod DroppedRow

@@ -121,7 +121,7 @@ module _ (rows : List Row) (r : Row) (precede : MakersPrecede rows) (precede' : 
         count = let one : one_if (is_open r.phase) ≡ 1 = rw opened refl in omega (arith, fewer, some, are.count, count-push (λ (q : Row). is_open q.phase) rows r, one);
       }
 
-  nested_old : (m : ℕ) → m ≤ length rows → nested_of rows' places m ≡ nested_of rows places m
+  pub nested_old : (m : ℕ) → m ≤ length rows → nested_of rows' places m ≡ nested_of rows places m
   nested_old m to = ap (λ (q : Row). let n : Nested = record { frame = q.frame; row = id_of places m; is_region = is_region q.kind } in n) (old m to)
 
   -- The stacks, where the new row waits.
@@ -173,7 +173,7 @@ module _ (rows : List Row) (r : Row) (precede : MakersPrecede rows) (precede' : 
       let before : (1 ≤ x) × (x < m) = rw (ap maker_of kind) at (precede m from to) in
       tag_of-push rows r precede precede' places x (omega (arith, before, to))
 
-  tagged_old : (e : OpenRow) → 1 ≤ e.number → e.number ≤ length rows → tagged_of rows' places e ≡ tagged_of rows places e
+  pub tagged_old : (e : OpenRow) → 1 ≤ e.number → e.number ≤ length rows → tagged_of rows' places e ≡ tagged_of rows places e
   tagged_old e from to =
       let kind : around_of rows' places (row rows' e.number).kind ≡ around_of rows places (row rows e.number).kind = ap (λ (q : Row). around_of rows' places q.kind) (old e.number to) ∙ around_old e.number (row rows e.number).kind from to refl in
       rw (tag_of-push rows r precede precede' places e.number to, kind) refl
@@ -227,7 +227,7 @@ module _ (rows : List Row) (r : Row) (precede : MakersPrecede rows) (precede' : 
       ap (λ ws. ws ++ f (1 + length rows) ∷ []) (map_old (waiting rows) numbered_waiting) ∙ ap (λ w. map (waiting_of rows places) (waiting rows) ++ w ∷ []) (ap f number)
 
   -- values of roots
-  value_same : value_in r.phase ≡ pos 0 → (m : ℕ) → value_in (row rows' m).phase ≡ value_in (row rows m).phase
+  pub value_same : value_in r.phase ≡ pos 0 → (m : ℕ) → value_in (row rows' m).phase ≡ value_in (row rows m).phase
   value_same none m = elim (cases_lt (length rows) m) [
     | inl after ↦ elim (cases_eq m N) [
       | inl same ↦ ap (λ k. value_in (row rows' k).phase) same ∙ ap (λ (q : Row). value_in q.phase) new ∙ none ∙ sym (ap (λ (q : Row). value_in q.phase) (row-past rows m after) ∙ nothing_valued m)
@@ -236,7 +236,7 @@ module _ (rows : List Row) (r : Row) (precede : MakersPrecede rows) (precede' : 
     | inr before ↦ ap (λ (q : Row). value_in q.phase) (old m before)
   ]
 
-  open_more : (j : ℕ) → open_of rows' j ≡ open_of rows j + one_if ((r.job == j) && is_open r.phase)
+  pub open_more : (j : ℕ) → open_of rows' j ≡ open_of rows j + one_if ((r.job == j) && is_open r.phase)
   open_more j = count-push (λ (q : Row). (q.job == j) && is_open q.phase) rows r
 
   -- The jobs, with one more open row of the new row's.

@@ -5,6 +5,7 @@ mod arrivals;
 mod changes;
 mod endings;
 mod finishing;
+mod dropped_spawns;
 mod frames;
 mod isolated;
 mod jobs;
