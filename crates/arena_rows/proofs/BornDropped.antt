@@ -1,6 +1,7 @@
 -- A row that is spawned where its context is cancelled settles at once.
-use Rattle.std.proofs.Common.{◌≡◌, ℕ, zero, suc, ◌+◌, ◌-◌, ◌≤◌, List, [], ◌∷◌, ◌++◌, length, Some, None, Bool, true, false, ◌||◌, refl, sym, ap, ◌∙◌, arith, inl, inr, subst}
-use Rattle.std.specs.Prelude.{slice_index_or}
+use Rattle.std.proofs.Common.{◌≡◌, ℕ, zero, suc, ◌+◌, ◌-◌, ◌≤◌, List, [], ◌∷◌, ◌++◌, length, Option, Some, None, Bool, true, false, ◌||◌, refl, sym, ap, ◌∙◌, arith, inl, inr, subst}
+use Rattle.std.specs.Prelude.{slice_index_or, is_some}
+use Rattle.job_language.specs.declared.errors.JobFault.{JobFault}
 use Rattle.std.specs.List.{list_any}
 use Rattle.std.proofs.lemmas.Bool.{cases_eq, cases_lt}
 use Rattle.std.proofs.lemmas.List.{length_push, set_at}
@@ -156,6 +157,18 @@ module _ (s : State) (n g slot : ℕ) (f : Frame) (from : 1 ≤ n) (to : n ≤ l
               | inr started ↦ rw started refl
             ]
 
+    -- Where its context is not cancelled, it waits, and the state has settled.
+    pub born_waits : IsSettled s → is_context_cancelled (with_born Unstarted) N ≡ false → IsSettled (with_born Unstarted)
+    born_waits settled fine x waits =
+        let t = with_born Unstarted in
+        let there = there_if_waits t.rows x waits in
+        elim (cases_eq x N) [
+          | inl same ↦ ap (is_context_cancelled t) same ∙ fine
+          | inr other ↦
+              let low : x ≤ length s.rows = omega (arith, there, other, length_push s.rows (born Unstarted)) in
+              context_push s (born Unstarted) precede precede' x there.0 low ∙ settled x (ap (λ (q : Row). is_unstarted q.phase) (sym (row-push_old s.rows x (born Unstarted) low)) ∙ waits)
+        ]
+
     -- The state with it is steady too.
     pub dropped_steady : IsSteady (with_born Dropped)
     dropped_steady =
@@ -166,3 +179,13 @@ module _ (s : State) (n g slot : ℕ) (f : Frame) (from : 1 ≤ n) (to : n ≤ l
         let same : on_row t N (λ r. record r { phase = Dropped }) ≡ with_born Dropped =
         ap (λ (q : Row). at N (record q { phase = Dropped })) (new_is Unstarted) ∙ ap (λ rows. let u : State = record s { rows = rows } in u) (set_at s.rows (born Unstarted) [] (born Dropped) (N - 1) (sym place)) in
         subst IsSteady same (steady_dropped t kept N (omega arith) (last Unstarted) waits)
+
+-- a row whose context is not cancelled is of a job without a fault
+no_fault : (o : Option JobFault) → is_some o ≡ false → o ≡ None
+no_fault None none = refl
+no_fault (Some f) none = absurd (grind (arith, none))
+
+pub fine_job : (s : State) (n : ℕ) (b : Bool) → (b || is_context_cancelled s n) ≡ false → (job s.jobs (row s.rows n).job).fault ≡ None
+fine_job s n b fine =
+    let none : is_job_cancelled (job s.jobs (row s.rows n).job) ≡ false = grind (arith, fine) in
+    no_fault (job s.jobs (row s.rows n).job).fault (grind (arith, none))

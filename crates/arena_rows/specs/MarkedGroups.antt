@@ -9,7 +9,7 @@ use Rattle.tenant_model.specs.Changes.{on_row}
 use Rattle.tenant_model.specs.Walks.{is_pending, mark, top}
 use Rattle.arena_rows.specs.declared.rows.OpenRow.{OpenRow}
 use Rattle.arena_rows.specs.Held.{Held}
-use Rattle.arena_rows.specs.Represents.{Holds}
+use Rattle.arena_rows.specs.Represents.{Holds, Rests}
 
 -- another mark of group g of row n
 abbrev pub marked : State → (n g : ℕ) → Mark → State
@@ -32,6 +32,10 @@ with_wait_passed s n g f = on_row s n (λ r. record r { frame = f; marks = slice
 -- A row is on a slot, in some state that is held, and no member of a group of it is open.
 abbrev pub HasEndedGroup : Held → (slot g : ℕ) → Type 0
 HasEndedGroup a slot g = (s : State) × (n : ℕ) × Holds a s × (top s.rows slot ≡ Some n) × (is_pending s.rows n g ≡ false)
+
+-- A row is on a slot, in some settled state that is held.
+abbrev pub RestsWithTop : Held → (slot : ℕ) → Type 0
+RestsWithTop a slot = (s : State) × (n : ℕ) × Rests a s × (top s.rows slot ≡ Some n)
 
 -- the entry of a row with a group that has no member
 abbrev pub with_group_emptied : ℕ → OpenRow → OpenRow

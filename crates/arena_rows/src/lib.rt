@@ -16,6 +16,7 @@ mod posts;
 mod reads;
 mod rows;
 mod settling;
+mod settled_spawns;
 mod spawns;
 mod taking;
 
