@@ -95,10 +95,34 @@ module _ (s : State) (r : Row) (precede : MakersPrecede s.rows) (precede' : Make
             context_push x there.0 low ∙ settled x (ap (λ (q : Row). is_unstarted q.phase) (sym (row-push_old s.rows x r low)) ∙ waits)
       ]
 
--- A row spawned into group g of row n of its job.
-module _ (s : State) (n g slot : ℕ) (f : Frame) (from : 1 ≤ n) (to : n ≤ length s.rows) where
+  here : row more.rows (length s.rows + 1) ≡ r
+  here = row-push_new s.rows (length s.rows + 1) r refl
+
+  its_job : is_job_cancelled (job s.jobs (row more.rows (length s.rows + 1)).job) ≡ is_job_cancelled (job s.jobs r.job)
+  its_job = ap (λ (q : Row). is_job_cancelled (job s.jobs q.job)) here
+
+  -- The context of one that was spawned is cancelled where the group is, directly or from above.
+  pub spawned_context : (n g : ℕ) → 1 ≤ n → n ≤ length s.rows → r.kind ≡ Spawned n g → r.job ≡ (row s.rows n).job → is_context_cancelled more (length s.rows + 1) ≡ ((mark s.rows n g).cancelled || is_context_cancelled s n)
+  spawned_context n g from to kind same_job =
+      let N = length s.rows + 1 in
+      let made : maker_of (row more.rows N).kind ≡ Some n = ap (λ (q : Row). maker_of q.kind) here ∙ ap maker_of kind in
+      let its : is_group_cancelled more.rows (row more.rows N).kind ≡ (mark s.rows n g).cancelled = ap (λ (q : Row). is_group_cancelled more.rows q.kind) here ∙ ap (is_group_cancelled more.rows) kind ∙ ap (λ (k : Mark). k.cancelled) (mark_push n g to) in
+      let above = go n n (omega arith) from to in
+      let of_maker : is_job_cancelled (job s.jobs (row more.rows N).job) ≡ is_job_cancelled (job s.jobs (row s.rows n).job) = its_job ∙ ap (λ j. is_job_cancelled (job s.jobs j)) same_job in
+      rw (chain_goes_on more.rows precede' N n (omega arith) (omega (arith, length_push s.rows r)) made) (grind (arith, its, above, of_maker))
+
+  -- That of one that was posted is cancelled where the job is.
+  pub posted_context : r.kind ≡ Posted → is_context_cancelled more (length s.rows + 1) ≡ is_job_cancelled (job s.jobs r.job)
+  posted_context kind =
+      let N = length s.rows + 1 in
+      let none : maker_of (row more.rows N).kind ≡ None = ap (λ (q : Row). maker_of q.kind) here ∙ ap maker_of kind in
+      let its : is_group_cancelled more.rows (row more.rows N).kind ≡ false = ap (λ (q : Row). is_group_cancelled more.rows q.kind) here ∙ ap (is_group_cancelled more.rows) kind in
+      rw (chain_ends more.rows N (omega arith) none) (grind (arith, its, its_job))
+
+-- A row more.
+module _ (s : State) (k : Kind) (j : ℕ) (made_on : Option ℕ) (f : Frame) where
   abbrev born : Phase → Row
-  born p = new_row (Spawned n g) (row s.rows n).job (Some slot) f p
+  born p = new_row k j made_on f p
 
   abbrev with_born : Phase → State
   with_born p = add_row s (born p)
@@ -119,18 +143,7 @@ module _ (s : State) (n g slot : ℕ) (f : Frame) (from : 1 ≤ n) (to : n ≤ l
     precede' : MakersPrecede (with_born Unstarted).rows
     precede' = kept.formed.linked.makers
 
-    -- Its context is cancelled where the group is, directly or from above.
-    pub born_context : is_context_cancelled (with_born Unstarted) N ≡ ((mark s.rows n g).cancelled || is_context_cancelled s n)
-    born_context =
-        let t = with_born Unstarted in
-        let r = born Unstarted in
-        let made : maker_of (row t.rows N).kind ≡ Some n = ap (λ (q : Row). maker_of q.kind) (new_is Unstarted) in
-        let its : is_group_cancelled t.rows (row t.rows N).kind ≡ (mark s.rows n g).cancelled = ap (λ (q : Row). is_group_cancelled t.rows q.kind) (new_is Unstarted) ∙ ap (λ (k : Mark). k.cancelled) (mark_push s r precede precede' n g to) in
-        let above : list_any (asks t) (chain t.rows n) ≡ list_any (asks s) (chain s.rows n) = go s r precede precede' n n (omega arith) from to in
-        let its_job : is_job_cancelled (job s.jobs (row t.rows N).job) ≡ is_job_cancelled (job s.jobs (row s.rows n).job) = ap (λ (q : Row). is_job_cancelled (job s.jobs q.job)) (new_is Unstarted) in
-        rw (chain_goes_on t.rows precede' N n (omega arith) (last Unstarted) made) (grind (arith, its, above, its_job))
-
-    -- So it is dropped as the state settles, and no other row is.
+    -- Where its context is cancelled, it is dropped as the state settles, and no other row is.
     pub born_dropped : IsSettled s → is_context_cancelled (with_born Unstarted) N ≡ true → settle (with_born Unstarted) ≡ with_born Dropped
     born_dropped settled cancelled =
         let t = with_born Unstarted in

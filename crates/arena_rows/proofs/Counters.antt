@@ -5,7 +5,6 @@ use Rattle.std.specs.List.{list_any}
 use Rattle.job_language.specs.declared.instructions.TheConstants.{GROUPS}
 use Rattle.cancel_context.specs.Forest.{IsHeld, is_cancelled, IsForest}
 use Rattle.task_group.specs.Groups.{group}
-use Rattle.tenant_model.specs.declared.works.Work.{Work}
 use Rattle.tenant_model.specs.State.{State, row, job}
 use Rattle.tenant_model.specs.Walks.{NumberedRow, is_open, is_pending, members, mark, top, is_context_cancelled}
 use Rattle.tenant_model.specs.Shared.{has_used_group}
@@ -86,10 +85,10 @@ module _ (a : Held) (s : State) (is : Holds a s) (n : ℕ) (e : OpenRow) (entry 
         let unmarked = its.1 in
         rw unmarked own_told
 
--- The program of the topmost row's job.
-pub program_told : (a : Held) (s : State) (is : Holds a s) (slot n : ℕ) → top s.rows slot ≡ Some n → (d : CurrentJob) → (slice_index_or a.jobs (index_of a (row s.rows n).job) d).work.program ≡ (job s.jobs (row s.rows n).job).program
-program_told a s is slot n on_top d =
+-- The work of the topmost row's job.
+pub work_told : (a : Held) (s : State) (is : Holds a s) (slot n : ℕ) → top s.rows slot ≡ Some n → (d : CurrentJob) → (slice_index_or a.jobs (index_of a (row s.rows n).job) d).work ≡ job s.jobs (row s.rows n).job
+work_told a s is slot n on_top d =
     let current = top_job a s is slot n on_top in
     let number : a.retired + index_of a (row s.rows n).job + 1 ≡ (row s.rows n).job = omega (arith, current.0) in
     let its = work_is s is.assigned a.retired a.jobs is.jobs (index_of a (row s.rows n).job) d (omega (arith, current)) in
-    ap (λ (w : Work). w.program) (sym its ∙ ap (job s.jobs) number)
+    sym its ∙ ap (job s.jobs) number

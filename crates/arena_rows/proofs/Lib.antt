@@ -54,4 +54,6 @@ pub mod MarkedHeld
 pub mod SameTop
 pub mod GroupCalls
 pub mod BornDropped
+pub mod ClosedRow
 pub mod DroppedRow
+pub mod PostDropped

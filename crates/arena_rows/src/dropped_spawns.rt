@@ -31,7 +31,7 @@ impl Parts {
     }
 
     /// Counts a row as made that has no place.
-    fn count_made(&mut self)
+    pub(crate) fn count_made(&mut self)
         requires { self.old.made < 2 ^ 32 }
         ensures { self.new ≡ more_made self.old }
     {

@@ -17,6 +17,7 @@ mod reads;
 mod rows;
 mod settling;
 mod settled_spawns;
+mod settled;
 mod spawns;
 mod taking;
 

@@ -3,7 +3,7 @@ ghost use Rattle.std.specs.Prelude.{◌≡◌, ◌<◌, ◌≤◌, ◌-◌, ◌|
 ghost use Rattle.cancel_context.specs.Forest.{IsForest, IsHeld, is_cancelled};
 ghost use Rattle.tenant_model.specs.State.{State, row, job};
 ghost use Rattle.tenant_model.specs.Shared.{group_status, has_used_group};
-ghost use Rattle.tenant_model.specs.Walks.{is_context_cancelled, is_pending, mark, top, total};
+ghost use Rattle.tenant_model.specs.Walks.{is_context_cancelled, is_job_cancelled, is_pending, mark, top, total};
 ghost use Rattle.arena_rows.specs.declared.rows.CurrentJob.{CurrentJob};
 ghost use Rattle.arena_rows.specs.HeldChanges.{index_of};
 ghost use Rattle.arena_rows.specs.Represents.{Holds, HasTop};
@@ -13,6 +13,7 @@ use crate::parts::Parts;
 use cancel_context::ContextId;
 use job_language::{Group, Program};
 use job_step::Frame;
+use tenant_model::Work;
 
 impl Parts {
     /// The frame of a slot's topmost row.
@@ -26,14 +27,14 @@ impl Parts {
         top.frame
     }
 
-    /// The program of a job.
-    fn program_of(&self, job: u64) -> &Program
+    /// What is known of a job.
+    fn work_of(&self, job: u64) -> &Work
         requires above { self.now.retired < job }
         requires below { job - self.now.retired ≤ length self.now.jobs }
-        ensures { (d : CurrentJob) → result.now ≡ (slice_index_or self.now.jobs (index_of self.now job) d).work.program }
+        ensures { (d : CurrentJob) → result.now ≡ (slice_index_or self.now.jobs (index_of self.now job) d).work }
     {
         let index = self.index_of(job);
-        &self.jobs[index].work.program
+        &self.jobs[index].work
     }
 
     /// The program of the job of a slot's topmost row.
@@ -43,7 +44,17 @@ impl Parts {
             → result.now ≡ (job s.jobs (row s.rows n).job).program }
     {
         let job = self.top_entry(slot).job;
-        self.program_of(job)
+        &self.work_of(job).program
+    }
+
+    /// Whether the job of a slot's topmost row was cancelled by request or has a fault.
+    pub fn is_job_cancelled(&self, slot: u8) -> bool
+        requires { HasTop self.now slot }
+        ensures { (s : State) (n : ℕ) → Holds self.now s → top s.rows slot ≡ Some n
+            → result ≡ is_job_cancelled (job s.jobs (row s.rows n).job) }
+    {
+        let job = self.top_entry(slot).job;
+        self.work_of(job).is_cancelled()
     }
 
     /// Whether a context is cancelled, by itself or from above.

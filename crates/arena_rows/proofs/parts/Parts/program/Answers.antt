@@ -1,10 +1,11 @@
-use Rattle.std.proofs.Common.{◌∙◌}
+use Rattle.std.proofs.Common.{ap, ◌∙◌}
+use Rattle.tenant_model.specs.declared.works.Work.{Work}
 use Rattle.arena_rows.specs.HeldChanges.{no_job}
-use Rattle.arena_rows.proofs.Counters.{program_told}
+use Rattle.arena_rows.proofs.Counters.{work_told}
 use Rattle.arena_rows.proofs.parts.Parts.program.Goals as goal
 
 pub returns : goal.returns
 returns c = λ s n is on_top.
     let its_job = (c.top_entry-job.ensures.entry s n is on_top).1.job in
-    let told = rw its_job at (c.program_of.ensures no_job) in
-    told ∙ program_told c.args.self.now s is c.args.slot n on_top no_job
+    let told = rw its_job at (c.work_of.ensures no_job) in
+    ap (λ (w : Work). w.program) (told ∙ work_told c.args.self.now s is c.args.slot n on_top no_job)
