@@ -1,4 +1,4 @@
--- What marks of groups change, in a state and in what is held.
+-- Marks of groups, and rows that are dropped as they are made: what they change in a state and in what is held.
 use Rattle.std.specs.Prelude.{ℕ, ◌≡◌, ◌+◌, Bool, true, false, Some, length, slice_set}
 use Rattle.cancel_context.specs.Forest.{with_request}
 use Rattle.job_step.specs.declared.frames.Frame.{Frame}
