@@ -57,3 +57,4 @@ pub mod BornDropped
 pub mod ClosedRow
 pub mod DroppedRow
 pub mod PostDropped
+pub mod FaultedRows

@@ -16,7 +16,6 @@ mod posts;
 mod reads;
 mod rows;
 mod settling;
-mod settled_spawns;
 mod settled;
 mod spawns;
 mod taking;
