@@ -58,3 +58,5 @@ pub mod ClosedRow
 pub mod DroppedRow
 pub mod PostDropped
 pub mod FaultedRows
+pub mod Told
+pub mod JobsTold

@@ -3,3 +3,4 @@ pub mod Represents
 pub mod HeldChanges
 pub mod Endings
 pub mod MarkedGroups
+pub mod HeldReads

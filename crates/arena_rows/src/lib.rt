@@ -19,6 +19,7 @@ mod settling;
 mod settled;
 mod spawns;
 mod taking;
+mod tells;
 
 pub use parts::Parts;
 pub use rows::{CurrentJob, OpenRow, Source, Stage};

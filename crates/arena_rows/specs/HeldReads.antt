@@ -1,0 +1,22 @@
+-- How far the jobs are that an arena holds, and which slot is free.
+use Rattle.std.specs.Prelude.{ℕ, ◌==◌, find, length, nat_lt, nat_le, if◌then◌else◌, Option, None, slice_get}
+use Rattle.std.specs.List.{range_with_len}
+use Rattle.std.specs.Option.{option_map, option_map_or}
+use Rattle.job_language.specs.declared.answers.Status.{Status}
+use Rattle.job_language.specs.declared.answers.Status.TheVariants.{Running, Cancelled, Complete, Fault}
+use Rattle.nest_stack.specs.Nest.{stack}
+use Rattle.arena_rows.specs.declared.rows.CurrentJob.{CurrentJob}
+use Rattle.arena_rows.specs.Held.{Held}
+use Rattle.arena_rows.specs.HeldChanges.{index_of}
+
+-- how far a job is that is not retired
+abbrev pub held_status : CurrentJob → Status
+held_status it = if nat_lt 0 it.open_rows then Running else option_map_or (λ fault. Fault fault) it.work.fault (if it.work.cancelled then Cancelled else Complete it.value)
+
+-- how far the job of a number is, unless it is retired
+abbrev pub known_status : Held → (job : ℕ) → Option Status
+known_status a j = if nat_le j a.retired then None else option_map held_status (slice_get a.jobs (index_of a j))
+
+-- the least reserved slot with nothing on it
+abbrev pub least_empty : Held → Option ℕ
+least_empty a = find (λ slot. length (stack a.nests slot) == 0) (range_with_len 0 a.config.reserved)

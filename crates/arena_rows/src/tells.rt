@@ -1,0 +1,117 @@
+// What the parts tell of the state that they stand for.
+ghost use Rattle.std.specs.Prelude.{◌≡◌, nat_le};
+ghost use Rattle.std.specs.List.{list_any};
+ghost use Rattle.std.specs.Option.{option_map};
+ghost use Rattle.tenant_model.specs.declared.works.TheConstants.{MAX_JOBS};
+ghost use Rattle.tenant_model.specs.State.{State};
+ghost use Rattle.tenant_model.specs.Walks.{is_open, has_unstarted};
+ghost use Rattle.tenant_model.specs.Changes.{is_row_limit_met};
+ghost use Rattle.tenant_model.specs.Cells.{cell_sum, cell_count};
+ghost use Rattle.tenant_model.specs.Asks.{current_jobs, free_slot, known_job, status};
+ghost use Rattle.arena_rows.specs.Represents.{Holds, HoldsSomehow};
+ghost use Rattle.arena_rows.specs.HeldReads.{held_status, known_status};
+
+use crate::parts::Parts;
+use crate::rows::CurrentJob;
+use job_language::{Key, Status};
+use tenant_model::MAX_JOBS;
+
+impl Parts {
+    /// Whether as many rows are open as may be.
+    #[tactic(auto, using(crate::proofs::Told::limit_told))]
+    pub fn is_row_limit_met(&self) -> bool
+        ensures { (s : State) → Holds self.now s → result ≡ is_row_limit_met s }
+    {
+        self.free.is_empty()
+    }
+
+    /// Whether a row is open.
+    #[tactic(auto, using(crate::proofs::Told::busy_told))]
+    pub fn is_busy(&self) -> bool
+        ensures { (s : State) → Holds self.now s → result ≡ list_any (λ r. is_open r.phase) s.rows }
+    {
+        self.free.len() < self.table.len()
+    }
+
+    /// Whether a row waits to be started.
+    #[tactic(auto, using(crate::proofs::Told::unstarted_told))]
+    pub fn has_unstarted(&self) -> bool
+        ensures { (s : State) → Holds self.now s → result ≡ has_unstarted s }
+    {
+        !self.pool.is_empty()
+    }
+
+    /// The least reserved slot with nothing on it.
+    pub fn free_slot(&self) -> Option<u8>
+        requires { HoldsSomehow self.now }
+        ensures { (s : State) → Holds self.now s → result ≡ free_slot s }
+    {
+        let reserved = self.config().reserved;
+        for slot in 0..reserved {
+            if self.height(slot) == 0 {
+                return Some(slot);
+            }
+        }
+        None
+    }
+
+    /// The wrapping sum of a key's cells over all slots; 0 if there is none.
+    #[tactic(auto, using(crate::proofs::Told::sum_told))]
+    pub fn cell_sum(&self, key: Key) -> i64
+        ensures { (s : State) → Holds self.now s → result ≡ cell_sum s.cells key }
+    {
+        self.cells.sum(key.index())
+    }
+
+    /// The number of a key's cells, over all slots.
+    #[tactic(auto, using(crate::proofs::Told::count_told))]
+    pub fn cell_count(&self, key: Key) -> usize
+        ensures { (s : State) → Holds self.now s → result ≡ cell_count s.cells key }
+    {
+        self.cells.count(key.index())
+    }
+
+    /// Whether as many jobs are not retired as may be.
+    pub fn is_job_limit_met(&self) -> bool
+        ensures { (s : State) → Holds self.now s → result ≡ nat_le MAX_JOBS (current_jobs s) }
+    {
+        MAX_JOBS <= self.jobs.len()
+    }
+
+    /// How far the job of a number is, unless it is retired.
+    #[tactic(auto, using(crate::proofs::JobsTold::status_told))]
+    pub fn status(&self, job: u64) -> Option<Status>
+        ensures { (s : State) → Holds self.now s → result ≡ option_map (status s.rows job) (known_job s job) }
+    {
+        self.known_status(job)
+    }
+
+    fn known_status(&self, job: u64) -> Option<Status>
+        ensures { result ≡ known_status self.now job }
+    {
+        if job <= self.retired {
+            return None;
+        }
+        let index = (job - self.retired - 1) as usize;
+        let current = self.jobs.get(index)?;
+        Some(current.status())
+    }
+}
+
+impl CurrentJob {
+    /// How far it is: it has an outcome where none of its rows is open.
+    pub fn status(&self) -> Status
+        ensures { result ≡ held_status self.now }
+    {
+        if self.open_rows > 0 {
+            return Status::Running;
+        }
+        if let Some(fault) = self.work.fault {
+            return Status::Fault(fault);
+        }
+        if self.work.cancelled {
+            return Status::Cancelled;
+        }
+        Status::Complete(self.value)
+    }
+}
