@@ -60,3 +60,7 @@ pub mod PostDropped
 pub mod FaultedRows
 pub mod Told
 pub mod JobsTold
+pub mod NewJob
+pub mod Submitted
+pub mod NewSettled
+pub mod Begun

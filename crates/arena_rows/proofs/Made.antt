@@ -32,7 +32,7 @@ use Rattle.arena_rows.proofs.PushedRows.{IsGroup-new}
 use Rattle.arena_rows.proofs.Pushing.{AreRows-pushed, AreFree-pushed, AreTagged-pushed, AreJobs-pushed}
 use Rattle.arena_rows.proofs.Making.{has_next}
 
-no_group : (g : ℕ) → group no_members g ≡ unused
+pub no_group : (g : ℕ) → group no_members g ≡ unused
 no_group zero = refl
 no_group (suc zero) = refl
 no_group (suc (suc zero)) = refl

@@ -1,9 +1,12 @@
 -- What the changes of an arena's parts do to what they hold.
 use Rattle.std.specs.Prelude.{ℕ, pos, ◌≡◌, ◌≢◌, ◌<◌, ◌+◌, ◌-◌, All, Bool, true, false, List, [], ◌∷◌, ◌++◌, Option, Some, None, slice_index_or, slice_set, replicate, length, take, option_and_then}
 use Rattle.job_step.specs.declared.frames.Frame.{Frame}
+use Rattle.job_step.specs.Frame.{new_frame}
+use Rattle.job_language.specs.declared.jobs.Job.{Job}
+use Rattle.arena_rows.specs.declared.rows.Stage.{Stage}
 use Rattle.region_tag.specs.declared.row_id.RowId.{RowId}
 use Rattle.region_tag.specs.Region.{Table, region_of, tagged}
-use Rattle.cancel_context.specs.Forest.{with_bound, with_request}
+use Rattle.cancel_context.specs.Forest.{with_bound, with_request, binding, held_count}
 use Rattle.job_language.specs.declared.instructions.TheConstants.{GROUPS}
 use Rattle.task_group.specs.Groups.{group, no_members}
 use Rattle.ready_pool.specs.declared.pool.Waiting.{Waiting}
@@ -159,3 +162,35 @@ pub record CanWait (a : Held) (id : RowId) (made_on : Option ℕ) : Type 0 where
   pub places : length a.regions ≡ a.pool.limit
   pub region : IsRegionEntered a.regions (region_of a.regions id)
   pub regions : All (λ (w : Waiting). IsRegionEntered a.regions w.region) a.pool.rows
+
+-- the number of the next job
+abbrev pub next_job : Held → ℕ
+next_job a = a.retired + length a.jobs + 1
+
+-- the frame of a job's root before its first instruction
+abbrev pub root_frame : Job → Frame
+root_frame j = new_frame 0 (slice_index_or j.args 0 (pos 0)) (slice_index_or j.args 1 (pos 0))
+
+-- a job more, whose root is the next row, with so many open rows
+abbrev pub new_current : Held → Job → (context opened : ℕ) → CurrentJob
+new_current a j c opened = record { work = record { program = j.program; fuel = j.fuel; root = a.made + 1; cancelled = false; fault = None; retired = false }; value = pos 0; open_rows = opened; context = c }
+
+-- the entry of a root
+abbrev pub root_entry : Held → (stage : Stage) → (context : ℕ) → OpenRow
+root_entry a stage c = record { number = a.made + 1; source = Root; job = next_job a; made_on = None; stage = stage; groups = no_members; group_contexts = replicate GROUPS None; context = c }
+
+-- a job more, and its root in the table
+abbrev pub job_begun : Held → Job → (stage : Stage) → (context : ℕ) → Held
+job_begun a j stage c = entered (record a { contexts = with_bound a.contexts c None; jobs = a.jobs ++ new_current a j c 1 ∷ [] }) (root_entry a stage c)
+
+-- a job more, with a context that nothing held
+pub record IsBegun (a b : Held) (j : Job) (stage : Stage) : Type 0 where
+  pub context : ℕ
+  pub free : binding a.contexts context ≡ None
+  pub within : context < length a.contexts
+  pub count : held_count (with_bound a.contexts context None) ≡ held_count a.contexts + 1
+  pub held : b ≡ job_begun a j stage context
+
+-- a root on a slot
+abbrev pub root_pushed : Held → (slot : ℕ) → Frame → RowId → Held
+root_pushed a slot f id = record a { nests = with_stack a.nests slot (stack a.nests slot ++ (record { frame = f; row = id; is_region = false }) ∷ []) }

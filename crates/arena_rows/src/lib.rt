@@ -18,6 +18,7 @@ mod rows;
 mod settling;
 mod settled;
 mod spawns;
+mod submits;
 mod taking;
 mod tells;
 
