@@ -64,3 +64,4 @@ pub mod NewJob
 pub mod Submitted
 pub mod NewSettled
 pub mod Begun
+pub mod Retired

@@ -103,7 +103,7 @@ module _ (s : State) (j : Job) (p : Phase) (linked : IsLinked s) where
             same_context n there.0 to ∙ settled n (ap (λ (q : Row). is_unstarted q.phase) (sym (row-push_old s.rows n r to)) ∙ waits)
       ]
 
-counted_there : {A : Type 0} (p : A → Bool) (xs : List A) (i : ℕ) (d : A) → i < length xs → p (get_or xs i d) ≡ true → 1 ≤ count_by p xs
+pub counted_there : {A : Type 0} (p : A → Bool) (xs : List A) (i : ℕ) (d : A) → i < length xs → p (get_or xs i d) ≡ true → 1 ≤ count_by p xs
 counted_there p [] i d within is = absurd (omega (arith, within))
 counted_there p (x ∷ xs) zero d within is = let one : one_if (p x) ≡ 1 = rw is refl in omega (arith, count_cons p x xs, one)
 counted_there p (x ∷ xs) (suc i) d within is = omega (arith, count_cons p x xs, counted_there p xs i d (omega (arith, within)) is)

@@ -4,3 +4,4 @@ pub mod HeldChanges
 pub mod Endings
 pub mod MarkedGroups
 pub mod HeldReads
+pub mod Ending

@@ -14,6 +14,7 @@ mod marks;
 mod parts;
 mod posts;
 mod reads;
+mod retiring;
 mod rows;
 mod settling;
 mod settled;

@@ -1,0 +1,28 @@
+use Rattle.std.proofs.Common.{◌≡◌, ℕ, ◌+◌, ◌<◌, length, get_or, refl, sym, ap, ◌∙◌, arith}
+use Rattle.cancel_context.proofs.Released.{length-without}
+use Rattle.arena_rows.specs.declared.rows.CurrentJob.{CurrentJob}
+use Rattle.arena_rows.proofs.Retired.{hold-released}
+use Rattle.arena_rows.proofs.retiring.release_all.Goals as goal
+
+pub loop-job-init : goal.loop-job-init
+loop-job-init c = record { hold = c.requires; long = refl }
+
+pub release-requires-clause-held : goal.release-requires-clause-held
+release-requires-clause-held c =
+    let item = c.job-item.is in
+    rw item (c.loop-job.invariant.hold.each c.loop-job.job-index c.job-item.result (omega arith) c.loop-job-test.true)
+
+pub release-requires-clause-ends : goal.release-requires-clause-ends
+release-requires-clause-ends c = λ d bound. absurd (c.loop-job.invariant.hold.bare d c.job-item.result.context bound)
+
+pub loop-job-preserved : goal.loop-job-preserved
+loop-job-preserved c = record {
+  hold = hold-released c.loop-job.contexts c.release.new.self c.args.jobs.now c.loop-job.job-index c.job-item.result c.job-item.is c.loop-job-test.true c.loop-job.invariant.hold c.release.ensures.released c.release.ensures.keeps c.release.ensures.count;
+  long = ap length c.release.ensures.released ∙ length-without c.loop-job.contexts c.job-item.result.context ∙ c.loop-job.invariant.long;
+}
+
+pub returns-clause-none : goal.returns-clause-none
+returns-clause-none c = omega (arith, c.loop-job.invariant.hold.count, c.loop-job-test.false, c.loop-job.auto.job-index-end)
+
+pub returns-clause-long : goal.returns-clause-long
+returns-clause-long c = c.loop-job.invariant.long

@@ -1,0 +1,50 @@
+// A tenant whose jobs retire, for every state that the parts stand for.
+ghost use Rattle.std.specs.Prelude.{◌≡◌, ◌<◌, ◌+◌, length, map};
+ghost use Rattle.cancel_context.specs.Forest.{held_count};
+ghost use Rattle.tenant_model.specs.State.{State};
+ghost use Rattle.tenant_model.specs.Cells.{no_cells};
+ghost use Rattle.tenant_model.specs.Changes.{entry};
+ghost use Rattle.tenant_model.specs.Asks.{retired_work};
+ghost use Rattle.arena_rows.specs.Represents.{Rests};
+ghost use Rattle.arena_rows.specs.Ending.{HoldJobs, IsEnded, IsIdle};
+
+use crate::parts::Parts;
+use crate::rows::CurrentJob;
+use cancel_context::Contexts;
+
+impl Parts {
+    /// Retires all jobs, takes all cells away, begins the next epoch, and counts an entry.
+    fn end_jobs(&mut self)
+        requires idle { IsIdle self.old }
+        requires room { self.old.entries < self.old.config.steps }
+        ensures { IsEnded self.old self.new }
+    {
+        release_all(&mut self.contexts, &self.jobs);
+        self.retired += self.jobs.len() as u64;
+        self.jobs.clear();
+        self.cells.clear();
+        self.epoch += 1;
+        self.entries += 1;
+    }
+
+    /// Retires all jobs, where no row is open, and enters the next epoch without cells. It is an entry.
+    pub fn retire(&mut self)
+        requires idle { IsIdle self.old }
+        requires room { self.old.entries < self.old.config.steps }
+        ensures { (s : State) → Rests self.old s
+            → Rests self.new (entry (record s { jobs = map retired_work s.jobs; cells = no_cells; epoch = s.epoch + 1 })) }
+    {
+        self.end_jobs();
+    }
+}
+
+/// Releases the contexts of jobs, where no others are held.
+fn release_all(contexts: &mut Contexts, jobs: &[CurrentJob])
+    requires { HoldJobs contexts.old jobs.now 0 }
+    ensures none { held_count contexts.new ≡ 0 }
+    ensures long { length contexts.new ≡ length contexts.old }
+{
+    for job in jobs {
+        contexts.release(job.context);
+    }
+}
