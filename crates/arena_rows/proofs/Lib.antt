@@ -65,3 +65,4 @@ pub mod Submitted
 pub mod NewSettled
 pub mod Begun
 pub mod Retired
+pub mod Founded

@@ -5,3 +5,4 @@ pub mod Endings
 pub mod MarkedGroups
 pub mod HeldReads
 pub mod Ending
+pub mod Founding

@@ -6,6 +6,7 @@ mod changes;
 mod endings;
 mod finishing;
 mod dropped_spawns;
+mod founding;
 mod frames;
 mod isolated;
 mod jobs;

@@ -1,0 +1,10 @@
+use Rattle.std.proofs.Common.{◌≡◌, ◌≤◌}
+use Rattle.std.specs.Prelude.{vec_capacity}
+use Rattle.std.specs.List.{range_with_len}
+use Rattle.arena_rows.proofs.founding.all_places.Given as goal
+
+abbrev pub invariant-loop-place : goal.invariant-loop-place
+invariant-loop-place l = record {
+  places : l.places.items ≡ range_with_len 0 l.place;
+  room : l.count ≤ vec_capacity l.places;
+}

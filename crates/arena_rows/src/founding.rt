@@ -1,0 +1,79 @@
+// Parts that stand for a tenant that has done nothing yet.
+ghost use Rattle.std.specs.Prelude.{◌≡◌, ◌≤◌, IfOk, None, replicate, vec_capacity};
+ghost use Rattle.std.specs.List.{range_with_len};
+ghost use Rattle.tenant_model.specs.State.{empty};
+ghost use Rattle.arena_rows.specs.Represents.{Rests};
+ghost use Rattle.arena_rows.specs.Founding.{founded};
+
+use crate::parts::Parts;
+use cancel_context::Contexts;
+use job_language::TenantConfig;
+use nest_stack::Nests;
+use ready_pool::Pool;
+use region_tag::Regions;
+use std::alloc::{AllocError, Global};
+use tenant_model::MAX_JOBS;
+use thread_cells::Cells;
+
+impl Parts {
+    /// The parts of a tenant that has done nothing yet, with room for all that it may have at once.
+    #[tactic(auto, using(crate::proofs::Founded::founded_rests))]
+    pub fn new(alloc: Global, config: TenantConfig) -> Result<Parts, AllocError>
+        ensures { IfOk result (λ parts. Rests parts (empty config)) }
+    {
+        Parts::found(alloc, config)
+    }
+
+    fn found(alloc: Global, config: TenantConfig) -> Result<Parts, AllocError>
+        ensures { IfOk result (λ parts. parts ≡ founded config) }
+    {
+        let rows = config.tenant().rows;
+        let slots = usize::from(config.tenant().slots);
+        let isolation = config.tenant().isolation;
+        let free = all_places(alloc, rows)?;
+        let jobs = Vec::with_capacity(alloc, MAX_JOBS)?;
+        let regions = Regions::new(alloc, rows)?;
+        let contexts = Contexts::new(alloc, rows)?;
+        let pool = Pool::new(alloc, rows, slots, isolation)?;
+        let nests = Nests::new(alloc, slots)?;
+        let table = vacant(alloc, rows)?;
+        Ok(Parts {
+            config,
+            table,
+            free,
+            made: 0,
+            jobs,
+            retired: 0,
+            cells: Cells::new(),
+            entries: 0,
+            epoch: 0,
+            regions,
+            contexts,
+            pool,
+            nests,
+        })
+    }
+}
+
+/// A table with nothing at each of so many places.
+fn vacant<T: Copy>(alloc: Global, count: usize) -> Result<Vec<Option<T>>, AllocError>
+    ensures { IfOk result (λ table. table.items ≡ replicate count None) }
+{
+    let mut table = Vec::with_capacity(alloc, count)?;
+    for _ in 0..count {
+        table.push(None)?;
+    }
+    Ok(table)
+}
+
+/// That many places, from 0 on.
+fn all_places(alloc: Global, count: usize) -> Result<Vec<usize>, AllocError>
+    ensures places { IfOk result (λ places. places.items ≡ range_with_len 0 count) }
+    ensures room { IfOk result (λ places. count ≤ vec_capacity places) }
+{
+    let mut places = Vec::with_capacity(alloc, count)?;
+    for place in 0..count {
+        places.push(place)?;
+    }
+    Ok(places)
+}
