@@ -1,5 +1,5 @@
 -- What the jobs that are held tell of the state.
-use Rattle.std.proofs.Common.{◌≡◌, ℕ, zero, suc, ◌+◌, ◌==◌, ◌<◌, ◌≤◌, nat_lt, nat_le, not, ℤ, List, [], ◌∷◌, length, Option, Some, None, Bool, true, false, ◌&&◌, if◌then◌else◌, refl, sym, ap, ◌∙◌, arith, inl, inr, map, get_or}
+use Rattle.std.proofs.Common.{◌≡◌, ℕ, zero, suc, ◌+◌, ◌==◌, ◌<◌, ◌≤◌, nat_lt, nat_le, not, ℤ, List, [], ◌∷◌, length, Option, Some, None, Bool, true, false, ◌&&◌, ◌||◌, if◌then◌else◌, refl, sym, ap, ◌∙◌, arith, inl, inr, map, get_or}
 use Rattle.std.specs.Prelude.{All, count_by, slice_get}
 use Rattle.std.specs.List.{list_any}
 use Rattle.std.specs.Option.{option_map, option_map_or, option_and_then}
@@ -11,12 +11,12 @@ use Rattle.job_language.specs.declared.answers.Status.TheVariants.{Running, Canc
 use Rattle.tenant_model.specs.declared.rows.Row.{Row}
 use Rattle.tenant_model.specs.declared.works.Work.{Work}
 use Rattle.tenant_model.specs.State.{State, job}
-use Rattle.tenant_model.specs.Walks.{is_open}
+use Rattle.tenant_model.specs.Walks.{is_open, is_job_cancelled}
 use Rattle.tenant_model.specs.Asks.{current_jobs, known_job, outcome, status}
 use Rattle.tenant_model.proofs.Stacking.{one_if}
 use Rattle.arena_rows.specs.declared.rows.CurrentJob.{CurrentJob}
 use Rattle.arena_rows.specs.Held.{Held}
-use Rattle.arena_rows.specs.HeldReads.{held_status, known_status}
+use Rattle.arena_rows.specs.HeldReads.{held_status, known_status, is_first_cancel, cancels, known_cancels}
 use Rattle.arena_rows.specs.HeldChanges.{index_of, no_job}
 use Rattle.arena_rows.specs.Represents.{IsJob, Holds}
 use Rattle.arena_rows.proofs.Alike.{count_cons, count_append}
@@ -47,6 +47,12 @@ unless_retired w = if w.retired then None else Some w
 swapped : {A : Type 0} (b : Bool) (x y : A) → (if not b then x else y) ≡ (if b then y else x)
 swapped true x y = refl
 swapped false x y = refl
+
+neither : (b c : Bool) → not (b || not c) ≡ (c && not b)
+neither true true = refl
+neither true false = refl
+neither false true = refl
+neither false false = refl
 
 module _ (a : Held) (s : State) (is : Holds a s) where
   pub current_told : current_jobs s ≡ length a.jobs
@@ -99,6 +105,16 @@ module _ (a : Held) (s : State) (is : Holds a s) where
         let value = its.value in
         rw opened (swapped (nat_lt 0 it.open_rows) (outcome s.rows it.work) Running ∙ ap (λ (x : Status). if nat_lt 0 it.open_rows then Running else x) (ap by_fault (sym value)))
 
+    cancel_is : is_first_cancel s.rows j it.work ≡ cancels it
+    cancel_is =
+        let opened : list_any (λ (r : Row). (r.job == j) && is_open r.phase) s.rows ≡ nat_lt 0 it.open_rows = any_counted (λ (r : Row). (r.job == j) && is_open r.phase) s.rows ∙ ap (nat_lt 0) (sym its.opened) in
+        rw opened (neither (is_job_cancelled it.work) (nat_lt 0 it.open_rows))
+
+    pub cancel_now : known_cancels a j ≡ option_map (is_first_cancel s.rows j) (known_job s j)
+    cancel_now =
+        let later : nat_le j a.retired ≡ false = grind (arith, above) in
+        rw (later, slice_get-get_or a.jobs (index_of a j) no_job below, known j refl) (ap Some (sym cancel_is))
+
     pub now_told : known_status a j ≡ option_map (status s.rows j) (known_job s j)
     now_told =
         let later : nat_le j a.retired ≡ false = grind (arith, above) in
@@ -116,3 +132,19 @@ module _ (a : Held) (s : State) (is : Holds a s) where
         let gone : nat_le j a.retired ≡ true = grind (arith, low) in
         rw (gone, past_told j (omega (arith, low))) refl
   ]
+
+  pub cancel_told : (j : ℕ) → known_cancels a j ≡ option_map (is_first_cancel s.rows j) (known_job s j)
+  cancel_told j = elim (cases_lt a.retired j) [
+    | inl above ↦ elim (cases_lt (index_of a j) (length a.jobs)) [
+      | inl below ↦ cancel_now j above below
+      | inr past ↦
+          let later : nat_le j a.retired ≡ false = grind (arith, above) in
+          rw (later, slice_get_past a.jobs (index_of a j) (omega (arith, past)), later_told j (omega (arith, above, past, job_count a s is))) refl
+    ]
+    | inr low ↦
+        let gone : nat_le j a.retired ≡ true = grind (arith, low) in
+        rw (gone, past_told j (omega (arith, low))) refl
+  ]
+
+  pub count_told : a.retired + length a.jobs ≡ length s.jobs
+  count_told = sym (job_count a s is)

@@ -1,10 +1,14 @@
 -- How far the jobs are that an arena holds, and which slot is free.
-use Rattle.std.specs.Prelude.{ℕ, ◌==◌, find, length, nat_lt, nat_le, if◌then◌else◌, Option, None, slice_get}
+use Rattle.std.specs.Prelude.{ℕ, Bool, List, not, ◌&&◌, ◌||◌, ◌==◌, find, length, nat_lt, nat_le, if◌then◌else◌, Option, None, slice_get}
 use Rattle.std.specs.List.{range_with_len}
 use Rattle.std.specs.Option.{option_map, option_map_or}
 use Rattle.job_language.specs.declared.answers.Status.{Status}
 use Rattle.job_language.specs.declared.answers.Status.TheVariants.{Running, Cancelled, Complete, Fault}
 use Rattle.nest_stack.specs.Nest.{stack}
+use Rattle.tenant_model.specs.declared.rows.Row.{Row}
+use Rattle.tenant_model.specs.declared.works.Work.{Work}
+use Rattle.tenant_model.specs.Walks.{is_job_cancelled}
+use Rattle.tenant_model.specs.Asks.{has_outcome}
 use Rattle.arena_rows.specs.declared.rows.CurrentJob.{CurrentJob}
 use Rattle.arena_rows.specs.Held.{Held}
 use Rattle.arena_rows.specs.HeldChanges.{index_of}
@@ -20,3 +24,14 @@ known_status a j = if nat_le j a.retired then None else option_map held_status (
 -- the least reserved slot with nothing on it
 abbrev pub least_empty : Held → Option ℕ
 least_empty a = find (λ slot. length (stack a.nests slot) == 0) (range_with_len 0 a.config.reserved)
+
+-- Would a cancel of a job be its first? It was not cancelled and has no outcome.
+abbrev pub is_first_cancel : List Row → (job : ℕ) → Work → Bool
+is_first_cancel rows j w = not (is_job_cancelled w || has_outcome rows j)
+
+-- the same of a job that is held
+abbrev pub cancels : CurrentJob → Bool
+cancels it = nat_lt 0 it.open_rows && not (is_job_cancelled it.work)
+
+abbrev pub known_cancels : Held → (job : ℕ) → Option Bool
+known_cancels a j = if nat_le j a.retired then None else option_map cancels (slice_get a.jobs (index_of a j))

@@ -1,5 +1,6 @@
 // What the parts tell of the state that they stand for.
-ghost use Rattle.std.specs.Prelude.{◌≡◌, nat_le};
+ghost use Rattle.std.specs.Prelude.{◌≡◌, ◌<◌, ◌≤◌, ◌-◌, false, nat_le, length, IfSome, OnSome};
+ghost use Rattle.nest_stack.specs.Nest.{stack};
 ghost use Rattle.std.specs.List.{list_any};
 ghost use Rattle.std.specs.Option.{option_map};
 ghost use Rattle.tenant_model.specs.declared.works.TheConstants.{MAX_JOBS};
@@ -9,7 +10,7 @@ ghost use Rattle.tenant_model.specs.Changes.{is_row_limit_met};
 ghost use Rattle.tenant_model.specs.Cells.{cell_sum, cell_count};
 ghost use Rattle.tenant_model.specs.Asks.{current_jobs, free_slot, known_job, status};
 ghost use Rattle.arena_rows.specs.Represents.{Holds, HoldsSomehow};
-ghost use Rattle.arena_rows.specs.HeldReads.{held_status, known_status};
+ghost use Rattle.arena_rows.specs.HeldReads.{held_status, known_status, is_first_cancel, known_cancels};
 
 use crate::parts::Parts;
 use crate::rows::CurrentJob;
@@ -20,7 +21,8 @@ impl Parts {
     /// Whether as many rows are open as may be.
     #[tactic(auto, using(crate::proofs::Told::limit_told))]
     pub fn is_row_limit_met(&self) -> bool
-        ensures { (s : State) → Holds self.now s → result ≡ is_row_limit_met s }
+        ensures value { (s : State) → Holds self.now s → result ≡ is_row_limit_met s }
+        ensures room { result ≡ false → 0 < length self.now.free }
     {
         self.free.is_empty()
     }
@@ -44,7 +46,9 @@ impl Parts {
     /// The least reserved slot with nothing on it.
     pub fn free_slot(&self) -> Option<u8>
         requires { HoldsSomehow self.now }
-        ensures { (s : State) → Holds self.now s → result ≡ free_slot s }
+        ensures value { (s : State) → Holds self.now s → result ≡ free_slot s }
+        ensures within { IfSome result (λ slot. slot < self.now.config.reserved) }
+        ensures empty { IfSome result (λ slot. length (stack self.now.nests slot) ≡ 0) }
     {
         let reserved = self.config().reserved;
         for slot in 0..reserved {
@@ -73,7 +77,8 @@ impl Parts {
 
     /// Whether as many jobs are not retired as may be.
     pub fn is_job_limit_met(&self) -> bool
-        ensures { (s : State) → Holds self.now s → result ≡ nat_le MAX_JOBS (current_jobs s) }
+        ensures value { (s : State) → Holds self.now s → result ≡ nat_le MAX_JOBS (current_jobs s) }
+        ensures room { result ≡ false → length self.now.jobs < MAX_JOBS }
     {
         MAX_JOBS <= self.jobs.len()
     }
@@ -84,6 +89,55 @@ impl Parts {
         ensures { (s : State) → Holds self.now s → result ≡ option_map (status s.rows job) (known_job s job) }
     {
         self.known_status(job)
+    }
+
+    /// How many rows were made, the number of the last one.
+    pub fn row_count(&self) -> u64
+        ensures { result ≡ self.now.made }
+    {
+        self.made
+    }
+
+    /// How many jobs were made, the number of the last one.
+    #[tactic(auto, using(crate::proofs::JobsTold::count_told))]
+    pub fn job_count(&self) -> u64
+        requires { HoldsSomehow self.now }
+        ensures { (s : State) → Holds self.now s → result ≡ length s.jobs }
+    {
+        // Proof hint: there are no more jobs than rows, and their count is in range.
+        let _ = self.row_count();
+        self.retired + self.jobs.len() as u64
+    }
+
+    /// How often jobs were retired.
+    pub fn epoch(&self) -> u64
+        ensures { (s : State) → Holds self.now s → result ≡ s.epoch }
+    {
+        self.epoch
+    }
+
+    /// Whether a cancel of the job of a number would be its first: it was not cancelled and has no
+    /// outcome. There is none where the job is retired or was not made.
+    #[tactic(auto, using(crate::proofs::JobsTold::cancel_told))]
+    pub fn is_first_cancel(&self, job: u64) -> Option<bool>
+        ensures value { (s : State) → Holds self.now s → result ≡ option_map (is_first_cancel s.rows job) (known_job s job) }
+        ensures above { OnSome result (self.now.retired < job) }
+        ensures below { OnSome result (job - self.now.retired ≤ length self.now.jobs) }
+    {
+        self.cancels(job)
+    }
+
+    fn cancels(&self, job: u64) -> Option<bool>
+        ensures value { result ≡ known_cancels self.now job }
+        ensures above { OnSome result (self.now.retired < job) }
+        ensures below { OnSome result (job - self.now.retired ≤ length self.now.jobs) }
+    {
+        if job <= self.retired {
+            return None;
+        }
+        let index = (job - self.retired - 1) as usize;
+        let current = self.jobs.get(index)?;
+        Some(current.open_rows > 0 && !current.work.is_cancelled())
     }
 
     fn known_status(&self, job: u64) -> Option<Status>

@@ -6,8 +6,8 @@ use Rattle.nest_stack.specs.Nest.{stack}
 use Rattle.arena_rows.proofs.Told.{slot_found, slot_passed, slot_told}
 use Rattle.arena_rows.proofs.parts.Parts.free_slot.Goals as goal
 
-pub returns-then-height-eq0 : goal.returns-then-height-eq0
-returns-then-height-eq0 c = λ s is.
+pub returns-then-height-eq0-clause-value : goal.returns-then-height-eq0-clause-value
+returns-then-height-eq0-clause-value c = λ s is.
     let a = c.args.self.now in
     let value = c.config.ensures.value in
     let within : c.loop-slot.slot < a.config.reserved = rw value at c.loop-slot-test.true in
@@ -22,8 +22,8 @@ loop-slot-preserved c =
     let taken : (length (stack a.nests c.loop-slot.slot) == 0) ≡ false = rw (← c.height.ensures) (ne_eqb c.height.result 0 c.if-height-eq0.false) in
     sym (slot_passed a c.loop-slot.slot within taken) ∙ c.loop-slot.invariant
 
-pub returns : goal.returns
-returns c = λ s is.
+pub returns-clause-value : goal.returns-clause-value
+returns-clause-value c = λ s is.
     let a = c.args.self.now in
     let value = c.config.ensures.value in
     let past : a.config.reserved ≤ c.loop-slot.slot = rw value at c.loop-slot-test.false in
