@@ -1,6 +1,6 @@
 -- What is held at first stands for a tenant that has done nothing yet.
-use Rattle.std.proofs.Common.{◌≡◌, ◌≢◌, ℕ, zero, suc, ◌+◌, ◌-◌, ◌*◌, ◌<◌, ◌≤◌, List, [], ◌∷◌, ◌++◌, length, Option, Some, None, Bool, true, false, refl, sym, ap, ◌∙◌, arith, get_or, map, replicate}
-use Rattle.std.specs.Prelude.{count_by, sum_by, is_some, slice_index_or}
+use Rattle.std.proofs.Common.{◌≡◌, ℕ, zero, suc, ◌+◌, ◌*◌, ◌<◌, List, [], ◌∷◌, ◌++◌, length, Option, Some, None, true, false, refl, sym, ap, ◌∙◌, arith, get_or, replicate}
+use Rattle.std.specs.Prelude.{sum_by, is_some}
 use Rattle.std.specs.List.{range_with_len}
 use Rattle.std.specs.Option.{option_map}
 use Rattle.std.proofs.lemmas.List.{length-replicate, get_or_default}
@@ -11,12 +11,11 @@ use Rattle.cancel_context.specs.Forest.{Binding, IsHeld, binding, held_count}
 use Rattle.cancel_context.specs.declared.contexts.TheConstants.{BASE_CONTEXTS, CONTEXTS_PER_ROW}
 use Rattle.nest_stack.specs.Nest.{stack}
 use Rattle.nest_stack.specs.declared.stack.Nested.{Nested}
-use Rattle.tenant_model.specs.State.{State, empty, row}
+use Rattle.tenant_model.specs.State.{empty, row}
 use Rattle.tenant_model.specs.Walks.{is_open}
 use Rattle.tenant_model.proofs.AttendedSteps.{open_there}
 use Rattle.tenant_model.proofs.Steady.{steady_empty}
 use Rattle.arena_rows.specs.declared.rows.OpenRow.{OpenRow}
-use Rattle.arena_rows.specs.Held.{Held}
 use Rattle.arena_rows.specs.Represents.{at_place, held_by, tagged_of, Nobody, Rests}
 use Rattle.arena_rows.specs.Founding.{founded}
 use Rattle.arena_rows.proofs.NewJob.{nothing_counted}

@@ -1,7 +1,6 @@
 -- All jobs retired, where no row is open.
-use Rattle.std.proofs.Common.{◌≡◌, ◌≢◌, ℕ, zero, suc, ◌+◌, ◌-◌, ◌<◌, ◌≤◌, nat_lt, List, [], ◌∷◌, ◌++◌, length, Option, Some, None, Bool, true, false, refl, sym, ap, ◌∙◌, arith, inl, inr, get_or, map}
-use Rattle.std.specs.Prelude.{All, is_some, sum_by, slice_index_or}
-use Rattle.std.specs.List.{list_any}
+use Rattle.std.proofs.Common.{◌≡◌, ◌≢◌, ℕ, zero, suc, ◌+◌, ◌-◌, ◌<◌, nat_lt, List, [], ◌∷◌, length, Option, Some, None, true, false, refl, sym, ap, ◌∙◌, arith, inl, inr, get_or, map}
+use Rattle.std.specs.Prelude.{All, is_some, sum_by}
 use Rattle.std.proofs.Math.ListN.{get_or-map}
 use Rattle.std.proofs.lemmas.Bool.{cases_eq}
 use Rattle.std.proofs.lemmas.List.{append-nil, length-map, get_or-set_other, get_or_default}
@@ -11,9 +10,9 @@ use Rattle.cancel_context.proofs.Chains.{IsHeld-within}
 use Rattle.cancel_context.proofs.Released.{binding-without}
 use Rattle.tenant_model.specs.declared.rows.Row.{Row}
 use Rattle.tenant_model.specs.declared.works.Work.{Work}
-use Rattle.tenant_model.specs.State.{State, row, job}
+use Rattle.tenant_model.specs.State.{State, row}
 use Rattle.tenant_model.specs.Cells.{no_cells}
-use Rattle.tenant_model.specs.Walks.{is_open, is_job_cancelled}
+use Rattle.tenant_model.specs.Walks.{is_open}
 use Rattle.tenant_model.specs.Changes.{open_rows, entry}
 use Rattle.tenant_model.specs.Asks.{retired_work}
 use Rattle.tenant_model.specs.Sound.{IsSettled}
@@ -27,7 +26,7 @@ use Rattle.arena_rows.specs.Represents.{Owner, Nobody, OfJob, OfRow, OfGroup, at
 use Rattle.arena_rows.specs.Ending.{HoldJobs, ended, IsIdle}
 use Rattle.arena_rows.proofs.NewSettled.{counted_there}
 use Rattle.arena_rows.proofs.Picking.{unstarted_open}
-use Rattle.arena_rows.proofs.Started.{some_is, some_none}
+use Rattle.arena_rows.proofs.Started.{some_none}
 use Rattle.arena_rows.proofs.Starts.{settled_entry}
 use Rattle.arena_rows.proofs.Told.{any_counted}
 use Rattle.arena_rows.proofs.TopRows.{job_count}

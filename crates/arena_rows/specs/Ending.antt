@@ -1,5 +1,5 @@
 -- All jobs of an arena retired, where no row is open.
-use Rattle.std.specs.Prelude.{◌≡◌, ◌≢◌, ℕ, ◌+◌, ◌<◌, ◌≤◌, false, List, [], Option, Some, None, get_or, length}
+use Rattle.std.specs.Prelude.{◌≡◌, ◌≢◌, ℕ, ◌+◌, ◌<◌, ◌≤◌, false, List, [], Some, get_or, length}
 use Rattle.std.specs.List.{list_any}
 use Rattle.cancel_context.specs.Forest.{Forest, IsHeld, held_count, parent}
 use Rattle.thread_cells.specs.Cells.{no_cells}

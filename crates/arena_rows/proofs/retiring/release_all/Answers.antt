@@ -1,6 +1,5 @@
-use Rattle.std.proofs.Common.{◌≡◌, ℕ, ◌+◌, ◌<◌, length, get_or, refl, sym, ap, ◌∙◌, arith}
+use Rattle.std.proofs.Common.{length, refl, ap, ◌∙◌, arith}
 use Rattle.cancel_context.proofs.Released.{length-without}
-use Rattle.arena_rows.specs.declared.rows.CurrentJob.{CurrentJob}
 use Rattle.arena_rows.proofs.Retired.{hold-released}
 use Rattle.arena_rows.proofs.retiring.release_all.Goals as goal
 

@@ -1,6 +1,5 @@
-use Rattle.std.proofs.Common.{◌≡◌, length, sym, ap, ◌∙◌, arith}
+use Rattle.std.proofs.Common.{length, ap, ◌∙◌, arith}
 use Rattle.arena_rows.specs.Held.{Held}
-use Rattle.arena_rows.specs.Ending.{HoldJobs}
 use Rattle.arena_rows.proofs.NewSettled.{jobs_most}
 use Rattle.arena_rows.proofs.Retired.{hold_jobs, all_free}
 use Rattle.arena_rows.proofs.parts.Parts.end_jobs.Goals as goal

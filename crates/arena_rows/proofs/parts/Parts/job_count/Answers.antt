@@ -1,4 +1,4 @@
-use Rattle.std.proofs.Common.{◌≡◌, length, ap, arith}
+use Rattle.std.proofs.Common.{length, ap, arith}
 use Rattle.arena_rows.specs.Held.{Held}
 use Rattle.arena_rows.proofs.NewSettled.{jobs_most}
 use Rattle.arena_rows.proofs.parts.Parts.job_count.Goals as goal
