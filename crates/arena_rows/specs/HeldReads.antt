@@ -17,9 +17,13 @@ use Rattle.arena_rows.specs.HeldChanges.{index_of}
 abbrev pub held_status : CurrentJob → Status
 held_status it = if nat_lt 0 it.open_rows then Running else option_map_or (λ fault. Fault fault) it.work.fault (if it.work.cancelled then Cancelled else Complete it.value)
 
+-- the job of a number, unless it is retired or was not made
+abbrev pub known_current : Held → (job : ℕ) → Option CurrentJob
+known_current a j = if nat_le j a.retired then None else slice_get a.jobs (index_of a j)
+
 -- how far the job of a number is, unless it is retired
 abbrev pub known_status : Held → (job : ℕ) → Option Status
-known_status a j = if nat_le j a.retired then None else option_map held_status (slice_get a.jobs (index_of a j))
+known_status a j = option_map held_status (known_current a j)
 
 -- the least reserved slot with nothing on it
 abbrev pub least_empty : Held → Option ℕ
@@ -34,4 +38,4 @@ abbrev pub cancels : CurrentJob → Bool
 cancels it = nat_lt 0 it.open_rows && not (is_job_cancelled it.work)
 
 abbrev pub known_cancels : Held → (job : ℕ) → Option Bool
-known_cancels a j = if nat_le j a.retired then None else option_map cancels (slice_get a.jobs (index_of a j))
+known_cancels a j = option_map cancels (known_current a j)

@@ -1,5 +1,5 @@
 // What the parts tell of the state that they stand for.
-ghost use Rattle.std.specs.Prelude.{◌≡◌, ◌<◌, ◌≤◌, ◌-◌, false, nat_le, length, IfSome, OnSome};
+ghost use Rattle.std.specs.Prelude.{◌≡◌, ◌<◌, ◌≤◌, ◌-◌, false, nat_le, length, IfSome, OnSome, option_copied};
 ghost use Rattle.nest_stack.specs.Nest.{stack};
 ghost use Rattle.std.specs.List.{list_any};
 ghost use Rattle.std.specs.Option.{option_map};
@@ -10,7 +10,7 @@ ghost use Rattle.tenant_model.specs.Changes.{is_row_limit_met};
 ghost use Rattle.tenant_model.specs.Cells.{cell_sum, cell_count};
 ghost use Rattle.tenant_model.specs.Asks.{current_jobs, free_slot, known_job, status};
 ghost use Rattle.arena_rows.specs.Represents.{Holds, HoldsSomehow};
-ghost use Rattle.arena_rows.specs.HeldReads.{held_status, known_status, is_first_cancel, known_cancels};
+ghost use Rattle.arena_rows.specs.HeldReads.{held_status, known_current, known_status, is_first_cancel, known_cancels};
 
 use crate::parts::Parts;
 use crate::rows::CurrentJob;
@@ -83,6 +83,18 @@ impl Parts {
         MAX_JOBS <= self.jobs.len()
     }
 
+    /// The job of a number, unless it is retired or was not made.
+    fn current(&self, job: u64) -> Option<&CurrentJob>
+        ensures value { option_copied result ≡ known_current self.now job }
+        ensures above { OnSome result (self.now.retired < job) }
+        ensures below { OnSome result (job - self.now.retired ≤ length self.now.jobs) }
+    {
+        if job <= self.retired {
+            return None;
+        }
+        self.jobs.get((job - self.retired - 1) as usize)
+    }
+
     /// How far the job of a number is, unless it is retired.
     #[tactic(auto, using(crate::proofs::JobsTold::status_told))]
     pub fn status(&self, job: u64) -> Option<Status>
@@ -132,22 +144,14 @@ impl Parts {
         ensures above { OnSome result (self.now.retired < job) }
         ensures below { OnSome result (job - self.now.retired ≤ length self.now.jobs) }
     {
-        if job <= self.retired {
-            return None;
-        }
-        let index = (job - self.retired - 1) as usize;
-        let current = self.jobs.get(index)?;
+        let current = self.current(job)?;
         Some(current.open_rows > 0 && !current.work.is_cancelled())
     }
 
     fn known_status(&self, job: u64) -> Option<Status>
         ensures { result ≡ known_status self.now job }
     {
-        if job <= self.retired {
-            return None;
-        }
-        let index = (job - self.retired - 1) as usize;
-        let current = self.jobs.get(index)?;
+        let current = self.current(job)?;
         Some(current.status())
     }
 }
