@@ -3,9 +3,9 @@
 
 mod arrivals;
 mod changes;
+mod dropped_spawns;
 mod endings;
 mod finishing;
-mod dropped_spawns;
 mod founding;
 mod frames;
 mod isolated;
@@ -17,8 +17,8 @@ mod posts;
 mod reads;
 mod retiring;
 mod rows;
-mod settling;
 mod settled;
+mod settling;
 mod spawns;
 mod submits;
 mod taking;
