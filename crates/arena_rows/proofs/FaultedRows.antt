@@ -49,7 +49,7 @@ module _ (slot : ℕ) where
     | inl same ↦
         let here : (t == slot) ≡ true = grind (arith, same) in
         let its = low h (ap (λ i. Live i h) same) in
-        rw here (elim (either_way b) [ | inl is ↦ rw is its | inr not_so ↦ rw not_so (omega arith) ])
+        rw here (elim (either_way b) [ inl is ↦ rw is its | inr not_so ↦ rw not_so (omega arith) ])
     | inr other ↦ let apart : (t == slot) ≡ false = grind (arith, other) in rw apart (omega arith)
   ]
   low_phase (Done v) k b low = omega arith
@@ -86,7 +86,7 @@ module _ (slot : ℕ) where
     -- It is a region: the highest task is below it.
     pub task_below : is_region (row rows n).kind ≡ true → task_height (with_at_number rows n r) slot ≡ task_height rows slot
     task_below region =
-        let none : task_height_of slot (get_or rows (n - 1) r) ≡ 0 = ap (task_height_of slot) (here r) ∙ rw (its.2, region) (elim (either_way (slot == slot)) [ | inl is ↦ rw is refl | inr not_so ↦ rw not_so refl ]) in
+        let none : task_height_of slot (get_or rows (n - 1) r) ≡ 0 = ap (task_height_of slot) (here r) ∙ rw (its.2, region) (elim (either_way (slot == slot)) [ inl is ↦ rw is refl | inr not_so ↦ rw not_so refl ]) in
         most_same rows 0 (n - 1) r r (sym none)
 
     abbrev faulted : ℕ → Row → Row
@@ -112,22 +112,22 @@ module _ (slot : ℕ) where
     -- From its own height on, it alone faults.
     pub faults_top : map (faulted (height rows slot)) rows ≡ with_at_number rows n r
     faults_top = ext_get_or r (map (faulted (height rows slot)) rows) (with_at_number rows n r) (length-map rows (faulted (height rows slot)) ∙ sym (length-set rows (n - 1) r)) (λ i below.
-      let low : i < length rows = omega (arith, below, length-map rows (faulted (height rows slot))) in
-      get_or-map (faulted (height rows slot)) rows i r r low ∙ elim (cases_eq i (n - 1)) [
-        | inl same ↦
-            let now : get_or (with_at_number rows n r) i r ≡ r = ap (λ k. get_or (with_at_number rows n r) k r) same ∙ get_or-set_same rows (n - 1) r r within in
-            let was : get_or rows i r ≡ row rows n = ap (λ k. get_or rows k r) same ∙ here r in
-            ap (faulted (height rows slot)) was ∙ ap (λ p. let q : Row = record (row rows n) { phase = p } in q) (ap (faulted_phase slot (height rows slot)) its.2 ∙ goes_at (height rows slot) (height rows slot) (omega arith)) ∙ sym now
-        | inr other ↦
-            let now : get_or (with_at_number rows n r) i r ≡ get_or rows i r = get_or-set_other rows (n - 1) i r r other in
-            let x = get_or rows i r in
-            let number : row rows (i + 1) ≡ x = sym (row-get_or rows i r low) in
-            ap (λ p. let q : Row = record x { phase = p } in q) (stays_at x.phase (λ h live.
+        let low : i < length rows = omega (arith, below, length-map rows (faulted (height rows slot))) in
+        get_or-map (faulted (height rows slot)) rows i r r low ∙ elim (cases_eq i (n - 1)) [
+          | inl same ↦
+              let now : get_or (with_at_number rows n r) i r ≡ r = ap (λ k. get_or (with_at_number rows n r) k r) same ∙ get_or-set_same rows (n - 1) r r within in
+              let was : get_or rows i r ≡ row rows n = ap (λ k. get_or rows k r) same ∙ here r in
+              ap (faulted (height rows slot)) was ∙ ap (λ p. let q : Row = record (row rows n) { phase = p } in q) (ap (faulted_phase slot (height rows slot)) its.2 ∙ goes_at (height rows slot) (height rows slot) (omega arith)) ∙ sym now
+          | inr other ↦
+              let now : get_or (with_at_number rows n r) i r ≡ get_or rows i r = get_or-set_other rows (n - 1) i r r other in
+              let x = get_or rows i r in
+              let number : row rows (i + 1) ≡ x = sym (row-get_or rows i r low) in
+              ap (λ p. let q : Row = record x { phase = p } in q) (stays_at x.phase (λ h live.
               let live_x : (row rows (i + 1)).phase ≡ Live slot h = ap (λ (q : Row). q.phase) number ∙ live in
               let most_h = live_low rows stacked (i + 1) slot h live_x in
               let apart : h ≢ height rows slot = λ top_height. other (omega (arith, one_there rows stacked (i + 1) n slot h live_x (its.2 ∙ ap (Live slot) (sym top_height)))) in
               omega (arith, most_h.1, apart))) ∙ sym now
-      ])
+        ])
 
     -- From a lower one on, it does not count whether it has faulted.
     pub faults_below : (k : ℕ) → k ≤ height rows slot → map (faulted k) (with_at_number rows n r) ≡ map (faulted k) rows

@@ -169,27 +169,26 @@ settle_none t none = sym (settle-from t t (record {
 pub settled_entry : (s : State) → IsSettled s → entry s ≡ record s { entries = s.entries + 1 }
 settled_entry s settled = settle_none (record s { entries = s.entries + 1 }) settled
 
+-- An entry counted, and no row dropped yet.
+pub counted_holds : (a : Held) (s : State) → Holds a s → Holds (counted a) (record s { entries = s.entries + 1 })
+counted_holds a s is = record {
+  config = is.config;
+  places = is.places;
+  assigned = is.assigned;
+  made = is.made;
+  table = is.table;
+  free = is.free;
+  nests = is.nests;
+  tags = is.tags;
+  waiting = is.waiting;
+  contexts = record { of_jobs = is.contexts.of_jobs; of_rows = is.contexts.of_rows; of_groups = is.contexts.of_groups; bare = is.contexts.bare; owned = is.contexts.owned; in_table = is.contexts.in_table; count = is.contexts.count };
+  room = is.room;
+  jobs = record { past = is.jobs.past; many = is.jobs.many; gone = is.jobs.gone; all = is.jobs.all; each = is.jobs.each; later = is.jobs.later; few = is.jobs.few };
+  cells = is.cells;
+  entries = ap (λ k. k + 1) is.entries;
+  epoch = is.epoch;
+  steady = steady_entries s is.steady;
+}
+
 pub counted_rests : (a : Held) (s : State) → Rests a s → Rests (counted a) (entry s)
-counted_rests a s rests =
-    let is = rests.holds in
-    rw (settled_entry s rests.settled) (record {
-      holds = record {
-        config = is.config;
-        places = is.places;
-        assigned = is.assigned;
-        made = is.made;
-        table = is.table;
-        free = is.free;
-        nests = is.nests;
-        tags = is.tags;
-        waiting = is.waiting;
-        contexts = record { of_jobs = is.contexts.of_jobs; of_rows = is.contexts.of_rows; of_groups = is.contexts.of_groups; bare = is.contexts.bare; owned = is.contexts.owned; in_table = is.contexts.in_table; count = is.contexts.count };
-        room = is.room;
-        jobs = record { past = is.jobs.past; many = is.jobs.many; gone = is.jobs.gone; all = is.jobs.all; each = is.jobs.each; later = is.jobs.later; few = is.jobs.few };
-        cells = is.cells;
-        entries = ap (λ k. k + 1) is.entries;
-        epoch = is.epoch;
-        steady = steady_entries s is.steady;
-      };
-      settled = rests.settled;
-    })
+counted_rests a s rests = rw (settled_entry s rests.settled) (record { holds = counted_holds a s rests.holds; settled = rests.settled })

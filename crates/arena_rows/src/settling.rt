@@ -3,6 +3,7 @@ ghost use Rattle.std.specs.Prelude.{◌≡◌, ◌<◌, ℕ, length, Some};
 ghost use Rattle.cancel_context.specs.Forest.{IsForest, IsHeld, is_cancelled};
 ghost use Rattle.tenant_model.specs.State.{State};
 ghost use Rattle.tenant_model.specs.Walks.{settle};
+ghost use Rattle.tenant_model.specs.Changes.{entry};
 ghost use Rattle.arena_rows.specs.declared.rows.OpenRow.{OpenRow};
 ghost use Rattle.arena_rows.specs.Represents.{at_place, Holds, HoldsSomehow, Rests};
 ghost use Rattle.arena_rows.specs.Endings.{number_at, settled_in};
@@ -66,5 +67,15 @@ impl Parts {
         for place in 0..places {
             self.settle_at(place);
         }
+    }
+
+    /// Counts an entry, and drops the rows that wait and whose context is cancelled.
+    pub fn enter_and_settle(&mut self)
+        requires held { HoldsSomehow self.old }
+        requires room { self.old.entries < self.old.config.steps }
+        ensures { (s : State) → Holds self.old s → Rests self.new (entry s) }
+    {
+        self.count();
+        self.settle();
     }
 }
