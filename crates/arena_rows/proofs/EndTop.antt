@@ -1,13 +1,16 @@
 -- The topmost row of a slot as it ends.
-use Rattle.std.proofs.Common.{◌≡◌, ℕ, ◌<◌, ℤ, length, Option, Some, sym, ap, ◌∙◌, subst}
+use Rattle.std.proofs.Common.{◌≡◌, ℕ, ◌+◌, ◌-◌, ◌<◌, ◌≤◌, ℤ, List, [], length, Option, Some, sym, ap, ◌∙◌, arith, subst}
+use Rattle.std.proofs.lemmas.List.{length-take-le, get_or-set_same}
 use Rattle.region_tag.specs.declared.row_id.RowId.{RowId}
-use Rattle.nest_stack.specs.Nest.{stack}
+use Rattle.nest_stack.specs.declared.stack.Nested.{Nested}
+use Rattle.nest_stack.specs.Nest as nest
+use Rattle.nest_stack.specs.Nest.{stack, with_stack}
 use Rattle.tenant_model.specs.State.{State}
 use Rattle.tenant_model.specs.Walks.{top}
 use Rattle.arena_rows.specs.declared.rows.OpenRow.{OpenRow}
 use Rattle.arena_rows.specs.Held.{Held}
 use Rattle.arena_rows.specs.Represents.{id_of, at_place, Holds, HasTop}
-use Rattle.arena_rows.specs.Endings.{HasEnded}
+use Rattle.arena_rows.specs.Endings.{HasEnded, popped}
 use Rattle.arena_rows.proofs.Grouped.{IsEntry, entry_of}
 use Rattle.arena_rows.proofs.TopRows.{top_open, top_within, some_row}
 
@@ -36,3 +39,14 @@ module _ (a b : Held) (id : RowId) (v : ℤ) (ends : (e : OpenRow) → at_place 
 
   pub still_some : (slot : ℕ) (h : HasTop a slot) → id ≡ id_of h.2.places h.1 → 0 < length (stack b.nests slot)
   still_some slot h same = rw (same_nests slot h same) (some_row a slot h)
+
+  -- The slot has one row less.
+  pub popped_short : (b' : Held) (slot : ℕ) (h : HasTop a slot) → id ≡ id_of h.2.places h.1 → b' ≡ popped b slot → length (stack b'.nests slot) + 1 ≡ length (stack a.nests slot)
+  popped_short b' slot h same pops =
+      let nests = same_nests slot h same in
+      let some = some_row a slot h in
+      let within = top_within a slot h in
+      let xs = stack a.nests slot in
+      let short : length (nest.below xs (length xs)) + 1 ≡ length xs = omega (arith, length-take-le (length xs - 1) xs (omega arith), some) in
+      let now : b'.nests ≡ (popped a slot).nests = ap (λ (x : Held). x.nests) pops ∙ ap (λ ns. with_stack ns slot (nest.below (stack ns slot) (length (stack ns slot)))) nests in
+      ap (λ ns. length (stack ns slot) + 1) now ∙ ap (λ (ys : List Nested). length ys + 1) (get_or-set_same a.nests slot (nest.below xs (length xs)) [] within) ∙ short

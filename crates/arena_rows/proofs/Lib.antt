@@ -66,3 +66,4 @@ pub mod NewSettled
 pub mod Begun
 pub mod Retired
 pub mod Founded
+pub mod FaultSteps

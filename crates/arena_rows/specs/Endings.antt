@@ -1,5 +1,5 @@
 -- What the parts of an arena are after a row has ended.
-use Rattle.std.specs.Prelude.{◌≡◌, ◌≢◌, ℕ, zero, suc, ◌+◌, ◌-◌, ◌<◌, ◌==◌, ◌&&◌, ℤ, Bool, true, false, if◌then◌else◌, List, [], ◌∷◌, ◌++◌, Option, Some, None, slice_index_or, slice_set, length, IsSome}
+use Rattle.std.specs.Prelude.{◌≡◌, ◌≢◌, ℕ, zero, suc, ◌+◌, ◌-◌, ◌<◌, ◌==◌, ◌&&◌, ℤ, Bool, true, false, if◌then◌else◌, List, [], ◌∷◌, ◌++◌, Option, Some, None, slice_index_or, slice_set, length, map, IsSome}
 use Rattle.std.specs.List.{list_any}
 use Rattle.std.specs.Option.{option_map}
 use Rattle.std.specs.Int.{int_wrapping_add, w64}
@@ -12,7 +12,7 @@ use Rattle.nest_stack.specs.Nest as nest
 use Rattle.nest_stack.specs.Nest.{stack, with_stack}
 use Rattle.tenant_model.specs.State.{State, row, job}
 use Rattle.tenant_model.specs.Walks.{is_open, is_unstarted, is_context_cancelled, top}
-use Rattle.tenant_model.specs.Changes.{on_row}
+use Rattle.tenant_model.specs.Changes.{on_row, task_height, faulted_row}
 use Rattle.tenant_model.specs.declared.rows.Phase.TheVariants.{Dropped}
 use Rattle.tenant_model.specs.Shared.{has_used_group}
 use Rattle.arena_rows.specs.declared.rows.OpenRow.{OpenRow}
@@ -144,3 +144,7 @@ number_at table q = option_map (λ (e : OpenRow). e.number) (at_place table q)
 abbrev pub settled_in : State → Option OpenRow → State
 settled_in t None = t
 settled_in t (Some e) = if is_unstarted (row t.rows e.number).phase && is_context_cancelled t e.number then on_row t e.number (λ r. record r { phase = Dropped }) else t
+
+-- The topmost row of a slot has faulted, and those below it, down to and including the first that is not a region.
+abbrev pub faulted_rows : State → (slot : ℕ) → State
+faulted_rows s slot = record s { rows = map (faulted_row slot (task_height s.rows slot)) s.rows }

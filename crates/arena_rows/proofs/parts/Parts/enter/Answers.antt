@@ -1,4 +1,3 @@
-use Rattle.arena_rows.proofs.FaultedRows.{top_there}
 use Rattle.arena_rows.proofs.Starts.{counted_rests}
 use Rattle.arena_rows.proofs.parts.Parts.enter.Goals as goal
 

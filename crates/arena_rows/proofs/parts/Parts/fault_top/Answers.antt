@@ -3,7 +3,7 @@ use Rattle.arena_rows.specs.Held.{Held}
 use Rattle.arena_rows.specs.Represents.{Holds, HasTop}
 use Rattle.arena_rows.specs.Endings.{HasFaulty}
 use Rattle.arena_rows.proofs.EndHolds.{faulted_holds}
-use Rattle.arena_rows.proofs.EndTop.{over_on_top, still_within, still_some}
+use Rattle.arena_rows.proofs.EndTop.{over_on_top, still_within, still_some, popped_short}
 use Rattle.arena_rows.proofs.Loose.{loose_faulted}
 use Rattle.arena_rows.proofs.TopRows.{top_open}
 use Rattle.arena_rows.proofs.parts.Parts.fault_top.Goals as goal
@@ -40,3 +40,10 @@ returns-clause-forest c =
     let h : HasFaulty a c.args.slot = c.requires.faulty in
     let it = over_on_top a c.end.new.self c.top_row-row.result (pos 0) c.end.ensures h.0 h.2 c.args.slot h.1 h.3 (c.top_row-row.ensures h.0 h.1 h.2 h.3) in
     rw c.pop.ensures (it.over.left.sound c.requires.forest)
+
+pub returns-clause-height : goal.returns-clause-height
+returns-clause-height c =
+    let a = c.args.self.now in
+    let h : HasFaulty a c.args.slot = c.requires.faulty in
+    let top : HasTop a c.args.slot = (h.0, h.1, h.2, h.3) in
+    popped_short a c.end.new.self c.top_row-row.result (pos 0) c.end.ensures c.pop.new.self c.args.slot top (c.top_row-row.ensures h.0 h.1 h.2 h.3) c.pop.ensures
