@@ -72,7 +72,7 @@ impl Parts {
 
     /// The topmost row of a slot faults, whose job has a fault, and those below it, down to and
     /// including the first that is not a region.
-    fn fault_rows(&mut self, slot: u8)
+    pub(crate) fn fault_rows(&mut self, slot: u8)
         requires faulty { HasFaulty self.old slot }
         requires forest { IsForest self.old.contexts }
         ensures holds { (s : State) (n : ℕ) → Holds self.old s → top s.rows slot ≡ Some n → IsSome (job s.jobs (row s.rows n).job).fault

@@ -2,7 +2,7 @@
 ghost use Rattle.std.specs.Prelude.{◌≡◌, ◌<◌, ◌≤◌, ◌-◌, ℕ, not, length, slice_index_or, Some, IsSome};
 ghost use Rattle.tenant_model.specs.State.{State, row};
 ghost use Rattle.tenant_model.specs.Changes.{on_job};
-ghost use Rattle.cancel_context.specs.Forest.{IsHeld, held_count};
+ghost use Rattle.cancel_context.specs.Forest.{IsForest, IsHeld, held_count};
 ghost use Rattle.tenant_model.specs.Walks.{top};
 ghost use Rattle.tenant_model.specs.Advance.{is_poor, with_fuel_paid};
 ghost use Rattle.arena_rows.specs.declared.rows.CurrentJob.{CurrentJob};
@@ -101,6 +101,7 @@ impl Parts {
         requires held { (d : CurrentJob) → IsHeld self.old.contexts (slice_index_or self.old.jobs (index_of self.old job) d).context }
         ensures asked { (d : CurrentJob) → self.new ≡ job_asked self.old job d }
         ensures count { held_count self.new.contexts ≡ held_count self.old.contexts }
+        ensures forest { IsForest self.new.contexts }
     {
         let index = self.index_of(job);
         self.contexts.cancel(self.jobs[index].context);
@@ -110,8 +111,9 @@ impl Parts {
     /// the job still does.
     pub fn fault_job(&mut self, slot: u8, fault: JobFault)
         requires { HasTop self.old slot }
-        ensures { (s : State) (n : ℕ) → Holds self.old s → top s.rows slot ≡ Some n
+        ensures holds { (s : State) (n : ℕ) → Holds self.old s → top s.rows slot ≡ Some n
             → Holds self.new (on_job s (row s.rows n).job (with_fault fault)) }
+        ensures forest { IsForest self.new.contexts }
     {
         let job = self.top_entry(slot).job;
         self.ask_job(job);

@@ -21,6 +21,7 @@ mod settled;
 mod settling;
 mod spawns;
 mod submits;
+mod stepping;
 mod taking;
 mod tells;
 

@@ -20,8 +20,8 @@ ask_job-requires-clause-held c = λ d.
     let e = c.top_entry-job.ensures in
     job_held c.args.self.now c.requires.0 c.requires.2 c.top_entry-job.result.job e.above e.below d
 
-pub returns : goal.returns
-returns c = λ s n is on_top.
+pub returns-clause-holds : goal.returns-clause-holds
+returns-clause-holds c = λ s n is on_top.
     let a = c.args.self.now in
     let e = c.top_entry-job.ensures in
     let its_job = (e.entry s n is on_top).1.job in
@@ -40,3 +40,6 @@ note_fault-requires-clause-above c = let asked = c.ask_job.ensures.asked no_job 
 
 pub note_fault-requires-clause-below : goal.note_fault-requires-clause-below
 note_fault-requires-clause-below c = let asked = c.ask_job.ensures.asked no_job in rw asked c.top_entry-job.ensures.below
+
+pub returns-clause-forest : goal.returns-clause-forest
+returns-clause-forest c = rw (c.note_fault.ensures no_job) c.ask_job.ensures.forest
