@@ -20,8 +20,8 @@ mod rows;
 mod settled;
 mod settling;
 mod spawns;
-mod submits;
 mod stepping;
+mod submits;
 mod taking;
 mod tells;
 
