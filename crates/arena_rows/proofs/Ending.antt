@@ -166,11 +166,6 @@ module _ (a : Held) (s : State) (is : Holds a s) (n : ℕ) (e : OpenRow) (entry 
       let fewer = open_fewer s.rows n over there.0 there.1 refl refl refl entry.opened refl in
       omega (arith, fewer, is.free.count, is.free.long)
 
-  pub is_entered : IsEntered a.regions (id_of is.places n)
-  is_entered =
-      let same : (e.number == n) ≡ true = grind (arith, entry.its.number) in
-      rw (is.tags.each (is.places n), entry.there, same) refl
-
   pub its_job : (a.retired < e.job) × (e.job - a.retired ≤ length a.jobs)
   its_job =
       let above = is.jobs.later n entry.opened in

@@ -237,6 +237,3 @@ module _ (forest forest' : Forest) (e : OpenRow) (may : MayEnd forest e) (spawne
 -- A group without a context changes nothing.
 pub next_none : (forest forest' : Forest) (groups : List (Option ℕ)) (g : ℕ) → slice_index_or groups g None ≡ None → Left forest forest' (below groups g) → Left forest forest' (below groups (g + 1))
 next_none forest forest' groups g none left = subst (λ k. Left forest forest' (below groups k)) (one_more g) (subst (λ o. Left forest forest' (with_some o (below groups g))) (sym none) left)
-
-pub none_left : (forest forest' : Forest) (e : OpenRow) → is_spawned e.source ≡ false → Left forest forest' (below e.group_contexts GROUPS) → Left forest forest' (contexts_of e)
-none_left forest forest' e not_spawned left = subst (λ b. Left forest forest' (with_some (let o : Option ℕ = if b then Some e.context else None in o) (below e.group_contexts GROUPS))) (sym not_spawned) left

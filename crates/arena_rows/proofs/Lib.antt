@@ -15,7 +15,6 @@ pub mod Contexts
 pub mod Ends
 pub mod Putting
 pub mod Spawned
-pub mod Dropped
 pub mod Placed
 pub mod PushedRows
 pub mod Pushing
