@@ -1,0 +1,51 @@
+-- What is known of an arena between steps.
+use Rattle.std.proofs.Common.{◌<◌, ◌^◌, ℕ, arith}
+use Rattle.job_language.specs.declared.requests.Request.{Request}
+use Rattle.job_language.specs.Brought.{BringsValid}
+use Rattle.job_language.specs.declared.tenants.Tenant.{Tenant}
+use Rattle.job_language.specs.Tenant.{IsValidTenant}
+use Rattle.tenant_model.specs.State.{State, empty}
+use Rattle.tenant_model.specs.Advance.{arrive}
+use Rattle.tenant_model.specs.Asks.{ask}
+use Rattle.tenant_model.specs.Sound.{IsSound}
+use Rattle.tenant_model.proofs.SoundSteps.{ask_sound, arrive_sound, empty_sound}
+use Rattle.tenant_model.proofs.UnstuckSteps.{ask_unstuck, arrive_unstuck, empty_unstuck}
+use Rattle.arena_rows.specs.Held.{Held}
+use Rattle.arena_rows.specs.Represents.{Rests}
+use Rattle.arena_core.specs.Stands.{StandsFor}
+
+pub sound : (a : Held) (s : State) → StandsFor a s → IsSound s
+sound a s is = record {
+  well_formed = is.rests.holds.steady.formed;
+  tended = is.rests.holds.steady.tended;
+  counted = is.counted;
+  settled = is.rests.settled;
+}
+
+-- a tenant that has done nothing yet
+pub stands_first : (a : Held) (c : Tenant) → IsValidTenant c → Rests a (empty c) → StandsFor a (empty c)
+stands_first a c valid rests = record {
+  rests = rests;
+  counted = (empty_sound c valid.most_slots valid.reserved).counted;
+  unstuck = empty_unstuck c;
+}
+
+-- the state after an ask
+pub stands_asked : (a b : Held) (s : State) (r : Request) → StandsFor a s → BringsValid r → Rests b (ask s r).1 → StandsFor b (ask s r).1
+stands_asked a b s r is valid rests = record {
+  rests = rests;
+  counted = (ask_sound s r (sound a s is)).counted;
+  unstuck = ask_unstuck s r is.rests.holds.steady.formed.linked valid is.unstuck;
+}
+
+-- the state after an arrival
+pub stands_arrived : (a b : Held) (s : State) (slot : ℕ) → StandsFor a s → Rests b (arrive s slot).1 → StandsFor b (arrive s slot).1
+stands_arrived a b s slot is rests = record {
+  rests = rests;
+  counted = (arrive_sound s slot (sound a s is)).counted;
+  unstuck = arrive_unstuck s slot is.unstuck;
+}
+
+-- where an entry has room, so has a row's number
+pub made_few : (a : Held) (s : State) → StandsFor a s → IsValidTenant a.config → a.entries < a.config.steps → a.made < 2 ^ 32
+made_few a s is valid room = omega (arith, is.rests.holds.made, is.counted.rows, is.rests.holds.entries, valid.most_steps, room)
