@@ -1,10 +1,14 @@
 -- What is known of an arena between steps.
-use Rattle.std.proofs.Common.{◌<◌, ◌^◌, ℕ, arith}
+use Rattle.std.proofs.Common.{◌≡◌, ◌<◌, ◌≤◌, ◌^◌, ◌∙◌, ℕ, List, [], length, sym, ap, arith}
+use Rattle.std.proofs.lemmas.List.{get_or_past}
 use Rattle.job_language.specs.declared.requests.Request.{Request}
 use Rattle.job_language.specs.Brought.{BringsValid}
 use Rattle.job_language.specs.declared.tenants.Tenant.{Tenant}
 use Rattle.job_language.specs.Tenant.{IsValidTenant}
 use Rattle.tenant_model.specs.State.{State, empty}
+use Rattle.nest_stack.specs.Nest.{stack}
+use Rattle.nest_stack.specs.declared.stack.Nested.{Nested}
+use Rattle.tenant_model.specs.Walks.{height}
 use Rattle.tenant_model.specs.Advance.{arrive}
 use Rattle.tenant_model.specs.Asks.{ask}
 use Rattle.tenant_model.specs.Sound.{IsSound}
@@ -12,6 +16,7 @@ use Rattle.tenant_model.proofs.SoundSteps.{ask_sound, arrive_sound, empty_sound}
 use Rattle.tenant_model.proofs.UnstuckSteps.{ask_unstuck, arrive_unstuck, empty_unstuck}
 use Rattle.arena_rows.specs.Held.{Held}
 use Rattle.arena_rows.specs.Represents.{Rests}
+use Rattle.arena_rows.proofs.Tops.{height_is}
 use Rattle.arena_core.specs.Stands.{StandsFor}
 
 pub sound : (a : Held) (s : State) → StandsFor a s → IsSound s
@@ -49,3 +54,15 @@ stands_arrived a b s slot is rests = record {
 -- where an entry has room, so has a row's number
 pub made_few : (a : Held) (s : State) → StandsFor a s → IsValidTenant a.config → a.entries < a.config.steps → a.made < 2 ^ 32
 made_few a s is valid room = omega (arith, is.rests.holds.made, is.counted.rows, is.rests.holds.entries, valid.most_steps, room)
+
+-- A stack is as high as its slot.
+pub stack_height : (a : Held) (s : State) → StandsFor a s → (slot : ℕ) → length (stack a.nests slot) ≡ height s.rows slot
+stack_height a s is =
+    let holds = is.rests.holds in
+    height_is s.rows holds.places a.config.slots a.nests holds.steady.formed.stacked holds.nests
+
+-- and nothing is on a slot that the tenant lacks
+pub no_stack : (a : Held) (s : State) → StandsFor a s → (slot : ℕ) → a.config.slots ≤ slot → 0 ≡ height s.rows slot
+no_stack a s is slot lacks =
+    let past : stack a.nests slot ≡ [] = get_or_past a.nests slot [] (omega (arith, lacks, is.rests.holds.nests.long)) in
+    sym (ap (λ (xs : List Nested). length xs) past) ∙ stack_height a s is slot

@@ -2,7 +2,7 @@
 ghost use Rattle.std.specs.Prelude.{◌≡◌, IfOk};
 ghost use Rattle.job_language.specs.Tenant.{IsValidTenant};
 ghost use Rattle.tenant_model.specs.State.{State, empty};
-ghost use Rattle.tenant_model.specs.Walks.{has_unstarted};
+ghost use Rattle.tenant_model.specs.Walks.{has_unstarted, height};
 ghost use Rattle.tenant_model.specs.Advance.{arrive};
 ghost use Rattle.tenant_model.specs.Asks.{ask};
 ghost use Rattle.arena_core.specs.Stands.{StandsFor};
@@ -49,6 +49,16 @@ impl Arena {
         ensures valid { IsValidTenant result.now }
     {
         self.parts.config()
+    }
+
+    /// How many rows are on a slot.
+    pub fn height(&self, slot: u8) -> usize
+        ensures { (s : State) → StandsFor self.now s → result ≡ height s.rows slot }
+    {
+        if slot >= self.parts.config().slots {
+            return 0;
+        }
+        self.parts.height(slot)
     }
 
     /// Whether a row waits to be started.

@@ -22,7 +22,7 @@ use Rattle.arena_rows.specs.Represents.{IsJob, Holds}
 use Rattle.arena_rows.proofs.Alike.{count_cons, count_append}
 use Rattle.arena_rows.proofs.JobChanged.{work_of, work_is}
 use Rattle.arena_rows.proofs.TopRows.{job_count}
-use Rattle.arena_rows.proofs.Told.{any_counted}
+use Rattle.arena_rows.proofs.Counters.{any_counted}
 
 abbrev is_current : Work → Bool
 is_current w = not w.retired

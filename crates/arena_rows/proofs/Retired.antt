@@ -28,7 +28,7 @@ use Rattle.arena_rows.proofs.NewSettled.{counted_there}
 use Rattle.arena_rows.proofs.Picking.{unstarted_open}
 use Rattle.arena_rows.proofs.Started.{some_none}
 use Rattle.arena_rows.proofs.Starts.{settled_entry}
-use Rattle.arena_rows.proofs.Told.{any_counted}
+use Rattle.arena_rows.proofs.Counters.{any_counted}
 use Rattle.arena_rows.proofs.TopRows.{job_count}
 
 pub nothing_summed : {A : Type 0} (f : A → ℕ) (xs : List A) (d : A) → ((i : ℕ) → i < length xs → f (get_or xs i d) ≡ 0) → sum_by f xs ≡ 0

@@ -19,22 +19,8 @@ use Rattle.tenant_model.proofs.Stacking.{one_if}
 use Rattle.arena_rows.specs.Held.{Held}
 use Rattle.arena_rows.specs.Represents.{waiting, waiting_of, Holds}
 use Rattle.arena_rows.specs.HeldReads.{least_empty}
-use Rattle.arena_rows.proofs.Alike.{count_cons}
+use Rattle.arena_rows.proofs.Counters.{any_counted}
 use Rattle.arena_rows.proofs.Tops.{height_is}
-
--- One passes where some are counted.
-pub any_counted : {A : Type 0} (p : A → Bool) (xs : List A) → list_any p xs ≡ nat_lt 0 (count_by p xs)
-any_counted p [] = refl
-any_counted p (x ∷ xs) = elim (either_way (p x)) [
-  | inl is ↦
-      let one : one_if (p x) ≡ 1 = rw is refl in
-      let more : nat_lt 0 (count_by p (x ∷ xs)) ≡ true = let n = count_cons p x xs in grind (arith, n, one) in
-      ap (λ b. b || list_any p xs) is ∙ sym more
-  | inr not_so ↦
-      let none : one_if (p x) ≡ 0 = rw not_so refl in
-      let same : count_by p (x ∷ xs) ≡ count_by p xs = omega (arith, count_cons p x xs, none) in
-      ap (λ b. b || list_any p xs) not_so ∙ any_counted p xs ∙ ap (nat_lt 0) (sym same)
-]
 
 any_listed : (k : ℕ) (rows : List Row) → list_any (λ (r : Row). is_unstarted r.phase) rows ≡ nat_lt 0 (length (filter (λ (p : NumberedRow). is_unstarted p.1.phase) (enumerate_from k rows)))
 any_listed k [] = refl
