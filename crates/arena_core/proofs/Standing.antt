@@ -15,7 +15,7 @@ use Rattle.tenant_model.specs.Sound.{IsSound}
 use Rattle.tenant_model.proofs.SoundSteps.{ask_sound, arrive_sound, empty_sound}
 use Rattle.tenant_model.proofs.UnstuckSteps.{ask_unstuck, arrive_unstuck, empty_unstuck}
 use Rattle.arena_rows.specs.Held.{Held}
-use Rattle.arena_rows.specs.Represents.{Rests}
+use Rattle.arena_rows.specs.Represents.{Holds, Rests}
 use Rattle.arena_rows.proofs.Tops.{height_is}
 use Rattle.arena_core.specs.Stands.{StandsFor}
 
@@ -56,13 +56,11 @@ pub made_few : (a : Held) (s : State) → StandsFor a s → IsValidTenant a.conf
 made_few a s is valid room = omega (arith, is.rests.holds.made, is.counted.rows, is.rests.holds.entries, valid.most_steps, room)
 
 -- A stack is as high as its slot.
-pub stack_height : (a : Held) (s : State) → StandsFor a s → (slot : ℕ) → length (stack a.nests slot) ≡ height s.rows slot
-stack_height a s is =
-    let holds = is.rests.holds in
-    height_is s.rows holds.places a.config.slots a.nests holds.steady.formed.stacked holds.nests
+pub held_height : (a : Held) (s : State) → Holds a s → (slot : ℕ) → length (stack a.nests slot) ≡ height s.rows slot
+held_height a s is = height_is s.rows is.places a.config.slots a.nests is.steady.formed.stacked is.nests
 
 -- and nothing is on a slot that the tenant lacks
 pub no_stack : (a : Held) (s : State) → StandsFor a s → (slot : ℕ) → a.config.slots ≤ slot → 0 ≡ height s.rows slot
 no_stack a s is slot lacks =
     let past : stack a.nests slot ≡ [] = get_or_past a.nests slot [] (omega (arith, lacks, is.rests.holds.nests.long)) in
-    sym (ap (λ (xs : List Nested). length xs) past) ∙ stack_height a s is slot
+    sym (ap (λ (xs : List Nested). length xs) past) ∙ held_height a s is.rests.holds slot

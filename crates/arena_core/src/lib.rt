@@ -3,5 +3,6 @@
 
 mod arena;
 mod asks;
+mod ends;
 
 pub use arena::Arena;

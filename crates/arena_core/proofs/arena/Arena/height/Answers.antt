@@ -1,6 +1,6 @@
 use Rattle.std.proofs.Common.{◌≤◌, ◌∙◌}
 use Rattle.arena_core.specs.Stands.{StandsFor}
-use Rattle.arena_core.proofs.Standing.{stack_height, no_stack}
+use Rattle.arena_core.proofs.Standing.{held_height, no_stack}
 use Rattle.arena_core.proofs.arena.Arena.height.Goals as goal
 
 pub returns-then-slot-config : goal.returns-then-slot-config
@@ -15,4 +15,4 @@ pub returns : goal.returns
 returns c = λ s stands.
     let a = c.self.inside.parts in
     let stood : StandsFor a s = rw (← c.self.view_is) at stands in
-    c.height.ensures ∙ stack_height a s stood c.args.slot
+    c.height.ensures ∙ held_height a s stood.rests.holds c.args.slot
