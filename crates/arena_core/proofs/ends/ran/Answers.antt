@@ -6,6 +6,13 @@ use Rattle.arena_core.proofs.Standing.{held_height}
 use Rattle.arena_core.proofs.ends.ran.Goals.{else-slot-config-via-then-slot-config+else-height-eq0, else-slot-config-via-else-slot-config}
 use Rattle.arena_core.proofs.ends.ran.Goals as goal
 
+pub height-requires : goal.height-requires
+height-requires c =
+    let is = c.requires.1 in
+    let slots = ap (λ (t : Tenant). t.slots) is.config in
+    let reserved = ap (λ (t : Tenant). t.reserved) (c.config.ensures.value ∙ is.config) in
+    omega (arith, c.if-slot-config.true, reserved, slots, is.steady.tended.reserved, is.nests.long)
+
 pub returns-then-height-eq0 : goal.returns-then-height-eq0
 returns-then-height-eq0 c = λ s is.
     let reserved = ap (λ (t : Tenant). t.reserved) (c.config.ensures.value ∙ is.config) in
