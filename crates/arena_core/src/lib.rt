@@ -3,6 +3,5 @@
 
 mod arena;
 mod asks;
-mod ends;
 
 pub use arena::Arena;
