@@ -1,0 +1,105 @@
+// Shared instructions of a slot's topmost row that make no row.
+ghost use Rattle.std.specs.Prelude.{slice_set, ◌≡◌, ◌<◌, ℕ, false, Some};
+ghost use Rattle.job_step.specs.declared.frames.TheConstants.{LAST_PLACE};
+ghost use Rattle.job_step.specs.Frame.{register};
+ghost use Rattle.tenant_model.specs.State.{State, row};
+ghost use Rattle.tenant_model.specs.Walks.{top, is_pending};
+ghost use Rattle.tenant_model.specs.Changes.{finish_step, with_frame};
+ghost use Rattle.tenant_model.specs.Shared.{write_register, load, store, wait, cancel};
+ghost use Rattle.arena_steps.specs.Moves.{Moves, Fits, CanMove, CanPass};
+
+use arena_rows::Parts;
+use job_language::{Group, Key, Moved, Register};
+use job_step::Frame;
+
+/// The value of a register.
+fn read(frame: &Frame, from: Register) -> i64
+    ensures { result ≡ register frame.now from }
+{
+    frame.registers[from.index()]
+}
+
+/// The frame with another value in a register.
+fn with_register(frame: Frame, to: Register, value: i64) -> Frame
+    ensures { result ≡ record frame { registers = slice_set frame.registers to value } }
+{
+    let mut written = frame;
+    written.registers[to.index()] = value;
+    written
+}
+
+/// Moves the topmost row of a slot on to a frame, and ends the step.
+fn move_to(parts: &mut Parts, slot: u8, frame: Frame) -> Moved
+    requires fits { CanMove parts.old slot frame }
+    requires room { parts.old.entries < parts.old.config.steps }
+    ensures { (s : State) (n : ℕ) → Fits parts.old s slot n frame → Moves parts.new result (finish_step slot (with_frame s n frame)) }
+{
+    parts.move_on(slot, frame);
+    parts.finish_step(slot)
+}
+
+/// Writes a register of a slot's topmost row.
+pub fn write_register(parts: &mut Parts, slot: u8, frame: Frame, to: Register, value: i64) -> Moved
+    requires fits { CanMove parts.old slot frame }
+    requires room { parts.old.entries < parts.old.config.steps }
+    requires place { frame.place < LAST_PLACE }
+    ensures { (s : State) (n : ℕ) → Fits parts.old s slot n frame → Moves parts.new result (write_register s slot n frame to value) }
+{
+    move_to(parts, slot, frame.write_and_step(to, value))
+}
+
+/// Reads the slot's cell of a key into a register (`enumerable_thread_specific::local`).
+pub fn load(parts: &mut Parts, slot: u8, frame: Frame, to: Register, key: Key) -> Moved
+    requires fits { CanMove parts.old slot frame }
+    requires room { parts.old.entries < parts.old.config.steps }
+    requires place { frame.place < LAST_PLACE }
+    ensures { (s : State) (n : ℕ) → Fits parts.old s slot n frame → Moves parts.new result (load s slot n frame to key) }
+{
+    let value = parts.local(slot, key);
+    move_to(parts, slot, frame.write_and_step(to, value))
+}
+
+/// Gives the slot's cell of a key the value of a register.
+pub fn store(parts: &mut Parts, slot: u8, frame: Frame, key: Key, from: Register) -> Moved
+    requires fits { CanMove parts.old slot frame }
+    requires room { parts.old.entries < parts.old.config.steps }
+    requires place { frame.place < LAST_PLACE }
+    ensures { (s : State) (n : ℕ) → Fits parts.old s slot n frame → Moves parts.new result (store s slot n frame key from) }
+{
+    let value = read(&frame, from);
+    parts.store(slot, key, value);
+    move_to(parts, slot, frame.next())
+}
+
+/// Cancels a group of a slot's topmost row (`task_group::cancel`).
+pub fn cancel(parts: &mut Parts, slot: u8, frame: Frame, group: Group) -> Moved
+    requires fits { CanMove parts.old slot frame }
+    requires room { parts.old.entries < parts.old.config.steps }
+    requires place { frame.place < LAST_PLACE }
+    ensures { (s : State) (n : ℕ) → Fits parts.old s slot n frame → Moves parts.new result (cancel s slot n frame group) }
+{
+    parts.cancel_group(slot, group, frame.next());
+    parts.settle_step(slot)
+}
+
+/// Lets a wait of a slot's topmost row pass, for a group with nothing pending (`task_group::wait`).
+pub fn wait(
+    parts: &mut Parts,
+    slot: u8,
+    frame: Frame,
+    total_to: Register,
+    status_to: Register,
+    group: Group,
+) -> Moved
+    requires passes { CanPass parts.old slot frame group }
+    requires room { parts.old.entries < parts.old.config.steps }
+    requires place { frame.place < LAST_PLACE }
+    ensures { (s : State) (n : ℕ) → Fits parts.old s slot n frame → is_pending s.rows n group ≡ false
+        → Moves parts.new result (wait s slot n frame total_to status_to group) }
+{
+    let total = parts.group_total(slot, group);
+    let status = parts.group_status(slot, group);
+    let waited = with_register(frame, total_to, total);
+    parts.pass_wait(slot, group, waited.write_and_step(status_to, status));
+    parts.finish_step(slot)
+}
