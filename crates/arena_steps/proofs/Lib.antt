@@ -1,1 +1,3 @@
+pub mod Births
+pub mod Handing
 pub mod Moving

@@ -13,7 +13,7 @@ use job_language::{Group, Key, Moved, Register};
 use job_step::Frame;
 
 /// The value of a register.
-fn read(frame: &Frame, from: Register) -> i64
+pub(crate) fn read(frame: &Frame, from: Register) -> i64
     ensures { result ≡ register frame.now from }
 {
     frame.registers[from.index()]
