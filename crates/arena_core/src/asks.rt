@@ -5,8 +5,8 @@ ghost use Rattle.tenant_model.specs.State.{State};
 ghost use Rattle.tenant_model.specs.declared.works.TheConstants.{MAX_JOBS};
 ghost use Rattle.tenant_model.specs.Changes.{entry};
 ghost use Rattle.tenant_model.specs.Asks.{ask, free_slot, reply_to, submit, submit_placed, unless_limit};
-ghost use Rattle.arena_rows.specs.Represents.{Rests};
-ghost use Rattle.arena_core.specs.Stands.{IsOfSomeState, Gives};
+ghost use Rattle.arena_rows.specs.Represents.{Rests, Gives};
+ghost use Rattle.arena_core.specs.Stands.{IsOfSomeState};
 
 use arena_rows::Parts;
 use job_language::{Error, Job, Key, Reply, Request, Status};

@@ -14,7 +14,7 @@ use Rattle.arena_rows.specs.Endings.{HasFaulty, faulted_rows}
 use Rattle.arena_rows.proofs.Tops.{height_is}
 use Rattle.arena_rows.proofs.TopRows.{top_job, on_slot}
 
-some_fault : (o : Option JobFault) (fault : JobFault) → is_some (first_fault o fault) ≡ true
+pub some_fault : (o : Option JobFault) (fault : JobFault) → is_some (first_fault o fault) ≡ true
 some_fault None fault = refl
 some_fault (Some f) fault = refl
 

@@ -23,7 +23,7 @@ use Rattle.arena_rows.specs.declared.rows.OpenRow.{OpenRow}
 use Rattle.arena_rows.specs.declared.rows.CurrentJob.{CurrentJob}
 use Rattle.arena_rows.specs.Held.{Held}
 use Rattle.arena_rows.specs.Represents.{Owner, Nobody, OfJob, OfRow, OfGroup, at_place, held_by, IsOwned, Holds, Rests}
-use Rattle.arena_rows.specs.Ending.{HoldJobs, ended, IsIdle}
+use Rattle.arena_rows.specs.Retiring.{HoldJobs, all_retired, IsIdle}
 use Rattle.arena_rows.proofs.NewSettled.{counted_there}
 use Rattle.arena_rows.proofs.Picking.{unstarted_open}
 use Rattle.arena_rows.proofs.Started.{some_none}
@@ -147,7 +147,7 @@ module _ (a : Held) (s : State) (is : Holds a s) (idle : length a.free ≡ lengt
     as_many : length (map retired_work s.jobs) ≡ a.retired + length a.jobs
     as_many = length-map s.jobs retired_work ∙ job_count a s is
 
-    pub ended_holds : Holds (ended a forest) (record more { entries = s.entries + 1 })
+    pub ended_holds : Holds (all_retired a forest) (record more { entries = s.entries + 1 })
     ended_holds = record {
       config = is.config;
       places = is.places;
@@ -183,7 +183,7 @@ module _ (a : Held) (s : State) (is : Holds a s) (idle : length a.free ≡ lengt
       steady = steady_retired s is.steady;
     }
 
-    pub ended_rests : Rests (ended a forest) (entry more)
+    pub ended_rests : Rests (all_retired a forest) (entry more)
     ended_rests = rw (settled_entry more settled) (record { holds = ended_holds; settled = settled })
 
 -- While nothing is open, all places are free.

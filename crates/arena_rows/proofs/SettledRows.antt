@@ -128,7 +128,7 @@ pub record SettledBelow (s : State) (a : Held) (p : ℕ) : Type 0 where
 pub settled_first : (s : State) (a : Held) → Holds a s → SettledBelow s a 0
 settled_first s a is = record { t = s; drops = Drops-none s; holds = is; fine = λ q e low. absurd (omega (arith, low)) }
 
--- the row that is told of by its number
+-- One place more.
 module _ (s : State) (a b : Held) (p : ℕ) (so_far : SettledBelow s a p) (holds : Holds b (settled_in so_far.t (at_place a.table p))) (numbers : (q : ℕ) (e : OpenRow) → at_place b.table q ≡ Some e → number_at a.table q ≡ Some e.number) where
   abbrev t : State
   t = so_far.t

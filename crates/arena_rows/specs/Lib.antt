@@ -4,5 +4,5 @@ pub mod HeldChanges
 pub mod Endings
 pub mod MarkedGroups
 pub mod HeldReads
-pub mod Ending
+pub mod Retiring
 pub mod Founding

@@ -227,6 +227,10 @@ pub record Rests (a : Held) (s : State) : Type 0 where
   pub holds : Holds a s
   pub settled : IsSettled s
 
+-- A step gives what the definitions give: the answer, and a state that the parts then rest on.
+abbrev pub Gives : {A : Type 0} → (b : Held) → (answer : A) → A × State → Type 0
+Gives b answer step = (answer ≡ step.0) × Rests b step.1
+
 -- Some state is there that it stands for.
 abbrev pub RestsSomehow : Held → Type 0
 RestsSomehow a = (s : State) × Rests a s

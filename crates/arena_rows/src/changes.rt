@@ -3,6 +3,7 @@ ghost use Rattle.std.specs.Prelude.{◌≡◌, ◌<◌, ◌≤◌, ◌+◌, ◌-
 ghost use Rattle.std.specs.Option.{ForSome};
 ghost use Rattle.task_group.specs.Groups.{group, no_members};
 ghost use Rattle.arena_rows.specs.declared.rows.CurrentJob.{CurrentJob};
+ghost use Rattle.nest_stack.specs.declared.stack.TheConstants.{MAX_HEIGHT};
 ghost use Rattle.nest_stack.specs.Nest.{stack};
 ghost use Rattle.job_step.specs.declared.frames.Frame.{Frame};
 ghost use Rattle.arena_rows.specs.declared.rows.OpenRow.{OpenRow};
@@ -24,7 +25,7 @@ impl Parts {
     pub fn start(&mut self, slot: u8, row: RowId)
         requires place { row.place < length self.old.table }
         requires slot { slot < length self.old.nests }
-        requires height { length (stack self.old.nests slot) < 128 }
+        requires height { length (stack self.old.nests slot) < MAX_HEIGHT }
         ensures { (e : OpenRow) (f : Frame) → at_place self.old.table row.place ≡ Some e → e.stage ≡ stage.Waiting f
             → self.new ≡ started self.old slot row e f }
     {
@@ -158,7 +159,7 @@ impl Parts {
     /// Puts a region on top of a slot.
     pub(crate) fn push_region(&mut self, slot: u8, frame: Frame, row: RowId)
         requires slot { slot < length self.old.nests }
-        requires height { length (stack self.old.nests slot) < 128 }
+        requires height { length (stack self.old.nests slot) < MAX_HEIGHT }
         ensures { self.new ≡ region_pushed self.old slot frame row }
     {
         self.nests.push(usize::from(slot), frame, row, true);

@@ -60,7 +60,7 @@ impl Parts {
     }
 
     /// Whether a slot's topmost row is a region.
-    fn is_region_on(&self, slot: u8) -> bool
+    pub fn is_region_on(&self, slot: u8) -> bool
         requires { HasTop self.now slot }
         ensures { (s : State) (n : ℕ) (is : Holds self.now s) → top s.rows slot ≡ Some n → result ≡ is_region (row s.rows n).kind }
     {

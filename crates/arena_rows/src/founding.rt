@@ -55,7 +55,7 @@ impl Parts {
     }
 }
 
-/// A table with nothing at each of so many places.
+/// A table with nothing at each of that many places.
 fn vacant<T: Copy>(alloc: Global, count: usize) -> Result<Vec<Option<T>>, AllocError>
     ensures { IfOk result (λ table. table.items ≡ replicate count None) }
 {

@@ -1,5 +1,6 @@
 // Regions that rows make, for every state that the parts stand for.
 ghost use Rattle.std.specs.Prelude.{◌≡◌, ◌<◌, ◌+◌, ◌^◌, ℕ, length, Some};
+ghost use Rattle.nest_stack.specs.declared.stack.TheConstants.{MAX_HEIGHT};
 ghost use Rattle.nest_stack.specs.Nest.{stack};
 ghost use Rattle.tenant_model.specs.State.{State, row};
 ghost use Rattle.tenant_model.specs.Walks.{top, height};
@@ -31,7 +32,7 @@ impl Parts {
         requires top { HasTop self.old slot }
         requires free { 0 < length self.old.free }
         requires few { self.old.made < 2 ^ 32 }
-        requires height { length (stack self.old.nests slot) < 128 }
+        requires height { length (stack self.old.nests slot) < MAX_HEIGHT }
         ensures { (s : State) (n : ℕ) → Holds self.old s → top s.rows slot ≡ Some n
             → IsSteady (add_row s (new_row (Region n) (row s.rows n).job (Some slot) frame (Live slot (height s.rows slot + 1))))
             → Holds self.new (add_row s (new_row (Region n) (row s.rows n).job (Some slot) frame (Live slot (height s.rows slot + 1)))) }

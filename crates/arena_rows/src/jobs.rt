@@ -60,7 +60,7 @@ impl Parts {
         self.jobs[index].work.fuel = fuel;
     }
 
-    /// Lets the job of a slot's topmost row pay for so many instructions, and says whether its fuel
+    /// Lets the job of a slot's topmost row pay for that many instructions, and says whether its fuel
     /// sufficed; where it did not, none is left.
     pub fn pay(&mut self, slot: u8, cost: u64) -> bool
         requires { HasTop self.old slot }

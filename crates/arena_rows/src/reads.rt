@@ -58,7 +58,7 @@ impl Parts {
     }
 
     /// Whether a context is cancelled, by itself or from above.
-    fn is_context_cancelled(&self, context: ContextId) -> bool
+    pub(crate) fn is_context_cancelled(&self, context: ContextId) -> bool
         requires { IsHeld self.now.contexts context }
         ensures value { result ≡ is_cancelled self.now.contexts context }
         ensures forest { IsForest self.now.contexts }

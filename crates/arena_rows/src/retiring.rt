@@ -6,7 +6,7 @@ ghost use Rattle.tenant_model.specs.Cells.{no_cells};
 ghost use Rattle.tenant_model.specs.Changes.{entry};
 ghost use Rattle.tenant_model.specs.Asks.{retired_work};
 ghost use Rattle.arena_rows.specs.Represents.{Rests};
-ghost use Rattle.arena_rows.specs.Ending.{HoldJobs, IsEnded, IsIdle};
+ghost use Rattle.arena_rows.specs.Retiring.{HoldJobs, AreRetired, IsIdle};
 
 use crate::parts::Parts;
 use crate::rows::CurrentJob;
@@ -17,9 +17,9 @@ impl Parts {
     fn end_jobs(&mut self)
         requires idle { IsIdle self.old }
         requires room { self.old.entries < self.old.config.steps }
-        ensures { IsEnded self.old self.new }
+        ensures { AreRetired self.old self.new }
     {
-        release_all(&mut self.contexts, &self.jobs);
+        release_jobs(&mut self.contexts, &self.jobs);
         self.retired += self.jobs.len() as u64;
         self.jobs.clear();
         self.cells.clear();
@@ -39,7 +39,7 @@ impl Parts {
 }
 
 /// Releases the contexts of jobs, where no others are held.
-fn release_all(contexts: &mut Contexts, jobs: &[CurrentJob])
+fn release_jobs(contexts: &mut Contexts, jobs: &[CurrentJob])
     requires { HoldJobs contexts.old jobs.now 0 }
     ensures none { held_count contexts.new ≡ 0 }
     ensures long { length contexts.new ≡ length contexts.old }

@@ -1,6 +1,5 @@
 // Settling: the rows that wait and whose context is cancelled are dropped.
 ghost use Rattle.std.specs.Prelude.{◌≡◌, ◌<◌, ℕ, length, Some};
-ghost use Rattle.cancel_context.specs.Forest.{IsForest, IsHeld, is_cancelled};
 ghost use Rattle.tenant_model.specs.State.{State};
 ghost use Rattle.tenant_model.specs.Walks.{settle};
 ghost use Rattle.tenant_model.specs.Changes.{entry};
@@ -10,7 +9,6 @@ ghost use Rattle.arena_rows.specs.Endings.{number_at, settled_in};
 
 use crate::parts::Parts;
 use crate::rows::{OpenRow, Stage};
-use cancel_context::ContextId;
 use region_tag::RowId;
 
 impl Parts {
@@ -29,15 +27,6 @@ impl Parts {
         self.table[place]
     }
 
-    /// Whether a context is cancelled.
-    fn is_asked(&self, context: ContextId) -> bool
-        requires { IsHeld self.now.contexts context }
-        ensures value { result ≡ is_cancelled self.now.contexts context }
-        ensures forest { IsForest self.now.contexts }
-    {
-        self.contexts.is_cancelled(context)
-    }
-
     /// Drops the row at a place if it waits and its context is cancelled.
     fn settle_at(&mut self, place: usize)
         requires held { HoldsSomehow self.old }
@@ -52,7 +41,7 @@ impl Parts {
         let Stage::Waiting(_) = entry.stage else {
             return;
         };
-        if self.is_asked(entry.context) {
+        if self.is_context_cancelled(entry.context) {
             let number = entry.number;
             self.drop_row(RowId { number, place });
         }

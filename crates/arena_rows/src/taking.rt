@@ -1,5 +1,6 @@
 // Rows that slots take, for every state that the parts stand for.
 ghost use Rattle.std.specs.Prelude.{◌≡◌, ◌<◌, length, Some};
+ghost use Rattle.nest_stack.specs.declared.stack.TheConstants.{MAX_HEIGHT};
 ghost use Rattle.nest_stack.specs.Nest.{stack};
 ghost use Rattle.tenant_model.specs.State.{State};
 ghost use Rattle.tenant_model.specs.Walks.{pick};
@@ -16,7 +17,7 @@ impl Parts {
         requires rests { RestsSomehow self.old }
         requires slot { slot < self.old.config.slots }
         requires next { picked self.old slot ≡ Some row }
-        requires height { length (stack self.old.nests slot) < 128 }
+        requires height { length (stack self.old.nests slot) < MAX_HEIGHT }
         ensures { (s : State) → Rests self.old s → (pick s slot ≡ Some row.number) × Rests self.new (nest s slot row.number) }
     {
         self.start(slot, row);

@@ -23,13 +23,13 @@ use Rattle.tenant_model.proofs.Parts.{open-set}
 use Rattle.tenant_model.proofs.Picks.{top_is}
 use Rattle.tenant_model.proofs.Stacked.{AreSame-set}
 use Rattle.arena_rows.specs.Held.{Held}
-use Rattle.arena_rows.specs.Represents.{Holds, Rests}
+use Rattle.arena_rows.specs.Represents.{Holds, Rests, Gives}
 use Rattle.arena_rows.specs.MarkedGroups.{RestsWithTop}
 use Rattle.arena_rows.proofs.BornDropped.{settled_push}
 use Rattle.arena_rows.proofs.FaultedRows.{top_there}
 use Rattle.arena_rows.proofs.Starts.{settled_entry}
 use Rattle.arena_rows.proofs.Tops.{height_is}
-use Rattle.arena_steps.specs.Moves.{Moves, Fits}
+use Rattle.arena_steps.specs.Frames.{FrameFits}
 
 -- a place for a row is free
 pub has_room : (s : State) → is_row_limit_met s ≡ false → open_rows s.rows < s.config.rows
@@ -51,7 +51,7 @@ low_height a s is slot below =
     ]
 
 -- the frame at the next place, as it was given
-pub next_rests : (a b : Held) (s : State) (slot n : ℕ) (f x : Frame) → x ≡ next_place f → Fits a s slot n f → (length x.registers ≡ length (row s.rows n).frame.registers → Rests b (with_frame s n x)) → Rests b (with_frame s n (next_place f))
+pub next_rests : (a b : Held) (s : State) (slot n : ℕ) (f x : Frame) → x ≡ next_place f → FrameFits a s slot n f → (length x.registers ≡ length (row s.rows n).frame.registers → Rests b (with_frame s n x)) → Rests b (with_frame s n (next_place f))
 next_rests a b s slot n f x next fits moves = subst (λ g. Rests b (with_frame s n g)) next (moves (ap (λ (g : Frame). length g.registers) next ∙ fits.same))
 
 module _ (a b : Held) (s : State) (slot n : ℕ) (f : Frame) (is : Holds a s) (on_top : top s.rows slot ≡ Some n) (now : Rests b (with_frame s n f)) where
@@ -129,5 +129,5 @@ module _ (slot : ℕ) (u : State) where
   abbrev moved_at : ℕ → Moved
   moved_at h = if nat_lt slot u.config.reserved && (h == 0) then Freed else Ran
 
-  pub settled_moves : (c d : Held) (moved : Moved) → Rests c (settle u) → Moves d moved (finish_step slot (settle u)) → Moves d moved (finish_step slot u)
+  pub settled_moves : (c d : Held) (moved : Moved) → Rests c (settle u) → Gives d moved (finish_step slot (settle u)) → Gives d moved (finish_step slot u)
   settled_moves c d moved rests moves = (moves.0 ∙ ap moved_at ((AreSame-settle u).on slot), subst (Rests d) (settled_entry (settle u) rests.settled) moves.1)

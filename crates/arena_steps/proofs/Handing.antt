@@ -15,9 +15,9 @@ use Rattle.tenant_model.proofs.Changed.{row-with_other}
 use Rattle.tenant_model.proofs.Picks.{top_is}
 use Rattle.tenant_model.proofs.Stacking.{one_if, count-with}
 use Rattle.arena_rows.specs.Held.{Held}
-use Rattle.arena_rows.specs.Represents.{Holds, Rests}
+use Rattle.arena_rows.specs.Represents.{Holds, Rests, Gives}
 use Rattle.arena_rows.proofs.FaultedRows.{top_there}
-use Rattle.arena_steps.specs.Moves.{Moves}
+use Rattle.arena_steps.specs.Frames.{}
 
 region_maker : (k : Kind) → is_region k ≡ true → (m : ℕ) × (k ≡ Region m)
 region_maker Root is = absurd (grind (arith, is))
@@ -77,5 +77,5 @@ module _ (a b : Held) (s : State) (is : Holds a s) (slot n : ℕ) (f : Frame) (v
       top_there t.rows slot m now.holds.steady.formed.stacked (ap (λ (q : Row). q.phase) old ∙ below ∙ ap (Live slot) (sym high))
 
   -- and the value is handed to it.
-  pub handed : (c : Held) (moved : Moved) → Moves c moved (finish_step slot (hand_to t m v)) → Moves c moved (finish_step slot (hand_back t (row s.rows n).kind v))
-  handed c moved moves = subst (λ k. Moves c moved (finish_step slot (hand_back t k v))) (sym found.1) moves
+  pub handed : (c : Held) (moved : Moved) → Gives c moved (finish_step slot (hand_to t m v)) → Gives c moved (finish_step slot (hand_back t (row s.rows n).kind v))
+  handed c moved moves = subst (λ k. Gives c moved (finish_step slot (hand_back t k v))) (sym found.1) moves

@@ -11,7 +11,7 @@ use Rattle.tenant_model.specs.Walks.{top}
 use Rattle.arena_rows.specs.Held.{Held}
 use Rattle.arena_rows.specs.Represents.{Holds, Rests, HasTop}
 use Rattle.arena_rows.proofs.TopRows.{on_slot}
-use Rattle.arena_steps.specs.Moves.{Fits, CanMove}
+use Rattle.arena_steps.specs.Frames.{FrameFits, CanMove}
 
 -- what is held for a tenant with the same limits, after as many entries
 module _ (a b : Held) (s t : State) (is : Holds a s) (now : Holds b t) (config : t.config ≡ s.config) where
@@ -27,14 +27,14 @@ module _ (a b : Held) (s t : State) (is : Holds a s) (now : Holds b t) (config :
 pub has_top : (a : Held) (slot : ℕ) (frame : Frame) → CanMove a slot frame → HasTop a slot
 has_top a slot frame h = (h.0, h.1, h.2.rests.holds, h.2.on_top)
 
-pub fits_written : (a : Held) (s : State) (slot n : ℕ) (f : Frame) (d : ℕ) (v : ℤ) → Fits a s slot n f → Fits a s slot n (write_and_step f d v)
+pub fits_written : (a : Held) (s : State) (slot n : ℕ) (f : Frame) (d : ℕ) (v : ℤ) → FrameFits a s slot n f → FrameFits a s slot n (write_and_step f d v)
 fits_written a s slot n f d v fits = record { rests = fits.rests; on_top = fits.on_top; same = length-set f.registers d v ∙ fits.same }
 
-pub fits_next : (a : Held) (s : State) (slot n : ℕ) (f : Frame) → Fits a s slot n f → Fits a s slot n (at_place f (f.place + 1))
+pub fits_next : (a : Held) (s : State) (slot n : ℕ) (f : Frame) → FrameFits a s slot n f → FrameFits a s slot n (at_place f (f.place + 1))
 fits_next a s slot n f fits = record { rests = fits.rests; on_top = fits.on_top; same = fits.same }
 
 -- and where cells have changed
-pub fits_cells : (a b : Held) (s : State) (cells : Table) (slot n : ℕ) (f : Frame) → Fits a s slot n f → Rests b (with_cells s cells) → Fits b (with_cells s cells) slot n f
+pub fits_cells : (a b : Held) (s : State) (cells : Table) (slot n : ℕ) (f : Frame) → FrameFits a s slot n f → Rests b (with_cells s cells) → FrameFits b (with_cells s cells) slot n f
 fits_cells a b s cells slot n f fits rests = record { rests = rests; on_top = fits.on_top; same = fits.same }
 
 pub low_slot : (a : Held) (slot : ℕ) (frame : Frame) → CanMove a slot frame → slot < 16

@@ -4,7 +4,8 @@ ghost use Rattle.job_step.specs.declared.frames.TheConstants.{LAST_PLACE};
 ghost use Rattle.tenant_model.specs.State.{State};
 ghost use Rattle.tenant_model.specs.Shared.{spawn, post, isolate_at, called_frame};
 ghost use Rattle.arena_steps.specs.Isolates.{CanIsolate, IsAtIsolate};
-ghost use Rattle.arena_steps.specs.Moves.{Moves, Fits, CanMove};
+ghost use Rattle.arena_rows.specs.Represents.{Gives};
+ghost use Rattle.arena_steps.specs.Frames.{FrameFits, CanMove};
 
 use arena_rows::Parts;
 use job_language::{Group, JobFault, Moved, Register};
@@ -35,7 +36,7 @@ pub fn spawn(
     requires room { parts.old.entries < parts.old.config.steps }
     requires few { parts.old.made + 1 < 2 ^ 32 }
     requires place { frame.place < LAST_PLACE }
-    ensures { (s : State) (n : ℕ) → Fits parts.old s slot n frame → Moves parts.new result (spawn s slot n frame group procedure first second) }
+    ensures { (s : State) (n : ℕ) → FrameFits parts.old s slot n frame → Gives parts.new result (spawn s slot n frame group procedure first second) }
 {
     // Proof hint: a frame has the group.
     let _ = group.index();
@@ -61,7 +62,7 @@ pub fn post(
     requires room { parts.old.entries < parts.old.config.steps }
     requires few { parts.old.made + 1 < 2 ^ 32 }
     requires place { frame.place < LAST_PLACE }
-    ensures { (s : State) (n : ℕ) → Fits parts.old s slot n frame → Moves parts.new result (post s slot n frame procedure first second) }
+    ensures { (s : State) (n : ℕ) → FrameFits parts.old s slot n frame → Gives parts.new result (post s slot n frame procedure first second) }
 {
     if parts.is_row_limit_met() {
         return parts.fault(slot, JobFault::TaskLimit);
@@ -85,8 +86,8 @@ pub fn isolate(
     requires fits { CanIsolate parts.old slot frame procedure first second }
     requires room { parts.old.entries < parts.old.config.steps }
     requires few { parts.old.made + 1 < 2 ^ 32 }
-    ensures { (s : State) (n d : ℕ) → Fits parts.old s slot n frame → IsAtIsolate s n frame d procedure first second
-        → Moves parts.new result (isolate_at s slot n frame (called_frame frame procedure first second)) }
+    ensures { (s : State) (n d : ℕ) → FrameFits parts.old s slot n frame → IsAtIsolate s n frame d procedure first second
+        → Gives parts.new result (isolate_at s slot n frame (called_frame frame procedure first second)) }
 {
     let height = parts.height(slot) as u64;
     if height == MAX_HEIGHT {

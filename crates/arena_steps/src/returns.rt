@@ -2,12 +2,12 @@
 ghost use Rattle.std.specs.Prelude.{◌≡◌, ◌<◌, ℕ, false, Some};
 ghost use Rattle.job_language.specs.Program.{is_last};
 ghost use Rattle.job_step.specs.declared.frames.TheConstants.{LAST_PLACE};
-ghost use Rattle.tenant_model.specs.State.{State, row};
-ghost use Rattle.tenant_model.specs.Walks.{top, is_region};
+ghost use Rattle.tenant_model.specs.State.{State};
+ghost use Rattle.tenant_model.specs.Walks.{top};
 ghost use Rattle.tenant_model.specs.Shared.{ret, hand_to, handed_frame};
-ghost use Rattle.arena_rows.specs.Represents.{Holds, Rests, HasTop};
+ghost use Rattle.arena_rows.specs.Represents.{Rests, Gives};
 ghost use Rattle.arena_rows.specs.MarkedGroups.{RestsWithTop};
-ghost use Rattle.arena_steps.specs.Moves.{Moves, Fits, CanMove};
+ghost use Rattle.arena_steps.specs.Frames.{FrameFits, CanMove};
 
 use crate::steps::read;
 use arena_rows::Parts;
@@ -23,17 +23,6 @@ fn handed_frame(instr: &Instr, frame: Frame, value: i64) -> Frame
         Instr::Isolate(to, _procedure, _first, _second) => frame.write_and_step(to, value),
         _ => frame,
     }
-}
-
-/// Whether a slot's topmost row is a region.
-fn is_region(parts: &Parts, slot: u8) -> bool
-    requires { HasTop parts.now slot }
-    ensures { (s : State) (n : ℕ) → Holds parts.now s → top s.rows slot ≡ Some n → result ≡ is_region (row s.rows n).kind }
-{
-    let Some(top) = parts.top(slot) else {
-        unreachable!();
-    };
-    top.is_region
 }
 
 /// Hands the value of a region to its maker, the topmost row of a slot, which continues.
@@ -54,12 +43,12 @@ fn hand(parts: &mut Parts, slot: u8, value: i64)
 pub fn ret(parts: &mut Parts, slot: u8, frame: Frame, from: Register) -> Moved
     requires fits { CanMove parts.old slot frame }
     requires room { parts.old.entries < parts.old.config.steps }
-    ensures { (s : State) (n : ℕ) → Fits parts.old s slot n frame → Moves parts.new result (ret s slot n frame from) }
+    ensures { (s : State) (n : ℕ) → FrameFits parts.old s slot n frame → Gives parts.new result (ret s slot n frame from) }
 {
     if parts.has_used_group(slot) {
         return parts.fault(slot, JobFault::MissingWait);
     }
-    let is_region = is_region(parts, slot);
+    let is_region = parts.is_region_on(slot);
     let value = read(&frame, from);
     parts.finish(slot, value);
     if !is_region {

@@ -6,7 +6,8 @@ ghost use Rattle.tenant_model.specs.State.{State, row};
 ghost use Rattle.tenant_model.specs.Walks.{top, is_pending};
 ghost use Rattle.tenant_model.specs.Changes.{finish_step, with_frame};
 ghost use Rattle.tenant_model.specs.Shared.{write_register, load, store, wait, cancel};
-ghost use Rattle.arena_steps.specs.Moves.{Moves, Fits, CanMove, CanPass};
+ghost use Rattle.arena_rows.specs.Represents.{Gives};
+ghost use Rattle.arena_steps.specs.Frames.{FrameFits, CanMove, CanPass};
 
 use arena_rows::Parts;
 use job_language::{Group, Key, Moved, Register};
@@ -28,11 +29,11 @@ fn with_register(frame: Frame, to: Register, value: i64) -> Frame
     written
 }
 
-/// Moves the topmost row of a slot on to a frame, and ends the step.
+/// Gives the topmost row of a slot on to a frame, and ends the step.
 fn move_to(parts: &mut Parts, slot: u8, frame: Frame) -> Moved
     requires fits { CanMove parts.old slot frame }
     requires room { parts.old.entries < parts.old.config.steps }
-    ensures { (s : State) (n : ℕ) → Fits parts.old s slot n frame → Moves parts.new result (finish_step slot (with_frame s n frame)) }
+    ensures { (s : State) (n : ℕ) → FrameFits parts.old s slot n frame → Gives parts.new result (finish_step slot (with_frame s n frame)) }
 {
     parts.move_on(slot, frame);
     parts.finish_step(slot)
@@ -43,7 +44,7 @@ pub fn write_register(parts: &mut Parts, slot: u8, frame: Frame, to: Register, v
     requires fits { CanMove parts.old slot frame }
     requires room { parts.old.entries < parts.old.config.steps }
     requires place { frame.place < LAST_PLACE }
-    ensures { (s : State) (n : ℕ) → Fits parts.old s slot n frame → Moves parts.new result (write_register s slot n frame to value) }
+    ensures { (s : State) (n : ℕ) → FrameFits parts.old s slot n frame → Gives parts.new result (write_register s slot n frame to value) }
 {
     move_to(parts, slot, frame.write_and_step(to, value))
 }
@@ -53,7 +54,7 @@ pub fn load(parts: &mut Parts, slot: u8, frame: Frame, to: Register, key: Key) -
     requires fits { CanMove parts.old slot frame }
     requires room { parts.old.entries < parts.old.config.steps }
     requires place { frame.place < LAST_PLACE }
-    ensures { (s : State) (n : ℕ) → Fits parts.old s slot n frame → Moves parts.new result (load s slot n frame to key) }
+    ensures { (s : State) (n : ℕ) → FrameFits parts.old s slot n frame → Gives parts.new result (load s slot n frame to key) }
 {
     let value = parts.local(slot, key);
     move_to(parts, slot, frame.write_and_step(to, value))
@@ -64,7 +65,7 @@ pub fn store(parts: &mut Parts, slot: u8, frame: Frame, key: Key, from: Register
     requires fits { CanMove parts.old slot frame }
     requires room { parts.old.entries < parts.old.config.steps }
     requires place { frame.place < LAST_PLACE }
-    ensures { (s : State) (n : ℕ) → Fits parts.old s slot n frame → Moves parts.new result (store s slot n frame key from) }
+    ensures { (s : State) (n : ℕ) → FrameFits parts.old s slot n frame → Gives parts.new result (store s slot n frame key from) }
 {
     let value = read(&frame, from);
     parts.store(slot, key, value);
@@ -76,7 +77,7 @@ pub fn cancel(parts: &mut Parts, slot: u8, frame: Frame, group: Group) -> Moved
     requires fits { CanMove parts.old slot frame }
     requires room { parts.old.entries < parts.old.config.steps }
     requires place { frame.place < LAST_PLACE }
-    ensures { (s : State) (n : ℕ) → Fits parts.old s slot n frame → Moves parts.new result (cancel s slot n frame group) }
+    ensures { (s : State) (n : ℕ) → FrameFits parts.old s slot n frame → Gives parts.new result (cancel s slot n frame group) }
 {
     parts.cancel_group(slot, group, frame.next());
     parts.settle_step(slot)
@@ -94,8 +95,8 @@ pub fn wait(
     requires passes { CanPass parts.old slot frame group }
     requires room { parts.old.entries < parts.old.config.steps }
     requires place { frame.place < LAST_PLACE }
-    ensures { (s : State) (n : ℕ) → Fits parts.old s slot n frame → is_pending s.rows n group ≡ false
-        → Moves parts.new result (wait s slot n frame total_to status_to group) }
+    ensures { (s : State) (n : ℕ) → FrameFits parts.old s slot n frame → is_pending s.rows n group ≡ false
+        → Gives parts.new result (wait s slot n frame total_to status_to group) }
 {
     let total = parts.group_total(slot, group);
     let status = parts.group_status(slot, group);

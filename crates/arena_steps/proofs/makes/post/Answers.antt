@@ -8,7 +8,7 @@ use Rattle.tenant_model.specs.Shared.{next_place, called_frame}
 use Rattle.tenant_model.proofs.Steady.{steady_posted}
 use Rattle.arena_rows.specs.Represents.{Rests}
 use Rattle.arena_rows.proofs.TopRows.{top_at}
-use Rattle.arena_steps.specs.Moves.{CanMove}
+use Rattle.arena_steps.specs.Frames.{CanMove}
 use Rattle.arena_steps.proofs.Births.{has_room, next_rests, still_top, still_rests, same_made, still_free, born_rests, settled_moves}
 use Rattle.arena_steps.proofs.Moving.{same_slots, same_room, has_top}
 use Rattle.arena_steps.proofs.makes.post.Goals as goal

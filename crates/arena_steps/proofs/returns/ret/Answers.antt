@@ -4,8 +4,8 @@ use Rattle.tenant_model.specs.State.{State, row}
 use Rattle.tenant_model.specs.Walks.{is_region}
 use Rattle.tenant_model.specs.Changes.{finish_step}
 use Rattle.tenant_model.specs.Shared.{has_used_group, hand_to, hand_back}
-use Rattle.arena_rows.specs.Represents.{Rests}
-use Rattle.arena_steps.specs.Moves.{Moves, CanMove}
+use Rattle.arena_rows.specs.Represents.{Rests, Gives}
+use Rattle.arena_steps.specs.Frames.{CanMove}
 use Rattle.arena_steps.proofs.Handing.{over, none_handed, found, maker_on_top, handed}
 use Rattle.arena_steps.proofs.Moving.{same_slots, same_room}
 use Rattle.arena_steps.proofs.returns.ret.Goals as goal
@@ -68,11 +68,11 @@ returns-then-not-is_region c = λ s n fits.
     let t : State = over s n f v in
     let now : Rests b t = subst (λ w. Rests b (over s n f w)) (to_z-of_z w64 v range) (c.finish.ensures s n f fits.rests fits.on_top unused fits.same) in
     let kind = (row s.rows n).kind in
-    let task : is_region kind ≡ false = sym (c.is_region-is_region.ensures s n is fits.on_top) ∙ c.if-not-is_region.true in
+    let task : is_region kind ≡ false = sym (c.is_region_on-is_region.ensures s n is fits.on_top) ∙ c.if-not-is_region.true in
     let d = c.finish_step.new.self in
     let moved = c.finish_step.result in
-    let all : Moves d moved (finish_step slot (hand_back t kind v)) = subst (λ u. Moves d moved (finish_step slot u)) (sym (none_handed t kind v task)) (c.finish_step.ensures t now) in
-    rw unused (subst (λ w. Moves d moved (finish_step slot (hand_back (over s n f w) kind w))) c.read-value.ensures all)
+    let all : Gives d moved (finish_step slot (hand_back t kind v)) = subst (λ u. Gives d moved (finish_step slot u)) (sym (none_handed t kind v task)) (c.finish_step.ensures t now) in
+    rw unused (subst (λ w. Gives d moved (finish_step slot (hand_back (over s n f w) kind w))) c.read-value.ensures all)
 
 pub hand-requires : goal.hand-requires
 hand-requires c =
@@ -87,7 +87,7 @@ hand-requires c =
     let range : FitsSigned w64 v = record { sfits = c.read-value.type_inv } in
     let t : State = over h.0 h.1 f v in
     let now : Rests b t = subst (λ w. Rests b (over h.0 h.1 f w)) (to_z-of_z w64 v range) (c.finish.ensures h.0 h.1 f h.2.rests h.2.on_top unused h.2.same) in
-    let region : is_region (row h.0.rows h.1).kind ≡ true = sym (c.is_region-is_region.ensures h.0 h.1 is h.2.on_top) ∙ c.if-not-is_region.false in
+    let region : is_region (row h.0.rows h.1).kind ≡ true = sym (c.is_region_on-is_region.ensures h.0 h.1 is h.2.on_top) ∙ c.if-not-is_region.false in
     let m = (found a b h.0 is slot h.1 f v h.2.on_top now region).0 in
     let next = maker_on_top a b h.0 is slot h.1 f v h.2.on_top now region in
     (t, m, now, next)
@@ -105,7 +105,7 @@ finish_step-requires-2-clause-rests c =
     let range : FitsSigned w64 v = record { sfits = c.read-value.type_inv } in
     let t : State = over h.0 h.1 f v in
     let now : Rests b t = subst (λ w. Rests b (over h.0 h.1 f w)) (to_z-of_z w64 v range) (c.finish.ensures h.0 h.1 f h.2.rests h.2.on_top unused h.2.same) in
-    let region : is_region (row h.0.rows h.1).kind ≡ true = sym (c.is_region-is_region.ensures h.0 h.1 is h.2.on_top) ∙ c.if-not-is_region.false in
+    let region : is_region (row h.0.rows h.1).kind ≡ true = sym (c.is_region_on-is_region.ensures h.0 h.1 is h.2.on_top) ∙ c.if-not-is_region.false in
     let m = (found a b h.0 is slot h.1 f v h.2.on_top now region).0 in
     let next = maker_on_top a b h.0 is slot h.1 f v h.2.on_top now region in
     let it : Rests c.hand.new.parts (hand_to t m v) = subst (λ w. Rests c.hand.new.parts (hand_to t m w)) (to_z-of_z w64 v range) (c.hand.ensures t m now next) in
@@ -124,7 +124,7 @@ finish_step-requires-2-clause-slot c =
     let range : FitsSigned w64 v = record { sfits = c.read-value.type_inv } in
     let t : State = over h.0 h.1 f v in
     let now : Rests b t = subst (λ w. Rests b (over h.0 h.1 f w)) (to_z-of_z w64 v range) (c.finish.ensures h.0 h.1 f h.2.rests h.2.on_top unused h.2.same) in
-    let region : is_region (row h.0.rows h.1).kind ≡ true = sym (c.is_region-is_region.ensures h.0 h.1 is h.2.on_top) ∙ c.if-not-is_region.false in
+    let region : is_region (row h.0.rows h.1).kind ≡ true = sym (c.is_region_on-is_region.ensures h.0 h.1 is h.2.on_top) ∙ c.if-not-is_region.false in
     let m = (found a b h.0 is slot h.1 f v h.2.on_top now region).0 in
     let next = maker_on_top a b h.0 is slot h.1 f v h.2.on_top now region in
     let it : Rests c.hand.new.parts (hand_to t m v) = subst (λ w. Rests c.hand.new.parts (hand_to t m w)) (to_z-of_z w64 v range) (c.hand.ensures t m now next) in
@@ -143,7 +143,7 @@ finish_step-requires-2-clause-room c =
     let range : FitsSigned w64 v = record { sfits = c.read-value.type_inv } in
     let t : State = over h.0 h.1 f v in
     let now : Rests b t = subst (λ w. Rests b (over h.0 h.1 f w)) (to_z-of_z w64 v range) (c.finish.ensures h.0 h.1 f h.2.rests h.2.on_top unused h.2.same) in
-    let region : is_region (row h.0.rows h.1).kind ≡ true = sym (c.is_region-is_region.ensures h.0 h.1 is h.2.on_top) ∙ c.if-not-is_region.false in
+    let region : is_region (row h.0.rows h.1).kind ≡ true = sym (c.is_region_on-is_region.ensures h.0 h.1 is h.2.on_top) ∙ c.if-not-is_region.false in
     let m = (found a b h.0 is slot h.1 f v h.2.on_top now region).0 in
     let next = maker_on_top a b h.0 is slot h.1 f v h.2.on_top now region in
     let it : Rests c.hand.new.parts (hand_to t m v) = subst (λ w. Rests c.hand.new.parts (hand_to t m w)) (to_z-of_z w64 v range) (c.hand.ensures t m now next) in
@@ -161,12 +161,12 @@ returns c = λ s n fits.
     let range : FitsSigned w64 v = record { sfits = c.read-value.type_inv } in
     let t : State = over s n f v in
     let now : Rests b t = subst (λ w. Rests b (over s n f w)) (to_z-of_z w64 v range) (c.finish.ensures s n f fits.rests fits.on_top unused fits.same) in
-    let region : is_region (row s.rows n).kind ≡ true = sym (c.is_region-is_region.ensures s n is fits.on_top) ∙ c.if-not-is_region.false in
+    let region : is_region (row s.rows n).kind ≡ true = sym (c.is_region_on-is_region.ensures s n is fits.on_top) ∙ c.if-not-is_region.false in
     let m = (found a b s is slot n f v fits.on_top now region).0 in
     let next = maker_on_top a b s is slot n f v fits.on_top now region in
     let it : Rests c.hand.new.parts (hand_to t m v) = subst (λ w. Rests c.hand.new.parts (hand_to t m w)) (to_z-of_z w64 v range) (c.hand.ensures t m now next) in
     let kind = (row s.rows n).kind in
     let d = c.finish_step-2.new.self in
     let moved = c.finish_step-2.result in
-    let all : Moves d moved (finish_step slot (hand_back t kind v)) = handed a b s is slot n f v fits.on_top now region d moved (c.finish_step-2.ensures (hand_to t m v) it) in
-    rw unused (subst (λ w. Moves d moved (finish_step slot (hand_back (over s n f w) kind w))) c.read-value.ensures all)
+    let all : Gives d moved (finish_step slot (hand_back t kind v)) = handed a b s is slot n f v fits.on_top now region d moved (c.finish_step-2.ensures (hand_to t m v) it) in
+    rw unused (subst (λ w. Gives d moved (finish_step slot (hand_back (over s n f w) kind w))) c.read-value.ensures all)

@@ -8,7 +8,8 @@ use Rattle.tenant_model.specs.Walks.{total}
 use Rattle.tenant_model.specs.Shared.{group_status}
 use Rattle.tenant_model.specs.Changes.{finish_step}
 use Rattle.arena_rows.specs.MarkedGroups.{with_wait_passed}
-use Rattle.arena_steps.specs.Moves.{Moves, Fits, CanPass}
+use Rattle.arena_rows.specs.Represents.{Gives}
+use Rattle.arena_steps.specs.Frames.{FrameFits, CanPass}
 use Rattle.arena_steps.proofs.Moving.{same_slots, same_room}
 use Rattle.arena_steps.proofs.steps.wait.Goals as goal
 
@@ -52,4 +53,4 @@ returns c = λ s n fits ended.
     let told : ℤ → Frame → Frame = λ x f. write_and_step f c.args.status_to x in
     let written : c.write_and_step.result ≡ told (group_status s n c.args.group) (held (total s.rows n c.args.group)) =
     c.write_and_step.ensures ∙ ap (λ x. told x c.with_register-waited.result) (to_z-of_z w64 w range_w ∙ c.group_status-status.ensures s n fits.rests.holds fits.on_top) ∙ ap (told (group_status s n c.args.group)) totalled in
-    subst (λ f. Moves c.finish_step.new.self c.finish_step.result (finish_step c.args.slot (with_wait_passed s n c.args.group f))) written moved
+    subst (λ f. Gives c.finish_step.new.self c.finish_step.result (finish_step c.args.slot (with_wait_passed s n c.args.group f))) written moved

@@ -4,8 +4,8 @@ use Rattle.arena_rows.proofs.NewSettled.{jobs_most}
 use Rattle.arena_rows.proofs.Retired.{hold_jobs, all_free}
 use Rattle.arena_rows.proofs.parts.Parts.end_jobs.Goals as goal
 
-pub release_all-requires : goal.release_all-requires
-release_all-requires c =
+pub release_jobs-requires : goal.release_jobs-requires
+release_jobs-requires c =
     let a = c.args.self.now in
     let idle = c.requires.idle in
     let contexts = ap (λ (h : Held). h.contexts) c.self.view_is in

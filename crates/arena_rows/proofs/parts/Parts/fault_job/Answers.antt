@@ -4,12 +4,9 @@ use Rattle.job_language.specs.declared.errors.JobFault.{JobFault}
 use Rattle.tenant_model.specs.State.{State, row, job}
 use Rattle.tenant_model.specs.Changes.{first_fault}
 use Rattle.arena_rows.specs.HeldChanges.{no_job, job_asked, job_changed, with_fault}
+use Rattle.arena_rows.proofs.FaultEnds.{some_fault}
 use Rattle.arena_rows.proofs.OneJob.{job_held, asked_holds}
 use Rattle.arena_rows.proofs.parts.Parts.fault_job.Goals as goal
-
-some_fault : (o : Option JobFault) (fault : JobFault) → is_some (first_fault o fault) ≡ true
-some_fault None fault = refl
-some_fault (Some f) fault = refl
 
 or_true : (b : Bool) → (b || true) ≡ true
 or_true true = refl

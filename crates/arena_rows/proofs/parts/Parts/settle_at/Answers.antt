@@ -16,8 +16,8 @@ returns-in_default-stage-clause-holds c = λ t is.
     let there : at_place a.table c.args.place ≡ Some e = sym c.standing.ensures ∙ c.in-Some.is in
     subst (Holds a) (sym (stays_started t (at_place a.table c.args.place) e there (started_by_stage a t is c.args.place e there c.in_default-stage.not-Waiting))) is
 
-pub is_asked-requires : goal.is_asked-requires
-is_asked-requires c =
+pub is_context_cancelled-requires : goal.is_context_cancelled-requires
+is_context_cancelled-requires c =
     let a = c.args.self.now in
     let h : HoldsSomehow a = c.requires.held in
     context_held a h.0 h.1 c.args.place c.in-Some.entry (sym c.standing.ensures ∙ c.in-Some.is)
@@ -31,20 +31,20 @@ drop_row-requires c =
     let id : ℕ → RowId = λ p. record { number = e.number; place = p } in
     (h.0, e.number, h.1, waits_by_stage a h.0 h.1 c.args.place e there c.in-Waiting.field-0 c.in-Waiting.is, ap id (sym (its_place a h.0 h.1 c.args.place e there)))
 
-pub returns-then-is_asked-clause-holds : goal.returns-then-is_asked-clause-holds
-returns-then-is_asked-clause-holds c = λ t is.
+pub returns-then-is_context_cancelled-clause-holds : goal.returns-then-is_context_cancelled-clause-holds
+returns-then-is_context_cancelled-clause-holds c = λ t is.
     let a = c.args.self.now in
     let e = c.in-Some.entry in
     let there : at_place a.table c.args.place ≡ Some e = sym c.standing.ensures ∙ c.in-Some.is in
     let waits = waits_by_stage a t is c.args.place e there c.in-Waiting.field-0 c.in-Waiting.is in
-    let cancelled : is_context_cancelled t e.number ≡ true = sym (cancelled_told a t is c.args.place e there c.if-is_asked.ensures.forest) ∙ sym c.if-is_asked.ensures.value in
+    let cancelled : is_context_cancelled t e.number ≡ true = sym (cancelled_told a t is c.args.place e there c.if-is_context_cancelled.ensures.forest) ∙ sym c.if-is_context_cancelled.ensures.value in
     let id : ℕ → RowId = λ p. record { number = e.number; place = p } in
     subst (Holds c.drop_row.new.self) (sym (goes t (at_place a.table c.args.place) e there waits cancelled)) (c.drop_row.ensures.holds t e.number is waits (ap id (sym (its_place a t is c.args.place e there))))
 
-pub returns-else-is_asked-clause-holds : goal.returns-else-is_asked-clause-holds
-returns-else-is_asked-clause-holds c = λ t is.
+pub returns-else-is_context_cancelled-clause-holds : goal.returns-else-is_context_cancelled-clause-holds
+returns-else-is_context_cancelled-clause-holds c = λ t is.
     let a = c.args.self.now in
     let e = c.in-Some.entry in
     let there : at_place a.table c.args.place ≡ Some e = sym c.standing.ensures ∙ c.in-Some.is in
-    let fine : is_context_cancelled t e.number ≡ false = sym (cancelled_told a t is c.args.place e there c.if-is_asked.ensures.forest) ∙ sym c.if-is_asked.ensures.value in
+    let fine : is_context_cancelled t e.number ≡ false = sym (cancelled_told a t is c.args.place e there c.if-is_context_cancelled.ensures.forest) ∙ sym c.if-is_context_cancelled.ensures.value in
     subst (Holds a) (sym (stays_fine t (at_place a.table c.args.place) e there fine)) is

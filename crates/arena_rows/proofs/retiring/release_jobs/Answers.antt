@@ -1,7 +1,7 @@
 use Rattle.std.proofs.Common.{length, refl, ap, ◌∙◌, arith}
 use Rattle.cancel_context.proofs.Released.{length-without}
 use Rattle.arena_rows.proofs.Retired.{hold-released}
-use Rattle.arena_rows.proofs.retiring.release_all.Goals as goal
+use Rattle.arena_rows.proofs.retiring.release_jobs.Goals as goal
 
 pub loop-job-init : goal.loop-job-init
 loop-job-init c = record { hold = c.requires; long = refl }

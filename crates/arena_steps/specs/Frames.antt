@@ -1,26 +1,21 @@
--- What a step of a slot asks and gives.
+-- What a step of a slot asks of its frame.
 use Rattle.std.specs.Prelude.{◌≡◌, ℕ, false, Some, length}
-use Rattle.job_language.specs.declared.answers.Moved.{Moved}
 use Rattle.job_step.specs.declared.frames.Frame.{Frame}
 use Rattle.tenant_model.specs.State.{State, row}
 use Rattle.tenant_model.specs.Walks.{top, is_pending}
 use Rattle.arena_rows.specs.Held.{Held}
 use Rattle.arena_rows.specs.Represents.{Rests}
 
--- the answer, and what is held afterwards rests on the state that follows
-abbrev pub Moves : Held → Moved → Moved × State → Type 0
-Moves b moved r = (moved ≡ r.0) × Rests b r.1
-
 -- row n is on a slot, and a frame has as many registers as its own
-pub record Fits (a : Held) (s : State) (slot n : ℕ) (frame : Frame) : Type 0 where
+pub record FrameFits (a : Held) (s : State) (slot n : ℕ) (frame : Frame) : Type 0 where
   pub rests : Rests a s
   pub on_top : top s.rows slot ≡ Some n
   pub same : length frame.registers ≡ length (row s.rows n).frame.registers
 
 -- A row is on a slot, in some settled state that is held, which a frame fits.
 abbrev pub CanMove : Held → (slot : ℕ) → Frame → Type 0
-CanMove a slot frame = (s : State) × (n : ℕ) × Fits a s slot n frame
+CanMove a slot frame = (s : State) × (n : ℕ) × FrameFits a s slot n frame
 
 -- And no member of a group of that row is open.
 abbrev pub CanPass : Held → (slot : ℕ) → Frame → (group : ℕ) → Type 0
-CanPass a slot frame g = (s : State) × (n : ℕ) × Fits a s slot n frame × (is_pending s.rows n g ≡ false)
+CanPass a slot frame g = (s : State) × (n : ℕ) × FrameFits a s slot n frame × (is_pending s.rows n g ≡ false)

@@ -18,15 +18,15 @@ pub record HoldJobs (forest : Forest) (jobs : List CurrentJob) (from : ℕ) : Ty
   pub count : held_count forest + from ≡ length jobs
 
 -- the jobs retired, the cells gone, and an entry counted
-abbrev pub ended : Held → Forest → Held
-ended a forest = record a { contexts = forest; jobs = []; retired = a.retired + length a.jobs; cells = no_cells; entries = a.entries + 1; epoch = a.epoch + 1 }
+abbrev pub all_retired : Held → Forest → Held
+all_retired a forest = record a { contexts = forest; jobs = []; retired = a.retired + length a.jobs; cells = no_cells; entries = a.entries + 1; epoch = a.epoch + 1 }
 
 -- What is held after all jobs were retired, and no context is held any more.
-pub record IsEnded (a b : Held) : Type 0 where
+pub record AreRetired (a b : Held) : Type 0 where
   pub forest : Forest
   pub none : held_count forest ≡ 0
   pub long : length forest ≡ length a.contexts
-  pub held : b ≡ ended a forest
+  pub held : b ≡ all_retired a forest
 
 -- No row is open, in some settled state that is held.
 abbrev pub IsIdle : Held → Type 0

@@ -1,6 +1,6 @@
 use Rattle.std.proofs.Common.{◌≡◌, length}
-use Rattle.arena_rows.specs.Ending.{HoldJobs}
-use Rattle.arena_rows.proofs.retiring.release_all.Given as goal
+use Rattle.arena_rows.specs.Retiring.{HoldJobs}
+use Rattle.arena_rows.proofs.retiring.release_jobs.Given as goal
 
 abbrev pub invariant-loop-job : goal.invariant-loop-job
 invariant-loop-job l = record {
