@@ -1,3 +1,4 @@
 pub mod AnswerText
 pub mod ReplyText
+pub mod MarketText
 pub mod SerialText

@@ -2,6 +2,7 @@
 #![tactic(auto)]
 
 mod answers;
+mod markets;
 mod replies;
 mod serials;
 #[cfg(test)]
@@ -10,6 +11,7 @@ mod texts;
 mod writes;
 
 pub use answers::{answer_line, bad_step_line};
+pub use markets::{MarketAnswer, market_line};
 pub use replies::reply_line;
 pub use serials::{SerialAnswer, serial_line};
 pub use texts::{MAX_LINE, ReplyBuf};

@@ -1,5 +1,7 @@
 // Worked examples: the line of each reply and of each answer to a step.
-use crate::{SerialAnswer, answer_line, bad_step_line, reply_line, serial_line};
+use crate::{
+    MarketAnswer, SerialAnswer, answer_line, bad_step_line, market_line, reply_line, serial_line,
+};
 use job_language::{Answer, Came, Error, JobFault, Key, Level, Moved, Reply, Status, TenantName};
 use std::test::Fail;
 
@@ -124,4 +126,22 @@ fn each_serial_value_has_its_line(rt: HostRuntime) {
     for (answer, line) in table {
         assert_eq!(rt; serial_line(&answer).line(), line.as_bytes());
     }
+}
+
+#[test]
+fn each_answer_of_the_market_has_its_line(rt: HostRuntime) -> Result<(), Fail> {
+    let acme = TenantName::new("acme").ok_or("a name")?;
+    let table = [
+        (MarketAnswer::Queued, "{\"market\":\"queued\"}\n"),
+        (
+            MarketAnswer::Held(1, acme),
+            "{\"market\":\"held\",\"slot\":1,\"tenant\":\"acme\"}\n",
+        ),
+        (MarketAnswer::NoCall, "{\"market\":\"none\"}\n"),
+        (MarketAnswer::NotNow, "{\"market\":\"not_now\"}\n"),
+    ];
+    for (answer, line) in table {
+        assert_eq!(rt; market_line(&answer).line(), line.as_bytes());
+    }
+    Ok(())
 }
