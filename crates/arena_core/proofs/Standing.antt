@@ -60,7 +60,7 @@ pub held_height : (a : Held) (s : State) → Holds a s → (slot : ℕ) → leng
 held_height a s is = height_is s.rows is.places a.config.slots a.nests is.steady.formed.stacked is.nests
 
 -- and nothing is on a slot that the tenant lacks
-pub no_stack : (a : Held) (s : State) → StandsFor a s → (slot : ℕ) → a.config.slots ≤ slot → 0 ≡ height s.rows slot
+pub no_stack : (a : Held) (s : State) → Holds a s → (slot : ℕ) → a.config.slots ≤ slot → 0 ≡ height s.rows slot
 no_stack a s is slot lacks =
-    let past : stack a.nests slot ≡ [] = get_or_past a.nests slot [] (omega (arith, lacks, is.rests.holds.nests.long)) in
-    sym (ap (λ (xs : List Nested). length xs) past) ∙ held_height a s is.rests.holds slot
+    let past : stack a.nests slot ≡ [] = get_or_past a.nests slot [] (omega (arith, lacks, is.nests.long)) in
+    sym (ap (λ (xs : List Nested). length xs) past) ∙ held_height a s is slot

@@ -6,10 +6,12 @@ ghost use Rattle.tenant_model.specs.Walks.{has_unstarted, height};
 ghost use Rattle.tenant_model.specs.Advance.{arrive};
 ghost use Rattle.tenant_model.specs.Asks.{ask};
 ghost use Rattle.arena_core.specs.Stands.{StandsFor};
+ghost use Rattle.arena_core.specs.Views.{IsSeen};
 
-use crate::asks;
+use crate::{asks, views};
 use arena_rows::Parts;
 use job_language::{Came, Reply, Request, Tenant, TenantConfig};
+use job_step::View;
 use std::alloc::{AllocError, Global};
 use std::marker::Model;
 
@@ -59,6 +61,13 @@ impl Arena {
             return 0;
         }
         self.parts.height(slot)
+    }
+
+    /// What is seen of a slot.
+    pub fn view(&self, slot: u8) -> View
+        ensures { (s : State) → StandsFor self.now s → IsSeen s slot result }
+    {
+        views::view(&self.parts, slot)
     }
 
     /// Whether a row waits to be started.

@@ -3,5 +3,6 @@
 
 mod arena;
 mod asks;
+mod views;
 
 pub use arena::Arena;

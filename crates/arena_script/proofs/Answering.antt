@@ -2,13 +2,10 @@
 use Rattle.std.proofs.Common.{◌≡◌, ◌≢◌, ℕ, List, [], ◌∷◌, ◌++◌, Option, Some, None, refl, sym, ap, ◌∙◌, append_assoc, subst}
 use Rattle.std.proofs.lemmas.List.{append-nil}
 use Rattle.std.specs.Io.KnownBytes.{Appends}
-use Rattle.job_language.specs.declared.answers.Answer.{Answer}
 use Rattle.reply_writer.specs.SerialText.{serial_text}
 use Rattle.reply_writer.specs.declared.serials.SerialAnswer.{SerialAnswer}
 use Rattle.request_reader.specs.Lines.{Line, newline}
-use Rattle.tenant_model.specs.State.{State}
-use Rattle.arena_script.specs.OwnAnswers.{told}
-use Rattle.arena_script.specs.ScriptAnswers.{TakesLine, AnswersAll}
+use Rattle.arena_script.specs.Answered.{AnswersAll}
 use Rattle.arena_script.specs.ScriptLines.{line_of, input_lines}
 use Rattle.arena_script.specs.SerialAnswers.{serial_answer, serial_answers}
 use Rattle.arena_script.specs.declared.inputs.Input.{Input}
@@ -25,35 +22,31 @@ pub appends_nothing : (known : Option (List ℕ)) → Appends known known []
 appends_nothing None = tt
 appends_nothing (Some x) = sym (append-nil x)
 
--- No lines have no answers.
-pub answers_none : (slots : ℕ) (s : State) (known : Option (List ℕ)) → AnswersAll slots [] s known known s
-answers_none slots s known = ([], (refl, refl), appends_nothing known)
-
--- A line that is taken and answered, and then the others.
-pub answers_on : (slots : ℕ) (line : Line) (lines : List Line) (old mid final : State) (answer : Option Answer) (before middle after : Option (List ℕ)) → TakesLine slots line old answer mid → Appends before middle (told answer ++ newline ∷ []) → AnswersAll slots lines mid middle after final → AnswersAll slots (line ∷ lines) old before after final
-answers_on slots line lines old mid final answer before middle after taken written others =
-    (told answer ++ newline ∷ others.0, (answer, mid, others.0, taken, refl, others.1), appends_two before middle after (told answer) others.0 written others.2)
-
 -- An input that is not the end is one line.
 pub input_lines-line : (i : Input) (text : List ℕ) → i ≢ input.End → input_lines i text ≡ line_of i text ∷ []
 input_lines-line input.Line text h = refl
 input_lines-line input.TooLong text h = refl
 input_lines-line input.End text h = absurd (h refl)
 
--- The next input is taken and its answer written, and then the lines that are left.
-pub answers_step : (slots slots' : ℕ) (i : Input) (text text' : List ℕ) (left left' : List Line) (old mid final : State) (answer : Option Answer) (line : List ℕ) (before middle after : Option (List ℕ)) → slots' ≡ slots → text' ≡ text → i ≢ input.End → left ≡ input_lines i text ++ left' → TakesLine slots' (line_of i text') old answer mid → line ≡ told answer ++ newline ∷ [] → Appends before middle line → AnswersAll slots left' mid middle after final → AnswersAll slots left old before after final
-answers_step slots slots' i text text' left left' old mid final answer line before middle after same_slots same_text going here taken told_as written others =
-    let taken_here : TakesLine slots' (line_of i text) old answer mid = subst (λ (t : List ℕ). TakesLine slots' (line_of i t) old answer mid) same_text taken in
-    let taken_there : TakesLine slots (line_of i text) old answer mid = subst (λ (s : ℕ). TakesLine s (line_of i text) old answer mid) same_slots taken_here in
-    let written_line : Appends before middle (told answer ++ newline ∷ []) = subst (λ (t : List ℕ). Appends before middle t) told_as written in
-    let one_line : left ≡ line_of i text ∷ left' = here ∙ ap (λ ls. ls ++ left') (input_lines-line i text going) in
-    subst (λ (ls : List Line). AnswersAll slots ls old before after final) (sym one_line) (answers_on slots (line_of i text) left' old mid final answer before middle after taken_there written_line others)
+module _ {S : Type 0} (takes : S → Line → List ℕ → S → Type 0) where
+  -- A line that is taken and answered, and then the others.
+  answers_on : (line : Line) (lines : List Line) (old mid final : S) (said : List ℕ) (before middle after : Option (List ℕ)) → takes old line said mid → Appends before middle (said ++ newline ∷ []) → AnswersAll takes lines mid middle after final → AnswersAll takes (line ∷ lines) old before after final
+  answers_on line lines old mid final said before middle after taken written others =
+      (said ++ newline ∷ others.0, (said, mid, others.0, taken, refl, others.1), appends_two before middle after said others.0 written others.2)
 
--- At the end no lines are left, and all are answered.
-pub answers_end : (slots : ℕ) (i : Input) (text : List ℕ) (left left' : List Line) (s : State) (known : Option (List ℕ)) → i ≡ input.End → left ≡ input_lines i text ++ left' → left' ≡ [] → AnswersAll slots left s known known s
-answers_end slots i text left left' s known ended here none =
-    let no_lines : left ≡ [] = here ∙ ap (λ e. input_lines e text ++ left') ended ∙ none in
-    subst (λ (ls : List Line). AnswersAll slots ls s known known s) (sym no_lines) (answers_none slots s known)
+  -- The next input is taken and its answer written, and then the lines that are left.
+  pub answers_step : (i : Input) (text text' : List ℕ) (left left' : List Line) (old mid final : S) (said line : List ℕ) (before middle after : Option (List ℕ)) → text' ≡ text → i ≢ input.End → left ≡ input_lines i text ++ left' → takes old (line_of i text') said mid → line ≡ said ++ newline ∷ [] → Appends before middle line → AnswersAll takes left' mid middle after final → AnswersAll takes left old before after final
+  answers_step i text text' left left' old mid final said line before middle after same_text going here taken told_as written others =
+      let taken_there : takes old (line_of i text) said mid = subst (λ (t : List ℕ). takes old (line_of i t) said mid) same_text taken in
+      let written_line : Appends before middle (said ++ newline ∷ []) = subst (λ (t : List ℕ). Appends before middle t) told_as written in
+      let one_line : left ≡ line_of i text ∷ left' = here ∙ ap (λ ls. ls ++ left') (input_lines-line i text going) in
+      subst (λ (ls : List Line). AnswersAll takes ls old before after final) (sym one_line) (answers_on (line_of i text) left' old mid final said before middle after taken_there written_line others)
+
+  -- At the end no lines are left, and all are answered.
+  pub answers_end : (i : Input) (text : List ℕ) (left left' : List Line) (s : S) (known : Option (List ℕ)) → i ≡ input.End → left ≡ input_lines i text ++ left' → left' ≡ [] → AnswersAll takes left s known known s
+  answers_end i text left left' s known ended here none =
+      let no_lines : left ≡ [] = here ∙ ap (λ e. input_lines e text ++ left') ended ∙ none in
+      subst (λ (ls : List Line). AnswersAll takes ls s known known s) (sym no_lines) ([], (refl, refl), appends_nothing known)
 
 -- The next input is answered with the serial value that it asks, and then the lines that are left.
 pub serial_step : (i : Input) (text text' : List ℕ) (left left' : List Line) (answer : SerialAnswer) (line : List ℕ) (before middle after : Option (List ℕ)) → text' ≡ text → i ≢ input.End → left ≡ input_lines i text ++ left' → answer ≡ serial_answer (line_of i text') → line ≡ serial_text answer ++ newline ∷ [] → Appends before middle line → Appends middle after (serial_answers left') → Appends before after (serial_answers left)

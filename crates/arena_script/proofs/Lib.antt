@@ -1,3 +1,5 @@
 mod Answering
 mod Parts
+mod Telling
 mod Requests
+mod Running

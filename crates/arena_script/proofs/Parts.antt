@@ -1,42 +1,21 @@
 -- The first part of what answers the lines of a script.
-use Rattle.std.proofs.Common.{◌≡◌, ◌≢◌, ℕ, ◌+◌, ◌<◌, List, [], ◌∷◌, ◌++◌, length, take, Option, Some, None, inr, refl, sym, ap, ◌∙◌, append_assoc, subst, arith}
+use Rattle.std.proofs.Common.{◌≡◌, ◌≢◌, ℕ, ◌+◌, ◌<◌, List, [], ◌∷◌, ◌++◌, length, take, Option, Some, None, refl, sym, ap, ◌∙◌, append_assoc, subst, arith}
 use Rattle.std.proofs.Math.Seq.{take-append-add}
 use Rattle.std.proofs.lemmas.List.{take-append-le, take_all}
 use Rattle.std.specs.Io.KnownBytes.{Appends}
-use Rattle.job_language.specs.declared.answers.Answer.{Answer}
-use Rattle.job_language.specs.declared.answers.Answer.TheVariants as answer
-use Rattle.job_language.specs.declared.tenants.Tenant.{Tenant}
 use Rattle.reply_writer.specs.SerialText.{serial_text}
 use Rattle.reply_writer.specs.declared.serials.SerialAnswer.{SerialAnswer}
 use Rattle.request_reader.specs.Lines.{Line, whole, too_long, newline}
-use Rattle.tenant_model.specs.State.{State, empty}
-use Rattle.arena_script.specs.OwnAnswers.{arrival, advancement, reply_to, request_in, step_in, told, TakesStep}
-use Rattle.arena_script.specs.Parts.{AnswersPart, AnswersSteps, AppendsFewer, AppendsPart, StartsScript}
-use Rattle.arena_script.specs.ScriptAnswers.{Answered, TakesLine, tenant_in}
+use Rattle.arena_script.specs.Answered.{Answered, AnswersPart, AnswersLater, AppendsFewer, AppendsPart, StartsFrom}
 use Rattle.arena_script.specs.ScriptLines.{line_of, input_lines}
 use Rattle.arena_script.specs.SerialAnswers.{serial_answer, serial_answers}
-use Rattle.arena_script.specs.Steps.{OwnData, ask, arrive, advance}
 use Rattle.arena_script.specs.declared.inputs.Input.{Input}
 use Rattle.arena_script.specs.declared.inputs.Input.TheVariants as input
 use Rattle.arena_script.proofs.Answering.{appends_nothing, appends_two, input_lines-line}
 
--- Every step can be taken, and every list of lines answered.
-take_step : (slots : ℕ) (it : Option OwnData) (s : State) → (answer : Option Answer) × (mid : State) × TakesStep slots it s answer mid
-take_step slots None s = (None, s, (refl, refl))
-take_step slots (Some (ask d)) s = (Some (answer.Replied (reply_to s (request_in d)).0), (reply_to s (request_in d)).1, inr refl)
-take_step slots (Some (arrive slot)) s = ((arrival slots s slot).0, (arrival slots s slot).1, refl)
-take_step slots (Some (advance slot)) s = ((advancement slots s slot).0, (advancement slots s slot).1, refl)
-
-take_line : (slots : ℕ) (line : Line) (s : State) → (answer : Option Answer) × (mid : State) × TakesLine slots line s answer mid
-take_line slots (whole text) s = take_step slots (step_in text) s
-take_line slots too_long s = (None, s, (refl, refl))
-
-answer_lines : (slots : ℕ) (lines : List Line) (s : State) → (text : List ℕ) × (new : State) × Answered slots lines s text new
-answer_lines slots [] s = ([], s, (refl, refl))
-answer_lines slots (line ∷ lines) s =
-    let taken = take_line slots line s in
-    let rest = answer_lines slots lines taken.1 in
-    (told taken.0 ++ newline ∷ rest.0, rest.1, (taken.0, taken.1, rest.0, taken.2, refl, rest.2))
+-- Every line can be taken.
+abbrev pub TakesAll : {S : Type 0} → (takes : S → Line → List ℕ → S → Type 0) → Type 0
+TakesAll {S = S} takes = (line : Line) (s : S) → (said : List ℕ) × (mid : S) × takes s line said mid
 
 -- Nothing is written yet.
 pub part_none : (known : Option (List ℕ)) (text : List ℕ) → AppendsPart known known text
@@ -65,46 +44,57 @@ part_cut before after line rest cut =
     ap (take cut.count) (sym (append_assoc line (newline ∷ []) rest)) ∙ take-append-le cut.count (line ++ newline ∷ []) rest (omega (arith, cut.fewer)) in
     record { count = cut.count; appended = subst (λ (t : List ℕ). Appends before after t) (sym front) cut.appended }
 
--- No more is written of the answers to these lines.
-pub answers_part_none : (slots : ℕ) (lines : List Line) (s : State) (known : Option (List ℕ)) → AnswersPart slots lines s known known
-answers_part_none slots lines s known =
-    let all = answer_lines slots lines s in
-    record { text = all.0; new = all.1; answered = all.2; part = part_none known all.0 }
-
-steps_none : (tenant : Option Tenant) (lines : List Line) (known : Option (List ℕ)) → AnswersSteps tenant lines known known
-steps_none None lines known = appends_nothing known
-steps_none (Some tenant) lines known = answers_part_none tenant.slots lines (empty tenant) known
-
-pub starts_none : (lines : List Line) (known : Option (List ℕ)) → StartsScript lines known known
-starts_none [] known = appends_nothing known
-starts_none (too_long ∷ lines) known = appends_nothing known
-starts_none (whole line ∷ lines) known = steps_none (tenant_in line) lines known
-
 -- The next input, which is no end, is one line.
 one_line : (i : Input) (text : List ℕ) (left left' : List Line) → i ≢ input.End → left ≡ input_lines i text ++ left' → left ≡ line_of i text ∷ left'
 one_line i text left left' going here = here ∙ ap (λ ls. ls ++ left') (input_lines-line i text going)
 
-module _ (slots slots' : ℕ) (i : Input) (text text' : List ℕ) (left left' : List Line) (old mid : State) (answer : Option Answer) (line : List ℕ) (same_slots : slots' ≡ slots) (same_text : text' ≡ text) (going : i ≢ input.End) (here : left ≡ input_lines i text ++ left') (taken : TakesLine slots' (line_of i text') old answer mid) (told_as : line ≡ told answer ++ newline ∷ []) where
-  taken_there : TakesLine slots (line_of i text) old answer mid
-  taken_there = subst (λ (s : ℕ). TakesLine s (line_of i text) old answer mid) same_slots (subst (λ (t : List ℕ). TakesLine slots' (line_of i t) old answer mid) same_text taken)
+module _ {S : Type 0} (takes : S → Line → List ℕ → S → Type 0) (take_line : TakesAll takes) where
+  -- Every list of lines can be answered.
+  answer_lines : (lines : List Line) (s : S) → (text : List ℕ) × (new : S) × Answered takes lines s text new
+  answer_lines [] s = ([], s, (refl, refl))
+  answer_lines (line ∷ lines) s =
+      let taken = take_line line s in
+      let rest = answer_lines lines taken.1 in
+      (taken.0 ++ newline ∷ rest.0, rest.1, (taken.0, taken.1, rest.0, taken.2, refl, rest.2))
 
-  lines_there : line_of i text ∷ left' ≡ left
-  lines_there = sym (one_line i text left left' going here)
+  -- No more is written of the answers to these lines.
+  pub answers_part_none : (lines : List Line) (s : S) (known : Option (List ℕ)) → AnswersPart takes lines s known known
+  answers_part_none lines s known =
+      let all = answer_lines lines s in
+      record { text = all.0; new = all.1; answered = all.2; part = part_none known all.0 }
 
-  -- The next input is taken and its answer written, and then a part of the answers to the lines that are left.
-  pub answers_part_step : (before middle after : Option (List ℕ)) → Appends before middle line → AnswersPart slots left' mid middle after → AnswersPart slots left old before after
-  answers_part_step before middle after written others =
-      let written_line : Appends before middle (told answer ++ newline ∷ []) = subst (λ (t : List ℕ). Appends before middle t) told_as written in
-      subst (λ (ls : List Line). AnswersPart slots ls old before after) lines_there
-      (record { text = told answer ++ newline ∷ others.text; new = others.new; answered = (answer, mid, others.text, taken_there, refl, others.answered); part = part_on before middle after (told answer) others.text written_line others.part })
+  module _ (i : Input) (text text' : List ℕ) (left left' : List Line) (old mid : S) (said line : List ℕ) (same_text : text' ≡ text) (going : i ≢ input.End) (here : left ≡ input_lines i text ++ left') (taken : takes old (line_of i text') said mid) (told_as : line ≡ said ++ newline ∷ []) where
+    taken_there : takes old (line_of i text) said mid
+    taken_there = subst (λ (t : List ℕ). takes old (line_of i t) said mid) same_text taken
 
-  -- The next input is taken and its answer cut short.
-  pub answers_part_cut : (before after : Option (List ℕ)) → AppendsFewer before after line → AnswersPart slots left old before after
-  answers_part_cut before after cut =
-      let rest = answer_lines slots left' mid in
-      let cut_line : AppendsFewer before after (told answer ++ newline ∷ []) = subst (λ (t : List ℕ). AppendsFewer before after t) told_as cut in
-      subst (λ (ls : List Line). AnswersPart slots ls old before after) lines_there
-      (record { text = told answer ++ newline ∷ rest.0; new = rest.1; answered = (answer, mid, rest.0, taken_there, refl, rest.2); part = part_cut before after (told answer) rest.0 cut_line })
+    lines_there : line_of i text ∷ left' ≡ left
+    lines_there = sym (one_line i text left left' going here)
+
+    -- The next input is taken and its answer written, and then a part of the answers to the lines that are left.
+    pub answers_part_step : (before middle after : Option (List ℕ)) → Appends before middle line → AnswersPart takes left' mid middle after → AnswersPart takes left old before after
+    answers_part_step before middle after written others =
+        let written_line : Appends before middle (said ++ newline ∷ []) = subst (λ (t : List ℕ). Appends before middle t) told_as written in
+        subst (λ (ls : List Line). AnswersPart takes ls old before after) lines_there
+        (record { text = said ++ newline ∷ others.text; new = others.new; answered = (said, mid, others.text, taken_there, refl, others.answered); part = part_on before middle after said others.text written_line others.part })
+
+    -- The next input is taken and its answer cut short.
+    pub answers_part_cut : (before after : Option (List ℕ)) → AppendsFewer before after line → AnswersPart takes left old before after
+    answers_part_cut before after cut =
+        let rest = answer_lines left' mid in
+        let cut_line : AppendsFewer before after (said ++ newline ∷ []) = subst (λ (t : List ℕ). AppendsFewer before after t) told_as cut in
+        subst (λ (ls : List Line). AnswersPart takes ls old before after) lines_there
+        (record { text = said ++ newline ∷ rest.0; new = rest.1; answered = (said, mid, rest.0, taken_there, refl, rest.2); part = part_cut before after said rest.0 cut_line })
+
+module _ {B S : Type 0} (first : List ℕ → Option B) (takes : B → S → Line → List ℕ → S → Type 0) (start : B → S) (take_line : (b : B) → TakesAll (takes b)) where
+  later_none : (b : Option B) (lines : List Line) (known : Option (List ℕ)) → AnswersLater takes start b lines known known
+  later_none None lines known = appends_nothing known
+  later_none (Some b) lines known = answers_part_none (takes b) (take_line b) lines (start b) known
+
+  -- Nothing is written of what answers a script.
+  pub starts_from_none : (lines : List Line) (known : Option (List ℕ)) → StartsFrom first takes start lines known known
+  starts_from_none [] known = appends_nothing known
+  starts_from_none (too_long ∷ lines) known = appends_nothing known
+  starts_from_none (whole line ∷ lines) known = later_none (first line) lines known
 
 module _ (i : Input) (text text' : List ℕ) (left left' : List Line) (answer : SerialAnswer) (line : List ℕ) (same_text : text' ≡ text) (going : i ≢ input.End) (here : left ≡ input_lines i text ++ left') (answered : answer ≡ serial_answer (line_of i text')) (told_as : line ≡ serial_text answer ++ newline ∷ []) where
   serial_there : line ≡ serial_text (serial_answer (line_of i text)) ++ newline ∷ []

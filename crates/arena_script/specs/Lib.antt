@@ -1,13 +1,15 @@
+pub mod Answered
 pub mod CheckEnds
 pub mod DumpData
 pub mod DumpLines
 pub mod DumpReads
 pub mod DumpReplies
+pub mod DumpText
 pub mod Ends
 pub mod OwnAnswers
 pub mod OwnEnds
 pub mod OwnLine
-pub mod Parts
+pub mod RunAnswers
 pub mod ScriptAnswers
 pub mod ScriptLines
 pub mod SerialAnswers

@@ -2,7 +2,8 @@
 ghost use Rattle.std.specs.Prelude.{◌≡◌, Err, IsSome, IfErr, IfOk, OnOk, string_bytes};
 ghost use Rattle.arena_script.specs.CheckEnds.{IsCheckFault};
 ghost use Rattle.arena_script.specs.DumpData.{dump_of, TellsVerdict, TellsBadLine};
-ghost use Rattle.arena_script.specs.Parts.{AppendsPart, told_text};
+ghost use Rattle.arena_script.specs.Answered.{AppendsPart};
+ghost use Rattle.arena_script.specs.DumpText.{told_text};
 ghost use Rattle.arena_script.specs.ScriptLines.{lines_in};
 ghost use Rattle.arena_script.specs.VerdictText.{verdict_text, bad_line_text};
 

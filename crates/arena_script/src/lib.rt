@@ -8,6 +8,7 @@ mod dumps;
 mod ends;
 mod inputs;
 mod own;
+mod runs;
 mod scripts;
 mod serials;
 mod steps;

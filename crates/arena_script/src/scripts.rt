@@ -7,8 +7,9 @@ ghost use Rattle.arena_script.specs.DumpData.{dump_of, TellsVerdict, TellsBadLin
 ghost use Rattle.arena_script.specs.KnownWords.{are_known_words};
 ghost use Rattle.arena_script.specs.OwnAnswers.{told};
 ghost use Rattle.arena_script.specs.OwnEnds.{are_own_words, IsFault, IsOwnEnd};
-ghost use Rattle.arena_script.specs.Parts.{AnswersPart, AppendsPart, StartsScript, told_text};
-ghost use Rattle.arena_script.specs.ScriptAnswers.{AnswersAll, AnswersScript, NamesNoTenant};
+ghost use Rattle.arena_script.specs.Answered.{AnswersAll, AnswersPart, AppendsPart};
+ghost use Rattle.arena_script.specs.DumpText.{told_text};
+ghost use Rattle.arena_script.specs.ScriptAnswers.{AnswersScript, NamesNoTenant, StartsScript, Tells};
 ghost use Rattle.arena_script.specs.ScriptLines.{script_lines, all_lines, lines_in};
 ghost use Rattle.arena_script.specs.SerialAnswers.{serial_answers};
 ghost use Rattle.arena_script.specs.SerialEnds.{are_serial_words, IsSerialEnd};
@@ -79,7 +80,7 @@ pub fn script<R: Read, W: Write>(
     }
 }
 
-#[tactic(auto, using(crate::proofs::Parts::starts_none))]
+#[tactic(auto, using(crate::proofs::Telling::starts_none))]
 fn own<R: Read, W: Write>(alloc: Global, reader: &mut R, writer: &mut W) -> Result<(), ScriptEnd>
     ensures ends { IfErr result IsFault }
     ensures unwritten { result ≡ Err ScriptEnd.Config → writer.new ≡ writer.old }
@@ -111,10 +112,10 @@ fn take_all<R: Read, W: Write>(
 ) -> Result<(), ScriptEnd>
     ensures ends { IfErr result (λ end. IsFault end × (end ≢ ScriptEnd.Config)) }
     ensures done { OnOk result (IsSome (R.remaining reader.old) → (final : State)
-        × AnswersAll own.slots (script_lines lines (R.remaining reader.old)) own.solo
+        × AnswersAll (Tells own.slots) (script_lines lines (R.remaining reader.old)) own.solo
         (W.contents writer.old) (W.contents writer.new) final) }
     ensures part { IsSome (R.remaining reader.old)
-        → AnswersPart own.slots (script_lines lines (R.remaining reader.old)) own.solo
+        → AnswersPart (Tells own.slots) (script_lines lines (R.remaining reader.old)) own.solo
         (W.contents writer.old) (W.contents writer.new) }
 {
     'steps: loop {

@@ -1,8 +1,8 @@
-//! Comparisons of programs and topmost frames by what they hold.
+//! Whether two programs or two frames are the same.
 #![tactic(auto)]
 
+mod frames;
 mod programs;
-mod tops;
 
+pub use frames::is_same_frame;
 pub use programs::is_same_program;
-pub use tops::is_same_top;

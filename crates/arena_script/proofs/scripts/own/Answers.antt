@@ -2,7 +2,8 @@ use Rattle.std.proofs.Common.{rules, subst, Some, ◌≡◌, OnOk, ◌∷◌, Ok
 use Rattle.std.specs.Prelude.{Result}
 use Rattle.request_reader.specs.Lines.{whole}
 use Rattle.tenant_model.specs.State.{State, empty}
-use Rattle.arena_script.specs.ScriptAnswers.{AnswersAll, tenant_in}
+use Rattle.arena_script.specs.Answered.{AnswersAll}
+use Rattle.arena_script.specs.ScriptAnswers.{Tells, tenant_in}
 use Rattle.arena_script.specs.ScriptLines.{script_lines, all_lines}
 use Rattle.arena_script.proofs.scripts.own.Goals as goal
 
@@ -22,6 +23,6 @@ returns-in-Some-clause-done g c = on_ok-map c.take_all.result _ _ (λ done known
     let left = script_lines c.next_input.new.lines rest in
     let before = g.W.Write.contents c.args.writer.now in
     let after = g.W.Write.contents c.take_all.new.writer in
-    let by_slots : AnswersAll own.solo.config.slots left own.solo before after taken.0 = subst (λ slots. AnswersAll slots left own.solo before after taken.0) its_slots taken.1 in
-    let all : AnswersAll own.solo.config.slots left (empty own.solo.config) before after taken.0 = subst (λ (s : State). AnswersAll own.solo.config.slots left s before after taken.0) new by_slots in
+    let by_slots : AnswersAll (Tells own.solo.config.slots) left own.solo before after taken.0 = subst (λ slots. AnswersAll (Tells slots) left own.solo before after taken.0) its_slots taken.1 in
+    let all : AnswersAll (Tells own.solo.config.slots) left (empty own.solo.config) before after taken.0 = subst (λ (s : State). AnswersAll (Tells own.solo.config.slots) left s before after taken.0) new by_slots in
     rw lines (own.solo.config, taken.0, named, all)) c.take_all.ensures.done

@@ -1,8 +1,8 @@
 use Rattle.std.proofs.Common.{◌≡◌, ℕ, List, Option, IsSome}
 use Rattle.request_reader.specs.Reading.{work_left}
 use Rattle.tenant_model.specs.State.{State}
-use Rattle.arena_script.specs.Parts.{AnswersPart}
-use Rattle.arena_script.specs.ScriptAnswers.{AnswersAll}
+use Rattle.arena_script.specs.Answered.{AnswersAll, AnswersPart}
+use Rattle.arena_script.specs.ScriptAnswers.{Tells}
 use Rattle.arena_script.specs.ScriptLines.{script_lines}
 use Rattle.arena_script.proofs.scripts.take_all.Given as goal
 
@@ -13,11 +13,11 @@ invariant-steps g l =
     × (IsSome (g.R.Read.remaining l.initial.reader) →
     IsSome (g.R.Read.remaining l.reader)
     × ((after : Option (List ℕ)) (final : State) →
-    AnswersAll l.initial.own.slots (script_lines l.lines (g.R.Read.remaining l.reader)) l.own.solo (g.W.Write.contents l.writer) after final →
-    AnswersAll l.initial.own.slots (script_lines l.initial.lines (g.R.Read.remaining l.initial.reader)) l.initial.own.solo (g.W.Write.contents l.initial.writer) after final)
+    AnswersAll (Tells l.initial.own.slots) (script_lines l.lines (g.R.Read.remaining l.reader)) l.own.solo (g.W.Write.contents l.writer) after final →
+    AnswersAll (Tells l.initial.own.slots) (script_lines l.initial.lines (g.R.Read.remaining l.initial.reader)) l.initial.own.solo (g.W.Write.contents l.initial.writer) after final)
     × ((after : Option (List ℕ)) →
-    AnswersPart l.initial.own.slots (script_lines l.lines (g.R.Read.remaining l.reader)) l.own.solo (g.W.Write.contents l.writer) after →
-    AnswersPart l.initial.own.slots (script_lines l.initial.lines (g.R.Read.remaining l.initial.reader)) l.initial.own.solo (g.W.Write.contents l.initial.writer) after))
+    AnswersPart (Tells l.initial.own.slots) (script_lines l.lines (g.R.Read.remaining l.reader)) l.own.solo (g.W.Write.contents l.writer) after →
+    AnswersPart (Tells l.initial.own.slots) (script_lines l.initial.lines (g.R.Read.remaining l.initial.reader)) l.initial.own.solo (g.W.Write.contents l.initial.writer) after))
 
 abbrev pub decreases-steps : goal.decreases-steps
 decreases-steps g l = work_left l.lines

@@ -9,7 +9,7 @@ returns-then-slot-config c = λ s stands.
     let value = c.config.ensures.value in
     let stood : StandsFor a s = rw (← c.self.view_is) at stands in
     let lacks : a.config.slots ≤ c.args.slot = rw value at c.if-slot-config.true in
-    no_stack a s stood c.args.slot lacks
+    no_stack a s stood.rests.holds c.args.slot lacks
 
 pub returns : goal.returns
 returns c = λ s stands.

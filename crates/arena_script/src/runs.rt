@@ -1,0 +1,89 @@
+// A script of a world, from its first line to its end.
+ghost use Rattle.std.specs.Prelude.{◌≡◌, ◌≢◌, ℕ, List, Err, IsSome, IfOk, IfErr, OnOk};
+ghost use Rattle.world_model.specs.World.{World as Known};
+ghost use Rattle.world_script.specs.Knowing.{Knows};
+ghost use Rattle.arena_script.specs.Answered.{AnswersAll, AnswersPart};
+ghost use Rattle.arena_script.specs.OwnEnds.{IsFault};
+ghost use Rattle.arena_script.specs.RunAnswers.{AnswersRun, HasNoConfig, StartsRun, TakesLine, Tells};
+ghost use Rattle.arena_script.specs.ScriptLines.{all_lines, line_of, script_lines};
+
+use crate::devices::put;
+use crate::ends::ScriptEnd;
+use crate::inputs::{Input, MAX_SCRIPT_LINE, next_input};
+use request_reader::LineReader;
+use std::alloc::{AllocError, Global};
+use std::io::{Read, Write};
+use world_core::TenantArena;
+use world_model::Outcome;
+use world_script::NamedWorld;
+
+/// Reads a configuration, and then the steps of its world; writes the outcome of each.
+#[tactic(auto, using(crate::proofs::Running::starts_none))]
+pub(crate) fn run<A: TenantArena, R: Read, W: Write>(
+    alloc: Global,
+    reader: &mut R,
+    writer: &mut W,
+) -> Result<(), ScriptEnd>
+    ensures ends { IfErr result IsFault }
+    ensures unwritten { result ≡ Err ScriptEnd.Config → writer.new ≡ writer.old }
+    ensures no_config { result ≡ Err ScriptEnd.Config → IsSome (R.remaining reader.old)
+        → HasNoConfig (all_lines (R.remaining reader.old)) }
+    ensures done { OnOk result (IsSome (R.remaining reader.old)
+        → AnswersRun (all_lines (R.remaining reader.old))
+        (W.contents writer.old) (W.contents writer.new)) }
+    ensures part { IsSome (R.remaining reader.old)
+        → StartsRun (all_lines (R.remaining reader.old)) (W.contents writer.old) (W.contents writer.new) }
+{
+    let mut lines = LineReader::new(alloc, MAX_SCRIPT_LINE)?;
+    if next_input(&mut lines, reader)? != Input::Line {
+        return Err(ScriptEnd::Config);
+    }
+    match NamedWorld::<A>::read(alloc, lines.line())? {
+        Some(mut world) => take_all(alloc, &mut world, lines, reader, writer),
+        None => Err(ScriptEnd::Config),
+    }
+}
+
+/// Takes a world's steps to the end of a script.
+fn take_all<A: TenantArena, R: Read, W: Write>(
+    alloc: Global,
+    world: &mut NamedWorld<A>,
+    mut lines: LineReader,
+    reader: &mut R,
+    writer: &mut W,
+) -> Result<(), ScriptEnd>
+    ensures ends { IfErr result (λ end. IsFault end × (end ≢ ScriptEnd.Config)) }
+    ensures done { (names : List (List ℕ)) (w : Known) → Knows A.stands_for names w world.old
+        → OnOk result (IsSome (R.remaining reader.old) → (final : Known)
+        × AnswersAll (Tells names) (script_lines lines (R.remaining reader.old)) w
+        (W.contents writer.old) (W.contents writer.new) final) }
+    ensures part { (names : List (List ℕ)) (w : Known) → Knows A.stands_for names w world.old
+        → IsSome (R.remaining reader.old)
+        → AnswersPart (Tells names) (script_lines lines (R.remaining reader.old)) w
+        (W.contents writer.old) (W.contents writer.new) }
+{
+    'steps: loop {
+        let input = next_input(&mut lines, reader)?;
+        if input == Input::End {
+            return Ok(());
+        }
+        let outcome = take_input(alloc, world, input, lines.line())?;
+        put(writer, world.told(outcome).line())?;
+    }
+}
+
+/// Takes the step of an input, whose text is that line. A line that is too long is no step.
+fn take_input<A: TenantArena>(
+    alloc: Global,
+    world: &mut NamedWorld<A>,
+    input: Input,
+    line: &[u8],
+) -> Result<Option<Outcome>, AllocError>
+    ensures { (names : List (List ℕ)) (w : Known) → Knows A.stands_for names w world.old
+        → IfOk result (λ outcome. (v : Known) × (TakesLine names (line_of input line.now) w outcome v × Knows A.stands_for names v world.new)) }
+{
+    match input {
+        Input::Line => world.take(alloc, line),
+        Input::TooLong | Input::End => Ok(None),
+    }
+}
