@@ -1,5 +1,6 @@
 // What the parts tell of the state that they stand for.
 ghost use Rattle.std.specs.Prelude.{◌≡◌, ◌<◌, ◌≤◌, ◌-◌, false, nat_le, length, IfSome, OnSome, option_copied};
+ghost use Rattle.job_language.specs.declared.tenants.TheConstants.{MAX_SLOTS};
 ghost use Rattle.nest_stack.specs.Nest.{stack};
 ghost use Rattle.std.specs.List.{list_any};
 ghost use Rattle.std.specs.Option.{option_map};
@@ -70,7 +71,8 @@ impl Parts {
     /// The number of a key's cells, over all slots.
     #[tactic(auto, using(crate::proofs::Told::count_told))]
     pub fn cell_count(&self, key: Key) -> usize
-        ensures { (s : State) → Holds self.now s → result ≡ cell_count s.cells key }
+        ensures value { (s : State) → Holds self.now s → result ≡ cell_count s.cells key }
+        ensures few { result ≤ MAX_SLOTS }
     {
         self.cells.count(key.index())
     }
