@@ -1,10 +1,15 @@
-//! What a slot's topmost row does, one instruction at a time, for every state that the parts of an arena stand for.
+//! Advances of a slot: private runs, payments, shared instructions and picks, for every state that the parts of an arena stand for.
 #![tactic(auto)]
 
+mod advances;
+mod execution;
 mod makes;
 mod returns;
+mod runs;
 mod steps;
 
+pub use advances::{advance, advance_within};
+pub use execution::execute;
 pub use makes::{isolate, post, spawn};
 pub use returns::ret;
 pub use steps::{cancel, load, store, wait, write_register};

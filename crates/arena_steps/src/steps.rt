@@ -30,7 +30,7 @@ fn with_register(frame: Frame, to: Register, value: i64) -> Frame
 }
 
 /// Gives the topmost row of a slot on to a frame, and ends the step.
-fn move_to(parts: &mut Parts, slot: u8, frame: Frame) -> Moved
+pub(crate) fn move_to(parts: &mut Parts, slot: u8, frame: Frame) -> Moved
     requires fits { CanMove parts.old slot frame }
     requires room { parts.old.entries < parts.old.config.steps }
     ensures { (s : State) (n : ℕ) → FrameFits parts.old s slot n frame → Gives parts.new result (finish_step slot (with_frame s n frame)) }
