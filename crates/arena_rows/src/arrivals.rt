@@ -10,7 +10,7 @@ use job_language::Came;
 
 impl Parts {
     /// Whether a worker may arrive at a slot.
-    fn is_open_to_workers(&self, slot: u8) -> bool
+    pub fn is_open_to_workers(&self, slot: u8) -> bool
         requires { RestsSomehow self.now }
         ensures value { (s : State) → Rests self.now s → result ≡ is_open_to_workers s slot }
         ensures within { result ≡ true → slot < self.now.config.slots }

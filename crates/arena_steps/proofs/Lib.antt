@@ -1,3 +1,4 @@
+pub mod Arriving
 pub mod Births
 pub mod Executing
 pub mod Handing

@@ -17,5 +17,8 @@ abbrev pub advance_within : (has_room : Bool) → State → (slot : ℕ) → Mov
 advance_within has_room s slot = within has_room s (advance s slot)
 
 -- the same of an arrival
+abbrev pub came_within : (has_room : Bool) → State → Came × State → Came × State
+came_within has_room s step = if is_entry (answer.Came step.0) && not has_room then (came.Full, s) else step
+
 abbrev pub arrive_within : (has_room : Bool) → State → (slot : ℕ) → Came × State
-arrive_within has_room s slot = if is_entry (answer.Came (arrive s slot).0) && not has_room then (came.Full, s) else arrive s slot
+arrive_within has_room s slot = came_within has_room s (arrive s slot)

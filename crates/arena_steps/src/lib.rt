@@ -2,6 +2,7 @@
 #![tactic(auto)]
 
 mod advances;
+mod arrivals;
 mod execution;
 mod makes;
 mod returns;
@@ -9,6 +10,7 @@ mod runs;
 mod steps;
 
 pub use advances::{advance, advance_within};
+pub use arrivals::arrive_within;
 pub use execution::execute;
 pub use makes::{isolate, post, spawn};
 pub use returns::ret;
