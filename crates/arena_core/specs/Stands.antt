@@ -1,4 +1,5 @@
 -- Which states an arena stands for between steps.
+use Rattle.std.specs.Prelude.{◌≡◌}
 use Rattle.tenant_model.specs.State.{State}
 use Rattle.tenant_model.specs.Naming.{IsUnstuck}
 use Rattle.tenant_model.specs.Sound.{IsCounted}
@@ -14,3 +15,7 @@ pub record StandsFor (a : Held) (s : State) : Type 0 where
 -- Some state is there that it stands for.
 abbrev pub IsOfSomeState : Held → Type 0
 IsOfSomeState a = (s : State) × StandsFor a s
+
+-- A step gives what the definitions give: the answer, and a state that the arena then stands for.
+abbrev pub Takes : {A : Type 0} → (b : Held) → (answer : A) → A × State → Type 0
+Takes b answer step = (answer ≡ step.0) × StandsFor b step.1

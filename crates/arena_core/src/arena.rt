@@ -1,17 +1,21 @@
 // The arena of one tenant, and its steps.
-ghost use Rattle.std.specs.Prelude.{◌≡◌, IfOk};
+ghost use Rattle.std.specs.Prelude.{◌≡◌, [], ◌∷◌, true, IfOk};
+ghost use Rattle.job_language.specs.declared.steps.Step.{Step};
 ghost use Rattle.job_language.specs.Tenant.{IsValidTenant};
 ghost use Rattle.tenant_model.specs.State.{State, empty};
 ghost use Rattle.tenant_model.specs.Walks.{has_unstarted, height};
-ghost use Rattle.tenant_model.specs.Advance.{arrive};
+ghost use Rattle.tenant_model.specs.Advance.{advance, arrive};
 ghost use Rattle.tenant_model.specs.Asks.{ask};
-ghost use Rattle.arena_core.specs.Stands.{StandsFor};
-ghost use Rattle.arena_core.specs.Views.{IsSeen};
+ghost use Rattle.tenant_model.specs.Regions.{KeepsRegions};
+ghost use Rattle.arena_steps.specs.Within.{advance_within, arrive_within};
+ghost use Rattle.arena_core.specs.Stands.{StandsFor, Takes};
+ghost use Rattle.arena_core.specs.Views.{Commits, IsSeen};
 
-use crate::{asks, views};
+use crate::asks;
+use crate::views::{self, is_topmost};
 use arena_rows::Parts;
-use job_language::{Came, Reply, Request, Tenant, TenantConfig};
-use job_step::View;
+use job_language::{Came, Moved, Reply, Request, Tenant, TenantConfig};
+use job_step::{Segment, View};
 use std::alloc::{AllocError, Global};
 use std::marker::Model;
 
@@ -79,7 +83,7 @@ impl Arena {
 
     /// Answers an ask. It needs no memory.
     pub fn ask(&mut self, request: Request) -> Reply
-        ensures { (s : State) → StandsFor self.old s → (result ≡ (ask s request).0) × StandsFor self.new (ask s request).1 }
+        ensures { (s : State) → StandsFor self.old s → Takes self.new result (ask s request) }
     {
         // Proof hint: the program of the job is valid.
         let _ = request.job();
@@ -88,8 +92,54 @@ impl Arena {
 
     /// Lets a worker arrive at a slot; nothing happens at a slot that the tenant lacks.
     pub fn arrive(&mut self, slot: u8) -> Came
-        ensures { (s : State) → StandsFor self.old s → (result ≡ (arrive s slot).0) × StandsFor self.new (arrive s slot).1 }
+        ensures { (s : State) → StandsFor self.old s → Takes self.new result (arrive s slot) }
     {
         self.parts.arrive(slot)
+    }
+
+    /// Lets a worker arrive at a slot, unless that is an entry and the caller has no room for one: then
+    /// it is `Full`, and nothing has changed.
+    pub fn arrive_within(&mut self, slot: u8, has_room: bool) -> Came
+        ensures { (s : State) → StandsFor self.old s → Takes self.new result (arrive_within has_room s slot) }
+    {
+        arena_steps::arrive_within(&mut self.parts, slot, has_room)
+    }
+
+    /// Advances a slot; one that the tenant lacks is idle. While a region is live on the slot, the row
+    /// that moves is within it, and its touch alone changes the slot's cells (`this_task_arena::isolate`).
+    pub fn advance(&mut self, slot: u8) -> Moved
+        ensures moved { (s : State) → StandsFor self.old s → Takes self.new result (advance s slot) }
+        ensures regions { (s : State) → StandsFor self.old s → KeepsRegions s (Step.Advance slot ∷ []) }
+    {
+        arena_steps::advance(&mut self.parts, slot)
+    }
+
+    /// Advances a slot, unless that is an entry and the caller has no room for one: then it is `Full`,
+    /// and nothing has changed.
+    pub fn advance_within(&mut self, slot: u8, has_room: bool) -> Moved
+        ensures { (s : State) → StandsFor self.old s → Takes self.new result (advance_within has_room s slot) }
+    {
+        arena_steps::advance_within(&mut self.parts, slot, has_room)
+    }
+
+    /// Puts a private run in the place of an advance's own. It is `Stale`, and nothing has changed, if
+    /// the run is not that of the slot's topmost frame.
+    pub fn commit(&mut self, slot: u8, segment: &Segment) -> Moved
+        ensures moved { (s : State) → StandsFor self.old s → (t : State) × (Commits true s slot segment.now result t × StandsFor self.new t) }
+        ensures regions { (s : State) → StandsFor self.old s → KeepsRegions s (Step.Advance slot ∷ []) }
+    {
+        self.commit_within(slot, segment, true)
+    }
+
+    /// Puts a private run in the place of an advance's own, unless that is an entry and the caller has
+    /// no room for one: then it is `Full`, and nothing has changed. If the run is not that of the slot's
+    /// topmost frame, it is `Stale`.
+    pub fn commit_within(&mut self, slot: u8, segment: &Segment, has_room: bool) -> Moved
+        ensures { (s : State) → StandsFor self.old s → (t : State) × (Commits has_room s slot segment.now result t × StandsFor self.new t) }
+    {
+        if !is_topmost(&self.parts, slot, segment.top()) {
+            return Moved::Stale;
+        }
+        arena_steps::commit_within(&mut self.parts, slot, &segment.run(), has_room)
     }
 }

@@ -7,10 +7,10 @@ use Rattle.nest_stack.specs.declared.stack.Nested.{Nested}
 use Rattle.nest_stack.specs.Nest.{stack}
 use Rattle.nest_stack.specs.Nest as nest_stack
 use Rattle.tenant_model.specs.State.{State}
-use Rattle.tenant_model.specs.Walks.{pick, top}
+use Rattle.tenant_model.specs.Walks.{height, pick, top}
 use Rattle.tenant_model.specs.Changes.{entry, nest}
 use Rattle.tenant_model.specs.Advance.{advance, advance_run, advance_top, after_run, begin, is_idle_wait, run_on, unless_full}
-use Rattle.tenant_model.proofs.Picks.{top_none}
+use Rattle.tenant_model.proofs.Picks.{top_is, top_none}
 use Rattle.arena_rows.specs.Held.{Held}
 use Rattle.arena_rows.specs.HeldChanges.{picked}
 use Rattle.arena_rows.specs.Represents.{id_of, nested_of, Rests, Holds}
@@ -41,6 +41,12 @@ none_on_top a s slot is none =
 pub empty_stack : (a : Held) (s : State) (slot : ℕ) → Holds a s → nest_stack.top (stack a.nests slot) ≡ None → length (stack a.nests slot) ≡ 0
 empty_stack a s slot is none =
     height_is s.rows is.places a.config.slots a.nests is.steady.formed.stacked is.nests slot ∙ top_none s.rows slot is.steady.formed.stacked (none_on_top a s slot is none)
+
+-- A slot with a row is one of the tenant's.
+pub slot_there : (a : Held) (s : State) (slot n : ℕ) → Holds a s → top s.rows slot ≡ Some n → nat_lt slot s.config.slots ≡ true
+slot_there a s slot n is on_top =
+    let within = is.steady.tended.slots n slot (height s.rows slot) (top_is s.rows slot n on_top).2 in
+    grind (arith, within)
 
 -- what an advance comes to, by what is on top
 pub advance_on_top : (s : State) (slot n : ℕ) → nat_lt slot s.config.slots ≡ true → top s.rows slot ≡ Some n → advance s slot ≡ unless_full s (advance_run s slot n (run_on s slot n))

@@ -1,6 +1,10 @@
 // Advances of a slot, and arrivals at one.
 ghost use Rattle.std.specs.Prelude.{◌≡◌, ◌<◌, ◌≤◌, ◌||◌, not, ℕ, false, length, Some};
 ghost use Rattle.job_language.specs.declared.answers.Moved.TheVariants as moved;
+ghost use Rattle.job_language.specs.declared.instructions.Instr.{Instr};
+ghost use Rattle.job_language.specs.Program.{is_last};
+ghost use Rattle.job_step.specs.declared.frames.TheConstants.{LAST_PLACE};
+ghost use Rattle.job_step.specs.declared.runs.Stop.TheVariants.{Shared};
 ghost use Rattle.nest_stack.specs.declared.stack.TheConstants.{MAX_HEIGHT};
 ghost use Rattle.nest_stack.specs.Nest.{stack};
 ghost use Rattle.tenant_model.specs.State.{State};
@@ -10,11 +14,13 @@ ghost use Rattle.tenant_model.specs.Advance.{advance, advance_run, begin, nest_p
 ghost use Rattle.arena_rows.specs.HeldChanges.{picked};
 ghost use Rattle.arena_rows.specs.MarkedGroups.{RestsWithTop};
 ghost use Rattle.arena_rows.specs.Represents.{Gives, Holds, Rests, RestsSomehow};
+ghost use Rattle.arena_steps.specs.Runs.{HasRun, RunFits};
 ghost use Rattle.arena_steps.specs.Within.{advance_within, within};
 
 use crate::runs::{after_run, is_idle_wait, run_top};
 use arena_rows::Parts;
 use job_language::{JobFault, Moved};
+use job_step::Run;
 use region_tag::RowId;
 use tenant_model::MAX_HEIGHT;
 
@@ -90,6 +96,25 @@ fn advance_empty(parts: &mut Parts, slot: u8, has_room: bool) -> Moved
     take(parts, slot, row)
 }
 
+/// Advances a slot by the private run of its topmost row.
+fn advance_by(parts: &mut Parts, slot: u8, run: &Run, has_room: bool) -> Moved
+    requires runs { HasRun parts.old slot run.now }
+    requires next { (i : Instr) → run.now.stop ≡ Shared i → is_last i ≡ false → run.now.end.place < LAST_PLACE }
+    requires counted { parts.old.made ≤ parts.old.entries }
+    ensures { (s : State) (n : ℕ) → RunFits parts.old s slot n run.now
+        → Gives parts.new result (within has_room s (unless_full s (advance_run s slot n (run_on s slot n)))) }
+{
+    if is_idle_wait(parts, slot, run) {
+        return advance_waiting(parts, slot, has_room);
+    }
+    if lacks_room(parts, has_room) {
+        return Moved::Full;
+    }
+    // Proof hint: the tenant's steps are limited, and so are its rows.
+    let _ = parts.config();
+    after_run(parts, slot, run)
+}
+
 /// Advances a slot by its topmost row.
 fn advance_row(parts: &mut Parts, slot: u8, has_room: bool) -> Moved
     requires top { RestsWithTop parts.old slot }
@@ -98,15 +123,18 @@ fn advance_row(parts: &mut Parts, slot: u8, has_room: bool) -> Moved
         → Gives parts.new result (within has_room s (unless_full s (advance_run s slot n (run_on s slot n)))) }
 {
     let run = run_top(parts, slot);
-    if is_idle_wait(parts, slot, &run) {
-        return advance_waiting(parts, slot, has_room);
-    }
-    if lacks_room(parts, has_room) {
-        return Moved::Full;
-    }
-    // Proof hint: the tenant's steps are limited, and so are its rows.
-    let _ = parts.config();
-    after_run(parts, slot, &run)
+    advance_by(parts, slot, &run, has_room)
+}
+
+/// Advances a slot by the private run of its topmost row, which was made before.
+pub fn commit_within(parts: &mut Parts, slot: u8, run: &Run, has_room: bool) -> Moved
+    requires runs { HasRun parts.old slot run.now }
+    requires next { (i : Instr) → run.now.stop ≡ Shared i → is_last i ≡ false → run.now.end.place < LAST_PLACE }
+    requires counted { parts.old.made ≤ parts.old.entries }
+    ensures { (s : State) (n : ℕ) → RunFits parts.old s slot n run.now
+        → Gives parts.new result (advance_within has_room s slot) }
+{
+    advance_by(parts, slot, run, has_room)
 }
 
 /// Advances a slot, unless that is an entry and the caller has no room for one: then the answer is

@@ -1,21 +1,5 @@
-use Rattle.std.proofs.Common.{◌≡◌, false, sym, ◌∙◌}
-use Rattle.tenant_model.specs.Advance.{advance_run, after_run, is_idle_wait, run_on}
-use Rattle.arena_steps.proofs.Rooms.{gives-full, gives-room, after_run_enters}
-use Rattle.arena_steps.proofs.Takes.{advance_run_on}
 use Rattle.arena_steps.proofs.advances.advance_row.Goals as goal
-
-pub returns-then-lacks_room : goal.returns-then-lacks_room
-returns-then-lacks_room c = λ s n rests on_top.
-    let slot = c.args.slot in
-    let r = c.run_top-run.result in
-    let run : r ≡ run_on s slot n = c.run_top-run.ensures.run s n rests.holds on_top in
-    let runs : is_idle_wait s n r.count r.stop ≡ false = sym (c.is_idle_wait.ensures s n rests.holds on_top) ∙ c.if-is_idle_wait.false in
-    gives-full c.args.parts.now c.args.has_room s (advance_run s slot n (run_on s slot n)) (after_run s slot n r.count r.end r.stop) (advance_run_on s slot n r run runs) (after_run_enters s slot n r.count r.end r.stop) (sym (c.lacks_room.ensures.value s rests.holds) ∙ c.if-lacks_room.true) rests
 
 pub returns : goal.returns
 returns c = λ s n rests on_top.
-    let slot = c.args.slot in
-    let r = c.run_top-run.result in
-    let run : r ≡ run_on s slot n = c.run_top-run.ensures.run s n rests.holds on_top in
-    let runs : is_idle_wait s n r.count r.stop ≡ false = sym (c.is_idle_wait.ensures s n rests.holds on_top) ∙ c.if-is_idle_wait.false in
-    gives-room c.after_run.new.parts c.args.has_room s (advance_run s slot n (run_on s slot n)) (after_run s slot n r.count r.end r.stop) (advance_run_on s slot n r run runs) c.after_run.result (sym (c.lacks_room.ensures.value s rests.holds) ∙ c.if-lacks_room.false) (c.after_run.ensures s n (record { rests = rests; on_top = on_top; is = run }))
+    c.advance_by.ensures s n (record { rests = rests; on_top = on_top; is = c.run_top-run.ensures.run s n rests.holds on_top })
