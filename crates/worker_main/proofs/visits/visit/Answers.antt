@@ -1,0 +1,24 @@
+use Rattle.std.proofs.Common.{arith}
+use Rattle.worker_main.specs.Slots.{ways}
+use Rattle.worker_main.proofs.Rounds.{again_more, ends_left, ends_home, ends_long}
+use Rattle.worker_main.proofs.visits.visit.Goals as goal
+
+pub returns-in-Left : goal.returns-in-Left
+returns-in-Left g c =
+    let w = ways g.D.DueDoor.views g.D.DueDoor.commits g.D.DueDoor.advances g.D.DueDoor.heights g.D.DueDoor.pauses g.D.DueDoor.homes g.D.CallDoors.arrives in
+    ends_left w c.loop-turn._turn c.args.door.now c.loop-turn.door c.take_round.new.door c.take_round.result c.loop-turn.invariant c.in-Left.is c.take_round.ensures
+
+pub returns-in-Ended : goal.returns-in-Ended
+returns-in-Ended g c =
+    let w = ways g.D.DueDoor.views g.D.DueDoor.commits g.D.DueDoor.advances g.D.DueDoor.heights g.D.DueDoor.pauses g.D.DueDoor.homes g.D.CallDoors.arrives in
+    ends_home w c.loop-turn._turn c.args.door.now c.loop-turn.door c.take_round.new.door c.give_home.new.self c.take_round.result c.loop-turn.invariant c.in-Ended.is c.take_round.ensures c.give_home.ensures
+
+pub loop-turn-preserved : goal.loop-turn-preserved
+loop-turn-preserved g c =
+    let w = ways g.D.DueDoor.views g.D.DueDoor.commits g.D.DueDoor.advances g.D.DueDoor.heights g.D.DueDoor.pauses g.D.DueDoor.homes g.D.CallDoors.arrives in
+    again_more w c.loop-turn._turn c.args.door.now c.loop-turn.door c.take_round.new.door c.take_round.result c.loop-turn.invariant c.in-Again.is c.take_round.ensures
+
+pub returns : goal.returns
+returns g c =
+    let w = ways g.D.DueDoor.views g.D.DueDoor.commits g.D.DueDoor.advances g.D.DueDoor.heights g.D.DueDoor.pauses g.D.DueDoor.homes g.D.CallDoors.arrives in
+    ends_long w c.loop-turn._turn c.args.door.now c.loop-turn.door c.give_home-2.new.self c.loop-turn.invariant (omega (arith, c.loop-turn-test.false)) c.give_home-2.ensures

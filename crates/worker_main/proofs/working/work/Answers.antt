@@ -1,0 +1,8 @@
+use Rattle.worker_main.specs.Slots.{ways}
+use Rattle.worker_main.proofs.Rounds.{turns_more}
+use Rattle.worker_main.proofs.working.work.Goals as goal
+
+pub loop-turn-preserved : goal.loop-turn-preserved
+loop-turn-preserved g c =
+    let w = ways g.D.DueDoor.views g.D.DueDoor.commits g.D.DueDoor.advances g.D.DueDoor.heights g.D.DueDoor.pauses g.D.DueDoor.homes g.D.CallDoors.arrives in
+    turns_more w c.loop-turn._turn c.args.door.now c.loop-turn.door c.take_turn.new.door c.loop-turn.invariant c.take_turn.ensures

@@ -1,0 +1,89 @@
+// The bell that one thread rings and another waits for.
+ghost use Rattle.std.specs.Prelude.{◌≡◌, ◌==◌, ◌&&◌, not, true, if◌then◌else◌, Some, None};
+ghost use Rattle.worker_main.specs.Rings.{next_ring};
+
+use crate::signal::Signal;
+use std::sync::{Condvar, Mutex, Wait};
+
+/// A bell for workers. A thread that waits for it sleeps. Rings are counted, so one that comes
+/// between a failed pop and the wait is not lost, unless 2^64 come there.
+#[derive(Drop)]
+pub struct Bell {
+    rung: Mutex<Rung>,
+    changed: Condvar,
+}
+
+/// How often the bell rang, modulo 2^64, and whether it tells to stop.
+#[derive(Clone, Copy, Drop)]
+struct Rung {
+    times: u64,
+    is_stopped: bool,
+}
+
+impl Rung {
+    fn ring(&mut self)
+        ensures { self.new ≡ record self.old { times = next_ring self.old.times } }
+    {
+        self.times = self.times.wrapping_add(1);
+    }
+
+    fn stop(&mut self)
+        ensures { self.new ≡ record self.old { is_stopped = true } }
+    {
+        self.is_stopped = true;
+    }
+
+    fn heard(&self) -> Option<u64>
+        ensures { result ≡ if self.now.is_stopped then None else Some self.now.times }
+    {
+        if self.is_stopped {
+            None
+        } else {
+            Some(self.times)
+        }
+    }
+
+    fn is_quiet_since(&self, heard: u64) -> bool
+        ensures { result ≡ not self.now.is_stopped && (self.now.times == heard) }
+    {
+        !self.is_stopped && self.times == heard
+    }
+}
+
+impl Bell {
+    /// A bell that has not rung.
+    pub fn new() -> Bell {
+        Bell {
+            rung: Mutex::new(Rung {
+                times: 0,
+                is_stopped: false,
+            }),
+            changed: Condvar::new(),
+        }
+    }
+
+    /// Tells all that listen to stop, from now on.
+    pub fn stop<R: Wait>(&self, rt: &R) {
+        self.rung.lock(rt).stop();
+        self.changed.notify_all();
+    }
+}
+
+impl Signal for Bell {
+    ghost stops = { λ _. Unit {0} };
+
+    fn ring<R: Wait>(&self, rt: &R) {
+        self.rung.lock(rt).ring();
+        self.changed.notify_one();
+    }
+
+    fn listen<R: Wait>(&self, rt: &R) -> Option<u64> {
+        self.rung.lock(rt).heard()
+    }
+
+    fn wait_past<R: Wait>(&self, rt: &R, heard: u64) {
+        let _rung = self
+            .changed
+            .wait_while(rt, self.rung.lock(rt), |rung| rung.is_quiet_since(heard));
+    }
+}

@@ -1,0 +1,73 @@
+// A worker's life.
+ghost use Rattle.std.specs.Prelude.{◌≡◌, ◌≤◌, length};
+ghost use Rattle.worker_main.specs.Slots.{ways};
+ghost use Rattle.worker_main.specs.Works.{TakesTurn, Works};
+
+use crate::doors::CallDoors;
+use crate::gate::Gate;
+use crate::ringer::Ringer;
+use crate::signal::Signal;
+use crate::slot_door::SlotDoor;
+use crate::visits::answer_call;
+use call_queues::{CallQueues, QueuePass};
+use std::sync::Wait;
+
+/// Serves calls until it is told to stop: it pops a call, arrives at its slot and attends it until
+/// the slot is left. It waits where there is no call. The queue pass and the doors come back. A
+/// worker makes at most 2^64 - 1 turns.
+pub fn worker<R, S, G, D>(
+    rt: &R,
+    queues: &CallQueues,
+    pass: QueuePass,
+    doors: D,
+    signal: &S,
+    gate: &G,
+) -> (QueuePass, D)
+where
+    R: Wait,
+    S: Signal,
+    G: Gate,
+    D: CallDoors,
+    requires pass { pass.queues ≡ queues.now.queues }
+    requires tenants { D.tenants doors ≤ length queues.now.config }
+    ensures pass { (result.0.queues ≡ pass.queues) × (result.0.number ≡ pass.number) }
+    ensures works { Works (ways D.views D.commits D.advances D.heights D.pauses D.homes D.arrives) (S.stops signal.now)
+        (record { ringer = record { queues = queues.now; pass = pass }; doors = doors })
+        (record { ringer = record { queues = queues.now; pass = result.0 }; doors = result.1 }) }
+{
+    let mut door = SlotDoor::new(Ringer::new(rt, signal, queues, pass), gate, doors);
+    work(rt, signal, &mut door);
+    door.into_parts()
+}
+
+/// Takes turns until it is told to stop.
+fn work<R, S, G, D>(rt: &R, signal: &S, door: &mut SlotDoor<'_, R, S, G, D>)
+where
+    R: Wait,
+    S: Signal,
+    G: Gate,
+    D: CallDoors,
+    ensures { Works (ways D.views D.commits D.advances D.heights D.pauses D.homes D.arrives) (S.stops signal.now) door.old door.new }
+{
+    for _turn in 0..u64::MAX {
+        let Some(heard) = signal.listen(rt) else {
+            return;
+        };
+        take_turn(rt, signal, door, heard);
+    }
+}
+
+/// Serves a call, or waits if there is none.
+fn take_turn<R, S, G, D>(rt: &R, signal: &S, door: &mut SlotDoor<'_, R, S, G, D>, heard: u64)
+where
+    R: Wait,
+    S: Signal,
+    G: Gate,
+    D: CallDoors,
+    ensures { TakesTurn (ways D.views D.commits D.advances D.heights D.pauses D.homes D.arrives) door.old door.new }
+{
+    match door.pop() {
+        Some(call) => answer_call(door, call),
+        None => signal.wait_past(rt, heard),
+    }
+}
