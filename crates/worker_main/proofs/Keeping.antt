@@ -1,5 +1,5 @@
 -- Whatever a thread does at the queues, it stays at the same queues with the same pass.
-use Rattle.std.proofs.Common.{◌≡◌, inl, inr, ◌⊎◌, ℕ, zero, suc, Bool, true, false, List, [], ◌∷◌, Option, Some, None, refl, sym, ◌∙◌, ap, subst}
+use Rattle.std.proofs.Common.{◌≡◌, inl, inr, ℕ, zero, suc, List, [], ◌∷◌, Option, Some, None, sym, ◌∙◌, ap, subst}
 use Rattle.job_language.specs.declared.answers.Moved.{Moved}
 use Rattle.job_language.specs.declared.answers.Moved.TheVariants as moved
 use Rattle.job_language.specs.declared.answers.Came.{Came}
@@ -13,11 +13,11 @@ use Rattle.nested_wait.specs.declared.attending.Attended.{Attended}
 use Rattle.nested_wait.specs.declared.attending.Attended.TheVariants.{Below, Full, Stopped}
 use Rattle.worker_main.specs.declared.visits.Round.{Round}
 use Rattle.worker_main.specs.declared.visits.Round.TheVariants.{Again, Left, Ended}
-use Rattle.call_queues.specs.Queues.{QueueSet, QueuesSeen, PassSeen}
-use Rattle.worker_main.specs.Pushes.{RingerSeen, Pushes, PushesDue, Pops}
-use Rattle.worker_main.specs.Slots.{SlotSeen, Ways, views_of, commits_of, advances_of, heights_of, pauses_of, Homes, Arrives, PopsAt, AttendsSlot}
-use Rattle.worker_main.specs.Visits.{AfterAttending, TakesRound, GoesAgain, EndsVisit, Visits, AfterArriving, Comes}
-use Rattle.worker_main.specs.Works.{AfterPopping, TakesTurn, TakesTurns, Works}
+use Rattle.call_queues.specs.Queues.{QueuesSeen, PassSeen}
+use Rattle.worker_main.specs.Pushes.{RingerSeen, Pushes, PushesDue}
+use Rattle.worker_main.specs.Slots.{SlotSeen, Ways, views_of, commits_of, advances_of, heights_of, pauses_of, AttendsSlot}
+use Rattle.worker_main.specs.Visits.{AfterAttending, TakesRound, GoesAgain, EndsVisit, Visits, AfterArriving}
+use Rattle.worker_main.specs.Works.{AfterPopping, TakesTurns, Works}
 
 -- the same queues, and a pass of the same queues with the same number
 abbrev pub IsKept : RingerSeen → RingerSeen → Type 0

@@ -1,5 +1,5 @@
 -- One thread at the queues: what its pushes and pops lead to.
-use Rattle.std.specs.Prelude.{◌≡◌, ℕ, ◌-◌, ◌^◌, ◌⊎◌, List, length, Option, Some, None, MatchOption}
+use Rattle.std.specs.Prelude.{◌≡◌, ◌-◌, ◌^◌, ◌⊎◌, length, Option, Some, None, MatchOption}
 use Rattle.world_model.specs.declared.calls.Call.{Call}
 use Rattle.call_queues.specs.Config.{level_in, room_at}
 use Rattle.call_queues.specs.Rule.{with_pushed}

@@ -16,6 +16,7 @@ use world_model::Call;
 
 /// The door of a worker, a caller or a session. It pushes the call of each slot that becomes due and
 /// rings, and its segments pass a gate.
+#[derive(Drop)]
 pub struct SlotDoor<'q, R: Wait, S: Signal, G: Gate, D: DueDoor> {
     ringer: Ringer<'q, R, S>,
     gate: &'q G,
