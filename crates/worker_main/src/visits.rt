@@ -47,7 +47,7 @@ where
     D: CallDoors,
     ensures { Visits (ways D.views D.commits D.advances D.heights D.pauses D.homes D.arrives) door.old door.new }
 {
-    for _turn in 0..u64::MAX {
+    for _round in 0..u64::MAX {
         match take_round(door) {
             Round::Again => {}
             Round::Left => return,

@@ -2,5 +2,5 @@ use Rattle.worker_main.specs.Slots.{ways}
 use Rattle.worker_main.specs.Visits.{GoesAgain}
 use Rattle.worker_main.proofs.visits.visit.Given as goal
 
-abbrev pub invariant-loop-turn : goal.invariant-loop-turn
-invariant-loop-turn g l = GoesAgain (ways g.D.DueDoor.views g.D.DueDoor.commits g.D.DueDoor.advances g.D.DueDoor.heights g.D.DueDoor.pauses g.D.DueDoor.homes g.D.CallDoors.arrives) l._turn l.fn.door l.door
+abbrev pub invariant-loop-round : goal.invariant-loop-round
+invariant-loop-round g l = GoesAgain (ways g.D.DueDoor.views g.D.DueDoor.commits g.D.DueDoor.advances g.D.DueDoor.heights g.D.DueDoor.pauses g.D.DueDoor.homes g.D.CallDoors.arrives) l._round l.fn.door l.door
