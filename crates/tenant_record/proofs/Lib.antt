@@ -1,0 +1,5 @@
+pub mod Taking
+pub mod Histories
+pub mod Calling
+pub mod Rightness
+pub mod Kept

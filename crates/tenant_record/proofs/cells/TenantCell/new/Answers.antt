@@ -1,0 +1,22 @@
+use Rattle.std.proofs.Common.{rules, arith, ap, sym, ◌∙◌, ◌≡◌, ◌<◌, ◌≤◌, ◌==◌, ℕ, refl, length, subst}
+use Rattle.job_language.specs.Recorded.{is_entry}
+use Rattle.job_language.specs.declared.answers.Answer.TheVariants as answer
+use Rattle.job_language.specs.declared.answers.Moved.{Moved}
+use Rattle.job_language.specs.declared.steps.Step.TheVariants as steps
+use Rattle.job_language.specs.declared.tenants.TheConstants.{MAX_SLOTS}
+use Rattle.tenant_record.specs.Cell.{CellData, state_of}
+use Rattle.tenant_record.specs.CellFields.{cell_data}
+use Rattle.tenant_record.specs.History.{Takes}
+use Rattle.tenant_record.specs.Locked.{IsMoved, IsArrived, IsAsked}
+use Rattle.tenant_record.specs.StandIn.{advance_within, arrive_within, Commits}
+use Rattle.tenant_record.proofs.Histories.{well_formed}
+use Rattle.tenant_record.proofs.Kept.{first_right, first_counted}
+use Rattle.tenant_record.proofs.cells.TenantCell.new.Goals as goal
+
+pub invariant_of-result : goal.invariant_of-result
+invariant_of-result c = record {
+  right = rw (c.in_ok-new.ensures, c.in_ok-with_capacity.ensures.items, c.in_ok-new-2.ensures.home, c.in_ok-new-2.ensures.stills) (first_right c.args.tenant c.args.config c.tenant.ensures.valid);
+  counts = rw (c.in_ok-new.ensures, c.in_ok-new-2.ensures.counts) first_counted;
+  valid = rw c.in_ok-new.ensures c.tenant.ensures.valid;
+  room = rw c.in_ok-new.ensures (rw (← c.tenant.ensures.value) c.in_ok-with_capacity.ensures.capacity);
+}

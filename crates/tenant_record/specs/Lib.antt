@@ -1,0 +1,12 @@
+pub mod StandIn
+pub mod History
+pub mod Replayed
+pub mod ReplayFields
+pub mod PassData
+pub mod PassFields
+pub mod SeatData
+pub mod SeatFields
+pub mod Places
+pub mod Cell
+pub mod Locked
+pub mod CellFields

@@ -1,0 +1,83 @@
+-- Passes: what their holder was told.
+use Rattle.std.specs.Prelude.{ℕ, ◌≡◌, nat_lt, Bool, true, false, ◌||◌, List, [], ◌∷◌, ◌++◌, length, map, Option, Some, None}
+use Rattle.job_language.specs.declared.answers.Answer.TheVariants as answer
+use Rattle.job_language.specs.declared.answers.Came.TheVariants.{At}
+use Rattle.job_language.specs.declared.answers.Moved.{Moved}
+use Rattle.job_language.specs.declared.answers.Moved.TheVariants as moved
+use Rattle.job_language.specs.declared.steps.Entry.{Entry}
+use Rattle.job_language.specs.declared.steps.Step.TheVariants.{Arrive, Advance}
+use Rattle.tenant_record.specs.History.{entries_of}
+use Rattle.tenant_record.specs.declared.notes.Told.{Told}
+use Rattle.tenant_record.specs.declared.notes.Told.TheVariants.{Arrived, Ran, Nested, Freed}
+
+-- The pass of a slot: how many entries its log may have, the entries of the slot that its holders were told of, in order, whether one of them was told that the history is at its limit, and how many entries the history had at the last idle advance, if the slot was not touched since.
+pub record PassData : Type 0 where
+  pub tenant : ℕ
+  pub slot : ℕ
+  pub limit : ℕ
+  pub log : List Entry
+  pub full : Bool
+  pub still : Option ℕ
+
+abbrev pub has_room : PassData → Bool
+has_room p = nat_lt (length p.log) p.limit
+
+-- the entry of a slot that a pass was told of
+abbrev pub entry_told : ℕ → Told → Entry
+entry_told slot (Arrived row) = record { step = Arrive slot; answer = answer.Came (At row) }
+entry_told slot Ran = record { step = Advance slot; answer = answer.Moved moved.Ran }
+entry_told slot (Nested row) = record { step = Advance slot; answer = answer.Moved (moved.Nested row) }
+entry_told slot Freed = record { step = Advance slot; answer = answer.Moved moved.Freed }
+
+abbrev pub log_of : ℕ → List Told → List Entry
+log_of slot log = map (entry_told slot) log
+
+-- what is told of an advance, if it is an entry
+abbrev pub told_of : Moved → List Told
+told_of moved.Ran = Ran ∷ []
+told_of (moved.Nested row) = Nested row ∷ []
+told_of moved.Freed = Freed ∷ []
+told_of m = []
+
+abbrev pub is_full_answer : Moved → Bool
+is_full_answer moved.Full = true
+is_full_answer m = false
+
+-- since when the slot is idle, where the history had so many entries
+abbrev pub still_after : Option ℕ → Moved → (entries : ℕ) → Option ℕ
+still_after still moved.Idle entries = Some entries
+still_after still moved.Ran entries = None
+still_after still (moved.Nested row) entries = None
+still_after still moved.Freed entries = None
+still_after still m entries = still
+
+-- Does the pass go home after that answer?
+abbrev pub goes_home : Moved → Bool
+goes_home moved.Freed = true
+goes_home moved.Left = true
+goes_home m = false
+
+-- the pass after an advance of its slot with that answer, where the history had so many entries before it
+abbrev pub advanced : PassData → Moved → (entries : ℕ) → PassData
+advanced p m entries = record p {
+  log = p.log ++ entries_of (Advance p.slot) (answer.Moved m);
+  full = p.full || is_full_answer m;
+  still = still_after p.still m entries;
+}
+
+-- the pass after an arrival at its slot that found a row
+abbrev pub arrived : PassData → (row : ℕ) → PassData
+arrived p row = record p { log = p.log ++ entries_of (Arrive p.slot) (answer.Came (At row)); still = None }
+
+-- the pass after a job was placed on its slot
+abbrev pub placed : PassData → PassData
+placed p = record p { still = None }
+
+-- a pass that nobody had yet
+abbrev pub first_pass : (tenant limit slot : ℕ) → PassData
+first_pass tenant limit slot = record { tenant = tenant; slot = slot; limit = limit; log = []; full = false; still = None }
+
+-- the pass of that tenant's slot
+pub record IsPassOf (t s : ℕ) (p : PassData) : Type 0 where
+  pub tenant : p.tenant ≡ t
+  pub slot : p.slot ≡ s

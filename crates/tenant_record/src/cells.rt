@@ -1,0 +1,207 @@
+// A tenant's cell: what its lock keeps.
+ghost use Rattle.std.specs.Prelude.{◌≡◌, ◌<◌, ◌++◌, length, IfOk, IfSome, true, count_by, vec_len, vec_capacity, slice_set};
+ghost use Rattle.job_language.specs.Recorded.{is_recorded_reply};
+ghost use Rattle.job_language.specs.Tenant.{IsValidTenant};
+ghost use Rattle.tenant_model.specs.Walks.{height};
+ghost use Rattle.tenant_record.specs.Cell.{IsRight, state_of, first_cell, is_on, arrival, AnswersAsk, askers_of};
+ghost use Rattle.tenant_record.specs.Locked.{IsMoved, IsArrived, IsAsked, given_home};
+ghost use Rattle.tenant_record.specs.PassData.{has_room};
+ghost use Rattle.tenant_record.specs.StandIn.{advance_within, Commits, IsSeen};
+
+use crate::passes::Pass;
+use crate::places::{put, room_at};
+use crate::replay::Replay;
+use crate::seats::Seat;
+use crate::slots::{Advanced, Arrived, SlotBooks};
+use job_language::{Came, Entry, Error, Reply, Request, Tenant, TenantConfig};
+use job_step::{Segment, View};
+use std::alloc::{AllocError, Global};
+use std::marker::Model;
+
+/// A tenant's arena with its history, and what is known of its asks and slots. It is right by its
+/// type: the history replays to the arena, each ask in it has the number of its seat, and the pass
+/// of each reserved slot with nothing on it is home.
+#[derive(Drop)]
+pub struct TenantCell {
+    tenant: usize,
+    replay: Replay,
+    askers: Vec<usize>,
+    slots: SlotBooks,
+}
+
+impl Model for TenantCell {
+    ghost use Rattle.tenant_record.specs.Cell.{CellData};
+    ghost use Rattle.tenant_record.specs.CellFields.{cell_data, IsCell};
+
+    ghost Value = { CellData };
+
+    ghost view = { cell_data };
+
+    ghost invariant = { IsCell };
+}
+
+/// What an ask came to.
+#[derive(Drop)]
+pub struct Asked {
+    pub reply: Reply,
+    /// The slot that a worker is called to.
+    pub due: Option<u8>,
+    /// The pass of the slot where a job was placed.
+    pub pass: Option<Pass>,
+}
+
+impl TenantCell {
+    /// A tenant that has done nothing yet, whose passes are all home, with room for all that it may
+    /// record. Tenants are numbered from 0.
+    pub fn new(
+        alloc: Global,
+        tenant: usize,
+        config: TenantConfig,
+    ) -> Result<TenantCell, AllocError>
+        ensures { IfOk result (λ cell. cell ≡ first_cell tenant config) }
+    {
+        let steps = config.tenant().steps;
+        Ok(TenantCell {
+            tenant,
+            replay: Replay::new(alloc, config)?,
+            askers: Vec::with_capacity(alloc, steps)?,
+            slots: SlotBooks::new(alloc, tenant, &config)?,
+        })
+    }
+
+    /// The number of its tenant.
+    pub fn tenant(&self) -> usize
+        ensures { result ≡ self.now.tenant }
+    {
+        self.tenant
+    }
+
+    /// What the tenant is given.
+    pub fn config(&self) -> &Tenant
+        ensures value { result.now ≡ self.now.config }
+        ensures valid { IsValidTenant self.now.config }
+    {
+        self.replay.config()
+    }
+
+    /// The entries so far.
+    pub fn history(&self) -> &[Entry]
+        ensures value { result.now ≡ self.now.history }
+        ensures right { IsRight self.now }
+    {
+        self.replay.history()
+    }
+
+    /// The number of the seat of each ask in the history, in order.
+    pub fn askers(&self) -> &[usize]
+        ensures { result.now ≡ self.now.askers }
+    {
+        self.askers.as_slice()
+    }
+
+    /// How many entries of the history are of a slot.
+    pub fn count(&self, slot: u8) -> usize
+        requires { slot < self.now.config.slots }
+        ensures { result ≡ count_by (is_on slot) self.now.history }
+    {
+        self.slots.counts[slot as usize]
+    }
+
+    /// What is seen of a pass's slot: its topmost frame, if another handle on the frame's program is
+    /// granted.
+    pub fn view(&self, pass: &Pass) -> View
+        ensures { IsSeen (state_of self.now) pass.now.slot result }
+    {
+        self.replay.view(pass.slot())
+    }
+
+    /// How many rows are on a pass's slot.
+    pub fn height(&self, pass: &Pass) -> usize
+        ensures { result ≡ height (state_of self.now).rows pass.now.slot }
+    {
+        self.replay.height(pass.slot())
+    }
+
+    /// Answers an ask of a seat. The arena, the history and the seat keep one copy of the request each;
+    /// if one is refused, that is error 9, and nothing has changed.
+    pub fn ask(&mut self, seat: &mut Seat, request: Request) -> Asked
+        ensures answer { AnswersAsk self.old seat.old request result.reply self.new }
+        ensures asked { IsAsked self.old seat.old request result.reply result.due result.pass self.new seat.new }
+    {
+        let (Ok(copy), Ok(kept)) = (request.try_clone(), request.try_clone()) else {
+            return Asked {
+                reply: Reply::Refused(Error::NoMemory),
+                due: None,
+                pass: None,
+            };
+        };
+        let reply = self.replay.ask(request, copy, seat.has_room());
+        seat.tell(kept, &reply);
+        note_asker(&mut self.askers, seat.number(), &reply);
+        let (due, pass) = self.slots.asked(&self.replay, &reply);
+        Asked { reply, due, pass }
+    }
+
+    /// Lets a worker arrive at a slot. Nothing happens if the slot's pass is out.
+    pub fn arrive(&mut self, slot: u8) -> Arrived
+        ensures answer { result.came ≡ (arrival self.old slot).0 }
+        ensures state { state_of self.new ≡ (arrival self.old slot).1 }
+        ensures arrived { IsArrived self.old slot result.came result.due result.pass self.new }
+    {
+        let Some(has_room) = room_at(self.slots.home.as_slice(), slot) else {
+            return Arrived {
+                came: Came::Nothing,
+                due: None,
+                pass: None,
+            };
+        };
+        let came = self.replay.arrive(slot, has_room);
+        self.slots.arrived(&self.replay, slot, came)
+    }
+
+    /// Advances the slot of a pass of this tenant.
+    pub fn advance(&mut self, pass: Pass) -> Advanced
+        requires tenant { pass.tenant ≡ self.old.tenant }
+        requires slot { pass.slot < self.old.config.slots }
+        ensures answer { result.moved ≡ (advance_within (has_room pass) (state_of self.old) pass.slot).0 }
+        ensures state { state_of self.new ≡ (advance_within (has_room pass) (state_of self.old) pass.slot).1 }
+        ensures moved { IsMoved self.old pass result.moved result.due result.pass self.new }
+    {
+        let entries = self.replay.history().len();
+        let moved = self.replay.advance(pass.slot(), pass.has_room());
+        self.slots.moved(&self.replay, pass, moved, entries)
+    }
+
+    /// Puts a private run in the place of an advance of the slot of a pass of this tenant. It is
+    /// `Stale` if its frame is no longer the slot's topmost one.
+    pub fn commit(&mut self, pass: Pass, segment: Segment) -> Advanced
+        requires tenant { pass.tenant ≡ self.old.tenant }
+        requires slot { pass.slot < self.old.config.slots }
+        ensures answer { Commits (has_room pass) (state_of self.old) pass.slot segment result.moved (state_of self.new) }
+        ensures moved { IsMoved self.old pass result.moved result.due result.pass self.new }
+    {
+        let entries = self.replay.history().len();
+        let moved = self.replay.commit(pass.slot(), segment, pass.has_room());
+        self.slots.moved(&self.replay, pass, moved, entries)
+    }
+
+    /// Puts a pass of this tenant home. Nothing else changes.
+    pub fn give_home(&mut self, pass: Pass)
+        requires tenant { pass.tenant ≡ self.old.tenant }
+        requires slot { pass.slot < self.old.config.slots }
+        ensures { self.new ≡ given_home self.old pass }
+    {
+        put(self.slots.home.as_mut_slice(), pass);
+    }
+}
+
+/// Notes the seat of an ask, if the ask is recorded.
+fn note_asker(askers: &mut Vec<usize>, number: usize, reply: &Reply)
+    requires { is_recorded_reply reply.now ≡ true → vec_len askers.old < vec_capacity askers.old }
+    ensures items { askers.new.items ≡ askers.old.items ++ askers_of number reply.now }
+    ensures capacity { vec_capacity askers.new ≡ vec_capacity askers.old }
+{
+    if reply.is_recorded() {
+        askers.push_reserved(number);
+    }
+}

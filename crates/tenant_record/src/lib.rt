@@ -1,0 +1,18 @@
+//! One tenant's arena with the history that replays to it, the tokens of those who move and ask it,
+//! and the cell that its lock keeps.
+#![tactic(auto)]
+
+mod arena;
+mod cells;
+mod notes;
+mod passes;
+mod places;
+mod replay;
+mod seats;
+mod slots;
+
+pub use cells::{Asked, TenantCell};
+pub use passes::Pass;
+pub use replay::Replay;
+pub use seats::Seat;
+pub use slots::{Advanced, Arrived};

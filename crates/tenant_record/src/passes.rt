@@ -1,0 +1,127 @@
+// Passes: the right to move a slot, with what its holders were told.
+ghost use Rattle.std.specs.Prelude.{◌≡◌, ◌<◌, length, true, IfOk};
+ghost use Rattle.job_language.specs.Recorded.{is_entry};
+ghost use Rattle.job_language.specs.declared.answers.Answer.{Answer};
+ghost use Rattle.tenant_record.specs.PassData.{has_room, advanced, arrived, placed, first_pass, is_full_answer, still_after, goes_home};
+
+use crate::notes::{Told, note_move};
+use job_language::Moved;
+use std::alloc::{AllocError, Global};
+use std::marker::Model;
+
+/// The right to move a slot of a tenant. It can't be copied, and it keeps what its holders were
+/// told: the entries of the slot, in order, whether a move was refused as at a full history, and at
+/// which count of entries the slot was idle, if it was not touched since.
+#[derive(Drop)]
+pub struct Pass {
+    tenant: usize,
+    slot: u8,
+    limit: usize,
+    log: Vec<Told>,
+    full: bool,
+    still: Option<usize>,
+}
+
+impl Model for Pass {
+    ghost use Rattle.tenant_record.specs.PassData.{PassData};
+    ghost use Rattle.tenant_record.specs.PassFields.{pass_data, IsPass};
+
+    ghost Value = { PassData };
+
+    ghost view = { pass_data };
+
+    ghost invariant = { IsPass };
+}
+
+impl Pass {
+    /// The pass of a slot that nobody had yet, with room for `limit` entries.
+    pub(crate) fn new(
+        alloc: Global,
+        tenant: usize,
+        limit: usize,
+        slot: u8,
+    ) -> Result<Pass, AllocError>
+        ensures { IfOk result (λ pass. pass ≡ first_pass tenant limit slot) }
+    {
+        Ok(Pass {
+            tenant,
+            slot,
+            limit,
+            log: Vec::with_capacity(alloc, limit)?,
+            full: false,
+            still: None,
+        })
+    }
+
+    /// The number of its tenant, from 0.
+    pub fn tenant(&self) -> usize
+        ensures { result ≡ self.now.tenant }
+    {
+        self.tenant
+    }
+
+    /// The number of its slot, from 0.
+    pub fn slot(&self) -> u8
+        ensures { result ≡ self.now.slot }
+    {
+        self.slot
+    }
+
+    /// How many entries of its slot its holders were told of.
+    pub fn count(&self) -> usize
+        ensures { result ≡ length self.now.log }
+    {
+        self.log.len()
+    }
+
+    /// Whether its log has room for an entry.
+    pub fn has_room(&self) -> bool
+        ensures { result ≡ has_room self.now }
+    {
+        self.log.len() < self.limit
+    }
+
+    /// Tells its holder how an advance was answered, which came when the history had so many entries.
+    pub(crate) fn tell_move(&mut self, moved: Moved, entries: usize)
+        requires { is_entry (Answer.Moved moved) ≡ true → has_room self.old ≡ true }
+        ensures { self.new ≡ advanced self.old moved entries }
+    {
+        note_move(&mut self.log, moved);
+        self.full = self.full || matches!(moved, Moved::Full);
+        self.still = still_after(self.still, moved, entries);
+    }
+
+    /// Tells its holder that an arrival found a row.
+    pub(crate) fn tell_arrival(&mut self, row: u64)
+        requires { has_room self.old ≡ true }
+        ensures { self.new ≡ arrived self.old row }
+    {
+        self.log.push_reserved(Told::Arrived(row));
+        self.still = None;
+    }
+
+    /// Tells its holder that a job was placed on its slot.
+    pub(crate) fn tell_placed(&mut self)
+        ensures { self.new ≡ placed self.old }
+    {
+        self.still = None;
+    }
+}
+
+/// Since when a slot is idle, after an advance that came when the history had so many entries.
+pub(crate) fn still_after(still: Option<usize>, moved: Moved, entries: usize) -> Option<usize>
+    ensures { result ≡ still_after still moved entries }
+{
+    match moved {
+        Moved::Idle => Some(entries),
+        Moved::Ran | Moved::Nested(_) | Moved::Freed => None,
+        Moved::Left | Moved::Stale | Moved::Full => still,
+    }
+}
+
+/// Whether the pass goes home after an advance with that answer.
+pub(crate) fn goes_home(moved: Moved) -> bool
+    ensures { result ≡ goes_home moved }
+{
+    matches!(moved, Moved::Freed | Moved::Left)
+}

@@ -1,0 +1,178 @@
+// What is kept of each slot of a tenant.
+ghost use Rattle.std.specs.Prelude.{◌≡◌, ◌<◌, ◌≤◌, ◌+◌, ◌^◌, ◌++◌, [], ◌∷◌, length, IfOk, IfSome, Some, None, true, replicate, if◌then◌else◌, slice_set, slice_index_or};
+ghost use Rattle.job_language.specs.Recorded.{is_entry, is_recorded_reply};
+ghost use Rattle.job_language.specs.declared.answers.Answer.{Answer};
+ghost use Rattle.job_language.specs.declared.tenants.TheConstants.{MAX_SLOTS};
+ghost use Rattle.tenant_model.specs.Told.{placed_on};
+ghost use Rattle.tenant_record.specs.Cell.{counted, touched, entered};
+ghost use Rattle.tenant_record.specs.Locked.{pass_back, home_after, home_arrived};
+ghost use Rattle.tenant_record.specs.PassData.{has_room, still_after};
+ghost use Rattle.tenant_record.specs.Places.{place, pass_in, due_after, woken, taken, placed_pass, arrived_pass, first_places};
+ghost use Rattle.tenant_record.specs.Replayed.{state_of};
+
+use crate::passes::{Pass, still_after};
+use crate::places::{Place, admit, call, first_places, hand_out, keep};
+use crate::replay::Replay;
+use job_language::{Answer, Came, Moved, Reply, TenantConfig};
+use std::alloc::{AllocError, Global};
+
+/// What is kept of each slot of a tenant: how many entries it has, at which count of entries it was
+/// idle, if it was not touched since, and where its pass is.
+#[derive(Drop)]
+pub(crate) struct SlotBooks {
+    pub(crate) counts: [usize; 16],
+    pub(crate) stills: [Option<usize>; 16],
+    pub(crate) home: Vec<Place>,
+}
+
+/// What an advance of a slot, or a commit there, came to.
+#[derive(Drop)]
+pub struct Advanced {
+    pub moved: Moved,
+    /// The slot that a worker is called to.
+    pub due: Option<u8>,
+    /// The slot's pass, unless it went home.
+    pub pass: Option<Pass>,
+}
+
+/// What an arrival at a slot came to.
+#[derive(Drop)]
+pub struct Arrived {
+    pub came: Came,
+    /// The slot that a worker is called to.
+    pub due: Option<u8>,
+    /// The slot's pass, if the arrival found a row.
+    pub pass: Option<Pass>,
+}
+
+impl SlotBooks {
+    /// The slots of a tenant that has done nothing yet: all passes are home.
+    pub(crate) fn new(
+        alloc: Global,
+        tenant: usize,
+        config: &TenantConfig,
+    ) -> Result<SlotBooks, AllocError>
+        ensures counts { IfOk result (λ slots. slots.counts ≡ replicate 16 0) }
+        ensures stills { IfOk result (λ slots. slots.stills ≡ replicate 16 None) }
+        ensures home { IfOk result (λ slots. slots.home.items ≡ first_places tenant config.now.steps config.now.slots) }
+    {
+        let config = config.tenant();
+        Ok(SlotBooks {
+            counts: [0; 16],
+            stills: [None; 16],
+            home: first_places(alloc, tenant, config.steps, config.slots)?,
+        })
+    }
+
+    /// Takes note of an advance of a pass's slot, which came when the history had so many entries.
+    pub(crate) fn moved(
+        &mut self,
+        replay: &Replay,
+        pass: Pass,
+        moved: Moved,
+        entries: usize,
+    ) -> Advanced
+        requires slot { pass.slot < length self.old.home.items }
+        requires slots { length self.old.home.items ≡ replay.now.config.slots }
+        requires most { replay.now.config.slots ≤ MAX_SLOTS }
+        requires room { is_entry (Answer.Moved moved) ≡ true → has_room pass ≡ true }
+        requires few { slice_index_or self.old.counts pass.slot 0 + 1 < 2 ^ 64 }
+        ensures moved { result.moved ≡ moved }
+        ensures counts { self.new.counts ≡ counted self.old.counts pass.slot (is_entry (Answer.Moved moved)) }
+        ensures stills { self.new.stills ≡ slice_set self.old.stills pass.slot (still_after (slice_index_or self.old.stills pass.slot None) moved entries) }
+        ensures pass { result.pass ≡ pass_back pass moved entries }
+        ensures due { result.due ≡ due_after (is_entry (Answer.Moved moved)) replay.now.config (state_of replay.now) (home_after self.old.home.items pass moved entries) }
+        ensures home { self.new.home.items ≡ woken result.due (home_after self.old.home.items pass moved entries) }
+    {
+        let mut pass = pass;
+        let slot = pass.slot();
+        let has_entered = Answer::Moved(moved).is_entry();
+        pass.tell_move(moved, entries);
+        count(&mut self.counts, slot, has_entered);
+        mark(&mut self.stills, slot, moved, entries);
+        let pass = keep(self.home.as_mut_slice(), pass, moved);
+        let due = call(self.home.as_mut_slice(), replay, has_entered);
+        Advanced { moved, due, pass }
+    }
+
+    /// Takes note of an arrival at a slot.
+    pub(crate) fn arrived(&mut self, replay: &Replay, slot: u8, came: Came) -> Arrived
+        requires slot { slot < length self.old.home.items }
+        requires slots { length self.old.home.items ≡ replay.now.config.slots }
+        requires most { replay.now.config.slots ≤ MAX_SLOTS }
+        requires room { is_entry (Answer.Came came) ≡ true → IfSome (pass_in (place self.old.home.items slot)) (λ p. has_room p ≡ true) }
+        requires few { slice_index_or self.old.counts slot 0 + 1 < 2 ^ 64 }
+        ensures came { result.came ≡ came }
+        ensures counts { self.new.counts ≡ counted self.old.counts slot (is_entry (Answer.Came came)) }
+        ensures stills { self.new.stills ≡ touched (entered slot (is_entry (Answer.Came came))) self.old.stills }
+        ensures pass { result.pass ≡ arrived_pass came (pass_in (place self.old.home.items slot)) }
+        ensures due { result.due ≡ due_after (is_entry (Answer.Came came)) replay.now.config (state_of replay.now) (home_arrived self.old.home.items slot came) }
+        ensures home { self.new.home.items ≡ woken result.due (home_arrived self.old.home.items slot came) }
+    {
+        let has_entered = Answer::Came(came).is_entry();
+        count(&mut self.counts, slot, has_entered);
+        touch(&mut self.stills, if has_entered { Some(slot) } else { None });
+        let pass = admit(self.home.as_mut_slice(), slot, came);
+        let due = call(self.home.as_mut_slice(), replay, has_entered);
+        Arrived { came, due, pass }
+    }
+
+    /// Takes note of an ask with that reply. It gives the slot that is due, and the pass of the slot where
+    /// a job was placed.
+    pub(crate) fn asked(&mut self, replay: &Replay, reply: &Reply) -> (Option<u8>, Option<Pass>)
+        requires placed { IfSome (placed_on reply.now) (λ slot. slot < length self.old.home.items) }
+        requires slots { length self.old.home.items ≡ replay.now.config.slots }
+        requires most { replay.now.config.slots ≤ MAX_SLOTS }
+        ensures counts { self.new.counts ≡ self.old.counts }
+        ensures stills { self.new.stills ≡ touched (placed_on reply.now) self.old.stills }
+        ensures pass { result.1 ≡ placed_pass (placed_on reply.now) self.old.home.items }
+        ensures due { result.0 ≡ due_after (is_recorded_reply reply.now) replay.now.config (state_of replay.now) (taken (placed_on reply.now) self.old.home.items) }
+        ensures home { self.new.home.items ≡ woken result.0 (taken (placed_on reply.now) self.old.home.items) }
+    {
+        let placed = placed_on(reply);
+        touch(&mut self.stills, placed);
+        let pass = hand_out(self.home.as_mut_slice(), placed);
+        let due = call(self.home.as_mut_slice(), replay, reply.is_recorded());
+        (due, pass)
+    }
+}
+
+/// Counts an entry of a slot, if there is one.
+fn count(counts: &mut [usize; 16], slot: u8, has_entered: bool)
+    requires slot { slot < 16 }
+    requires few { slice_index_or counts.old slot 0 + 1 < 2 ^ 64 }
+    ensures { counts.new ≡ counted counts.old slot has_entered }
+{
+    if has_entered {
+        counts[slot as usize] += 1;
+    }
+}
+
+/// Notes since when a slot is idle, after an advance of it.
+fn mark(stills: &mut [Option<usize>; 16], slot: u8, moved: Moved, entries: usize)
+    requires { slot < 16 }
+    ensures { stills.new ≡ slice_set stills.old slot (still_after (slice_index_or stills.old slot None) moved entries) }
+{
+    let at = slot as usize;
+    stills[at] = still_after(stills[at], moved, entries);
+}
+
+/// Notes that a slot, if one is named, is not known to be idle.
+fn touch(stills: &mut [Option<usize>; 16], slot: Option<u8>)
+    requires { IfSome slot (λ slot. slot < 16) }
+    ensures { stills.new ≡ touched slot stills.old }
+{
+    if let Some(slot) = slot {
+        stills[slot as usize] = None;
+    }
+}
+
+/// The slot where a job was placed.
+fn placed_on(reply: &Reply) -> Option<u8>
+    ensures { result ≡ placed_on reply.now }
+{
+    match reply {
+        Reply::Placed(_, slot) => Some(*slot),
+        _ => None,
+    }
+}
