@@ -188,10 +188,10 @@ moved_right c d p m due q valid r is history takes tenant low long idle =
       askers = rw (is.askers, is.history) (r.askers ∙ sym (asks_same c.history (steps.Advance p.slot) (answer.Moved m) refl));
       stills = rw (is.config, is.history, is.stills) (moved_stills c.config c.history c.stills p.slot r.stills long m idle);
       home =
-        let kept : AreHome c.config (state_of d) left = home_kept c.config c.history (steps.Advance p.slot) (answer.Moved m) (state_of d) c.home left valid r.history r.home takes
-              (λ o apart in_before. woken_in (returned c.home back m) due o (returned_in c.home back m o in_before))
-              (λ o here freed. woken_in (returned c.home back m) due o (freed_in c.home back m o inside (same_slot p.slot o here) freed)) in
-        subst (λ k. AreHome k (state_of d) d.home) (sym is.config) (subst (λ l. AreHome c.config (state_of d) l) (sym is.home) kept);
+          let kept : AreHome c.config (state_of d) left = home_kept c.config c.history (steps.Advance p.slot) (answer.Moved m) (state_of d) c.home left valid r.history r.home takes
+          (λ o apart in_before. woken_in (returned c.home back m) due o (returned_in c.home back m o in_before))
+          (λ o here freed. woken_in (returned c.home back m) due o (freed_in c.home back m o inside (same_slot p.slot o here) freed)) in
+          subst (λ k. AreHome k (state_of d) d.home) (sym is.config) (subst (λ l. AreHome c.config (state_of d) l) (sym is.home) kept);
       places = subst (λ k. ArePlaced k d.home) (sym is.tenant) (subst (λ l. ArePlaced c.tenant l) (sym is.home) (woken_placed c.tenant (returned c.home back m) due (returned_placed c.tenant c.home back m r.places tenant)));
       slots = ap length is.home ∙ (woken_long (returned c.home back m) due ∙ (returned_long c.home back m ∙ (r.slots ∙ ap (λ (k : Tenant). k.slots) (sym is.config))));
     }
@@ -205,10 +205,10 @@ arrived_right c d slot m due q valid r is history takes long =
       askers = rw (is.askers, is.history) (r.askers ∙ sym (asks_same c.history (steps.Arrive slot) (answer.Came m) refl));
       stills = rw (is.config, is.history, is.stills) (arrived_stills c.config c.history c.stills slot r.stills long m);
       home =
-        let kept : AreHome c.config (state_of d) left = home_kept c.config c.history (steps.Arrive slot) (answer.Came m) (state_of d) c.home left valid r.history r.home takes
-              (λ o apart in_before. woken_in (home_arrived c.home slot m) due o (arrived_in c.home slot m o apart in_before))
-              (λ o here freed. absurd (let no : false ≡ true = freed in grind (arith, no))) in
-        subst (λ k. AreHome k (state_of d) d.home) (sym is.config) (subst (λ l. AreHome c.config (state_of d) l) (sym is.home) kept);
+          let kept : AreHome c.config (state_of d) left = home_kept c.config c.history (steps.Arrive slot) (answer.Came m) (state_of d) c.home left valid r.history r.home takes
+          (λ o apart in_before. woken_in (home_arrived c.home slot m) due o (arrived_in c.home slot m o apart in_before))
+          (λ o here freed. absurd (let no : false ≡ true = freed in grind (arith, no))) in
+          subst (λ k. AreHome k (state_of d) d.home) (sym is.config) (subst (λ l. AreHome c.config (state_of d) l) (sym is.home) kept);
       places = subst (λ k. ArePlaced k d.home) (sym is.tenant) (subst (λ l. ArePlaced c.tenant l) (sym is.home) (woken_placed c.tenant (home_arrived c.home slot m) due (set_placed c.tenant c.home slot (arrived_place m (place c.home slot)) r.places (arrived_of c.tenant slot m (place c.home slot) (r.places slot)))));
       slots = ap length is.home ∙ (woken_long (home_arrived c.home slot m) due ∙ (length-set c.home slot (arrived_place m (place c.home slot)) ∙ (r.slots ∙ ap (λ (k : Tenant). k.slots) (sym is.config))));
     }
@@ -222,10 +222,10 @@ asked_right c d s t a y due q valid r is history takes long =
       askers = rw (is.askers, is.history) (asks_asked c.history c.askers s.number a y r.askers);
       stills = rw (is.config, is.history, is.stills) (asked_stills c.config c.history c.stills a y r.stills (placed_on y) (is_recorded_reply y) refl refl long);
       home =
-        let kept : AreHome c.config (state_of d) left = home_kept c.config c.history (steps.Ask a) (answer.Replied y) (state_of d) c.home left valid r.history r.home takes
-              (λ o apart in_before. woken_in (taken (placed_on y) c.home) due o (taken_in c.home (placed_on y) o (λ same. apart (placed_enters y o same) same) in_before))
-              (λ o here freed. absurd (let no : false ≡ true = freed in grind (arith, no))) in
-        subst (λ k. AreHome k (state_of d) d.home) (sym is.config) (subst (λ l. AreHome c.config (state_of d) l) (sym is.home) kept);
+          let kept : AreHome c.config (state_of d) left = home_kept c.config c.history (steps.Ask a) (answer.Replied y) (state_of d) c.home left valid r.history r.home takes
+          (λ o apart in_before. woken_in (taken (placed_on y) c.home) due o (taken_in c.home (placed_on y) o (λ same. apart (placed_enters y o same) same) in_before))
+          (λ o here freed. absurd (let no : false ≡ true = freed in grind (arith, no))) in
+          subst (λ k. AreHome k (state_of d) d.home) (sym is.config) (subst (λ l. AreHome c.config (state_of d) l) (sym is.home) kept);
       places = subst (λ k. ArePlaced k d.home) (sym is.tenant) (subst (λ l. ArePlaced c.tenant l) (sym is.home) (woken_placed c.tenant (taken (placed_on y) c.home) due (taken_placed c.tenant c.home (placed_on y) r.places)));
       slots = ap length is.home ∙ (woken_long (taken (placed_on y) c.home) due ∙ (taken_long c.home (placed_on y) ∙ (r.slots ∙ ap (λ (k : Tenant). k.slots) (sym is.config))));
     }

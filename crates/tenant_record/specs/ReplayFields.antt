@@ -3,7 +3,7 @@ use Rattle.std.specs.Prelude.{◌≤◌, vec_capacity}
 use Rattle.job_language.specs.Tenant.{IsValidTenant}
 use Rattle.tenant_record.specs.History.{state_after, IsHistory}
 use Rattle.tenant_record.specs.Replayed.{Replayed}
-use Rattle.tenant_record.specs.StandIn.{StandsFor}
+use Rattle.arena_core.specs.Stands.{StandsFor}
 use Rattle.tenant_record.specs.declared.replay.Replay.TheInside.{Inside}
 
 abbrev pub replayed : Inside → Replayed

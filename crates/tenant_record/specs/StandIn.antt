@@ -13,10 +13,6 @@ use Rattle.tenant_model.specs.State.{State, row, job}
 use Rattle.tenant_model.specs.Walks.{height, top}
 use Rattle.tenant_model.specs.Advance.{advance, arrive}
 
--- The arena stands for the state.
-unfoldable pub StandsFor : State → State → Type 0
-StandsFor a s = a ≡ s
-
 -- An entry is refused as at a full history, unless there is room for it.
 abbrev pub advance_within : Bool → State → ℕ → Moved × State
 advance_within has_room s slot = if is_entry (answer.Moved (advance s slot).0) && not has_room then (moved.Full, s) else advance s slot

@@ -53,11 +53,7 @@ pub struct Asked {
 impl TenantCell {
     /// A tenant that has done nothing yet, whose passes are all home, with room for all that it may
     /// record. Tenants are numbered from 0.
-    pub fn new(
-        alloc: Global,
-        tenant: usize,
-        config: TenantConfig,
-    ) -> Result<TenantCell, AllocError>
+    pub fn new(alloc: Global, tenant: usize, config: TenantConfig) -> Result<TenantCell, AllocError>
         ensures { IfOk result (λ cell. cell ≡ first_cell tenant config) }
     {
         let steps = config.tenant().steps;

@@ -10,12 +10,11 @@ ghost use Rattle.tenant_model.specs.State.{State};
 ghost use Rattle.tenant_model.specs.Walks.{has_unstarted, height};
 ghost use Rattle.tenant_record.specs.History.{entries_of, IsHistory};
 ghost use Rattle.tenant_record.specs.Replayed.{state_of, ask_within};
-ghost use Rattle.tenant_record.specs.StandIn.{StandsFor, advance_within, arrive_within, IsSeen, Commits};
+ghost use Rattle.arena_core.specs.Stands.{StandsFor};
+ghost use Rattle.tenant_record.specs.StandIn.{advance_within, arrive_within, IsSeen, Commits};
 
 use crate::arena::Arena;
-use job_language::{
-    Answer, Came, Entry, Error, Moved, Reply, Request, Step, Tenant, TenantConfig,
-};
+use job_language::{Answer, Came, Entry, Error, Moved, Reply, Request, Step, Tenant, TenantConfig};
 use job_step::{Segment, View};
 use std::alloc::{AllocError, Global};
 use std::marker::Model;
@@ -130,7 +129,11 @@ impl Replay {
         ensures right { IsHistory self.new.config self.new.history }
     {
         let moved = self.arena.advance_within(slot, has_room);
-        record(&mut self.history, Step::Advance(slot), &Answer::Moved(moved));
+        record(
+            &mut self.history,
+            Step::Advance(slot),
+            &Answer::Moved(moved),
+        );
         moved
     }
 
@@ -143,7 +146,11 @@ impl Replay {
         ensures right { IsHistory self.new.config self.new.history }
     {
         let moved = self.arena.commit_within(slot, segment, has_room);
-        record(&mut self.history, Step::Advance(slot), &Answer::Moved(moved));
+        record(
+            &mut self.history,
+            Step::Advance(slot),
+            &Answer::Moved(moved),
+        );
         moved
     }
 }

@@ -111,7 +111,10 @@ impl SlotBooks {
     {
         let has_entered = Answer::Came(came).is_entry();
         count(&mut self.counts, slot, has_entered);
-        touch(&mut self.stills, if has_entered { Some(slot) } else { None });
+        touch(
+            &mut self.stills,
+            if has_entered { Some(slot) } else { None },
+        );
         let pass = admit(self.home.as_mut_slice(), slot, came);
         let due = call(self.home.as_mut_slice(), replay, has_entered);
         Arrived { came, due, pass }
