@@ -3,3 +3,4 @@ pub mod Histories
 pub mod Calling
 pub mod Rightness
 pub mod Kept
+pub mod Placing

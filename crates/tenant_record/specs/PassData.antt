@@ -81,3 +81,9 @@ first_pass tenant limit slot = record { tenant = tenant; slot = slot; limit = li
 pub record IsPassOf (t s : ℕ) (p : PassData) : Type 0 where
   pub tenant : p.tenant ≡ t
   pub slot : p.slot ≡ s
+
+-- There is a pass if and only if a slot is named, and it is the pass of that slot of the tenant.
+abbrev pub GoesWith : (tenant : ℕ) → Option ℕ → Option PassData → Type 0
+GoesWith tenant None q = q ≡ None
+GoesWith tenant (Some slot) None = ⊥
+GoesWith tenant (Some slot) (Some p) = IsPassOf tenant slot p

@@ -1,11 +1,13 @@
 // A tenant's cell: what its lock keeps.
 ghost use Rattle.std.specs.Prelude.{◌≡◌, ◌<◌, ◌++◌, length, IfOk, IfSome, true, count_by, vec_len, vec_capacity, slice_set};
-ghost use Rattle.job_language.specs.Recorded.{is_recorded_reply};
+ghost use Rattle.job_language.specs.Recorded.{is_entry, is_recorded_reply};
 ghost use Rattle.job_language.specs.Tenant.{IsValidTenant};
+ghost use Rattle.job_language.specs.declared.answers.Answer.{Answer};
+ghost use Rattle.tenant_model.specs.Told.{placed_on};
 ghost use Rattle.tenant_model.specs.Walks.{height};
-ghost use Rattle.tenant_record.specs.Cell.{IsRight, state_of, first_cell, is_on, arrival, AnswersAsk, askers_of};
+ghost use Rattle.tenant_record.specs.Cell.{IsRight, state_of, first_cell, is_on, arrival, entered, AnswersAsk, askers_of};
 ghost use Rattle.tenant_record.specs.Locked.{IsMoved, IsArrived, IsAsked, given_home};
-ghost use Rattle.tenant_record.specs.PassData.{has_room};
+ghost use Rattle.tenant_record.specs.PassData.{has_room, GoesWith};
 ghost use Rattle.tenant_record.specs.StandIn.{advance_within, Commits, IsSeen};
 
 use crate::passes::Pass;
@@ -122,6 +124,8 @@ impl TenantCell {
     /// if one is refused, that is error 9, and nothing has changed.
     pub fn ask(&mut self, seat: &mut Seat, request: Request) -> Asked
         ensures answer { AnswersAsk self.old seat.old request result.reply self.new }
+        // With a job that is placed on a slot goes the slot's pass, and with no other reply a pass.
+        ensures placed { GoesWith self.old.tenant (placed_on result.reply) result.pass }
         ensures asked { IsAsked self.old seat.old request result.reply result.due result.pass self.new seat.new }
     {
         let (Ok(copy), Ok(kept)) = (request.try_clone(), request.try_clone()) else {
@@ -142,6 +146,8 @@ impl TenantCell {
     pub fn arrive(&mut self, slot: u8) -> Arrived
         ensures answer { result.came ≡ (arrival self.old slot).0 }
         ensures state { state_of self.new ≡ (arrival self.old slot).1 }
+        // With an arrival that finds a row goes the slot's pass.
+        ensures found { GoesWith self.old.tenant (entered slot (is_entry (Answer.Came result.came))) result.pass }
         ensures arrived { IsArrived self.old slot result.came result.due result.pass self.new }
     {
         let Some(has_room) = room_at(self.slots.home.as_slice(), slot) else {

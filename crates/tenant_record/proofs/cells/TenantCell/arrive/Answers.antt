@@ -13,6 +13,11 @@ use Rattle.tenant_record.proofs.Histories.{well_formed}
 use Rattle.tenant_record.proofs.Taking.{arrive_taken}
 use Rattle.tenant_record.proofs.Rightness.{counts_by}
 use Rattle.tenant_record.proofs.Kept.{arrived_right, nobody_came}
+use Rattle.std.specs.Option.{option_map}
+use Rattle.std.specs.Prelude.{Some}
+use Rattle.tenant_record.specs.PassData.{has_room}
+use Rattle.tenant_record.specs.Places.{place, pass_in}
+use Rattle.tenant_record.proofs.Placing.{arrived_goes}
 use Rattle.tenant_record.proofs.cells.TenantCell.arrive.Goals as goal
 
 pub returns-in_default-clause-arrived : goal.returns-in_default-clause-arrived
@@ -49,3 +54,9 @@ invariant_of-self c =
       valid = rw grown.config valid;
       room = rw grown.config c.self.invariant.room;
     }
+
+pub returns-clause-found : goal.returns-clause-found
+returns-clause-found c =
+    let i = c.self.inside in
+    let held : option_map has_room (pass_in (place i.slots.home.items c.args.slot)) ≡ Some c.in-Some.has_room = rw (← c.as_slice.ensures.value) (sym c.in-Some.ensures.room) in
+    rw (c.arrived.ensures.came, c.arrived.ensures.pass, ← c.self.view_is) (arrived_goes i.tenant c.args.slot c.arrive-came.result (place i.slots.home.items c.args.slot) c.in-Some.has_room held (c.self.invariant.right.places c.args.slot))

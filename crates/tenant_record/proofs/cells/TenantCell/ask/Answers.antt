@@ -16,6 +16,7 @@ use Rattle.tenant_record.specs.SeatData.{SeatData, asked}
 use Rattle.tenant_record.proofs.Taking.{ask_taken, placed_fits, placed_low}
 use Rattle.tenant_record.proofs.Rightness.{counts_same}
 use Rattle.tenant_record.proofs.Kept.{asked_right}
+use Rattle.tenant_record.proofs.Placing.{asked_goes}
 use Rattle.tenant_record.proofs.cells.TenantCell.ask.Goals as goal
 
 pub asked-due-requires-clause-placed : goal.asked-due-requires-clause-placed
@@ -60,3 +61,10 @@ invariant_of-self c =
       valid = rw grown.config valid;
       room = rw (grown.config, c.note_asker.ensures.capacity) c.self.invariant.room;
     }
+
+pub returns-clause-placed : goal.returns-clause-placed
+returns-clause-placed c =
+    let i = c.self.inside in
+    let old : CellData = cell_data i in
+    let right = c.self.invariant.right in
+    rw (c.asked-due.ensures.pass, ← c.self.view_is) (asked_goes i.tenant i.replay.config (state_of old) i.slots.home.items right.history.config right.home right.places c.has_room.result c.args.request c.ask-reply.result c.ask-reply.ensures.answer)
