@@ -10,3 +10,4 @@ pub mod Places
 pub mod Cell
 pub mod Locked
 pub mod CellFields
+pub mod Logs

@@ -1,5 +1,6 @@
 -- Seats: what their holder was told.
-use Rattle.std.specs.Prelude.{ℕ, nat_lt, Bool, true, false, ◌||◌, List, [], ◌++◌, length}
+use Rattle.std.specs.Prelude.{ℕ, nat_lt, Bool, true, false, ◌||◌, List, [], ◌++◌, length, map}
+use Rattle.std.specs.List.{range_with_len}
 use Rattle.job_language.specs.declared.answers.Answer.TheVariants.{Replied}
 use Rattle.job_language.specs.declared.answers.Reply.{Reply}
 use Rattle.job_language.specs.declared.answers.Reply.TheVariants.{Refused}
@@ -31,3 +32,7 @@ asked s request reply = record s { log = s.log ++ entries_of (Ask request) (Repl
 -- a seat that has asked nothing yet
 abbrev pub first_seat : (tenant limit number : ℕ) → SeatData
 first_seat tenant limit number = record { tenant = tenant; number = number; limit = limit; log = []; full = false }
+
+-- so many seats of a tenant, numbered from 0
+abbrev pub first_seats : (tenant limit count : ℕ) → List SeatData
+first_seats tenant limit count = map (first_seat tenant limit) (range_with_len 0 count)

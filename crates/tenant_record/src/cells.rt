@@ -1,5 +1,5 @@
 // A tenant's cell: what its lock keeps.
-ghost use Rattle.std.specs.Prelude.{◌≡◌, ◌<◌, ◌++◌, length, IfOk, IfSome, true, count_by, vec_len, vec_capacity, slice_set};
+ghost use Rattle.std.specs.Prelude.{◌≡◌, ◌<◌, ◌++◌, length, IfOk, IfSome, true, None, count_by, option_map, slice_index_or, vec_len, vec_capacity};
 ghost use Rattle.job_language.specs.Recorded.{is_entry, is_recorded_reply};
 ghost use Rattle.job_language.specs.Tenant.{IsValidTenant};
 ghost use Rattle.job_language.specs.declared.answers.Answer.{Answer};
@@ -8,10 +8,11 @@ ghost use Rattle.tenant_model.specs.Walks.{height};
 ghost use Rattle.tenant_record.specs.Cell.{IsRight, state_of, first_cell, is_on, arrival, entered, AnswersAsk, askers_of};
 ghost use Rattle.tenant_record.specs.Locked.{IsMoved, IsArrived, IsAsked, given_home};
 ghost use Rattle.tenant_record.specs.PassData.{has_room, GoesWith};
+ghost use Rattle.tenant_record.specs.Places.{place, pass_in};
 ghost use Rattle.tenant_record.specs.StandIn.{advance_within, Commits, IsSeen};
 
 use crate::passes::Pass;
-use crate::places::{put, room_at};
+use crate::places::{pass_at, put, room_at};
 use crate::replay::Replay;
 use crate::seats::Seat;
 use crate::slots::{Advanced, Arrived, SlotBooks};
@@ -103,6 +104,29 @@ impl TenantCell {
         ensures { result ≡ count_by (is_on slot) self.now.history }
     {
         self.slots.counts[slot as usize]
+    }
+
+    /// The pass of a slot, if it is home.
+    pub fn pass(&self, slot: u8) -> Option<&Pass>
+        ensures { option_map (λ pass. pass.now) result ≡ pass_in (place self.now.home slot) }
+    {
+        pass_at(self.slots.home.as_slice(), slot)
+    }
+
+    /// How many entries the history had when a slot was found idle, if the slot was not touched since.
+    pub fn still(&self, slot: u8) -> Option<usize>
+        requires { slot < self.now.config.slots }
+        ensures { result ≡ slice_index_or self.now.stills slot None }
+    {
+        self.slots.stills[slot as usize]
+    }
+
+    /// The entries, when the tenant is done. They are those of a cell that was right.
+    pub fn into_history(self) -> Vec<Entry>
+        ensures value { result.items ≡ self.history }
+        ensures right { IsRight self }
+    {
+        self.replay.into_history()
     }
 
     /// What is seen of a pass's slot: its topmost frame, if another handle on the frame's program is

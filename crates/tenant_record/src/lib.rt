@@ -4,6 +4,7 @@
 
 mod arena;
 mod cells;
+mod logs;
 mod notes;
 mod passes;
 mod places;
@@ -14,5 +15,5 @@ mod slots;
 pub use cells::{Asked, TenantCell};
 pub use passes::Pass;
 pub use replay::Replay;
-pub use seats::Seat;
+pub use seats::{Seat, first_seats};
 pub use slots::{Advanced, Arrived};

@@ -1,11 +1,13 @@
 // Passes: the right to move a slot, with what its holders were told.
-ghost use Rattle.std.specs.Prelude.{◌≡◌, ◌<◌, length, true, IfOk};
+ghost use Rattle.std.specs.Prelude.{◌≡◌, ◌↔◌, length, true, IfOk, IsTrue};
 ghost use Rattle.job_language.specs.Recorded.{is_entry};
 ghost use Rattle.job_language.specs.declared.answers.Answer.{Answer};
-ghost use Rattle.tenant_record.specs.PassData.{has_room, advanced, arrived, placed, first_pass, is_full_answer, still_after, goes_home};
+ghost use Rattle.tenant_record.specs.Logs.{entries_on};
+ghost use Rattle.tenant_record.specs.PassData.{has_room, advanced, arrived, placed, first_pass, still_after, goes_home};
 
+use crate::logs::is_log;
 use crate::notes::{Told, note_move};
-use job_language::Moved;
+use job_language::{Entry, Moved};
 use std::alloc::{AllocError, Global};
 use std::marker::Model;
 
@@ -74,11 +76,32 @@ impl Pass {
         self.log.len()
     }
 
+    /// Whether one of its moves was refused as at a full history.
+    pub fn is_full(&self) -> bool
+        ensures { result ≡ self.now.full }
+    {
+        self.full
+    }
+
+    /// How many entries the history had when its slot was found idle, if the slot was not touched since.
+    pub fn still(&self) -> Option<usize>
+        ensures { result ≡ self.now.still }
+    {
+        self.still
+    }
+
     /// Whether its log has room for an entry.
     pub fn has_room(&self) -> bool
         ensures { result ≡ has_room self.now }
     {
         self.log.len() < self.limit
+    }
+
+    /// Whether its log is exactly what a history has of its slot, in order.
+    pub fn is_log_of(&self, history: &[Entry]) -> bool
+        ensures { IsTrue result ↔ (self.now.log ≡ entries_on self.now.slot history.now) }
+    {
+        is_log(self.slot, history, self.log.as_slice())
     }
 
     /// Tells its holder how an advance was answered, which came when the history had so many entries.

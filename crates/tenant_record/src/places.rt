@@ -82,9 +82,15 @@ pub(crate) fn room_at(home: &[Place], slot: u8) -> Option<bool>
     ensures room { result ≡ option_map has_room (pass_in (place home.now slot)) }
     ensures within { IfSome result (λ _. slot < length home.now) }
 {
-    let place = home.get(slot as usize)?;
-    let pass = place.pass()?;
+    let pass = pass_at(home, slot)?;
     Some(pass.has_room())
+}
+
+/// The pass of a slot, if it is home.
+pub(crate) fn pass_at(home: &[Place], slot: u8) -> Option<&Pass>
+    ensures { option_map (λ pass. pass.now) result ≡ pass_in (place home.now slot) }
+{
+    home.get(slot as usize)?.pass()
 }
 
 /// Puts a place in place of another one, and gives that.

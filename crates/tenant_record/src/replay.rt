@@ -69,6 +69,13 @@ impl Replay {
         self.history.as_slice()
     }
 
+    /// The entries, when the arena is done.
+    pub fn into_history(self) -> Vec<Entry>
+        ensures { result.items ≡ self.history }
+    {
+        self.history
+    }
+
     /// How many rows are on a slot.
     pub fn height(&self, slot: u8) -> usize
         ensures { result ≡ height (state_of self.now).rows slot }

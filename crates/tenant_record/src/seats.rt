@@ -1,10 +1,10 @@
 // Seats: the right to ask, with what its holders were told.
 ghost use Rattle.std.specs.Prelude.{◌≡◌, length, true, IfOk};
 ghost use Rattle.job_language.specs.Recorded.{is_recorded_reply};
-ghost use Rattle.tenant_record.specs.SeatData.{asked, has_seat_room, is_full_reply, first_seat};
+ghost use Rattle.tenant_record.specs.SeatData.{asked, has_seat_room, is_full_reply, first_seat, first_seats};
 
 use crate::replay::record;
-use job_language::{Answer, Entry, Error, Reply, Request, Step};
+use job_language::{Answer, Entry, Error, Reply, Request, Step, TenantConfig};
 use std::alloc::{AllocError, Global};
 use std::marker::Model;
 
@@ -33,12 +33,7 @@ impl Model for Seat {
 
 impl Seat {
     /// A seat that has asked nothing yet, with room for `limit` entries.
-    pub(crate) fn new(
-        alloc: Global,
-        tenant: usize,
-        limit: usize,
-        number: usize,
-    ) -> Result<Seat, AllocError>
+    fn new(alloc: Global, tenant: usize, limit: usize, number: usize) -> Result<Seat, AllocError>
         ensures { IfOk result (λ seat. seat ≡ first_seat tenant limit number) }
     {
         Ok(Seat {
@@ -71,6 +66,13 @@ impl Seat {
         self.log.len()
     }
 
+    /// Whether one of its asks was refused as at a full history.
+    pub fn is_full(&self) -> bool
+        ensures { result ≡ self.now.full }
+    {
+        self.full
+    }
+
     /// Whether its log has room for an ask.
     pub fn has_room(&self) -> bool
         ensures { result ≡ has_seat_room self.now }
@@ -87,6 +89,24 @@ impl Seat {
         let answer = Answer::Replied(*reply);
         record(&mut self.log, Step::Ask(request), &answer);
     }
+}
+
+/// The seats of a tenant, numbered from 0, which have asked nothing yet. Each has room for all asks
+/// that the tenant's history may have.
+pub fn first_seats(
+    alloc: Global,
+    tenant: usize,
+    config: TenantConfig,
+    count: usize,
+) -> Result<Vec<Seat>, AllocError>
+    ensures { IfOk result (λ seats. seats.items ≡ first_seats tenant config.steps count) }
+{
+    let limit = config.tenant().steps;
+    let mut seats = Vec::with_capacity(alloc, count)?;
+    for number in 0..count {
+        seats.push(Seat::new(alloc, tenant, limit, number)?)?;
+    }
+    Ok(seats)
 }
 
 fn is_full_reply(reply: &Reply) -> bool
