@@ -4,6 +4,7 @@
 
 mod arena;
 mod cells;
+mod closing;
 mod logs;
 mod notes;
 mod passes;
@@ -13,6 +14,7 @@ mod seats;
 mod slots;
 
 pub use cells::{Asked, TenantCell};
+pub use closing::{SlotFault, are_seats, first_slot_fault, slot_fault};
 pub use passes::Pass;
 pub use replay::Replay;
 pub use seats::{Seat, first_seats};

@@ -1,4 +1,3 @@
-use Rattle.std.proofs.Common.{arith}
 use Rattle.tenant_record.proofs.Calling.{first_more}
 use Rattle.tenant_record.proofs.places.first_places.Goals as goal
 

@@ -1,0 +1,80 @@
+// Whether a tenant's cell and the tokens that came back to it agree.
+ghost use Rattle.std.specs.Prelude.{◌≡◌, ◌<◌, ◌↔◌, IsTrue};
+ghost use Rattle.std.specs.List.{list_all, range_with_len};
+ghost use Rattle.tenant_record.specs.Closing.{IsSlotFault, IsFirstFault, has_seat, are_seats};
+
+use crate::cells::TenantCell;
+use crate::seats::Seat;
+
+/// What may be wrong with the pass of a slot.
+#[derive(Clone, Copy, Debug, PartialEq, Eq)]
+pub enum SlotFault {
+    /// The pass is not home.
+    PassLost,
+    /// It was told another number of entries than the history has of the slot.
+    CountWrong,
+    /// It was told other entries, or another idle advance than the cell knows of.
+    LogWrong,
+}
+
+/// What is wrong with the pass of a slot, if anything is.
+pub fn slot_fault(cell: &TenantCell, slot: u8) -> Option<SlotFault>
+    requires { slot < cell.now.config.slots }
+    ensures { IsSlotFault cell.now slot result }
+{
+    let Some(pass) = cell.pass(slot) else {
+        return Some(SlotFault::PassLost);
+    };
+    if pass.count() != cell.count(slot) {
+        return Some(SlotFault::CountWrong);
+    }
+    if pass.is_log_of(cell.history()) && is_same_still(pass.still(), cell.still(slot)) {
+        None
+    } else {
+        Some(SlotFault::LogWrong)
+    }
+}
+
+/// The first slot with whose pass something is wrong, and what that is.
+pub fn first_slot_fault(cell: &TenantCell) -> Option<(u8, SlotFault)>
+    ensures { IsFirstFault cell.now result }
+{
+    let slots = cell.config().slots;
+    for slot in 0..slots {
+        if let Some(fault) = slot_fault(cell, slot) {
+            return Some((slot, fault));
+        }
+    }
+    None
+}
+
+/// Whether these are the seats of a tenant, so many, each of another number.
+pub fn are_seats(tenant: usize, seats: &[Seat], count: usize) -> bool
+    ensures { result ≡ are_seats tenant seats.now count }
+{
+    seats.len() == count && have_all(tenant, seats, count)
+}
+
+fn have_all(tenant: usize, seats: &[Seat], count: usize) -> bool
+    ensures { result ≡ list_all (has_seat tenant seats.now) (range_with_len 0 count) }
+{
+    (0..count).all(|number| has_seat(tenant, seats, number))
+}
+
+fn has_seat(tenant: usize, seats: &[Seat], number: usize) -> bool
+    ensures { result ≡ has_seat tenant seats.now number }
+{
+    seats
+        .iter()
+        .any(|seat| seat.tenant() == tenant && seat.number() == number)
+}
+
+fn is_same_still(still: Option<usize>, other: Option<usize>) -> bool
+    ensures { IsTrue result ↔ (still ≡ other) }
+{
+    match (still, other) {
+        (None, None) => true,
+        (Some(entries), Some(others)) => entries == others,
+        _ => false,
+    }
+}
