@@ -1,5 +1,5 @@
 -- What a tenant's cell and the tokens that come back to it must have in common.
-use Rattle.std.specs.Prelude.{ℕ, ◌≡◌, ◌≢◌, ◌<◌, ◌==◌, ◌&&◌, Bool, List, length, Option, Some, None, MatchOption, count_by, slice_index_or}
+use Rattle.std.specs.Prelude.{ℕ, ◌≡◌, ◌≢◌, ◌<◌, ◌==◌, ◌&&◌, Bool, List, length, Option, Some, None, MatchOption, count_by, sum_by, slice_index_or}
 use Rattle.std.specs.List.{list_all, list_any, range_with_len}
 use Rattle.tenant_record.specs.Cell.{CellData, is_on}
 use Rattle.tenant_record.specs.Logs.{entries_on}
@@ -53,3 +53,11 @@ has_seat tenant seats number = list_any (is_seat tenant number) seats
 -- Are these the seats of the tenant, as many as that, each of another number?
 abbrev pub are_seats : (tenant : ℕ) → List SeatData → (count : ℕ) → Bool
 are_seats tenant seats count = (length seats == count) && list_all (has_seat tenant seats) (range_with_len 0 count)
+
+-- how many asks so many seats were told of
+abbrev pub asks_told : List SeatData → ℕ
+asks_told seats = sum_by (λ (s : SeatData). length s.log) seats
+
+-- Was one of these seats told that the history is at its limit?
+abbrev pub are_some_seats_full : List SeatData → Bool
+are_some_seats_full seats = list_any (λ (s : SeatData). s.full) seats

@@ -28,6 +28,12 @@ pass_in (Home p) = Some p
 pass_in (Due p) = Some p
 pass_in Out = None
 
+-- Is the pass there, and was it told that the history is at its limit?
+abbrev pub is_told_full : Place → Bool
+is_told_full (Home p) = p.full
+is_told_full (Due p) = p.full
+is_told_full Out = false
+
 abbrev pub due_place : Place → Place
 due_place (Home p) = Due p
 due_place p = p

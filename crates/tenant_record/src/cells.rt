@@ -1,5 +1,6 @@
 // A tenant's cell: what its lock keeps.
 ghost use Rattle.std.specs.Prelude.{◌≡◌, ◌<◌, ◌++◌, length, IfOk, IfSome, true, None, count_by, option_map, slice_index_or, vec_len, vec_capacity};
+ghost use Rattle.std.specs.List.{list_any};
 ghost use Rattle.job_language.specs.Recorded.{is_entry, is_recorded_reply};
 ghost use Rattle.job_language.specs.Tenant.{IsValidTenant};
 ghost use Rattle.job_language.specs.declared.answers.Answer.{Answer};
@@ -8,7 +9,7 @@ ghost use Rattle.tenant_model.specs.Walks.{height};
 ghost use Rattle.tenant_record.specs.Cell.{IsRight, state_of, first_cell, is_on, arrival, entered, AnswersAsk, askers_of};
 ghost use Rattle.tenant_record.specs.Locked.{IsMoved, IsArrived, IsAsked, given_home};
 ghost use Rattle.tenant_record.specs.PassData.{has_room, GoesWith};
-ghost use Rattle.tenant_record.specs.Places.{place, pass_in};
+ghost use Rattle.tenant_record.specs.Places.{place, pass_in, is_told_full};
 ghost use Rattle.tenant_record.specs.StandIn.{advance_within, Commits, IsSeen};
 
 use crate::passes::Pass;
@@ -119,6 +120,14 @@ impl TenantCell {
         ensures { result ≡ slice_index_or self.now.stills slot None }
     {
         self.slots.stills[slot as usize]
+    }
+
+    /// Whether a pass that is home was told that the history is at its limit.
+    pub(crate) fn has_full_pass(&self) -> bool
+        ensures { result ≡ list_any is_told_full self.now.home }
+    {
+        let home = self.slots.home.as_slice();
+        home.iter().any(|place| place.is_told_full())
     }
 
     /// The entries, when the tenant is done. They are those of a cell that was right.

@@ -1,7 +1,8 @@
 // Whether a tenant's cell and the tokens that came back to it agree.
-ghost use Rattle.std.specs.Prelude.{◌≡◌, ◌<◌, ◌↔◌, IsTrue};
-ghost use Rattle.std.specs.List.{list_all, range_with_len};
-ghost use Rattle.tenant_record.specs.Closing.{IsSlotFault, IsFirstFault, has_seat, are_seats};
+ghost use Rattle.std.specs.Prelude.{◌≡◌, ◌<◌, ◌↔◌, ◌||◌, IsTrue, length};
+ghost use Rattle.std.specs.List.{list_all, list_any, range_with_len};
+ghost use Rattle.tenant_record.specs.Closing.{IsSlotFault, IsFirstFault, has_seat, are_seats, are_some_seats_full, asks_told};
+ghost use Rattle.tenant_record.specs.Places.{is_told_full};
 
 use crate::cells::TenantCell;
 use crate::seats::Seat;
@@ -53,6 +54,33 @@ pub fn are_seats(tenant: usize, seats: &[Seat], count: usize) -> bool
     ensures { result ≡ are_seats tenant seats.now count }
 {
     seats.len() == count && have_all(tenant, seats, count)
+}
+
+/// Whether the seats were told of as many asks as the history has.
+pub fn are_all_told(cell: &TenantCell, seats: &[Seat]) -> bool
+    ensures { IsTrue result ↔ (asks_told seats.now ≡ length cell.now.askers) }
+{
+    let mut left = cell.askers().len();
+    for seat in seats {
+        let Some(others) = left.checked_sub(seat.count()) else {
+            return false;
+        };
+        left = others;
+    }
+    left == 0
+}
+
+/// Whether a token that came back was told that the history is at its limit.
+pub fn is_one_full(cell: &TenantCell, seats: &[Seat]) -> bool
+    ensures { result ≡ (are_some_seats_full seats.now || list_any is_told_full cell.now.home) }
+{
+    are_some_seats_full(seats) || cell.has_full_pass()
+}
+
+fn are_some_seats_full(seats: &[Seat]) -> bool
+    ensures { result ≡ are_some_seats_full seats.now }
+{
+    seats.iter().any(|seat| seat.is_full())
 }
 
 fn have_all(tenant: usize, seats: &[Seat], count: usize) -> bool

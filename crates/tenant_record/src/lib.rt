@@ -14,7 +14,7 @@ mod seats;
 mod slots;
 
 pub use cells::{Asked, TenantCell};
-pub use closing::{SlotFault, are_seats, first_slot_fault, slot_fault};
+pub use closing::{SlotFault, are_all_told, are_seats, first_slot_fault, is_one_full, slot_fault};
 pub use passes::Pass;
 pub use replay::Replay;
 pub use seats::{Seat, first_seats};

@@ -4,7 +4,7 @@ ghost use Rattle.std.specs.List.{range_with_len};
 ghost use Rattle.job_language.specs.Recorded.{is_entry};
 ghost use Rattle.job_language.specs.declared.answers.Answer.{Answer};
 ghost use Rattle.tenant_record.specs.PassData.{has_room, goes_home};
-ghost use Rattle.tenant_record.specs.Places.{place, is_home, pass_in, is_worker_home, due_place, due_after, arrived_pass, arrived_place, taken, placed_pass, returned, woken, first_places};
+ghost use Rattle.tenant_record.specs.Places.{place, is_home, is_told_full, pass_in, is_worker_home, due_place, due_after, arrived_pass, arrived_place, taken, placed_pass, returned, woken, first_places};
 ghost use Rattle.tenant_record.specs.Replayed.{state_of};
 ghost use Rattle.tenant_record.specs.declared.places.Place.{Place};
 
@@ -28,6 +28,16 @@ impl Place {
         ensures { result ≡ is_home self.now }
     {
         matches!(self, Place::Home(_))
+    }
+
+    /// Whether the pass is there and was told that the history is at its limit.
+    pub(crate) fn is_told_full(&self) -> bool
+        ensures { result ≡ is_told_full self.now }
+    {
+        match self {
+            Place::Home(pass) | Place::Due(pass) => pass.is_full(),
+            Place::Out => false,
+        }
     }
 
     /// The pass, if it is there.
