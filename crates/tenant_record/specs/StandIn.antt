@@ -13,13 +13,21 @@ use Rattle.tenant_model.specs.State.{State, row, job}
 use Rattle.tenant_model.specs.Walks.{height, top}
 use Rattle.tenant_model.specs.Advance.{advance, arrive}
 
--- An entry is refused as at a full history, unless there is room for it.
-abbrev pub advance_within : Bool → State → ℕ → Moved × State
-advance_within has_room s slot = if is_entry (answer.Moved (advance s slot).0) && not has_room then (moved.Full, s) else advance s slot
+-- A step that would be an entry changes nothing where there is no room for it.
+abbrev pub within : (has_room : Bool) → State → Moved × State → Moved × State
+within has_room s step = if is_entry (answer.Moved step.0) && not has_room then (moved.Full, s) else step
 
-abbrev pub arrive_within : Bool → State → ℕ → Came × State
-arrive_within has_room s slot = if is_entry (answer.Came (arrive s slot).0) && not has_room then (came.Full, s) else arrive s slot
+abbrev pub advance_within : (has_room : Bool) → State → (slot : ℕ) → Moved × State
+advance_within has_room s slot = within has_room s (advance s slot)
 
+-- the same of an arrival
+abbrev pub came_within : (has_room : Bool) → State → Came × State → Came × State
+came_within has_room s step = if is_entry (answer.Came step.0) && not has_room then (came.Full, s) else step
+
+abbrev pub arrive_within : (has_room : Bool) → State → (slot : ℕ) → Came × State
+arrive_within has_room s slot = came_within has_room s (arrive s slot)
+
+-- the slot's topmost frame, if it is row n's
 abbrev pub top_of : State → (slot n : ℕ) → Top
 top_of s slot n = record { program = (job s.jobs (row s.rows n).job).program; frame = (row s.rows n).frame; slot = slot; width = s.config.slots }
 
