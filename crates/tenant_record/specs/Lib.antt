@@ -1,4 +1,5 @@
-pub mod StandIn
+pub mod Within
+pub mod Seen
 pub mod History
 pub mod Replayed
 pub mod ReplayFields

@@ -4,7 +4,8 @@ ghost use Rattle.tenant_model.specs.State.{State, empty};
 ghost use Rattle.tenant_model.specs.Asks.{ask};
 ghost use Rattle.tenant_model.specs.Walks.{has_unstarted, height};
 ghost use Rattle.arena_core.specs.Stands.{StandsFor};
-ghost use Rattle.tenant_record.specs.StandIn.{advance_within, arrive_within, IsSeen, Commits};
+ghost use Rattle.tenant_record.specs.Within.{advance_within, arrive_within};
+ghost use Rattle.tenant_record.specs.Seen.{IsSeen, Commits};
 
 use job_language::{Came, Moved, Reply, Request, TenantConfig};
 use job_step::{Segment, View};

@@ -10,7 +10,8 @@ ghost use Rattle.tenant_record.specs.Cell.{IsRight, state_of, first_cell, is_on,
 ghost use Rattle.tenant_record.specs.Locked.{IsMoved, IsArrived, IsAsked, given_home};
 ghost use Rattle.tenant_record.specs.PassData.{has_room, GoesWith};
 ghost use Rattle.tenant_record.specs.Places.{place, pass_in, is_told_full};
-ghost use Rattle.tenant_record.specs.StandIn.{advance_within, Commits, IsSeen};
+ghost use Rattle.tenant_record.specs.Within.{advance_within};
+ghost use Rattle.tenant_record.specs.Seen.{Commits, IsSeen};
 
 use crate::passes::Pass;
 use crate::places::{pass_at, put, room_at};

@@ -11,7 +11,8 @@ ghost use Rattle.tenant_model.specs.Walks.{has_unstarted, height};
 ghost use Rattle.tenant_record.specs.History.{entries_of, IsHistory};
 ghost use Rattle.tenant_record.specs.Replayed.{state_of, ask_within};
 ghost use Rattle.arena_core.specs.Stands.{StandsFor};
-ghost use Rattle.tenant_record.specs.StandIn.{advance_within, arrive_within, IsSeen, Commits};
+ghost use Rattle.tenant_record.specs.Within.{advance_within, arrive_within};
+ghost use Rattle.tenant_record.specs.Seen.{IsSeen, Commits};
 
 use crate::arena::Arena;
 use job_language::{Answer, Came, Entry, Error, Moved, Reply, Request, Step, Tenant, TenantConfig};

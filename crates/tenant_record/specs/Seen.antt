@@ -1,31 +1,13 @@
--- What stands in for the specifications of the arena.
-use Rattle.std.specs.Prelude.{ℕ, ◌≡◌, ◌⊎◌, Bool, true, false, not, ◌&&◌, Option, Some, if◌then◌else◌}
-use Rattle.job_language.specs.Recorded.{is_entry}
-use Rattle.job_language.specs.declared.answers.Answer.TheVariants as answer
+-- What is seen of a slot, and what a commit does there. It stands in for a file of the arena.
+use Rattle.std.specs.Prelude.{ℕ, ◌≡◌, ◌⊎◌, Bool, Some}
 use Rattle.job_language.specs.declared.answers.Moved.{Moved}
 use Rattle.job_language.specs.declared.answers.Moved.TheVariants as moved
-use Rattle.job_language.specs.declared.answers.Came.{Came}
-use Rattle.job_language.specs.declared.answers.Came.TheVariants as came
 use Rattle.job_step.specs.declared.segments.Top.{Top}
 use Rattle.job_step.specs.declared.segments.View.{View}
 use Rattle.job_step.specs.declared.segments.View.TheVariants as view
 use Rattle.tenant_model.specs.State.{State, row, job}
 use Rattle.tenant_model.specs.Walks.{height, top}
-use Rattle.tenant_model.specs.Advance.{advance, arrive}
-
--- A step that would be an entry changes nothing where there is no room for it.
-abbrev pub within : (has_room : Bool) → State → Moved × State → Moved × State
-within has_room s step = if is_entry (answer.Moved step.0) && not has_room then (moved.Full, s) else step
-
-abbrev pub advance_within : (has_room : Bool) → State → (slot : ℕ) → Moved × State
-advance_within has_room s slot = within has_room s (advance s slot)
-
--- the same of an arrival
-abbrev pub came_within : (has_room : Bool) → State → Came × State → Came × State
-came_within has_room s step = if is_entry (answer.Came step.0) && not has_room then (came.Full, s) else step
-
-abbrev pub arrive_within : (has_room : Bool) → State → (slot : ℕ) → Came × State
-arrive_within has_room s slot = came_within has_room s (arrive s slot)
+use Rattle.tenant_record.specs.Within.{advance_within}
 
 -- the slot's topmost frame, if it is row n's
 abbrev pub top_of : State → (slot n : ℕ) → Top
