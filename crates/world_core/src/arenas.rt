@@ -6,6 +6,7 @@ ghost use Rattle.tenant_model.specs.Walks.{has_unstarted};
 ghost use Rattle.tenant_model.specs.Advance.{arrive, advance};
 ghost use Rattle.tenant_model.specs.Asks.{ask};
 
+use arena_core::Arena;
 use job_language::{Came, Moved, Reply, Request, TenantConfig};
 use std::alloc::{AllocError, Global};
 
@@ -44,4 +45,34 @@ pub trait TenantArena: Drop {
     fn advance(&mut self, slot: u8) -> Moved
         ensures answer { (s : State) → stands_for self.old s → result ≡ (advance s slot).0 }
         ensures next { (s : State) → stands_for self.old s → stands_for self.new (advance s slot).1 };
+}
+
+impl TenantArena for Arena {
+    ghost use Rattle.arena_core.specs.Stands.{StandsFor};
+
+    ghost stands_for = { λ a s. StandsFor a s };
+
+    fn new(alloc: Global, config: TenantConfig) -> Result<Self, AllocError> {
+        Arena::new(alloc, config)
+    }
+
+    fn reserved(&self) -> u8 {
+        self.config().reserved
+    }
+
+    fn has_unstarted(&self) -> bool {
+        Arena::has_unstarted(self)
+    }
+
+    fn ask(&mut self, _alloc: Global, request: Request) -> Result<Reply, AllocError> {
+        Ok(Arena::ask(self, request))
+    }
+
+    fn arrive(&mut self, slot: u8) -> Came {
+        Arena::arrive(self, slot)
+    }
+
+    fn advance(&mut self, slot: u8) -> Moved {
+        Arena::advance(self, slot)
+    }
 }
