@@ -12,6 +12,7 @@ use Rattle.world_script.specs.Knowing.{Knows, Named, Starts}
 use Rattle.world_script.specs.Named.{raw_of}
 use Rattle.world_script.specs.RawLines.{RawData}
 use Rattle.world_script.specs.Takes.{TakesRaw, TakesStep, config_in, step_in, told}
+use Rattle.arena_script.specs.Answered.{AnswersLater, AnswersPart}
 use Rattle.arena_script.specs.RunAnswers.{StartsRun, TakesLine, Tells}
 use Rattle.arena_script.proofs.Parts.{TakesAll, starts_from_none}
 
@@ -38,3 +39,8 @@ starts_none = starts_from_none config_in (λ (c : Configuration). Tells (names_o
 pub started : {A : Type 0} (stands_for : A → State → Type 0) (o : Option Configuration) (held : Named A) → Starts stands_for o (Some held) → (c : Configuration) × (o ≡ Some c) × Knows stands_for (names_of c.tenants) (start c) held
 started {A = A} stands_for None held is = absurd is
 started {A = A} stands_for (Some c) held is = (c, refl, is)
+
+-- A part of what answers the lines after a configuration.
+pub later_part : (o : Option Configuration) (c : Configuration) → o ≡ Some c → (lines : List Line) (before after : Option (List ℕ)) → AnswersPart (Tells (names_of c.tenants)) lines (start c) before after →
+    AnswersLater (λ (b : Configuration). Tells (names_of b.tenants)) start o lines before after
+later_part o c is lines before after part = rw is part

@@ -10,6 +10,7 @@ pub mod OwnAnswers
 pub mod OwnEnds
 pub mod OwnLine
 pub mod RunAnswers
+pub mod RunWords
 pub mod ScriptAnswers
 pub mod ScriptLines
 pub mod SerialAnswers

@@ -15,7 +15,7 @@ pub enum ScriptEnd {
     BadLine,
     /// The program was not called with words that it knows.
     Words,
-    /// The first line names no tenant.
+    /// The first line names no tenant, or is no configuration.
     Config,
     /// The reader or the writer failed, or the reader was called too often.
     Device,

@@ -9,6 +9,8 @@ ghost use Rattle.arena_script.specs.OwnAnswers.{told};
 ghost use Rattle.arena_script.specs.OwnEnds.{are_own_words, IsFault, IsOwnEnd};
 ghost use Rattle.arena_script.specs.Answered.{AnswersAll, AnswersPart, AppendsPart};
 ghost use Rattle.arena_script.specs.DumpText.{told_text};
+ghost use Rattle.arena_script.specs.RunAnswers.{AnswersRun, HasNoConfig, StartsRun};
+ghost use Rattle.arena_script.specs.RunWords.{are_run_words};
 ghost use Rattle.arena_script.specs.ScriptAnswers.{AnswersScript, NamesNoTenant, StartsScript, Tells};
 ghost use Rattle.arena_script.specs.ScriptLines.{script_lines, all_lines, lines_in};
 ghost use Rattle.arena_script.specs.SerialAnswers.{serial_answers};
@@ -19,7 +21,9 @@ use crate::devices::put;
 use crate::ends::ScriptEnd;
 use crate::inputs::{Input, MAX_SCRIPT_LINE, next_input};
 use crate::own::Own;
+use crate::runs::run;
 use crate::serials::serial_values;
+use arena_core::Arena;
 use job_language::Answer;
 use reply_writer::{ReplyBuf, answer_line, bad_step_line};
 use request_reader::LineReader;
@@ -28,7 +32,8 @@ use std::io::{Read, Write};
 
 /// Does the whole work of `arena-script`: reads a script, and writes one line for each of its
 /// lines that is not blank, in order. Without a word, or with the word `own`, the first line is a
-/// tenant and the others are its steps. With the word `serial` each line is a job, whose serial
+/// tenant and the others are its steps. With the word `run` the first line is a configuration and
+/// the others are the steps of its world. With the word `serial` each line is a job, whose serial
 /// value is asked. With the word `check` it reads a dump and writes one line: its verdict, or the
 /// number of its first bad line.
 pub fn script<R: Read, W: Write>(
@@ -38,18 +43,23 @@ pub fn script<R: Read, W: Write>(
     writer: &mut W,
 ) -> ScriptEnd
     ensures words { are_own_words words.now ≡ true → IsOwnEnd result }
+    ensures run { are_run_words words.now ≡ true → IsOwnEnd result }
     ensures check { are_check_words words.now ≡ true → IsCheckEnd result }
     ensures serial { are_serial_words words.now ≡ true → IsSerialEnd result }
     ensures other_words { are_known_words words.now ≡ false → result ≡ ScriptEnd.Words }
     ensures unread { result ≡ ScriptEnd.Words → reader.new ≡ reader.old }
 
-    // Nothing is written before the first line is a tenant.
+    // Nothing is written before the first line is a tenant, or a configuration.
     ensures unwritten { result ≡ ScriptEnd.Words → writer.new ≡ writer.old }
     ensures no_answer { result ≡ ScriptEnd.Config → writer.new ≡ writer.old }
 
     // Where the bytes are known, the answers to all lines are written, or what a dump comes to.
-    ensures no_tenant { result ≡ ScriptEnd.Config → IsSome (R.remaining reader.old)
+    ensures no_tenant { are_own_words words.now ≡ true → result ≡ ScriptEnd.Config → IsSome (R.remaining reader.old)
         → NamesNoTenant (all_lines (R.remaining reader.old)) }
+    ensures no_config { are_run_words words.now ≡ true → result ≡ ScriptEnd.Config → IsSome (R.remaining reader.old)
+        → HasNoConfig (all_lines (R.remaining reader.old)) }
+    ensures outcomes { are_run_words words.now ≡ true → result ≡ ScriptEnd.Done → IsSome (R.remaining reader.old)
+        → AnswersRun (all_lines (R.remaining reader.old)) (W.contents writer.old) (W.contents writer.new) }
     ensures done { are_own_words words.now ≡ true → result ≡ ScriptEnd.Done → IsSome (R.remaining reader.old)
         → AnswersScript (all_lines (R.remaining reader.old))
         (W.contents writer.old) (W.contents writer.new) }
@@ -63,6 +73,8 @@ pub fn script<R: Read, W: Write>(
     // At each early end what is written is a first part of that.
     ensures own_part { are_own_words words.now ≡ true → IsSome (R.remaining reader.old)
         → StartsScript (all_lines (R.remaining reader.old)) (W.contents writer.old) (W.contents writer.new) }
+    ensures run_part { are_run_words words.now ≡ true → IsSome (R.remaining reader.old)
+        → StartsRun (all_lines (R.remaining reader.old)) (W.contents writer.old) (W.contents writer.new) }
     ensures check_part { are_check_words words.now ≡ true → IsSome (R.remaining reader.old)
         → AppendsPart (W.contents writer.old) (W.contents writer.new) (told_text (dump_of (lines_in (R.remaining reader.old)))) }
     ensures serial_part { are_serial_words words.now ≡ true → IsSome (R.remaining reader.old)
@@ -71,6 +83,7 @@ pub fn script<R: Read, W: Write>(
     let ended = match words {
         ["check"] => check_dump(alloc, reader, writer),
         ["serial"] => serial_values(alloc, reader, writer),
+        ["run"] => run::<Arena, R, W>(alloc, reader, writer),
         [] | ["own"] => own(alloc, reader, writer),
         _ => Err(ScriptEnd::Words),
     };
