@@ -24,8 +24,8 @@ use Rattle.tenant_model.specs.WellFormed.{IsWellFormed}
 use Rattle.tenant_model.proofs.Advancing.{entry_counted, advances, arrives, asked}
 use Rattle.tenant_model.proofs.KeptAdvances.{after_kept, empty_kept}
 use Rattle.tenant_record.specs.Replayed.{ask_within}
-use Rattle.tenant_record.specs.Within.{advance_within, arrive_within}
-use Rattle.tenant_record.specs.Seen.{Commits}
+use Rattle.arena_steps.specs.Within.{advance_within, arrive_within}
+use Rattle.arena_core.specs.Views.{Commits}
 use Rattle.tenant_record.proofs.Taking.{advance_takes, arrive_takes, ask_takes, commit_takes}
 use Rattle.tenant_record.specs.History.{steps_of, answers_of, state_after, entries_of, IsHistory, Takes}
 

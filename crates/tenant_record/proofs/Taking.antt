@@ -28,8 +28,8 @@ use Rattle.tenant_model.specs.Told.{placed_on}
 use Rattle.tenant_model.proofs.Advancing.{IsKept, entries_counted, Asked, asked}
 use Rattle.tenant_record.specs.History.{Takes}
 use Rattle.tenant_record.specs.Replayed.{ask_within}
-use Rattle.tenant_record.specs.Within.{advance_within, arrive_within}
-use Rattle.tenant_record.specs.Seen.{Commits}
+use Rattle.arena_steps.specs.Within.{advance_within, arrive_within}
+use Rattle.arena_core.specs.Views.{Commits}
 
 abbrev HasRoom : State → Answer → Type 0
 HasRoom s a = is_entry a ≡ true → is_full s ≡ false

@@ -24,7 +24,7 @@ use Rattle.tenant_record.specs.PassData.{PassData, has_room}
 use Rattle.tenant_record.specs.Places.{place, is_in, pass_in, IsPlaceOf, first_places}
 use Rattle.tenant_record.specs.Replayed.{ask_within}
 use Rattle.tenant_record.specs.SeatData.{SeatData, has_seat_room}
-use Rattle.tenant_record.specs.Within.{arrive_within}
+use Rattle.arena_steps.specs.Within.{arrive_within}
 use Rattle.tenant_record.specs.declared.places.Place.{Place}
 
 -- A tenant's number and configuration, its history, the number of the seat of each ask in the history, where the pass of each slot is, and since how many entries each slot is idle, if that is known.

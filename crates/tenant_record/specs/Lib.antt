@@ -1,5 +1,3 @@
-pub mod Within
-pub mod Seen
 pub mod History
 pub mod Replayed
 pub mod ReplayFields

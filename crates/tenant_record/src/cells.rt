@@ -10,8 +10,8 @@ ghost use Rattle.tenant_record.specs.Cell.{IsRight, state_of, first_cell, is_on,
 ghost use Rattle.tenant_record.specs.Locked.{IsMoved, IsArrived, IsAsked, given_home};
 ghost use Rattle.tenant_record.specs.PassData.{has_room, GoesWith};
 ghost use Rattle.tenant_record.specs.Places.{place, pass_in, is_told_full};
-ghost use Rattle.tenant_record.specs.Within.{advance_within};
-ghost use Rattle.tenant_record.specs.Seen.{Commits, IsSeen};
+ghost use Rattle.arena_steps.specs.Within.{advance_within};
+ghost use Rattle.arena_core.specs.Views.{Commits, IsSeen};
 
 use crate::passes::Pass;
 use crate::places::{pass_at, put, room_at};
@@ -217,7 +217,7 @@ impl TenantCell {
         ensures moved { IsMoved self.old pass result.moved result.due result.pass self.new }
     {
         let entries = self.replay.history().len();
-        let moved = self.replay.commit(pass.slot(), segment, pass.has_room());
+        let moved = self.replay.commit(pass.slot(), &segment, pass.has_room());
         self.slots.moved(&self.replay, pass, moved, entries)
     }
 

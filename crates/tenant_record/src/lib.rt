@@ -2,7 +2,6 @@
 //! and the cell that its lock keeps.
 #![tactic(auto)]
 
-mod arena;
 mod cells;
 mod closing;
 mod logs;

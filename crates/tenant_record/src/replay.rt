@@ -11,10 +11,10 @@ ghost use Rattle.tenant_model.specs.Walks.{has_unstarted, height};
 ghost use Rattle.tenant_record.specs.History.{entries_of, IsHistory};
 ghost use Rattle.tenant_record.specs.Replayed.{state_of, ask_within};
 ghost use Rattle.arena_core.specs.Stands.{StandsFor};
-ghost use Rattle.tenant_record.specs.Within.{advance_within, arrive_within};
-ghost use Rattle.tenant_record.specs.Seen.{IsSeen, Commits};
+ghost use Rattle.arena_steps.specs.Within.{advance_within, arrive_within};
+ghost use Rattle.arena_core.specs.Views.{IsSeen, Commits};
 
-use crate::arena::Arena;
+use arena_core::Arena;
 use job_language::{Answer, Came, Entry, Error, Moved, Reply, Request, Step, Tenant, TenantConfig};
 use job_step::{Segment, View};
 use std::alloc::{AllocError, Global};
@@ -147,8 +147,8 @@ impl Replay {
 
     /// Puts a private run in the place of an advance, and records it as one. It is `Stale` if its frame
     /// is no longer the slot's topmost one.
-    pub fn commit(&mut self, slot: u8, segment: Segment, has_room: bool) -> Moved
-        ensures answer { Commits has_room (state_of self.old) slot segment result (state_of self.new) }
+    pub fn commit(&mut self, slot: u8, segment: &Segment, has_room: bool) -> Moved
+        ensures answer { Commits has_room (state_of self.old) slot segment.now result (state_of self.new) }
         ensures config { self.new.config ≡ self.old.config }
         ensures history { self.new.history ≡ self.old.history ++ entries_of (Step.Advance slot) (Answer.Moved result) }
         ensures right { IsHistory self.new.config self.new.history }

@@ -8,8 +8,8 @@ use Rattle.tenant_record.specs.Cell.{CellData, state_of}
 use Rattle.tenant_record.specs.CellFields.{cell_data}
 use Rattle.tenant_record.specs.History.{Takes}
 use Rattle.tenant_record.specs.Locked.{IsMoved, IsArrived, IsAsked}
-use Rattle.tenant_record.specs.Within.{advance_within, arrive_within}
-use Rattle.tenant_record.specs.Seen.{Commits}
+use Rattle.arena_steps.specs.Within.{advance_within, arrive_within}
+use Rattle.arena_core.specs.Views.{Commits}
 use Rattle.tenant_record.proofs.Histories.{well_formed}
 use Rattle.tenant_record.proofs.Taking.{arrive_taken}
 use Rattle.tenant_record.proofs.Rightness.{counts_by}

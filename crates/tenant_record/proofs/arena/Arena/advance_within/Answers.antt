@@ -1,5 +1,0 @@
-use Rattle.std.proofs.Common.{rules}
-use Rattle.tenant_record.proofs.arena.Arena.advance_within.Goals as goal
-
-pub returns : goal.returns
-returns c = ?
