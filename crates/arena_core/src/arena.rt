@@ -1,7 +1,8 @@
 // The arena of one tenant, and its steps.
-ghost use Rattle.std.specs.Prelude.{◌≡◌, [], ◌∷◌, true, IfOk};
+ghost use Rattle.std.specs.Prelude.{◌≡◌, ◌≤◌, [], ◌∷◌, true, IfOk};
 ghost use Rattle.job_language.specs.declared.steps.Step.{Step};
 ghost use Rattle.job_language.specs.Tenant.{IsValidTenant};
+ghost use Rattle.tenant_model.specs.declared.rows.TheConstants.{MAX_HEIGHT};
 ghost use Rattle.tenant_model.specs.State.{State, empty};
 ghost use Rattle.tenant_model.specs.Walks.{has_unstarted, height};
 ghost use Rattle.tenant_model.specs.Advance.{advance, arrive};
@@ -59,7 +60,8 @@ impl Arena {
 
     /// How many rows are on a slot.
     pub fn height(&self, slot: u8) -> usize
-        ensures { (s : State) → StandsFor self.now s → result ≡ height s.rows slot }
+        ensures value { (s : State) → StandsFor self.now s → result ≡ height s.rows slot }
+        ensures most { result ≤ MAX_HEIGHT }
     {
         if slot >= self.parts.config().slots {
             return 0;

@@ -1,0 +1,10 @@
+//! Attending a slot of an arena that one thread holds.
+#![tactic(auto)]
+
+mod attending;
+mod door;
+#[cfg(test)]
+mod tests;
+
+pub use attending::attend_slot;
+pub use door::ArenaDoor;
