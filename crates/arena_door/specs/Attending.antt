@@ -1,7 +1,6 @@
 -- What attending a slot of an arena comes to, in the states that it stands for.
-use Rattle.std.specs.Prelude.{ℕ, ◌≡◌, ◌<◌, ◌≤◌, ◌⊎◌, List, replicate}
+use Rattle.std.specs.Prelude.{ℕ, ◌≡◌, ◌<◌, ◌≤◌, ◌⊎◌, replicate}
 use Rattle.job_language.specs.declared.answers.Moved.TheVariants as moved
-use Rattle.job_language.specs.declared.steps.Step.{Step}
 use Rattle.job_language.specs.declared.steps.Step.TheVariants.{Advance}
 use Rattle.tenant_model.specs.State.{State}
 use Rattle.tenant_model.specs.Walks.{height}
