@@ -1,4 +1,4 @@
--- What attending a slot of an arena comes to, in the states that it stands for.
+-- What attending a slot does to an arena, in the states that it stands for.
 use Rattle.std.specs.Prelude.{ℕ, ◌≡◌, ◌<◌, ◌≤◌, ◌⊎◌, replicate}
 use Rattle.job_language.specs.declared.answers.Moved.TheVariants as moved
 use Rattle.job_language.specs.declared.steps.Step.TheVariants.{Advance}

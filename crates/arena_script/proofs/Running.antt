@@ -28,7 +28,7 @@ take_line : (names : List (List ℕ)) (line : Line) (w : World) → (o : Option 
 take_line names (whole text) w = take_step names (step_in text) w
 take_line names too_long w = (None, w, (refl, refl))
 
--- each line of the script is told something
+-- each line of the script has an answer
 pub tells_all : (names : List (List ℕ)) → TakesAll (Tells names)
 tells_all names line w = let taken = take_line names line w in (told names taken.0, taken.1, (taken.0, taken.2, refl))
 

@@ -20,13 +20,13 @@ take_line : (slots : ℕ) (line : Line) (s : State) → (answer : Option Answer)
 take_line slots (whole text) s = take_step slots (step_in text) s
 take_line slots too_long s = (None, s, (refl, refl))
 
--- each line of the tenant's script is told something
+-- each line of the tenant's script has an answer
 pub tells_all : (slots : ℕ) → TakesAll (Tells slots)
 tells_all slots line s = let taken = take_line slots line s in (told taken.0, taken.1, (taken.0, taken.2, refl))
 
 pub starts_none : (lines : List Line) (known : Option (List ℕ)) → StartsScript lines known known
 starts_none = starts_from_none tenant_in (λ (c : Tenant). Tells c.slots) empty (λ (c : Tenant). tells_all c.slots)
 
--- A line that was taken, with as many slots, is told its answer.
+-- A line that was taken, with as many slots, has its answer told.
 pub told_so : (slots slots' : ℕ) (line : Line) (old mid : State) (answer : Option Answer) → slots' ≡ slots → TakesLine slots' line old answer mid → Tells slots old line (told answer) mid
 told_so slots slots' line old mid answer same taken = (answer, subst (λ (n : ℕ). TakesLine n line old answer mid) same taken, refl)

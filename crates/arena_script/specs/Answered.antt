@@ -1,4 +1,4 @@
--- The bytes that answer the lines of a script, of whatever kind: what is told of each line, on a line of its own.
+-- The bytes that answer the lines of a script of any kind: the answer to each, on a line of its own.
 use Rattle.std.specs.Prelude.{◌≡◌, ℕ, ◌<◌, List, [], ◌∷◌, ◌++◌, length, take, Option, Some, None}
 use Rattle.std.specs.Io.KnownBytes.{Appends}
 use Rattle.request_reader.specs.Lines.{Line, whole, too_long, newline}

@@ -1,4 +1,4 @@
--- What is told of a dump.
+-- The answer to a dump.
 use Rattle.std.specs.Prelude.{ℕ, List, Result, Ok, Err}
 use Rattle.arena_script.specs.DumpData.{DumpData}
 use Rattle.arena_script.specs.DumpLines.{verdict_on}

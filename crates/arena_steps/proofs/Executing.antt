@@ -1,4 +1,4 @@
--- What executing comes to at an instruction that is not shared.
+-- Executing an instruction that is not shared.
 use Rattle.std.proofs.Common.{◌≡◌, ℕ, refl}
 use Rattle.job_language.specs.declared.instructions.Instr.{Instr}
 use Rattle.job_language.specs.declared.instructions.Instr.TheVariants.{Set, Add, Sub, Mul, Div, Lt, Jz, Jmp, Slot, Width, Spawn, Post, Wait, Cancel, Ask, Isolate, Load, Store, Sum, Count, Ret}

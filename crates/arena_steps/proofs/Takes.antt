@@ -48,7 +48,7 @@ slot_there a s slot n is on_top =
     let within = is.steady.tended.slots n slot (height s.rows slot) (top_is s.rows slot n on_top).2 in
     grind (arith, within)
 
--- what an advance comes to, by what is on top
+-- an advance, by what is on top
 pub advance_on_top : (s : State) (slot n : ℕ) → nat_lt slot s.config.slots ≡ true → top s.rows slot ≡ Some n → advance s slot ≡ unless_full s (advance_run s slot n (run_on s slot n))
 advance_on_top s slot n low on_top =
     let first : advance s slot ≡ unless_full s (advance_top s slot (top s.rows slot)) = rw low refl in

@@ -29,6 +29,7 @@ impl<'q, R: Wait, S: Signal> Model for Ringer<'q, R, S> {
 }
 
 impl<'q, R: Wait, S: Signal> Ringer<'q, R, S> {
+    /// Calls workers by a pass of these queues, and rings that signal.
     pub fn new(rt: &'q R, signal: &'q S, queues: &'q CallQueues, pass: QueuePass) -> Self
         requires { pass.queues ≡ queues.now.queues }
         ensures { result ≡ record { queues = queues.now; pass = pass } }

@@ -35,6 +35,7 @@ impl<'q, R: Wait, S: Signal, G: Gate, D: DueDoor> Model for SlotDoor<'q, R, S, G
 }
 
 impl<'q, R: Wait, S: Signal, G: Gate, D: DueDoor> SlotDoor<'q, R, S, G, D> {
+    /// The door of the slots that the doors lead to.
     pub fn new(ringer: Ringer<'q, R, S>, gate: &'q G, doors: D) -> Self
         requires { D.tenants doors ≤ length ringer.queues.config }
         ensures { result ≡ record { ringer = ringer.entry; doors = doors } }
