@@ -5,6 +5,7 @@ use job_language::{
     Came, Isolation, Level, Moved, Reply, Request, Status, Tenant, TenantConfig, TenantName,
     read_job,
 };
+use job_step::{View, segment_of};
 use nested_wait::Attended;
 use serde_json::Value;
 use std::alloc::Global;
@@ -72,5 +73,17 @@ fn a_waiter_whose_task_is_elsewhere_is_stopped(rt: HostRuntime) -> Result<(), Fa
         arena.ask(Request::Collect(1)),
         Reply::Job(1, Status::Complete(5))
     );
+    Ok(())
+}
+
+#[test]
+fn a_frame_that_is_seen_is_committed_once(rt: HostRuntime) -> Result<(), Fail> {
+    let mut arena = executed(rt.alloc(), FIB, 1, 100)?;
+    let View::Top(top) = arena.view(0) else {
+        return Err("the job is on the slot")?;
+    };
+    let segment = segment_of(top);
+    assert_eq!(rt; arena.commit(0, &segment), Moved::Ran);
+    assert_eq!(rt; arena.commit(0, &segment), Moved::Stale);
     Ok(())
 }

@@ -10,7 +10,9 @@ use Rattle.tenant_record.specs.History.{entries_of}
 use Rattle.tenant_record.specs.declared.notes.Told.{Told}
 use Rattle.tenant_record.specs.declared.notes.Told.TheVariants.{Arrived, Ran, Nested, Freed}
 
--- The pass of a slot: how many entries its log may have, the entries of the slot that its holders were told of, in order, whether one of them was told that the history is at its limit, and how many entries the history had at the last idle advance, if the slot was not touched since.
+-- The pass of a slot: how many entries its log may have, the entries of the slot that its holders were told of, in order,
+-- whether one of them was told that the history is at its limit, and how many entries the history had at the last idle
+-- advance, if the slot was not touched since.
 pub record PassData : Type 0 where
   pub tenant : ℕ
   pub slot : ℕ
