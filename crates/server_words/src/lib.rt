@@ -1,0 +1,8 @@
+//! The words that `arena-server` is called with.
+#![tactic(auto)]
+
+#[cfg(test)]
+mod tests;
+mod words;
+
+pub use words::{MAX_CONNECTIONS, Words, WordsFault, read_words};
