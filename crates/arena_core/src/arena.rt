@@ -1,12 +1,13 @@
 // The arena of one tenant, and its steps.
 ghost use Rattle.std.specs.Prelude.{◌≡◌, ◌≤◌, [], ◌∷◌, true, IfOk};
+ghost use Rattle.std.specs.Option.{option_map};
 ghost use Rattle.job_language.specs.declared.steps.Step.{Step};
 ghost use Rattle.job_language.specs.Tenant.{IsValidTenant};
 ghost use Rattle.tenant_model.specs.declared.rows.TheConstants.{MAX_HEIGHT};
 ghost use Rattle.tenant_model.specs.State.{State, empty};
 ghost use Rattle.tenant_model.specs.Walks.{has_unstarted, height};
 ghost use Rattle.tenant_model.specs.Advance.{advance, arrive};
-ghost use Rattle.tenant_model.specs.Asks.{ask};
+ghost use Rattle.tenant_model.specs.Asks.{ask, known_job, status};
 ghost use Rattle.tenant_model.specs.Regions.{KeepsRegions};
 ghost use Rattle.arena_steps.specs.Within.{advance_within, arrive_within};
 ghost use Rattle.arena_core.specs.Stands.{StandsFor, Takes};
@@ -15,7 +16,7 @@ ghost use Rattle.arena_core.specs.Views.{Commits, IsSeen};
 use crate::asks;
 use crate::views::{self, is_topmost};
 use arena_rows::Parts;
-use job_language::{Came, Moved, Reply, Request, Tenant, TenantConfig};
+use job_language::{Came, Moved, Reply, Request, Status, Tenant, TenantConfig};
 use job_step::{Segment, View};
 use std::alloc::{AllocError, Global};
 use std::marker::Model;
@@ -81,6 +82,13 @@ impl Arena {
         ensures { (s : State) → StandsFor self.now s → result ≡ has_unstarted s }
     {
         self.parts.has_unstarted()
+    }
+
+    /// How far a job is, if it was made and is not retired.
+    pub fn status(&self, job: u64) -> Option<Status>
+        ensures { (s : State) → StandsFor self.now s → result ≡ option_map (status s.rows job) (known_job s job) }
+    {
+        self.parts.status(job)
     }
 
     /// Answers an ask. It needs no memory.

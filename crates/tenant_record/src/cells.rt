@@ -1,9 +1,11 @@
 // A tenant's cell: what its lock keeps.
-ghost use Rattle.std.specs.Prelude.{◌≡◌, ◌<◌, ◌++◌, length, IfOk, IfSome, true, None, count_by, option_map, slice_index_or, vec_len, vec_capacity};
+ghost use Rattle.std.specs.Prelude.{◌≡◌, ◌<◌, ◌≤◌, ◌++◌, length, IfOk, IfSome, true, None, count_by, option_map, slice_index_or, vec_len, vec_capacity};
 ghost use Rattle.std.specs.List.{list_any};
 ghost use Rattle.job_language.specs.Recorded.{is_entry, is_recorded_reply};
 ghost use Rattle.job_language.specs.Tenant.{IsValidTenant};
 ghost use Rattle.job_language.specs.declared.answers.Answer.{Answer};
+ghost use Rattle.tenant_model.specs.declared.rows.TheConstants.{MAX_HEIGHT};
+ghost use Rattle.tenant_model.specs.Asks.{known_job, status};
 ghost use Rattle.tenant_model.specs.Told.{placed_on};
 ghost use Rattle.tenant_model.specs.Walks.{height};
 ghost use Rattle.tenant_record.specs.Cell.{IsRight, state_of, first_cell, is_on, arrival, entered, AnswersAsk, askers_of};
@@ -18,7 +20,7 @@ use crate::places::{pass_at, put, room_at};
 use crate::replay::Replay;
 use crate::seats::Seat;
 use crate::slots::{Advanced, Arrived, SlotBooks};
-use job_language::{Came, Entry, Error, Reply, Request, Tenant, TenantConfig};
+use job_language::{Came, Entry, Error, Reply, Request, Status, Tenant, TenantConfig};
 use job_step::{Segment, View};
 use std::alloc::{AllocError, Global};
 use std::marker::Model;
@@ -149,9 +151,17 @@ impl TenantCell {
 
     /// How many rows are on a pass's slot.
     pub fn height(&self, pass: &Pass) -> usize
-        ensures { result ≡ height (state_of self.now).rows pass.now.slot }
+        ensures value { result ≡ height (state_of self.now).rows pass.now.slot }
+        ensures most { result ≤ MAX_HEIGHT }
     {
         self.replay.height(pass.slot())
+    }
+
+    /// How far a job is, if it was made and is not retired.
+    pub fn status(&self, job: u64) -> Option<Status>
+        ensures { result ≡ option_map (status (state_of self.now).rows job) (known_job (state_of self.now) job) }
+    {
+        self.replay.status(job)
     }
 
     /// Answers an ask of a seat. The arena, the history and the seat keep one copy of the request each;

@@ -1,11 +1,13 @@
 // An arena with the history that replays to it.
 ghost use Rattle.std.specs.Prelude.{◌≡◌, ◌++◌, [], ◌≤◌, ◌<◌, IfOk, true, vec_len, vec_capacity};
+ghost use Rattle.std.specs.Option.{option_map};
 ghost use Rattle.job_language.specs.Recorded.{is_entry};
 ghost use Rattle.job_language.specs.Tenant.{IsValidTenant};
 ghost use Rattle.job_language.specs.declared.answers.Answer.{Answer};
 ghost use Rattle.job_language.specs.declared.answers.Reply.{Reply};
 ghost use Rattle.job_language.specs.declared.steps.Step.{Step};
-ghost use Rattle.tenant_model.specs.Asks.{is_hello};
+ghost use Rattle.tenant_model.specs.Asks.{is_hello, known_job, status};
+ghost use Rattle.tenant_model.specs.declared.rows.TheConstants.{MAX_HEIGHT};
 ghost use Rattle.tenant_model.specs.State.{State};
 ghost use Rattle.tenant_model.specs.Walks.{has_unstarted, height};
 ghost use Rattle.tenant_record.specs.History.{entries_of, IsHistory};
@@ -15,7 +17,9 @@ ghost use Rattle.arena_steps.specs.Within.{advance_within, arrive_within};
 ghost use Rattle.arena_core.specs.Views.{IsSeen, Commits};
 
 use arena_core::Arena;
-use job_language::{Answer, Came, Entry, Error, Moved, Reply, Request, Step, Tenant, TenantConfig};
+use job_language::{
+    Answer, Came, Entry, Error, Moved, Reply, Request, Status, Step, Tenant, TenantConfig,
+};
 use job_step::{Segment, View};
 use std::alloc::{AllocError, Global};
 use std::marker::Model;
@@ -79,7 +83,8 @@ impl Replay {
 
     /// How many rows are on a slot.
     pub fn height(&self, slot: u8) -> usize
-        ensures { result ≡ height (state_of self.now).rows slot }
+        ensures value { result ≡ height (state_of self.now).rows slot }
+        ensures most { result ≤ MAX_HEIGHT }
     {
         self.arena.height(slot)
     }
@@ -89,6 +94,13 @@ impl Replay {
         ensures { result ≡ has_unstarted (state_of self.now) }
     {
         self.arena.has_unstarted()
+    }
+
+    /// How far a job is, if it was made and is not retired.
+    pub fn status(&self, job: u64) -> Option<Status>
+        ensures { result ≡ option_map (status (state_of self.now).rows job) (known_job (state_of self.now) job) }
+    {
+        self.arena.status(job)
     }
 
     /// What is seen of a slot: its topmost frame, if another handle on the frame's program is granted.

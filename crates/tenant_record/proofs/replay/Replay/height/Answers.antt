@@ -1,4 +1,4 @@
 use Rattle.tenant_record.proofs.replay.Replay.height.Goals as goal
 
-pub returns : goal.returns
-returns c = rw (← c.self.view_is) (c.height.ensures.value _ c.self.invariant.arena)
+pub returns-clause-value : goal.returns-clause-value
+returns-clause-value c = rw (← c.self.view_is) (c.height.ensures.value _ c.self.invariant.arena)
