@@ -1,0 +1,29 @@
+-- What a tenant's door shows, and what its calls do to tokens.
+use Rattle.std.specs.Prelude.{ℕ, ◌≡◌, Option, Some, None}
+use Rattle.job_language.specs.declared.answers.Came.{Came}
+use Rattle.job_language.specs.declared.answers.Came.TheVariants.{At}
+use Rattle.job_language.specs.declared.answers.Moved.{Moved}
+use Rattle.job_language.specs.declared.tenants.Tenant.{Tenant}
+use Rattle.tenant_record.specs.PassData.{PassData, IsPassOf, advanced, arrived}
+
+-- The tenant's number and what it is given, and how many seats it has. What the lock keeps is not in it.
+pub record DoorData : Type 0 where
+  pub tenant : ℕ
+  pub config : Tenant
+  pub seats : ℕ
+
+-- The pass after an advance with that answer. How many entries the history had before it, no caller knows.
+abbrev pub Carries : PassData → Moved → PassData → Type 0
+Carries p moved q = (entries : ℕ) × (q ≡ advanced p moved entries)
+
+-- It is the pass of that slot of the tenant, and the last that its holders were told of is the arrival at that row.
+pub record HasArrived (tenant slot row : ℕ) (p : PassData) : Type 0 where
+  pub is : IsPassOf tenant slot p
+  pub before : PassData
+  pub told : p ≡ arrived before row
+
+-- There is a pass if and only if a row was found, and it was told so.
+abbrev pub ComesWith : (tenant slot : ℕ) → Came → Option PassData → Type 0
+ComesWith tenant slot (At row) None = ⊥
+ComesWith tenant slot (At row) (Some p) = HasArrived tenant slot row p
+ComesWith tenant slot came q = q ≡ None

@@ -1,0 +1,177 @@
+// The tenant's door: the calls that take the lock.
+ghost use Rattle.std.specs.Prelude.{◌≡◌, ◌≤◌, not, IfOk, IfSome};
+ghost use Rattle.std.specs.Option.{is_some};
+ghost use Rattle.job_language.specs.Recorded.{is_entry};
+ghost use Rattle.tenant_model.specs.Told.{placed_on};
+ghost use Rattle.tenant_model.specs.declared.rows.TheConstants.{MAX_HEIGHT};
+ghost use Rattle.tenant_record.specs.PassData.{GoesWith, goes_home};
+ghost use Rattle.tenant_record.specs.SeatData.{asked, first_seats};
+ghost use Rattle.tenant_lock.specs.Doors.{Carries, ComesWith};
+
+use crate::held::Held;
+use job_language::{Answer, Request, TenantConfig};
+use job_step::{Segment, View};
+use std::alloc::{AllocError, Global};
+use std::marker::Model;
+use std::sync::{Condvar, Mutex, Wait};
+use tenant_record::{Advanced, Arrived, Asked, Pass, Seat, TenantCell, first_seats};
+use world_model::Call;
+
+/// A tenant behind a lock. Each call takes the lock once, and what it does to the tenant is said of
+/// the tenant's cell; here stands what it does to the tokens.
+#[derive(Drop)]
+pub struct TenantDoor {
+    tenant: usize,
+    config: TenantConfig,
+    seats: usize,
+    held: Mutex<Held>,
+    changed: Condvar,
+}
+
+impl Model for TenantDoor {
+    ghost use Rattle.tenant_lock.specs.Doors.{DoorData};
+    ghost use Rattle.tenant_lock.specs.DoorFields.{door_data};
+
+    ghost Value = { DoorData };
+
+    ghost view = { door_data };
+}
+
+impl TenantDoor {
+    /// The door of a tenant that has done nothing yet, with that many seats. Tenants are numbered from
+    /// 0, and so are seats.
+    pub fn new(
+        alloc: Global,
+        tenant: usize,
+        config: TenantConfig,
+        seats: usize,
+    ) -> Result<(TenantDoor, Vec<Seat>), AllocError>
+        ensures door { IfOk result (λ made. made.0 ≡ record { tenant = tenant; config = config; seats = seats }) }
+        ensures seats { IfOk result (λ made. made.1.items ≡ first_seats tenant config.steps seats) }
+    {
+        let all_seats = first_seats(alloc, tenant, config, seats)?;
+        let held = Held::new(TenantCell::new(alloc, tenant, config)?);
+        let door = TenantDoor {
+            tenant,
+            config,
+            seats,
+            held: Mutex::new(held),
+            changed: Condvar::new(),
+        };
+        Ok((door, all_seats))
+    }
+
+    /// The number of its tenant.
+    pub fn tenant(&self) -> usize
+        ensures { result ≡ self.now.tenant }
+    {
+        self.tenant
+    }
+
+    /// Answers an ask of a seat. With a job that is placed on a slot goes the slot's pass, and with no
+    /// other reply a pass.
+    pub fn ask<R: Wait>(&self, rt: &R, seat: &mut Seat, request: Request) -> Asked
+        requires { seat.old.tenant ≡ self.now.tenant }
+        ensures seat { seat.new ≡ asked seat.old request result.reply }
+        ensures placed { GoesWith self.now.tenant (placed_on result.reply) result.pass }
+    {
+        let asked = self.held.lock(rt).ask(self.tenant, seat, request);
+        if asked.reply.is_recorded() {
+            self.changed.notify_all();
+        }
+        asked
+    }
+
+    /// Lets a worker arrive at the slot of a call. If a row was found there, the slot's pass comes with
+    /// it. At a slot of another tenant, at one that the tenant lacks, and at one whose pass is out,
+    /// nothing happens.
+    pub fn arrive<R: Wait>(&self, rt: &R, call: Call) -> Arrived
+        ensures { ComesWith self.now.tenant call.slot result.came result.pass }
+    {
+        let arrived = self.held.lock(rt).arrive(self.tenant, call);
+        if Answer::Came(arrived.came).is_entry() {
+            self.changed.notify_all();
+        }
+        arrived
+    }
+
+    /// Advances the slot of a pass. The pass comes back, unless it went home.
+    pub fn advance<R: Wait>(&self, rt: &R, pass: Pass) -> Advanced
+        requires { pass.tenant ≡ self.now.tenant }
+        ensures carries { IfSome result.pass (λ q. Carries pass result.moved q) }
+        ensures home { is_some result.pass ≡ not (goes_home result.moved) }
+    {
+        let advanced = self.held.lock(rt).advance(pass);
+        if Answer::Moved(advanced.moved).is_entry() {
+            self.changed.notify_all();
+        }
+        advanced
+    }
+
+    /// Puts a private run in the place of an advance of the slot of a pass. It is `Stale` if its frame
+    /// is no longer the slot's topmost one. The pass comes back, unless it went home.
+    pub fn commit<R: Wait>(&self, rt: &R, pass: Pass, segment: Segment) -> Advanced
+        requires { pass.tenant ≡ self.now.tenant }
+        ensures carries { IfSome result.pass (λ q. Carries pass result.moved q) }
+        ensures home { is_some result.pass ≡ not (goes_home result.moved) }
+    {
+        let advanced = self.held.lock(rt).commit(pass, segment);
+        if Answer::Moved(advanced.moved).is_entry() {
+            self.changed.notify_all();
+        }
+        advanced
+    }
+
+    /// What is seen of a pass's slot: its topmost frame, if another handle on the frame's program is
+    /// granted.
+    pub fn view<R: Wait>(&self, rt: &R, pass: &Pass) -> View
+        requires { pass.now.tenant ≡ self.now.tenant }
+    {
+        self.held.lock(rt).cell.view(pass)
+    }
+
+    /// How many rows are on a pass's slot.
+    pub fn height<R: Wait>(&self, rt: &R, pass: &Pass) -> usize
+        requires { pass.now.tenant ≡ self.now.tenant }
+        ensures { result ≤ MAX_HEIGHT }
+    {
+        self.held.lock(rt).cell.height(pass)
+    }
+
+    /// Puts a pass home.
+    pub fn give_home<R: Wait>(&self, rt: &R, pass: Pass)
+        requires { pass.tenant ≡ self.now.tenant }
+    {
+        self.held.lock(rt).give_home(pass);
+    }
+
+    /// Waits while nothing has happened since the pass's slot was found idle. If it was not idle, or was
+    /// touched since, it doesn't wait. It says whether to stop: those who wait were told to, or the
+    /// history is full.
+    pub fn pause<R: Wait>(&self, rt: &R, pass: &Pass) -> bool
+        requires { pass.now.tenant ≡ self.now.tenant }
+    {
+        let still = pass.still();
+        let held = self
+            .changed
+            .wait_while(rt, self.held.lock(rt), |held| held.is_idle_since(still));
+        held.is_over()
+    }
+
+    /// Waits while a job has no outcome. It says whether to stop: those who wait were told to, or the
+    /// history is full.
+    pub fn pause_for<R: Wait>(&self, rt: &R, _seat: &Seat, job: u64) -> bool
+        requires { _seat.now.tenant ≡ self.now.tenant }
+    {
+        let held = self
+            .changed
+            .wait_while(rt, self.held.lock(rt), |held| held.is_job_open(job));
+        held.is_over()
+    }
+
+    /// Tells all that wait to stop, from now on.
+    pub fn stop<R: Wait>(&self, rt: &R) {
+        self.held.lock(rt).is_stopped = true;
+        self.changed.notify_all();
+    }
+}
