@@ -6,7 +6,7 @@ use Rattle.job_language.specs.declared.tenants.Tenant.{Tenant}
 use Rattle.solo_eval.specs.Execution.{TakesMemory}
 use Rattle.tenant_model.specs.State.{State, empty}
 use Rattle.tenant_model.specs.Solo.{step}
-use Rattle.history_check.specs.SameAnswer.{same_answer}
+use Rattle.same_values.specs.SameAnswer.{same_answer}
 
 -- In that state the entry's step is answered as it says, and what is answered is an entry.
 abbrev pub is_right : State → Entry → Bool

@@ -1,3 +1,2 @@
-pub mod SameAnswer
 pub mod Checked
 pub mod Verdicts

@@ -1,12 +1,12 @@
 // Checking a tenant's history against the evaluator.
-ghost use Rattle.std.specs.Prelude.{◌≡◌, ◌↔◌, IsTrue, ◌≤◌, ℕ, IfOk, OnErr, Ok, length, map};
+ghost use Rattle.std.specs.Prelude.{◌≡◌, ◌≤◌, ℕ, IfOk, OnErr, Ok, length, map};
 ghost use Rattle.tenant_model.specs.Solo.{answers};
 ghost use Rattle.tenant_model.specs.State.{empty};
 ghost use Rattle.history_check.specs.Checked.{SomeTakesMemory};
-ghost use Rattle.history_check.specs.SameAnswer.{same_answer, same_reply, same_status, same_came, same_moved};
 ghost use Rattle.history_check.specs.Verdicts.{verdict_of};
 
-use job_language::{Answer, Came, Entry, Moved, Reply, Status, TenantConfig};
+use job_language::{Entry, TenantConfig};
+use same_values::is_same_answer;
 use solo_eval::Solo;
 use std::alloc::{AllocError, Global};
 
@@ -33,73 +33,9 @@ pub fn check(alloc: Global, config: TenantConfig, entries: &[Entry]) -> Result<V
     let mut solo = Solo::new(alloc, config);
     for (index, entry) in entries.iter().enumerate() {
         let answer = solo.step(&entry.step)?;
-        if !entry.answer.is_entry() || !is_same(&answer, &entry.answer) {
+        if !entry.answer.is_entry() || !is_same_answer(&answer, &entry.answer) {
             return Ok(Verdict::No(index as u64 + 1));
         }
     }
     Ok(Verdict::Yes)
-}
-
-fn is_same(given: &Answer, wanted: &Answer) -> bool
-    ensures value { result ≡ same_answer given.now wanted.now }
-    ensures exact { IsTrue result ↔ (given.now ≡ wanted.now) }
-{
-    match (given, wanted) {
-        (Answer::Replied(given), Answer::Replied(wanted)) => is_same_reply(given, wanted),
-        (Answer::Came(given), Answer::Came(wanted)) => is_same_came(given, wanted),
-        (Answer::Moved(given), Answer::Moved(wanted)) => is_same_moved(given, wanted),
-        _ => false,
-    }
-}
-
-fn is_same_reply(given: &Reply, wanted: &Reply) -> bool
-    ensures value { result ≡ same_reply given.now wanted.now }
-    ensures exact { IsTrue result ↔ (given.now ≡ wanted.now) }
-{
-    match (given, wanted) {
-        (Reply::Bound(name), Reply::Bound(other)) => name.as_bytes() == other.as_bytes(),
-        (Reply::Made(job), Reply::Made(other)) => job == other,
-        (Reply::Placed(job, slot), Reply::Placed(other, at)) => job == other && slot == at,
-        (Reply::Job(job, status), Reply::Job(other, is)) => {
-            job == other && is_same_status(status, is)
-        }
-        (Reply::Cancelled(job, first), Reply::Cancelled(other, is)) => job == other && first == is,
-        (Reply::Cells(key, count, sum), Reply::Cells(other, many, total)) => {
-            key.index() == other.index() && count == many && sum == total
-        }
-        (Reply::Arena(level, reserved, slots), Reply::Arena(other, kept, all)) => {
-            level == other && reserved == kept && slots == all
-        }
-        (Reply::Epoch(epoch), Reply::Epoch(other)) => epoch == other,
-        (Reply::Refused(error), Reply::Refused(other)) => error == other,
-        (Reply::Pending, Reply::Pending) => true,
-        _ => false,
-    }
-}
-
-fn is_same_status(given: &Status, wanted: &Status) -> bool
-    ensures value { result ≡ same_status given.now wanted.now }
-    ensures exact { IsTrue result ↔ (given.now ≡ wanted.now) }
-{
-    match (*given, *wanted) {
-        (Status::Running, Status::Running) => true,
-        (Status::Cancelled, Status::Cancelled) => true,
-        (Status::Complete(value), Status::Complete(other)) => value == other,
-        (Status::Fault(fault), Status::Fault(other)) => fault.code() == other.code(),
-        _ => false,
-    }
-}
-
-fn is_same_came(given: &Came, wanted: &Came) -> bool
-    ensures value { result ≡ same_came given.now wanted.now }
-    ensures exact { IsTrue result ↔ (given.now ≡ wanted.now) }
-{
-    given == wanted
-}
-
-fn is_same_moved(given: &Moved, wanted: &Moved) -> bool
-    ensures value { result ≡ same_moved given.now wanted.now }
-    ensures exact { IsTrue result ↔ (given.now ≡ wanted.now) }
-{
-    given == wanted
 }
