@@ -1,2 +1,5 @@
+pub mod SeatLogs
 pub mod Doors
+pub mod Closing
+pub mod FaultCodes
 pub mod DoorFields

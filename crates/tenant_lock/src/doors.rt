@@ -1,21 +1,31 @@
 // The tenant's door: the calls that take the lock.
-ghost use Rattle.std.specs.Prelude.{◌≡◌, ◌≤◌, not, IfOk, IfSome};
+ghost use Rattle.std.specs.Prelude.{◌≡◌, ◌≤◌, not, IfOk, IfErr, IfSome};
 ghost use Rattle.std.specs.Option.{is_some};
 ghost use Rattle.job_language.specs.Recorded.{is_entry};
 ghost use Rattle.tenant_model.specs.Told.{placed_on};
 ghost use Rattle.tenant_model.specs.declared.rows.TheConstants.{MAX_HEIGHT};
 ghost use Rattle.tenant_record.specs.PassData.{GoesWith, goes_home};
 ghost use Rattle.tenant_record.specs.SeatData.{asked, first_seats};
+ghost use Rattle.tenant_lock.specs.Closing.{Closes, IsRefused};
 ghost use Rattle.tenant_lock.specs.Doors.{Carries, ComesWith};
 
+use crate::closing::fault_of;
+use crate::faults::CloseFault;
 use crate::held::Held;
-use job_language::{Answer, Request, TenantConfig};
+use job_language::{Answer, Entry, Request, TenantConfig};
 use job_step::{Segment, View};
 use std::alloc::{AllocError, Global};
 use std::marker::Model;
 use std::sync::{Condvar, Mutex, Wait};
 use tenant_record::{Advanced, Arrived, Asked, Pass, Seat, TenantCell, first_seats};
 use world_model::Call;
+
+/// What a door that was closed gives.
+#[derive(Drop)]
+pub struct Closed {
+    /// The entries of the tenant's history, in order.
+    pub history: Vec<Entry>,
+}
 
 /// A tenant behind a lock. Each call takes the lock once, and what it does to the tenant is said of
 /// the tenant's cell; here stands what it does to the tokens.
@@ -174,4 +184,40 @@ impl TenantDoor {
         self.held.lock(rt).is_stopped = true;
         self.changed.notify_all();
     }
+    /// Closes the door, to which all seats come back: the tenant's history, if it agrees with what the
+    /// holders of its tokens were told. At a fault the tenant is given up.
+    pub fn close(self, seats: Vec<Seat>) -> Result<Closed, CloseFault>
+        ensures closed { IfOk result (λ closed. Closes self seats.items closed.history.items) }
+        ensures refused { IfErr result (λ fault. IsRefused self seats.items fault) }
+    {
+        let TenantDoor {
+            tenant,
+            config,
+            seats: count,
+            held,
+            changed: _changed,
+        } = self;
+        let cell = held.into_inner().cell;
+        close(cell, seats.as_slice(), tenant, &config, count)
+    }
+}
+
+/// Closes the door of a cell.
+fn close(
+    cell: TenantCell,
+    seats: &[Seat],
+    tenant: usize,
+    config: &TenantConfig,
+    count: usize,
+) -> Result<Closed, CloseFault>
+    ensures closed { IfOk result (λ closed. Closes (record { tenant = tenant; config = config.now; seats = count }) seats.now closed.history.items) }
+    ensures refused { IfErr result (λ fault. IsRefused (record { tenant = tenant; config = config.now; seats = count }) seats.now fault) }
+{
+    // Proof hint: the cell is right.
+    let _ = cell.history();
+    if let Some(fault) = fault_of(&cell, seats, tenant, config, count) {
+        return Err(fault);
+    }
+    let history = cell.into_history();
+    Ok(Closed { history })
 }

@@ -1,7 +1,13 @@
 //! A tenant behind a lock: its door, which any thread may use, and how the door is closed.
 #![tactic(auto)]
 
+mod closing;
 mod doors;
+mod faults;
 mod held;
+mod seat_logs;
 
-pub use doors::TenantDoor;
+pub use closing::fault_of;
+pub use doors::{Closed, TenantDoor};
+pub use faults::CloseFault;
+pub use seat_logs::is_seat_log;

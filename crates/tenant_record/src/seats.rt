@@ -66,6 +66,13 @@ impl Seat {
         self.log.len()
     }
 
+    /// The asks that were recorded, with their replies, in order.
+    pub fn log(&self) -> &[Entry]
+        ensures { result.now ≡ self.now.log }
+    {
+        self.log.as_slice()
+    }
+
     /// Whether one of its asks was refused as at a full history.
     pub fn is_full(&self) -> bool
         ensures { result ≡ self.now.full }
