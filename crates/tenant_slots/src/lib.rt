@@ -1,0 +1,9 @@
+//! A thread's ways to the slots of tenants that are behind locks.
+#![tactic(auto)]
+
+mod slots;
+#[cfg(test)]
+mod tests;
+mod ways;
+
+pub use slots::TenantSlots;

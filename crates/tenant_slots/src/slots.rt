@@ -1,0 +1,165 @@
+// One thread at the doors of tenants.
+ghost use Rattle.std.specs.Prelude.{◌≡◌, ◌≤◌, ◌<◌, length, IfSome, None, option_map};
+ghost use Rattle.tenant_model.specs.declared.rows.TheConstants.{MAX_HEIGHT};
+ghost use Rattle.tenant_slots.specs.Seen.{AreNumbered};
+ghost use Rattle.tenant_slots.specs.Ways.{Moves, MayBeHigh, MayBeSeen, Pauses, GoesHome, ArrivesAt, AsksBy};
+
+use job_language::{Came, Moved, Reply, Request};
+use job_step::{Segment, View};
+use std::marker::Model;
+use std::sync::Wait;
+use tenant_lock::TenantDoor;
+use tenant_record::{Pass, Seat};
+use world_model::Call;
+
+/// One thread's way to the slots of all tenants. It is at one slot at most, whose pass it has.
+#[derive(Drop)]
+pub struct TenantSlots<'d, R: Wait> {
+    rt: &'d R,
+    doors: &'d [TenantDoor],
+    pass: Option<Pass>,
+}
+
+impl<'d, R: Wait> Model for TenantSlots<'d, R> {
+    ghost use Rattle.tenant_slots.specs.Seen.{SlotsSeen, IsAtDoors};
+
+    ghost Value = { SlotsSeen };
+
+    ghost view = { λ s. record { doors = s.doors.now; pass = s.pass } };
+
+    ghost invariant = { λ s. IsAtDoors (record { doors = s.doors.now; pass = s.pass }) };
+}
+
+impl<'d, R: Wait> TenantSlots<'d, R> {
+    /// A thread that is at no slot. The doors are those of tenants 0, 1 and so on.
+    pub fn new(rt: &'d R, doors: &'d [TenantDoor]) -> Self
+        requires { AreNumbered doors.now }
+        ensures { result ≡ record { doors = doors.now; pass = None } }
+    {
+        TenantSlots {
+            rt,
+            doors,
+            pass: None,
+        }
+    }
+
+    /// Answers an ask of a seat, and gives the call for a slot that became due. Before the ask it gives
+    /// the slot home that it was at; with a job that is placed on a slot it is at that slot.
+    pub fn ask(&mut self, seat: &mut Seat, request: Request) -> (Reply, Option<Call>)
+        requires { seat.old.tenant < length self.old.doors }
+        ensures asks { AsksBy self.old seat.old request result.0 result.1 self.new seat.new }
+        ensures due { IfSome result.1 (λ call. call.tenant < length self.new.doors) }
+    {
+        self.leave();
+        let tenant = seat.tenant();
+        let doors = self.doors;
+        let asked = doors[tenant].ask(self.rt, seat, request);
+        self.pass = asked.pass;
+        (asked.reply, call_of(tenant, asked.due))
+    }
+
+    /// Waits while a job of the seat's tenant has no outcome, and says whether to stop.
+    pub fn wait_for(&self, seat: &Seat, job: u64) -> bool
+        requires { seat.now.tenant < length self.now.doors }
+    {
+        let doors = self.doors;
+        doors[seat.tenant()].pause_for(self.rt, seat, job)
+    }
+
+    /// The tenant whose slot it is at.
+    pub(crate) fn held_tenant(&self) -> Option<usize>
+        ensures { result ≡ option_map (λ pass. pass.tenant) self.now.pass }
+    {
+        self.pass.as_ref().map(|pass| pass.tenant())
+    }
+
+    /// The topmost frame of its slot.
+    pub(crate) fn seen(&self) -> View
+        ensures { MayBeSeen self.now result }
+    {
+        match &self.pass {
+            Some(pass) => self.doors[pass.tenant()].view(self.rt, pass),
+            None => View::Bare,
+        }
+    }
+
+    /// How many rows are on its slot.
+    pub(crate) fn rows_on(&self) -> usize
+        ensures value { MayBeHigh self.now result }
+        ensures most { result ≤ MAX_HEIGHT }
+    {
+        match &self.pass {
+            Some(pass) => self.doors[pass.tenant()].height(self.rt, pass),
+            None => 0,
+        }
+    }
+
+    /// Waits until something may have changed, and says whether to stop.
+    pub(crate) fn wait(&self) -> bool
+        ensures { Pauses self.now result self.now }
+    {
+        match &self.pass {
+            Some(pass) => self.doors[pass.tenant()].pause(self.rt, pass),
+            None => true,
+        }
+    }
+
+    /// Advances its slot, and gives the call for a slot that became due.
+    pub(crate) fn advance_slot(&mut self) -> (Moved, Option<Call>)
+        ensures moved { Moves self.old result.0 result.1 self.new }
+        ensures due { IfSome result.1 (λ call. call.tenant < length self.new.doors) }
+    {
+        let Some(pass) = self.pass.take() else {
+            return (Moved::Idle, None);
+        };
+        let tenant = pass.tenant();
+        let advanced = self.doors[tenant].advance(self.rt, pass);
+        self.pass = advanced.pass;
+        (advanced.moved, call_of(tenant, advanced.due))
+    }
+
+    /// Puts a private run in the place of an advance, and gives the call for a slot that became due.
+    pub(crate) fn commit_segment(&mut self, segment: Segment) -> (Moved, Option<Call>)
+        ensures moved { Moves self.old result.0 result.1 self.new }
+        ensures due { IfSome result.1 (λ call. call.tenant < length self.new.doors) }
+    {
+        let Some(pass) = self.pass.take() else {
+            return (Moved::Idle, None);
+        };
+        let tenant = pass.tenant();
+        let advanced = self.doors[tenant].commit(self.rt, pass, segment);
+        self.pass = advanced.pass;
+        (advanced.moved, call_of(tenant, advanced.due))
+    }
+
+    /// Gives its slot home.
+    pub(crate) fn leave(&mut self)
+        ensures { GoesHome self.old self.new }
+    {
+        if let Some(pass) = self.pass.take() {
+            self.doors[pass.tenant()].give_home(self.rt, pass);
+        }
+    }
+
+    /// Arrives at the slot of a call, and gives the call for a slot that became due. It gives the slot
+    /// home that it was at.
+    pub(crate) fn answer(&mut self, call: Call) -> (Came, Option<Call>)
+        ensures arrived { ArrivesAt self.old call result.0 result.1 self.new }
+        ensures due { IfSome result.1 (λ due. due.tenant < length self.new.doors) }
+    {
+        self.leave();
+        let Some(door) = self.doors.get(call.tenant) else {
+            return (Came::Nothing, None);
+        };
+        let arrived = door.arrive(self.rt, call);
+        self.pass = arrived.pass;
+        (arrived.came, call_of(call.tenant, arrived.due))
+    }
+}
+
+/// The call for a slot of a tenant that became due.
+fn call_of(tenant: usize, due: Option<u8>) -> Option<Call>
+    ensures { result ≡ option_map (λ slot. record { tenant = tenant; slot = slot }) due }
+{
+    due.map(|slot| Call { tenant, slot })
+}

@@ -1,0 +1,66 @@
+// The door of a thread at the slots of tenants.
+ghost use Rattle.std.specs.Prelude.{◌≡◌, length};
+
+use crate::slots::TenantSlots;
+use job_language::{Came, Moved};
+use job_step::{Segment, View};
+use std::sync::Wait;
+use worker_main::{CallDoors, DueDoor};
+use world_model::Call;
+
+impl<'d, R: Wait> DueDoor for TenantSlots<'d, R> {
+    ghost use Rattle.std.specs.Prelude.{length};
+    ghost use Rattle.tenant_slots.specs.Ways.{Moves, MayBeHigh, MayBeSeen, Pauses, GoesHome};
+
+    ghost tenants = { λ s. length s.doors };
+
+    ghost views = { MayBeSeen };
+
+    ghost commits = { λ s _ m due t. Moves s m due t };
+
+    ghost advances = { Moves };
+
+    ghost heights = { MayBeHigh };
+
+    ghost pauses = { Pauses };
+
+    ghost homes = { GoesHome };
+
+    fn tenant(&self) -> Option<usize> {
+        self.held_tenant()
+    }
+
+    fn view(&self) -> View {
+        self.seen()
+    }
+
+    fn commit(&mut self, segment: Segment) -> (Moved, Option<Call>) {
+        self.commit_segment(segment)
+    }
+
+    fn advance(&mut self) -> (Moved, Option<Call>) {
+        self.advance_slot()
+    }
+
+    fn height(&self) -> usize {
+        self.rows_on()
+    }
+
+    fn pause(&mut self) -> bool {
+        self.wait()
+    }
+
+    fn give_home(&mut self) {
+        self.leave();
+    }
+}
+
+impl<'d, R: Wait> CallDoors for TenantSlots<'d, R> {
+    ghost use Rattle.tenant_slots.specs.Ways.{ArrivesAt};
+
+    ghost arrives = { ArrivesAt };
+
+    fn arrive(&mut self, call: Call) -> (Came, Option<Call>) {
+        self.answer(call)
+    }
+}
