@@ -10,7 +10,7 @@ ghost use Rattle.tenant_model.specs.Advance.{advance, arrive};
 ghost use Rattle.tenant_model.specs.Asks.{ask, known_job, status};
 ghost use Rattle.tenant_model.specs.Regions.{KeepsRegions};
 ghost use Rattle.arena_steps.specs.Within.{advance_within, arrive_within};
-ghost use Rattle.arena_core.specs.Stands.{StandsFor, Takes};
+ghost use Rattle.arena_core.specs.Stands.{IsOfSomeState, StandsFor, Takes};
 ghost use Rattle.arena_core.specs.Views.{Commits, IsSeen};
 
 use crate::asks;
@@ -55,6 +55,7 @@ impl Arena {
     pub fn config(&self) -> &Tenant
         ensures value { (s : State) → StandsFor self.now s → result.now ≡ s.config }
         ensures valid { IsValidTenant result.now }
+        ensures stands { IsOfSomeState self.now }
     {
         self.parts.config()
     }
