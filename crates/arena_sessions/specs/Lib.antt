@@ -1,0 +1,3 @@
+pub mod Tenants
+pub mod Doors
+pub mod Sessions

@@ -1,0 +1,11 @@
+//! Sessions over the arenas of all tenants, on one thread.
+#![tactic(auto)]
+
+mod arenas;
+mod doors;
+mod serving;
+#[cfg(test)]
+mod tests;
+
+pub use doors::ArenaDoors;
+pub use serving::serve_arenas;

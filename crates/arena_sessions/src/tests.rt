@@ -1,0 +1,2 @@
+// Sessions over memory.
+mod sessions;
