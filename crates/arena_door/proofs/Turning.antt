@@ -25,7 +25,7 @@ use Rattle.arena_door.specs.Doors.{IsSameDoor, Sees, IsAsHigh, Advances, Commits
 use Rattle.arena_door.specs.Attending.{advanced, Attends}
 use Rattle.arena_door.specs.declared.door.ArenaDoor.{ArenaDoor}
 
-topmost : (s : State) (slot : ℕ) (o : Option ℕ) (t : Top) → top s.rows slot ≡ o → IsSeenOf s slot o (view.Top t) → IsTopmost s slot t
+pub topmost : (s : State) (slot : ℕ) (o : Option ℕ) (t : Top) → top s.rows slot ≡ o → IsSeenOf s slot o (view.Top t) → IsTopmost s slot t
 topmost s slot None t is seen = absurd (grind (arith, seen))
 topmost s slot (Some n) t is seen = elim seen [
   | inl same ↦ (n, (is, grind (arith, same)))
