@@ -1,2 +1,5 @@
 pub mod Standing
 pub mod Pending
+pub mod Simulating
+pub mod Attending
+pub mod Sessions

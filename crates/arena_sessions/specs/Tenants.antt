@@ -86,12 +86,12 @@ abbrev pub Works : ℕ → Tenants → Tenants → Type 0
 Works zero ts us = us ≡ ts
 Works (suc n) ts us = (1 ≤ height_in ts) × ((moved_by ts).0 ≢ moved.Idle) × ((moved_by ts).0 ≢ moved.Full) × Works n (moved_by ts).1 us
 
--- The stack is empty, or it is not and one more advance is Full or Idle and changes nothing; or the advances were counted out.
-abbrev pub EndsAs : Attended → (n : ℕ) → Tenants → Type 0
-EndsAs Below n us = height_in us ≡ 0
-EndsAs Full n us = moved_by us ≡ (moved.Full, us)
-EndsAs Stopped n us = (moved_by us ≡ (moved.Idle, us)) ⊎ (most_turns ≤ n)
+-- Below: the stack is empty. Full and Stopped: it is not, and one more advance is Full or Idle; or the advances were counted out.
+abbrev pub EndsAs : Attended → (n : ℕ) → (us vs : Tenants) → Type 0
+EndsAs Below n us vs = (height_in us ≡ 0) × (vs ≡ us)
+EndsAs Full n us vs = (1 ≤ height_in us) × ((moved_by us).0 ≡ moved.Full) × (vs ≡ (moved_by us).1)
+EndsAs Stopped n us vs = ((1 ≤ height_in us) × ((moved_by us).0 ≡ moved.Idle) × (vs ≡ (moved_by us).1)) ⊎ ((most_turns ≤ n) × (vs ≡ us))
 
 -- The slot is advanced until its stack is empty, or an advance is Full or Idle.
 abbrev pub AttendsSlot : Attended → Tenants → Tenants → Type 0
-AttendsSlot how ts us = (n : ℕ) × (Works n ts us × EndsAs how n us)
+AttendsSlot how ts vs = (n : ℕ) × (us : Tenants) × (Works n ts us × EndsAs how n us vs)

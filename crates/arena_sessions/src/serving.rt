@@ -1,23 +1,25 @@
 // A session over arenas.
-ghost use Rattle.std.specs.Prelude.{◌≡◌, false, IfOk, OnErr};
-ghost use Rattle.session_core.specs.Sessions.{Serves};
-ghost use Rattle.arena_sessions.specs.Sessions.{RepliesAt};
+ghost use Rattle.std.specs.Prelude.{◌≡◌, IfOk, OnErr};
+ghost use Rattle.arena_sessions.specs.Tenants.{Tenants};
+ghost use Rattle.arena_sessions.specs.Doors.{AreAt};
+ghost use Rattle.arena_sessions.specs.Sessions.{ServesTenants};
 
 use crate::doors::ArenaDoors;
 use session_core::{SessionEnd, serve};
 use std::alloc::{AllocError, Global};
 use std::io::{Read, Write};
 
-/// Serves one client. Each line that was read is answered by the definitions' steps of the tenants
-/// that the arenas stand for. An error has read and written nothing.
+/// Serves one client. What is written is the text of a session by the definitions of the tenants'
+/// steps, and the arenas then stand for the states that it leads to. An error has read and written
+/// nothing.
 pub fn serve_arenas<R: Read, W: Write>(
     alloc: Global,
     reader: &mut R,
     writer: &mut W,
     doors: &mut ArenaDoors,
 ) -> Result<SessionEnd, AllocError>
-    ensures serves { IfOk result (λ end.
-        Serves RepliesAt (R.remaining reader.old) (R.remaining reader.new) (W.contents writer.old) (W.contents writer.new) (false, doors.old) doors.new end) }
+    ensures serves { (ts : Tenants) → AreAt doors.old ts → IfOk result (λ end.
+        ServesTenants (R.remaining reader.old) (R.remaining reader.new) (W.contents writer.old) (W.contents writer.new) ts doors.new end) }
     ensures refused { OnErr result ((reader.new ≡ reader.old) × (writer.new ≡ writer.old) × (doors.new ≡ doors.old)) }
 {
     serve(alloc, reader, writer, doors)
