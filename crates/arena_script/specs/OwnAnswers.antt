@@ -1,20 +1,18 @@
 -- What a line of a script does to its tenant, and the answer.
-use Rattle.std.specs.Prelude.{◌≡◌, ℕ, List, Option, Some, None, Result, Ok, Err, nat_lt, if◌then◌else◌, ◌⊎◌, IsSome, codes}
+use Rattle.std.specs.Prelude.{ℕ, List, Option, Some, None, Result, Ok, Err, nat_lt, if◌then◌else◌, codes}
 use Rattle.serde_json.specs.Data.{Data}
-use Rattle.job_language.specs.Brought.{job_of}
 use Rattle.job_language.specs.declared.answers.Answer.{Answer}
 use Rattle.job_language.specs.declared.answers.Answer.TheVariants as answer
 use Rattle.job_language.specs.declared.answers.Reply.{Reply}
 use Rattle.job_language.specs.declared.answers.Reply.TheVariants.{Refused}
 use Rattle.job_language.specs.declared.errors.Error.{Error}
-use Rattle.job_language.specs.declared.errors.Error.TheVariants.{BadRequest, NoMemory}
+use Rattle.job_language.specs.declared.errors.Error.TheVariants.{BadRequest}
 use Rattle.job_language.specs.declared.requests.Request.{Request}
 use Rattle.request_reader.specs.Answers.{HasJob}
 use Rattle.request_reader.specs.Asks.{AskedData, asked_by_value}
 use Rattle.request_reader.specs.LineAsks.{value_of}
 use Rattle.request_reader.specs.Ready.{ready_of}
 use Rattle.reply_writer.specs.AnswerText.{answer_text}
-use Rattle.solo_eval.specs.Execution.{MakesRow}
 use Rattle.tenant_model.specs.Advance.{arrive as came_at, advance as moved_at}
 use Rattle.tenant_model.specs.Asks.{ask as asked_of}
 use Rattle.tenant_model.specs.State.{State}
@@ -32,18 +30,9 @@ abbrev pub reply_to : State → Result Request Error → Reply × State
 reply_to s (Err error) = (Refused error, s)
 reply_to s (Ok request) = asked_of s request
 
--- a request with a job, for which memory is taken
-abbrev pub BringsJob : Result Request Error → Type 0
-BringsJob (Ok request) = IsSome (job_of request)
-BringsJob (Err error) = ⊥
-
--- The reply is exact, or it is error 9, and that only where a job is brought; then nothing has changed.
-abbrev pub Replies : Result Request Error → State → Reply → State → Type 0
-Replies want old reply new = (BringsJob want × (reply ≡ Refused NoMemory) × (new ≡ old)) ⊎ (reply_to old want ≡ (reply, new))
-
-abbrev pub AnswersAsk : Data → State → Option Answer → State → Type 0
-AnswersAsk d old (Some (answer.Replied reply)) new = Replies (request_in d) old reply new
-AnswersAsk d old answer new = ⊥
+-- an ask of a tenant, by the value that spells it
+abbrev pub asking : Data → State → Option Answer × State
+asking d s = let replied = reply_to s (request_in d) in (Some (answer.Replied replied.0), replied.1)
 
 -- an arrival at a slot, or an advance of one, where the tenant has it
 abbrev pub arrival : (slots : ℕ) → State → ℕ → Option Answer × State
@@ -52,19 +41,17 @@ arrival slots s slot = if nat_lt slot slots then (Some (answer.Came (came_at s s
 abbrev pub advancement : (slots : ℕ) → State → ℕ → Option Answer × State
 advancement slots s slot = if nat_lt slot slots then (Some (answer.Moved (moved_at s slot).0), (moved_at s slot).1) else (None, s)
 
--- no answer where it is no step
-abbrev pub TakesStep : (slots : ℕ) → Option OwnData → State → Option Answer → State → Type 0
-TakesStep slots None old answer new = (answer ≡ None) × (new ≡ old)
-TakesStep slots (Some (ask d)) old answer new = AnswersAsk d old answer new
-TakesStep slots (Some (arrive slot)) old answer new = arrival slots old slot ≡ (answer, new)
-TakesStep slots (Some (advance slot)) old answer new = advancement slots old slot ≡ (answer, new)
+-- what a step is answered, and what it leaves; no answer where it is no step
+abbrev pub step_taken : (slots : ℕ) → Option OwnData → State → Option Answer × State
+step_taken slots None s = (None, s)
+step_taken slots (Some (ask d)) s = asking d s
+step_taken slots (Some (arrive slot)) s = arrival slots s slot
+step_taken slots (Some (advance slot)) s = advancement slots s slot
 
--- The step brings a job or makes a row: no other takes memory.
-abbrev pub OwnTakesMemory : State → Option OwnData → Type 0
-OwnTakesMemory s (Some (ask d)) = HasJob (asked_by_value d)
-OwnTakesMemory s (Some (arrive slot)) = ⊥
-OwnTakesMemory s (Some (advance slot)) = MakesRow s slot
-OwnTakesMemory s None = ⊥
+-- The step brings a job: no other takes memory.
+abbrev pub OwnTakesMemory : Option OwnData → Type 0
+OwnTakesMemory (Some (ask d)) = HasJob (asked_by_value d)
+OwnTakesMemory it = ⊥
 
 abbrev pub step_of_value : Result Data Error → Option OwnData
 step_of_value (Ok d) = own_line d

@@ -11,7 +11,7 @@ use Rattle.request_reader.specs.LineAsks.{value_of}
 use Rattle.request_reader.specs.Lines.{Line, whole, too_long}
 use Rattle.tenant_model.specs.State.{State, empty}
 use Rattle.arena_script.specs.Answered.{AnswersFrom, StartsFrom, HasNoFirst}
-use Rattle.arena_script.specs.OwnAnswers.{TakesStep, step_in, told}
+use Rattle.arena_script.specs.OwnAnswers.{step_taken, step_in, told}
 
 -- a tenant under its name, and nothing else
 abbrev pub tenant_of_value : Result Data Error → Option Tenant
@@ -22,13 +22,13 @@ tenant_of_value (Err error) = None
 abbrev pub tenant_in : List ℕ → Option Tenant
 tenant_in line = tenant_of_value (value_of line)
 
-abbrev pub TakesLine : (slots : ℕ) → Line → State → Option Answer → State → Type 0
-TakesLine slots (whole text) old answer new = TakesStep slots (step_in text) old answer new
-TakesLine slots too_long old answer new = (answer ≡ None) × (new ≡ old)
+abbrev pub line_taken : (slots : ℕ) → Line → State → Option Answer × State
+line_taken slots (whole text) s = step_taken slots (step_in text) s
+line_taken slots too_long s = (None, s)
 
 -- A line is taken, and its answer told.
 abbrev pub Tells : (slots : ℕ) → State → Line → List ℕ → State → Type 0
-Tells slots old line said new = (answer : Option Answer) × TakesLine slots line old answer new × (said ≡ told answer)
+Tells slots old line said new = let taken = line_taken slots line old in (said ≡ told taken.0) × (new ≡ taken.1)
 
 -- the first line is a tenant, and the others are its steps
 abbrev pub AnswersScript : List Line → Option (List ℕ) → Option (List ℕ) → Type 0

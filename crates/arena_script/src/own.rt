@@ -1,47 +1,49 @@
 // The steps of one tenant, as the lines of a script spell them, and their answers.
-ghost use Rattle.std.specs.Prelude.{◌≡◌, nat_lt, if◌then◌else◌, option_map, Some, None, Ok, IfSome, IfOk, OnErr};
-ghost use Rattle.tenant_model.specs.State.{empty};
+ghost use Rattle.std.specs.Prelude.{◌≡◌, nat_lt, if◌then◌else◌, Some, None, Ok, IfNone, IfSome, IfOk, OnErr};
+ghost use Rattle.job_language.specs.declared.tenants.Tenant.{Tenant as Limits};
+ghost use Rattle.tenant_model.specs.State.{State, empty};
 ghost use Rattle.serde_json.specs.View.{view};
 ghost use Rattle.request_reader.specs.Answers.{HasJob};
 ghost use Rattle.request_reader.specs.Asks.{asked_by_value};
 ghost use Rattle.request_reader.specs.Exact.{ExactOrNoMemory};
 ghost use Rattle.request_reader.specs.LineAsks.{IsText};
-ghost use Rattle.solo_eval.specs.Execution.{MakesRow};
+ghost use Rattle.arena_core.specs.Stands.{StandsFor, Takes};
 ghost use Rattle.arena_script.specs.Steps.{own_line};
-ghost use Rattle.arena_script.specs.ScriptAnswers.{tenant_in, tenant_of_value, TakesLine};
+ghost use Rattle.arena_script.specs.ScriptAnswers.{line_taken, tenant_in, tenant_of_value};
 ghost use Rattle.arena_script.specs.ScriptLines.{line_of};
-ghost use Rattle.arena_script.specs.OwnAnswers.{request_in, Replies, arrival, advancement, step_in, OwnTakesMemory, TakesStep};
+ghost use Rattle.arena_script.specs.OwnAnswers.{request_in, reply_to, arrival, advancement, step_in, step_taken, OwnTakesMemory};
 
 use crate::inputs::Input;
 use crate::steps::{OwnLine, own_line};
+use arena_core::Arena;
 use job_language::values::has_members;
 use job_language::{Answer, Error, Reply, Request, TenantConfig, read_tenant};
 use request_reader::{ready, request_of, value_of};
 use serde_json::Value;
-use solo_eval::Solo;
 use std::alloc::{AllocError, Global};
 
-/// One tenant that a script speaks of.
+/// One tenant that a script speaks of, by its arena.
 #[derive(Drop)]
 pub(crate) struct Own {
-    solo: Solo,
+    arena: Arena,
     slots: u8,
 }
 
 impl Own {
-    /// The tenant of a script's first line.
+    /// The tenant of a script's first line, which has done nothing yet.
+    #[tactic(auto, using(crate::proofs::Telling::text_of_tenant))]
     pub(crate) fn read(alloc: Global, line: &[u8]) -> Result<Option<Own>, AllocError>
-        ensures tenant { IfOk result (λ own. option_map (λ own. own.solo.config) own ≡ tenant_in line.now) }
-        ensures new { IfOk result (λ own. IfSome own (λ own.
-            (own.solo ≡ empty own.solo.config) × (own.slots ≡ own.solo.config.slots))) }
+        ensures none { IfOk result (λ own. IfNone own (tenant_in line.now ≡ None)) }
+        ensures new { IfOk result (λ own. IfSome own (λ own. (c : Limits) × (tenant_in line.now ≡ Some c)
+            × (own.slots ≡ c.slots) × StandsFor own.arena (empty c))) }
         ensures takes { OnErr result (IsText line.now) }
     {
         let Some(config) = tenant_of(alloc, line)? else {
             return Ok(None);
         };
         let slots = config.tenant().slots;
-        let solo = Solo::new(alloc, config);
-        Ok(Some(Own { solo, slots }))
+        let arena = Arena::new(alloc, config)?;
+        Ok(Some(Own { arena, slots }))
     }
 
     /// Takes the step of an input, whose text is that line, and gives the answer. A line that is too
@@ -52,10 +54,10 @@ impl Own {
         input: Input,
         line: &[u8],
     ) -> Result<Option<Answer>, AllocError>
-        ensures ok { IfOk result (λ answer.
-            TakesLine self.old.slots (line_of input line.now) self.old.solo answer self.new.solo) }
+        ensures ok { (s : State) → StandsFor self.old.arena s → IfOk result (λ answer.
+            Takes self.new.arena answer (line_taken self.old.slots (line_of input line.now) s)) }
         ensures slots { self.new.slots ≡ self.old.slots }
-        ensures err { OnErr result (self.new.solo ≡ self.old.solo) }
+        ensures err { OnErr result (self.new.arena ≡ self.old.arena) }
         ensures takes { OnErr result (IsText line.now) }
     {
         match input {
@@ -66,10 +68,10 @@ impl Own {
 
     /// Takes the step of a line, and gives the answer; a line that is no step has none.
     fn take(&mut self, alloc: Global, line: &[u8]) -> Result<Option<Answer>, AllocError>
-        ensures ok { IfOk result (λ answer.
-            TakesStep self.old.slots (step_in line.now) self.old.solo answer self.new.solo) }
+        ensures ok { (s : State) → StandsFor self.old.arena s → IfOk result (λ answer.
+            Takes self.new.arena answer (step_taken self.old.slots (step_in line.now) s)) }
         ensures slots { self.new.slots ≡ self.old.slots }
-        ensures err { OnErr result (self.new.solo ≡ self.old.solo) }
+        ensures err { OnErr result (self.new.arena ≡ self.old.arena) }
         ensures takes { OnErr result (IsText line.now) }
     {
         let value = match value_of(alloc, line) {
@@ -81,65 +83,50 @@ impl Own {
     }
 
     fn take_value(&mut self, alloc: Global, value: &Value) -> Result<Option<Answer>, AllocError>
-        ensures ok { IfOk result (λ answer.
-            TakesStep self.old.slots (own_line (view value.now)) self.old.solo answer self.new.solo) }
+        ensures ok { (s : State) → StandsFor self.old.arena s → IfOk result (λ answer.
+            Takes self.new.arena answer (step_taken self.old.slots (own_line (view value.now)) s)) }
         ensures slots { self.new.slots ≡ self.old.slots }
-        ensures err { OnErr result (self.new.solo ≡ self.old.solo) }
-        ensures takes { OnErr result (OwnTakesMemory self.old.solo (own_line (view value.now))) }
+        ensures err { OnErr result (self.new.arena ≡ self.old.arena) }
+        ensures takes { OnErr result (OwnTakesMemory (own_line (view value.now))) }
     {
         match own_line(value) {
             Some(OwnLine::Ask(request)) => Ok(Some(Answer::Replied(self.ask(alloc, request)?))),
             Some(OwnLine::Arrive(slot)) => Ok(self.arrive(slot)),
-            Some(OwnLine::Advance(slot)) => self.advance(slot),
+            Some(OwnLine::Advance(slot)) => Ok(self.advance(slot)),
             None => Ok(None),
         }
     }
 
     fn ask(&mut self, alloc: Global, value: &Value) -> Result<Reply, AllocError>
-        ensures ok { IfOk result (λ reply.
-            Replies (request_in (view value.now)) self.old.solo reply self.new.solo) }
+        ensures ok { (s : State) → StandsFor self.old.arena s → IfOk result (λ reply.
+            Takes self.new.arena reply (reply_to s (request_in (view value.now)))) }
         ensures slots { self.new.slots ≡ self.old.slots }
-        ensures err { OnErr result (self.new.solo ≡ self.old.solo) }
+        ensures err { OnErr result (self.new.arena ≡ self.old.arena) }
         ensures takes { OnErr result (HasJob (asked_by_value (view value.now))) }
     {
         match request_in(alloc, value) {
-            Ok(request) => Ok(self.reply(request)),
+            Ok(request) => Ok(self.arena.ask(request)),
             Err(Error::NoMemory) => Err(AllocError),
             Err(error) => Ok(Reply::Refused(error)),
         }
     }
 
-    /// The reply to a request: error 9, if it brings a job and an allocation of the evaluator failed.
-    fn reply(&mut self, request: Request) -> Reply
-        ensures reply { Replies (Ok request) self.old.solo result self.new.solo }
-        ensures slots { self.new.slots ≡ self.old.slots }
-    {
-        match self.solo.ask(request) {
-            Ok(reply) => reply,
-            Err(_) => Reply::Refused(Error::NoMemory),
-        }
-    }
-
     fn arrive(&mut self, slot: u64) -> Option<Answer>
-        ensures answer { arrival self.old.slots self.old.solo slot ≡ (result, self.new.solo) }
+        ensures answer { (s : State) → StandsFor self.old.arena s
+            → Takes self.new.arena result (arrival self.old.slots s slot) }
         ensures slots { self.new.slots ≡ self.old.slots }
     {
         let slot = self.slot(slot)?;
-        Some(Answer::Came(self.solo.arrive(slot)))
+        Some(Answer::Came(self.arena.arrive(slot)))
     }
 
-    fn advance(&mut self, slot: u64) -> Result<Option<Answer>, AllocError>
-        ensures ok { IfOk result (λ answer.
-            advancement self.old.slots self.old.solo slot ≡ (answer, self.new.solo)) }
+    fn advance(&mut self, slot: u64) -> Option<Answer>
+        ensures answer { (s : State) → StandsFor self.old.arena s
+            → Takes self.new.arena result (advancement self.old.slots s slot) }
         ensures slots { self.new.slots ≡ self.old.slots }
-        ensures err { OnErr result (self.new.solo ≡ self.old.solo) }
-        ensures takes { OnErr result (MakesRow self.old.solo slot) }
     {
-        let Some(slot) = self.slot(slot) else {
-            return Ok(None);
-        };
-        let moved = self.solo.advance(slot)?;
-        Ok(Some(Answer::Moved(moved)))
+        let slot = self.slot(slot)?;
+        Some(Answer::Moved(self.arena.advance(slot)))
     }
 
     /// The slot of a number, where the tenant has it.

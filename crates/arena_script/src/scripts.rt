@@ -1,7 +1,9 @@
 // A script, from its words and its first line to its end.
-ghost use Rattle.std.specs.Prelude.{◌≡◌, ◌≢◌, true, false, Err, IsSome, IfErr, OnOk};
+ghost use Rattle.std.specs.Prelude.{◌≡◌, ◌≢◌, ◌∷◌, true, false, None, Err, IsSome, IfErr, OnOk};
+ghost use Rattle.request_reader.specs.Lines.{whole};
 ghost use Rattle.std.specs.Io.KnownBytes.{Appends};
 ghost use Rattle.tenant_model.specs.State.{State};
+ghost use Rattle.arena_core.specs.Stands.{StandsFor};
 ghost use Rattle.arena_script.specs.CheckEnds.{are_check_words, IsCheckEnd};
 ghost use Rattle.arena_script.specs.DumpData.{dump_of, TellsVerdict, TellsBadLine};
 ghost use Rattle.arena_script.specs.KnownWords.{are_known_words};
@@ -11,7 +13,7 @@ ghost use Rattle.arena_script.specs.Answered.{AnswersAll, AnswersPart, AppendsPa
 ghost use Rattle.arena_script.specs.DumpText.{told_text};
 ghost use Rattle.arena_script.specs.RunAnswers.{AnswersRun, HasNoConfig, StartsRun};
 ghost use Rattle.arena_script.specs.RunWords.{are_run_words};
-ghost use Rattle.arena_script.specs.ScriptAnswers.{AnswersScript, NamesNoTenant, StartsScript, Tells};
+ghost use Rattle.arena_script.specs.ScriptAnswers.{AnswersScript, NamesNoTenant, StartsScript, Tells, tenant_in};
 ghost use Rattle.arena_script.specs.ScriptLines.{script_lines, all_lines, lines_in};
 ghost use Rattle.arena_script.specs.SerialAnswers.{serial_answers};
 ghost use Rattle.arena_script.specs.SerialEnds.{are_serial_words, IsSerialEnd};
@@ -109,8 +111,29 @@ fn own<R: Read, W: Write>(alloc: Global, reader: &mut R, writer: &mut W) -> Resu
     if next_input(&mut lines, reader)? != Input::Line {
         return Err(ScriptEnd::Config);
     }
+    take_from(alloc, lines, reader, writer)
+}
+
+/// Takes the steps of a tenant that the line read last names.
+#[tactic(auto, using(crate::proofs::Telling::starts_none))]
+fn take_from<R: Read, W: Write>(
+    alloc: Global,
+    lines: LineReader,
+    reader: &mut R,
+    writer: &mut W,
+) -> Result<(), ScriptEnd>
+    ensures ends { IfErr result IsFault }
+    ensures unwritten { result ≡ Err ScriptEnd.Config → writer.new ≡ writer.old }
+    ensures no_tenant { result ≡ Err ScriptEnd.Config → tenant_in lines.line ≡ None }
+    ensures done { OnOk result (IsSome (R.remaining reader.old)
+        → AnswersScript (whole lines.line ∷ script_lines lines (R.remaining reader.old))
+        (W.contents writer.old) (W.contents writer.new)) }
+    ensures part { IsSome (R.remaining reader.old)
+        → StartsScript (whole lines.line ∷ script_lines lines (R.remaining reader.old))
+        (W.contents writer.old) (W.contents writer.new) }
+{
     match Own::read(alloc, lines.line())? {
-        Some(own) => take_all(alloc, own, lines, reader, writer),
+        Some(mut own) => take_all(alloc, &mut own, lines, reader, writer),
         None => Err(ScriptEnd::Config),
     }
 }
@@ -118,17 +141,19 @@ fn own<R: Read, W: Write>(alloc: Global, reader: &mut R, writer: &mut W) -> Resu
 /// Takes a tenant's steps to the end of a script.
 fn take_all<R: Read, W: Write>(
     alloc: Global,
-    mut own: Own,
+    own: &mut Own,
     mut lines: LineReader,
     reader: &mut R,
     writer: &mut W,
 ) -> Result<(), ScriptEnd>
     ensures ends { IfErr result (λ end. IsFault end × (end ≢ ScriptEnd.Config)) }
-    ensures done { OnOk result (IsSome (R.remaining reader.old) → (final : State)
-        × AnswersAll (Tells own.slots) (script_lines lines (R.remaining reader.old)) own.solo
+    ensures done { (s : State) → StandsFor own.old.arena s
+        → OnOk result (IsSome (R.remaining reader.old) → (final : State)
+        × AnswersAll (Tells own.old.slots) (script_lines lines (R.remaining reader.old)) s
         (W.contents writer.old) (W.contents writer.new) final) }
-    ensures part { IsSome (R.remaining reader.old)
-        → AnswersPart (Tells own.slots) (script_lines lines (R.remaining reader.old)) own.solo
+    ensures part { (s : State) → StandsFor own.old.arena s
+        → IsSome (R.remaining reader.old)
+        → AnswersPart (Tells own.old.slots) (script_lines lines (R.remaining reader.old)) s
         (W.contents writer.old) (W.contents writer.new) }
 {
     'steps: loop {
