@@ -3,5 +3,7 @@
 #![tactic(auto)]
 
 mod checking;
+#[cfg(test)]
+mod tests;
 
 pub use checking::check;

@@ -1,5 +1,6 @@
 -- The answers to the lines of a script, one after another.
-use Rattle.std.proofs.Common.{◌≡◌, ◌≢◌, ℕ, List, [], ◌∷◌, ◌++◌, Option, Some, None, refl, sym, ap, ◌∙◌, append_assoc, subst}
+use Rattle.std.proofs.Common.{◌≡◌, ◌≢◌, ℕ, List, [], ◌∷◌, ◌++◌, Option, Some, None, Ok, Err, OnOk, refl, sym, ap, ◌∙◌, append_assoc, subst}
+use Rattle.std.specs.Prelude.{Result}
 use Rattle.std.proofs.lemmas.List.{append-nil}
 use Rattle.std.specs.Io.KnownBytes.{Appends}
 use Rattle.reply_writer.specs.SerialText.{serial_text}
@@ -10,6 +11,11 @@ use Rattle.arena_script.specs.ScriptLines.{line_of, input_lines}
 use Rattle.arena_script.specs.SerialAnswers.{serial_answer, serial_answers}
 use Rattle.arena_script.specs.declared.inputs.Input.{Input}
 use Rattle.arena_script.specs.declared.inputs.Input.TheVariants as input
+
+-- What follows for what is done.
+pub on_ok-map : {T E : Type 0} (r : Result T E) (P Q : Type 0) → (P → Q) → OnOk r P → OnOk r Q
+on_ok-map (Ok x) P Q f p = f p
+on_ok-map (Err e) P Q f p = tt
 
 pub appends_two : (before middle after : Option (List ℕ)) (line rest : List ℕ) → Appends before middle (line ++ newline ∷ []) → Appends middle after rest → Appends before after (line ++ newline ∷ rest)
 appends_two None middle after line rest first next = tt

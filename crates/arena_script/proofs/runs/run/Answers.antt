@@ -1,5 +1,4 @@
-use Rattle.std.proofs.Common.{rules, Some, ◌≡◌, OnOk, ◌∷◌, Ok, Err, ℕ, List, sym, ap, ◌∙◌, Option}
-use Rattle.std.specs.Prelude.{Result}
+use Rattle.std.proofs.Common.{rules, Some, ◌≡◌, ◌∷◌, ℕ, List, sym, ap, ◌∙◌, Option}
 use Rattle.job_language.specs.Configuration.{Configuration, names_of}
 use Rattle.request_reader.specs.Lines.{Line, whole}
 use Rattle.world_model.specs.World.{start}
@@ -8,12 +7,9 @@ use Rattle.world_script.specs.Takes.{config_in}
 use Rattle.arena_script.specs.Answered.{AnswersLater, AnswersPart}
 use Rattle.arena_script.specs.RunAnswers.{Tells}
 use Rattle.arena_script.specs.ScriptLines.{script_lines, all_lines}
+use Rattle.arena_script.proofs.Answering.{on_ok-map}
 use Rattle.arena_script.proofs.Running.{started, later_part}
 use Rattle.arena_script.proofs.runs.run.Goals as goal
-
-on_ok-map : {T E : Type 0} (r : Result T E) (P Q : Type 0) → (P → Q) → OnOk r P → OnOk r Q
-on_ok-map (Ok x) P Q f p = f p
-on_ok-map (Err e) P Q f p = tt
 
 pub returns-in-Some-clause-done : goal.returns-in-Some-clause-done
 returns-in-Some-clause-done g c =

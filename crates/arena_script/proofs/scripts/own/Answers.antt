@@ -1,12 +1,8 @@
-use Rattle.std.proofs.Common.{rules, ◌≡◌, ◌∷◌, Ok, Err, OnOk}
-use Rattle.std.specs.Prelude.{Result}
+use Rattle.std.proofs.Common.{rules, ◌≡◌, ◌∷◌}
 use Rattle.request_reader.specs.Lines.{whole}
 use Rattle.arena_script.specs.ScriptLines.{script_lines, all_lines}
+use Rattle.arena_script.proofs.Answering.{on_ok-map}
 use Rattle.arena_script.proofs.scripts.own.Goals as goal
-
-on_ok-map : {T E : Type 0} (r : Result T E) (P Q : Type 0) → (P → Q) → OnOk r P → OnOk r Q
-on_ok-map (Ok x) P Q f p = f p
-on_ok-map (Err e) P Q f p = tt
 
 pub returns-clause-no_tenant : goal.returns-clause-no_tenant
 returns-clause-no_tenant g c = λ ended known.

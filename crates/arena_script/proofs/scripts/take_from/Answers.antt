@@ -1,18 +1,15 @@
-use Rattle.std.proofs.Common.{◌≡◌, Option, Some, Ok, Err, OnOk, sym, subst}
-use Rattle.std.specs.Prelude.{Result, IfSome}
+use Rattle.std.proofs.Common.{◌≡◌, Option, Some, subst}
+use Rattle.std.specs.Prelude.{IfSome}
 use Rattle.tenant_model.specs.State.{empty}
 use Rattle.arena_script.specs.Answered.{AnswersAll, AnswersPart}
 use Rattle.arena_script.specs.ScriptAnswers.{Tells, tenant_in}
 use Rattle.arena_script.specs.ScriptLines.{script_lines}
+use Rattle.arena_script.proofs.Answering.{on_ok-map}
 use Rattle.arena_script.proofs.Telling.{later_part}
 use Rattle.arena_script.proofs.scripts.take_from.Goals as goal
 
 first_of : {A : Type 0} (starts : A → Type 0) (o : Option A) (own : A) → o ≡ Some own → IfSome o starts → starts own
 first_of starts o own is it = subst (λ p. IfSome p starts) is it
-
-on_ok-map : {T E : Type 0} (r : Result T E) (P Q : Type 0) → (P → Q) → OnOk r P → OnOk r Q
-on_ok-map (Ok x) P Q f p = f p
-on_ok-map (Err e) P Q f p = tt
 
 pub returns-in-Some-clause-done : goal.returns-in-Some-clause-done
 returns-in-Some-clause-done g c =

@@ -1,0 +1,74 @@
+// The verdicts on a recorded history, by the arena and by the plain evaluator.
+use crate::check;
+use arena_core::Arena;
+use history_check::Verdict;
+use job_language::{
+    Answer, Entry, Isolation, Level, Moved, Request, Step, Tenant, TenantConfig, TenantName,
+    read_job,
+};
+use serde_json::Value;
+use std::alloc::Global;
+use std::test::Fail;
+
+/// The sixth Fibonacci number, a task for each smaller one.
+const FIB: &str =
+    r#"{"args":[6,0],"fuel":1000,"procs":[[["set",2,2],["lt",3,0,2],["jz",3,4],["ret",0],["set",2,1],["sub",3,0,2],["spawn",0,0,3,1],["sub",3,3,2],["spawn",0,0,3,1],["wait",4,5,0],["ret",4]]]}"#;
+
+/// A tenant with one slot, which is reserved.
+fn one_slot() -> Result<TenantConfig, Fail> {
+    let config = TenantConfig::new(Tenant {
+        name: TenantName::new("acme").ok_or("a name")?,
+        priority: Level::Normal,
+        isolation: Isolation::Exact,
+        slots: 1,
+        reserved: 1,
+        rows: 4_096,
+        steps: 87,
+    });
+    Ok(config.ok_or("each number is in its range")?)
+}
+
+/// The history of a job on that tenant, from its execution to its end: 86 entries.
+fn recorded(alloc: Global) -> Result<Vec<Entry>, Fail> {
+    let value = Value::from_str(alloc, FIB)?;
+    let request = Request::Execute(read_job(alloc, &value)?);
+    let mut arena = Arena::new(alloc, one_slot()?)?;
+    let mut entries = Vec::new(alloc);
+    let answer = Answer::Replied(arena.ask(request.try_clone()?));
+    entries.push(Entry {
+        step: Step::Ask(request),
+        answer,
+    })?;
+    for _ in 0..85 {
+        let answer = Answer::Moved(arena.advance(0));
+        entries.push(Entry {
+            step: Step::Advance(0),
+            answer,
+        })?;
+    }
+    Ok(entries)
+}
+
+#[test]
+fn both_checks_pass_what_was_recorded(rt: HostRuntime) -> Result<(), Fail> {
+    let entries = recorded(rt.alloc())?;
+    let by_arena = check(rt.alloc(), one_slot()?, entries.as_slice())?;
+    let by_evaluator = history_check::check(rt.alloc(), one_slot()?, entries.as_slice())?;
+    assert_eq!(rt; by_arena, Verdict::Yes);
+    assert_eq!(rt; by_evaluator, Verdict::Yes);
+    Ok(())
+}
+
+#[test]
+fn both_checks_refuse_one_more_advance(rt: HostRuntime) -> Result<(), Fail> {
+    let mut entries = recorded(rt.alloc())?;
+    entries.push(Entry {
+        step: Step::Advance(0),
+        answer: Answer::Moved(Moved::Ran),
+    })?;
+    let by_arena = check(rt.alloc(), one_slot()?, entries.as_slice())?;
+    let by_evaluator = history_check::check(rt.alloc(), one_slot()?, entries.as_slice())?;
+    assert_eq!(rt; by_arena, Verdict::No(87));
+    assert_eq!(rt; by_evaluator, Verdict::No(87));
+    Ok(())
+}
