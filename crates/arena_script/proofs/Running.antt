@@ -13,7 +13,7 @@ use Rattle.world_script.specs.Named.{raw_of}
 use Rattle.world_script.specs.RawLines.{RawData}
 use Rattle.world_script.specs.Takes.{TakesRaw, TakesStep, config_in, step_in, told}
 use Rattle.arena_script.specs.Answered.{AnswersLater, AnswersPart}
-use Rattle.arena_script.specs.RunAnswers.{StartsRun, TakesLine, Tells}
+use Rattle.arena_script.specs.RunAnswers.{StartsRun, TakesLine, TellsOutcome}
 use Rattle.arena_script.proofs.Parts.{TakesAll, starts_from_none}
 
 take_raw : (raw : Option Raw) (w : World) → (o : Outcome) × (v : World) × TakesRaw raw w o v
@@ -29,11 +29,11 @@ take_line names (whole text) w = take_step names (step_in text) w
 take_line names too_long w = (None, w, (refl, refl))
 
 -- each line of the script has an answer
-pub tells_all : (names : List (List ℕ)) → TakesAll (Tells names)
+pub tells_all : (names : List (List ℕ)) → TakesAll (TellsOutcome names)
 tells_all names line w = let taken = take_line names line w in (told names taken.0, taken.1, (taken.0, taken.2, refl))
 
 pub starts_none : (lines : List Line) (known : Option (List ℕ)) → StartsRun lines known known
-starts_none = starts_from_none config_in (λ (c : Configuration). Tells (names_of c.tenants)) start (λ (c : Configuration). tells_all (names_of c.tenants))
+starts_none = starts_from_none config_in (λ (c : Configuration). TellsOutcome (names_of c.tenants)) start (λ (c : Configuration). tells_all (names_of c.tenants))
 
 -- A world is there only for a configuration, and is its start.
 pub started : {A : Type 0} (stands_for : A → State → Type 0) (o : Option Configuration) (held : Named A) → Starts stands_for o (Some held) → (c : Configuration) × (o ≡ Some c) × Knows stands_for (names_of c.tenants) (start c) held
@@ -41,6 +41,6 @@ started {A = A} stands_for None held is = absurd is
 started {A = A} stands_for (Some c) held is = (c, refl, is)
 
 -- A part of what answers the lines after a configuration.
-pub later_part : (o : Option Configuration) (c : Configuration) → o ≡ Some c → (lines : List Line) (before after : Option (List ℕ)) → AnswersPart (Tells (names_of c.tenants)) lines (start c) before after →
-    AnswersLater (λ (b : Configuration). Tells (names_of b.tenants)) start o lines before after
+pub later_part : (o : Option Configuration) (c : Configuration) → o ≡ Some c → (lines : List Line) (before after : Option (List ℕ)) → AnswersPart (TellsOutcome (names_of c.tenants)) lines (start c) before after →
+    AnswersLater (λ (b : Configuration). TellsOutcome (names_of b.tenants)) start o lines before after
 later_part o c is lines before after part = rw is part

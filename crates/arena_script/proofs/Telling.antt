@@ -16,20 +16,20 @@ use Rattle.tenant_model.specs.Advance.{arrive}
 use Rattle.tenant_model.specs.State.{State, empty}
 use Rattle.arena_script.specs.Answered.{AnswersLater, AnswersPart}
 use Rattle.arena_script.specs.OwnAnswers.{arrival, told}
-use Rattle.arena_script.specs.ScriptAnswers.{StartsScript, Tells, line_taken, tenant_in, tenant_of_value}
+use Rattle.arena_script.specs.ScriptAnswers.{StartsScript, TellsAnswer, line_taken, tenant_in, tenant_of_value}
 use Rattle.arena_script.proofs.Parts.{TakesAll, starts_from_none}
 
 -- each line of the tenant's script has an answer
-pub tells_all : (slots : ℕ) → TakesAll (Tells slots)
+pub tells_all : (slots : ℕ) → TakesAll (TellsAnswer slots)
 tells_all slots line s = let taken = line_taken slots line s in (told taken.0, taken.1, (refl, refl))
 
 pub starts_none : (lines : List Line) (known : Option (List ℕ)) → StartsScript lines known known
-starts_none = starts_from_none tenant_in (λ (c : Tenant). Tells c.slots) empty (λ (c : Tenant). tells_all c.slots)
+starts_none = starts_from_none tenant_in (λ (c : Tenant). TellsAnswer c.slots) empty (λ (c : Tenant). tells_all c.slots)
 
 -- A line that was taken, with as many slots, has its answer told, and the arena stands for what it leaves.
 pub told_so : (slots slots' : ℕ) (line : Line) (s : State) (answer : Option Answer) {A : Type 0} (stands_for : A → State → Type 0) (arena : A) → slots' ≡ slots →
     (answer ≡ (line_taken slots' line s).0) × stands_for arena (line_taken slots' line s).1 →
-    Tells slots s line (told answer) (line_taken slots line s).1 × stands_for arena (line_taken slots line s).1
+    TellsAnswer slots s line (told answer) (line_taken slots line s).1 × stands_for arena (line_taken slots line s).1
 told_so slots slots' line s answer stands_for arena same takes =
     let here = subst (λ (n : ℕ). (answer ≡ (line_taken n line s).0) × stands_for arena (line_taken n line s).1) same takes in
     ((ap told here.0, refl), here.1)
@@ -57,6 +57,6 @@ pub text_of_tenant : (line : List ℕ) (c : Tenant) → tenant_in line ≡ Some 
 text_of_tenant line c is = named_text (is_utf8 line) (ok_or (read line) BadJson) c is
 
 -- A part of what answers the lines after a tenant.
-pub later_part : (o : Option Tenant) (c : Tenant) → o ≡ Some c → (lines : List Line) (before after : Option (List ℕ)) → AnswersPart (Tells c.slots) lines (empty c) before after →
-    AnswersLater (λ (b : Tenant). Tells b.slots) empty o lines before after
+pub later_part : (o : Option Tenant) (c : Tenant) → o ≡ Some c → (lines : List Line) (before after : Option (List ℕ)) → AnswersPart (TellsAnswer c.slots) lines (empty c) before after →
+    AnswersLater (λ (b : Tenant). TellsAnswer b.slots) empty o lines before after
 later_part o c is lines before after part = rw is part

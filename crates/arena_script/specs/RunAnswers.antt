@@ -12,16 +12,16 @@ TakesLine names (whole text) old o new = TakesStep names (step_in text) old o ne
 TakesLine names too_long old o new = (o ≡ None) × (new ≡ old)
 
 -- A line is taken, and its outcome told.
-abbrev pub Tells : List (List ℕ) → World → Line → List ℕ → World → Type 0
-Tells names old line said new = (o : Option Outcome) × TakesLine names line old o new × (said ≡ told names o)
+abbrev pub TellsOutcome : List (List ℕ) → World → Line → List ℕ → World → Type 0
+TellsOutcome names old line said new = (o : Option Outcome) × TakesLine names line old o new × (said ≡ told names o)
 
 -- the first line is a configuration, and the others are the steps of its world
 abbrev pub AnswersRun : List Line → Option (List ℕ) → Option (List ℕ) → Type 0
-AnswersRun = AnswersFrom config_in (λ (c : Configuration). Tells (names_of c.tenants)) start
+AnswersRun = AnswersFrom config_in (λ (c : Configuration). TellsOutcome (names_of c.tenants)) start
 
 -- a part of what answers them; nothing, where the first line is no configuration
 abbrev pub StartsRun : List Line → Option (List ℕ) → Option (List ℕ) → Type 0
-StartsRun = StartsFrom config_in (λ (c : Configuration). Tells (names_of c.tenants)) start
+StartsRun = StartsFrom config_in (λ (c : Configuration). TellsOutcome (names_of c.tenants)) start
 
 -- no first line, or one that is no configuration
 abbrev pub HasNoConfig : List Line → Type 0

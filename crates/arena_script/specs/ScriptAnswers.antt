@@ -27,16 +27,16 @@ line_taken slots (whole text) s = step_taken slots (step_in text) s
 line_taken slots too_long s = (None, s)
 
 -- A line is taken, and its answer told.
-abbrev pub Tells : (slots : ℕ) → State → Line → List ℕ → State → Type 0
-Tells slots old line said new = let taken = line_taken slots line old in (said ≡ told taken.0) × (new ≡ taken.1)
+abbrev pub TellsAnswer : (slots : ℕ) → State → Line → List ℕ → State → Type 0
+TellsAnswer slots old line said new = let taken = line_taken slots line old in (said ≡ told taken.0) × (new ≡ taken.1)
 
 -- the first line is a tenant, and the others are its steps
 abbrev pub AnswersScript : List Line → Option (List ℕ) → Option (List ℕ) → Type 0
-AnswersScript = AnswersFrom tenant_in (λ (c : Tenant). Tells c.slots) empty
+AnswersScript = AnswersFrom tenant_in (λ (c : Tenant). TellsAnswer c.slots) empty
 
 -- a part of what answers a script; nothing, where its first line is no tenant
 abbrev pub StartsScript : List Line → Option (List ℕ) → Option (List ℕ) → Type 0
-StartsScript = StartsFrom tenant_in (λ (c : Tenant). Tells c.slots) empty
+StartsScript = StartsFrom tenant_in (λ (c : Tenant). TellsAnswer c.slots) empty
 
 -- no first line, or one that names no tenant
 abbrev pub NamesNoTenant : List Line → Type 0

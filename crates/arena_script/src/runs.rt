@@ -4,7 +4,7 @@ ghost use Rattle.world_model.specs.World.{World as Known};
 ghost use Rattle.world_script.specs.Knowing.{Knows};
 ghost use Rattle.arena_script.specs.Answered.{AnswersAll, AnswersPart};
 ghost use Rattle.arena_script.specs.OwnEnds.{IsFault};
-ghost use Rattle.arena_script.specs.RunAnswers.{AnswersRun, HasNoConfig, StartsRun, TakesLine, Tells};
+ghost use Rattle.arena_script.specs.RunAnswers.{AnswersRun, HasNoConfig, StartsRun, TakesLine, TellsOutcome};
 ghost use Rattle.arena_script.specs.ScriptLines.{all_lines, line_of, script_lines};
 
 use crate::devices::put;
@@ -55,11 +55,11 @@ fn take_all<A: TenantArena, R: Read, W: Write>(
     ensures ends { IfErr result (λ end. IsFault end × (end ≢ ScriptEnd.Config)) }
     ensures done { (names : List (List ℕ)) (w : Known) → Knows A.stands_for names w world.old
         → OnOk result (IsSome (R.remaining reader.old) → (final : Known)
-        × AnswersAll (Tells names) (script_lines lines (R.remaining reader.old)) w
+        × AnswersAll (TellsOutcome names) (script_lines lines (R.remaining reader.old)) w
         (W.contents writer.old) (W.contents writer.new) final) }
     ensures part { (names : List (List ℕ)) (w : Known) → Knows A.stands_for names w world.old
         → IsSome (R.remaining reader.old)
-        → AnswersPart (Tells names) (script_lines lines (R.remaining reader.old)) w
+        → AnswersPart (TellsOutcome names) (script_lines lines (R.remaining reader.old)) w
         (W.contents writer.old) (W.contents writer.new) }
 {
     'steps: loop {

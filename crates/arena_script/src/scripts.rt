@@ -13,7 +13,7 @@ ghost use Rattle.arena_script.specs.Answered.{AnswersAll, AnswersPart, AppendsPa
 ghost use Rattle.arena_script.specs.DumpText.{told_text};
 ghost use Rattle.arena_script.specs.RunAnswers.{AnswersRun, HasNoConfig, StartsRun};
 ghost use Rattle.arena_script.specs.RunWords.{are_run_words};
-ghost use Rattle.arena_script.specs.ScriptAnswers.{AnswersScript, NamesNoTenant, StartsScript, Tells, tenant_in};
+ghost use Rattle.arena_script.specs.ScriptAnswers.{AnswersScript, NamesNoTenant, StartsScript, TellsAnswer, tenant_in};
 ghost use Rattle.arena_script.specs.ScriptLines.{script_lines, all_lines, lines_in};
 ghost use Rattle.arena_script.specs.SerialAnswers.{serial_answers};
 ghost use Rattle.arena_script.specs.SerialEnds.{are_serial_words, IsSerialEnd};
@@ -149,11 +149,11 @@ fn take_all<R: Read, W: Write>(
     ensures ends { IfErr result (λ end. IsFault end × (end ≢ ScriptEnd.Config)) }
     ensures done { (s : State) → StandsFor own.old.arena s
         → OnOk result (IsSome (R.remaining reader.old) → (final : State)
-        × AnswersAll (Tells own.old.slots) (script_lines lines (R.remaining reader.old)) s
+        × AnswersAll (TellsAnswer own.old.slots) (script_lines lines (R.remaining reader.old)) s
         (W.contents writer.old) (W.contents writer.new) final) }
     ensures part { (s : State) → StandsFor own.old.arena s
         → IsSome (R.remaining reader.old)
-        → AnswersPart (Tells own.old.slots) (script_lines lines (R.remaining reader.old)) s
+        → AnswersPart (TellsAnswer own.old.slots) (script_lines lines (R.remaining reader.old)) s
         (W.contents writer.old) (W.contents writer.new) }
 {
     'steps: loop {

@@ -5,7 +5,7 @@ use Rattle.world_model.specs.World.{start}
 use Rattle.world_script.specs.Knowing.{Named, Starts}
 use Rattle.world_script.specs.Takes.{config_in}
 use Rattle.arena_script.specs.Answered.{AnswersLater, AnswersPart}
-use Rattle.arena_script.specs.RunAnswers.{Tells}
+use Rattle.arena_script.specs.RunAnswers.{TellsOutcome}
 use Rattle.arena_script.specs.ScriptLines.{script_lines, all_lines}
 use Rattle.arena_script.proofs.Answering.{on_ok-map}
 use Rattle.arena_script.proofs.Running.{started, later_part}

@@ -1,7 +1,7 @@
 use Rattle.std.proofs.Common.{◌≡◌, ◌≢◌, rules, List, ℕ, [], ◌∷◌, ◌++◌, ap, sym, ◌∙◌, Ok, refl}
 use Rattle.world_model.specs.World.{World}
 use Rattle.world_script.specs.Takes.{told}
-use Rattle.arena_script.specs.RunAnswers.{Tells}
+use Rattle.arena_script.specs.RunAnswers.{TellsOutcome}
 use Rattle.arena_script.specs.declared.inputs.Input.{Input}
 use Rattle.arena_script.specs.declared.inputs.Input.TheVariants as input
 use Rattle.arena_script.proofs.Answering.{answers_step, answers_end}
@@ -14,7 +14,7 @@ returns-then-eq-clause-done g c names w knows known =
     let so_far = c.steps.invariant names w knows in
     let here = so_far.2 known in
     let ended : c.in_ok-input.input ≡ input.End = search rules in
-    (so_far.0, here.1 _ _ (answers_end (Tells names) _ _ _ _ _ _ ended (c.in_ok-input.ensures.lines here.0) (c.in_ok-input.ensures.end (ap (λ (i : Input). Ok i) ended))))
+    (so_far.0, here.1 _ _ (answers_end (TellsOutcome names) _ _ _ _ _ _ ended (c.in_ok-input.ensures.lines here.0) (c.in_ok-input.ensures.end (ap (λ (i : Input). Ok i) ended))))
 
 pub returns-in_err-input-clause-part : goal.returns-in_err-input-clause-part
 returns-in_err-input-clause-part g c names w knows known = ((c.steps.invariant names w knows).2 known).2 _ (answers_part_none _ (tells_all names) _ _ _)
@@ -33,7 +33,7 @@ returns-in_err-put-clause-part g c names w knows known =
     let after = c.in_ok-outcome.ensures names so_far.0 so_far.1 in
     let said : c.told.result ≡ told names c.in_ok-outcome.outcome = c.told.ensures ∙ ap (λ (ns : List (List ℕ)). told ns c.in_ok-outcome.outcome) after.1.1.names_are in
     here.2 _
-    (answers_part_cut (Tells names) (tells_all names) _ _ _ _ _ _ _ _ _ c.line.ensures going (c.in_ok-input.ensures.lines here.0) (c.in_ok-outcome.outcome, after.1.0, refl)
+    (answers_part_cut (TellsOutcome names) (tells_all names) _ _ _ _ _ _ _ _ _ c.line.ensures going (c.in_ok-input.ensures.lines here.0) (c.in_ok-outcome.outcome, after.1.0, refl)
     (c.line-in-steps.ensures.value ∙ ap (λ (t : List ℕ). t ++ 10 ∷ []) said) _ _ c.in_err-put.ensures.part)
 
 pub steps-preserved : goal.steps-preserved
@@ -48,8 +48,8 @@ steps-preserved g c = λ names first knows.
       λ known. let here = so_far.2 known in (
         c.in_ok-input.ensures.known here.0,
         λ after final others. here.1 after final
-            (answers_step (Tells names) _ _ _ _ _ _ _ _ _ _ _ _ _ c.line.ensures going (c.in_ok-input.ensures.lines here.0) (c.in_ok-outcome.outcome, next.1.0, refl) line c.in_ok-put.ensures.ok others),
+            (answers_step (TellsOutcome names) _ _ _ _ _ _ _ _ _ _ _ _ _ c.line.ensures going (c.in_ok-input.ensures.lines here.0) (c.in_ok-outcome.outcome, next.1.0, refl) line c.in_ok-put.ensures.ok others),
         λ after others. here.2 after
-            (answers_part_step (Tells names) (tells_all names) _ _ _ _ _ _ _ _ _ c.line.ensures going (c.in_ok-input.ensures.lines here.0) (c.in_ok-outcome.outcome, next.1.0, refl) line _ _ after c.in_ok-put.ensures.ok others),
+            (answers_part_step (TellsOutcome names) (tells_all names) _ _ _ _ _ _ _ _ _ c.line.ensures going (c.in_ok-input.ensures.lines here.0) (c.in_ok-outcome.outcome, next.1.0, refl) line _ _ after c.in_ok-put.ensures.ok others),
       ),
     )

@@ -3,7 +3,7 @@ use Rattle.request_reader.specs.Reading.{work_left}
 use Rattle.world_model.specs.World.{World}
 use Rattle.world_script.specs.Knowing.{Knows}
 use Rattle.arena_script.specs.Answered.{AnswersAll, AnswersPart}
-use Rattle.arena_script.specs.RunAnswers.{Tells}
+use Rattle.arena_script.specs.RunAnswers.{TellsOutcome}
 use Rattle.arena_script.specs.ScriptLines.{script_lines}
 use Rattle.arena_script.proofs.runs.take_all.Given as goal
 
@@ -15,11 +15,11 @@ invariant-steps g l =
     × (IsSome (g.R.Read.remaining l.initial.reader) →
     IsSome (g.R.Read.remaining l.reader)
     × ((after : Option (List ℕ)) (final : World) →
-    AnswersAll (Tells names) (script_lines l.lines (g.R.Read.remaining l.reader)) now (g.W.Write.contents l.writer) after final →
-    AnswersAll (Tells names) (script_lines l.initial.lines (g.R.Read.remaining l.initial.reader)) first (g.W.Write.contents l.initial.writer) after final)
+    AnswersAll (TellsOutcome names) (script_lines l.lines (g.R.Read.remaining l.reader)) now (g.W.Write.contents l.writer) after final →
+    AnswersAll (TellsOutcome names) (script_lines l.initial.lines (g.R.Read.remaining l.initial.reader)) first (g.W.Write.contents l.initial.writer) after final)
     × ((after : Option (List ℕ)) →
-    AnswersPart (Tells names) (script_lines l.lines (g.R.Read.remaining l.reader)) now (g.W.Write.contents l.writer) after →
-    AnswersPart (Tells names) (script_lines l.initial.lines (g.R.Read.remaining l.initial.reader)) first (g.W.Write.contents l.initial.writer) after))
+    AnswersPart (TellsOutcome names) (script_lines l.lines (g.R.Read.remaining l.reader)) now (g.W.Write.contents l.writer) after →
+    AnswersPart (TellsOutcome names) (script_lines l.initial.lines (g.R.Read.remaining l.initial.reader)) first (g.W.Write.contents l.initial.writer) after))
 
 abbrev pub decreases-steps : goal.decreases-steps
 decreases-steps g l = work_left l.lines

@@ -3,7 +3,7 @@ use Rattle.request_reader.specs.Reading.{work_left}
 use Rattle.tenant_model.specs.State.{State}
 use Rattle.arena_core.specs.Stands.{StandsFor}
 use Rattle.arena_script.specs.Answered.{AnswersAll, AnswersPart}
-use Rattle.arena_script.specs.ScriptAnswers.{Tells}
+use Rattle.arena_script.specs.ScriptAnswers.{TellsAnswer}
 use Rattle.arena_script.specs.ScriptLines.{script_lines}
 use Rattle.arena_script.proofs.scripts.take_all.Given as goal
 
@@ -16,11 +16,11 @@ invariant-steps g l =
     × (IsSome (g.R.Read.remaining l.initial.reader) →
     IsSome (g.R.Read.remaining l.reader)
     × ((after : Option (List ℕ)) (final : State) →
-    AnswersAll (Tells l.initial.own.slots) (script_lines l.lines (g.R.Read.remaining l.reader)) now (g.W.Write.contents l.writer) after final →
-    AnswersAll (Tells l.initial.own.slots) (script_lines l.initial.lines (g.R.Read.remaining l.initial.reader)) first (g.W.Write.contents l.initial.writer) after final)
+    AnswersAll (TellsAnswer l.initial.own.slots) (script_lines l.lines (g.R.Read.remaining l.reader)) now (g.W.Write.contents l.writer) after final →
+    AnswersAll (TellsAnswer l.initial.own.slots) (script_lines l.initial.lines (g.R.Read.remaining l.initial.reader)) first (g.W.Write.contents l.initial.writer) after final)
     × ((after : Option (List ℕ)) →
-    AnswersPart (Tells l.initial.own.slots) (script_lines l.lines (g.R.Read.remaining l.reader)) now (g.W.Write.contents l.writer) after →
-    AnswersPart (Tells l.initial.own.slots) (script_lines l.initial.lines (g.R.Read.remaining l.initial.reader)) first (g.W.Write.contents l.initial.writer) after)))
+    AnswersPart (TellsAnswer l.initial.own.slots) (script_lines l.lines (g.R.Read.remaining l.reader)) now (g.W.Write.contents l.writer) after →
+    AnswersPart (TellsAnswer l.initial.own.slots) (script_lines l.initial.lines (g.R.Read.remaining l.initial.reader)) first (g.W.Write.contents l.initial.writer) after)))
 
 abbrev pub decreases-steps : goal.decreases-steps
 decreases-steps g l = work_left l.lines

@@ -2,7 +2,7 @@ use Rattle.std.proofs.Common.{◌≡◌, Option, Some, subst}
 use Rattle.std.specs.Prelude.{IfSome}
 use Rattle.tenant_model.specs.State.{empty}
 use Rattle.arena_script.specs.Answered.{AnswersAll, AnswersPart}
-use Rattle.arena_script.specs.ScriptAnswers.{Tells, tenant_in}
+use Rattle.arena_script.specs.ScriptAnswers.{TellsAnswer, tenant_in}
 use Rattle.arena_script.specs.ScriptLines.{script_lines}
 use Rattle.arena_script.proofs.Answering.{on_ok-map}
 use Rattle.arena_script.proofs.Telling.{later_part}
@@ -17,7 +17,7 @@ returns-in-Some-clause-done g c =
     let left = script_lines c.args.lines (g.R.Read.remaining c.args.reader.now) in
     on_ok-map c.take_all.result _ _ (λ done known.
     let taken = done known in
-    let by_slots = subst (λ slots. AnswersAll (Tells slots) left (empty first.0) (g.W.Write.contents c.args.writer.now) (g.W.Write.contents c.take_all.new.writer) taken.0) first.2 taken.1 in
+    let by_slots = subst (λ slots. AnswersAll (TellsAnswer slots) left (empty first.0) (g.W.Write.contents c.args.writer.now) (g.W.Write.contents c.take_all.new.writer) taken.0) first.2 taken.1 in
     rw (← c.line.ensures) (first.0, taken.0, first.1, by_slots)) (c.take_all.ensures.done (empty first.0) first.3)
 
 pub returns-in-Some-clause-part : goal.returns-in-Some-clause-part
@@ -25,5 +25,5 @@ returns-in-Some-clause-part g c = λ known.
     let first = first_of _ c.in_ok-own.field-0 c.in-Some.own c.in-Some.is c.in_ok-own.ensures.new in
     let left = script_lines c.args.lines (g.R.Read.remaining c.args.reader.now) in
     let part = c.take_all.ensures.part (empty first.0) first.3 known in
-    let by_slots = subst (λ slots. AnswersPart (Tells slots) left (empty first.0) (g.W.Write.contents c.args.writer.now) (g.W.Write.contents c.take_all.new.writer)) first.2 part in
+    let by_slots = subst (λ slots. AnswersPart (TellsAnswer slots) left (empty first.0) (g.W.Write.contents c.args.writer.now) (g.W.Write.contents c.take_all.new.writer)) first.2 part in
     rw (← c.line.ensures) (later_part (tenant_in c.line.result.now) first.0 first.1 left _ _ by_slots)
