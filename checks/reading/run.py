@@ -22,10 +22,15 @@ PROMISES = [
     ("many tenants", ["world_model.Laws"]),
     ("the fast arena", ["arena_core.Stands", "arena_core.Views"]),
     ("waiting, over any door", ["nested_wait.Runs", "nested_wait.Turns"]),
-    ("what a tenant's lock will hold", ["tenant_record.Cell", "tenant_record.Locked"]),
+    ("sessions over any doors", ["session_core.Sessions"]),
+    ("sessions on one thread", ["arena_sessions.Sessions"]),
+    ("what a tenant's lock holds", ["tenant_record.Cell", "tenant_record.Locked"]),
+    ("a tenant's lock, and how it is closed", ["tenant_lock.Doors", "tenant_lock.Closing"]),
+    ("threads at the slots of locked tenants", ["tenant_slots.Ways"]),
     ("workers, over any doors", ["worker_main.Works"]),
     ("queues that threads share", ["call_queues.Queues"]),
     ("the market's lists", ["market.Waiting", "market.First"]),
+    ("the words of the server", ["server_words.Reading"]),
 ]
 
 

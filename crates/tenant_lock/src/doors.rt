@@ -184,6 +184,7 @@ impl TenantDoor {
         self.held.lock(rt).is_stopped = true;
         self.changed.notify_all();
     }
+
     /// Closes the door, to which all seats come back: the tenant's history, if it agrees with what the
     /// holders of its tokens were told. At a fault the tenant is given up.
     pub fn close(self, seats: Vec<Seat>) -> Result<Closed, CloseFault>
