@@ -1,3 +1,4 @@
 pub mod Standing
 pub mod Asked
 pub mod Seen
+pub mod Pending

@@ -1,5 +1,5 @@
 // The tenant's door: the calls that take the lock.
-ghost use Rattle.std.specs.Prelude.{◌≡◌, ◌≤◌, not, IfOk, IfErr, IfSome};
+ghost use Rattle.std.specs.Prelude.{ℕ, ◌≡◌, ◌≤◌, not, IfOk, IfErr, IfSome};
 ghost use Rattle.std.specs.Option.{is_some};
 ghost use Rattle.job_language.specs.Recorded.{is_entry};
 ghost use Rattle.tenant_model.specs.Told.{placed_on};
@@ -12,7 +12,7 @@ ghost use Rattle.tenant_lock.specs.Doors.{Carries, ComesWith};
 use crate::closing::fault_of;
 use crate::faults::CloseFault;
 use crate::held::Held;
-use job_language::{Answer, Entry, Request, TenantConfig};
+use job_language::{Answer, Entry, Reply, Request, TenantConfig};
 use job_step::{Segment, View};
 use std::alloc::{AllocError, Global};
 use std::marker::Model;
@@ -79,11 +79,12 @@ impl TenantDoor {
     }
 
     /// Answers an ask of a seat. With a job that is placed on a slot goes the slot's pass, and with no
-    /// other reply a pass.
+    /// other reply a pass. A collect alone can be pending.
     pub fn ask<R: Wait>(&self, rt: &R, seat: &mut Seat, request: Request) -> Asked
         requires { seat.old.tenant ≡ self.now.tenant }
         ensures seat { seat.new ≡ asked seat.old request result.reply }
         ensures placed { GoesWith self.now.tenant (placed_on result.reply) result.pass }
+        ensures pending { result.reply ≡ Reply.Pending → (job : ℕ) × (request ≡ Request.Collect job) }
     {
         let asked = self.held.lock(rt).ask(self.tenant, seat, request);
         if asked.reply.is_recorded() {

@@ -1,5 +1,5 @@
 // What a tenant's lock keeps, and the calls to which it is lent.
-ghost use Rattle.std.specs.Prelude.{◌≡◌, ◌≤◌, ◌==◌, ◌||◌, ◌&&◌, not, IfSome, Some, length, nat_lt, nat_le};
+ghost use Rattle.std.specs.Prelude.{ℕ, ◌≡◌, ◌≤◌, ◌==◌, ◌||◌, ◌&&◌, not, IfSome, Some, length, nat_lt, nat_le};
 ghost use Rattle.std.specs.Option.{is_some};
 ghost use Rattle.job_language.specs.declared.answers.Moved.{Moved};
 ghost use Rattle.tenant_model.specs.Told.{placed_on};
@@ -31,6 +31,7 @@ impl Held {
     pub(crate) fn ask(&mut self, tenant: usize, seat: &mut Seat, request: Request) -> Asked
         ensures seat { seat.new ≡ asked seat.old request result.reply }
         ensures placed { GoesWith tenant (placed_on result.reply) result.pass }
+        ensures pending { result.reply ≡ Reply.Pending → (job : ℕ) × (request ≡ Request.Collect job) }
     {
         if self.cell.tenant() != tenant {
             return Asked {

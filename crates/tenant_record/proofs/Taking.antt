@@ -30,6 +30,7 @@ use Rattle.tenant_record.specs.History.{Takes}
 use Rattle.tenant_record.specs.Replayed.{ask_within}
 use Rattle.arena_steps.specs.Within.{advance_within, arrive_within}
 use Rattle.arena_core.specs.Views.{Commits}
+use Rattle.arena_core.proofs.Pending.{pending_asked}
 
 abbrev HasRoom : State → Answer → Type 0
 HasRoom s a = is_entry a ≡ true → is_full s ≡ false
@@ -144,3 +145,8 @@ placed_fits b s r y n answered few = if_some (placed_on y) (λ slot. slot < n) (
 
 pub placed_low : (b : Bool) (s : State) (r : Request) (y : Reply) (n : ℕ) → y ≡ (ask_within b s r).0 → s.config.reserved ≤ n → (slot : ℕ) → placed_on y ≡ Some slot → slot < n
 placed_low b s r y n answered few slot is = let low = ((within_asked b s r).placed slot (ap placed_on (sym answered) ∙ is)).0 in omega (arith, low, few)
+
+-- A collect alone can be pending.
+pub pending_within : (b : Bool) (s : State) (r : Request) (y : Reply) → y ≡ (ask_within b s r).0 → y ≡ reply.Pending → (job : ℕ) × (r ≡ request.Collect job)
+pending_within b s r y answered pending =
+    cond_both (not b && not (is_hello r)) (reply.Refused HistoryFull, s) (ask s r) (λ (a : Reply × State). y ≡ a.0 → (job : ℕ) × (r ≡ request.Collect job)) (λ _ full. let no : reply.Refused HistoryFull ≡ reply.Pending = sym full ∙ pending in cc) (λ _ same. pending_asked s r (sym same ∙ pending)) answered

@@ -1,5 +1,5 @@
 // A tenant's cell: what its lock keeps.
-ghost use Rattle.std.specs.Prelude.{◌≡◌, ◌<◌, ◌≤◌, ◌++◌, length, IfOk, IfSome, true, None, count_by, option_map, slice_index_or, vec_len, vec_capacity};
+ghost use Rattle.std.specs.Prelude.{ℕ, ◌≡◌, ◌<◌, ◌≤◌, ◌++◌, length, IfOk, IfSome, true, None, count_by, option_map, slice_index_or, vec_len, vec_capacity};
 ghost use Rattle.std.specs.List.{list_any};
 ghost use Rattle.job_language.specs.Recorded.{is_entry, is_recorded_reply};
 ghost use Rattle.job_language.specs.Tenant.{IsValidTenant};
@@ -168,6 +168,8 @@ impl TenantCell {
     /// if one is refused, that is error 9, and nothing has changed.
     pub fn ask(&mut self, seat: &mut Seat, request: Request) -> Asked
         ensures answer { AnswersAsk self.old seat.old request result.reply self.new }
+        // A collect alone can be pending.
+        ensures pending { result.reply ≡ Reply.Pending → (job : ℕ) × (request ≡ Request.Collect job) }
         // With a job that is placed on a slot goes the slot's pass, and with no other reply a pass.
         ensures placed { GoesWith self.old.tenant (placed_on result.reply) result.pass }
         ensures asked { IsAsked self.old seat.old request result.reply result.due result.pass self.new seat.new }

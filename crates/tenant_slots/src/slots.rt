@@ -1,5 +1,5 @@
 // One thread at the doors of tenants.
-ghost use Rattle.std.specs.Prelude.{◌≡◌, ◌≤◌, ◌<◌, length, IfSome, None, option_map};
+ghost use Rattle.std.specs.Prelude.{ℕ, ◌≡◌, ◌≤◌, ◌<◌, length, IfSome, None, option_map};
 ghost use Rattle.tenant_model.specs.declared.rows.TheConstants.{MAX_HEIGHT};
 ghost use Rattle.tenant_slots.specs.Seen.{AreNumbered};
 ghost use Rattle.tenant_slots.specs.Ways.{Moves, MayBeHigh, MayBeSeen, Pauses, GoesHome, ArrivesAt, AsksBy};
@@ -48,6 +48,7 @@ impl<'d, R: Wait> TenantSlots<'d, R> {
     pub fn ask(&mut self, seat: &mut Seat, request: Request) -> (Reply, Option<Call>)
         requires { seat.old.tenant < length self.old.doors }
         ensures asks { AsksBy self.old seat.old request result.0 result.1 self.new seat.new }
+        ensures pending { result.0 ≡ Reply.Pending → (job : ℕ) × (request ≡ Request.Collect job) }
         ensures due { IfSome result.1 (λ call. call.tenant < length self.new.doors) }
     {
         self.leave();

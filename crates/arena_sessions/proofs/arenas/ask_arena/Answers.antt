@@ -1,5 +1,5 @@
 use Rattle.std.proofs.Common.{sym, ◌∙◌}
-use Rattle.arena_sessions.proofs.Pending.{pending_asked}
+use Rattle.arena_core.proofs.Pending.{pending_asked}
 use Rattle.arena_sessions.proofs.arenas.ask_arena.Goals as goal
 
 pub returns-clause-pending : goal.returns-clause-pending

@@ -9,7 +9,7 @@ use Rattle.tenant_record.proofs.Histories.{well_formed}
 use Rattle.job_language.specs.Recorded.{is_recorded_reply}
 use Rattle.job_language.specs.declared.tenants.Tenant.{Tenant}
 use Rattle.tenant_record.specs.SeatData.{SeatData, asked}
-use Rattle.tenant_record.proofs.Taking.{ask_taken, placed_fits, placed_low}
+use Rattle.tenant_record.proofs.Taking.{ask_taken, pending_within, placed_fits, placed_low}
 use Rattle.tenant_record.proofs.Rightness.{counts_same}
 use Rattle.tenant_record.proofs.Kept.{asked_right}
 use Rattle.tenant_record.proofs.Placing.{asked_goes}
@@ -64,3 +64,6 @@ returns-clause-placed c =
     let old : CellData = cell_data i in
     let right = c.self.invariant.right in
     rw (c.asked-due.ensures.pass, ← c.self.view_is) (asked_goes i.tenant i.replay.config (state_of old) i.slots.home.items right.history.config right.home right.places c.has_room.result c.args.request c.ask-reply.result c.ask-reply.ensures.answer)
+
+pub returns-clause-pending : goal.returns-clause-pending
+returns-clause-pending c = pending_within c.has_room.result (state_of (cell_data c.self.inside)) c.args.request c.ask-reply.result c.ask-reply.ensures.answer
