@@ -13,4 +13,5 @@ mod worlds;
 
 pub use arenas::TenantArena;
 pub use raws::Raw;
+pub use starting::market_config;
 pub use worlds::World;

@@ -25,8 +25,8 @@ pub(crate) fn first_arenas<A: TenantArena>(
     Ok(arenas)
 }
 
-/// The market's part of a configuration.
-fn market_config(alloc: Global, config: &Config) -> Result<MarketConfig, AllocError>
+/// What the market knows of the tenants of a configuration.
+pub fn market_config(alloc: Global, config: &Config) -> Result<MarketConfig, AllocError>
     ensures { IfOk result (λ m. m ≡ map market_tenant config.now.tenants) }
 {
     let tenants = config.tenants();

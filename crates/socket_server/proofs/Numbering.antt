@@ -1,0 +1,17 @@
+-- Lists whose elements have their places for numbers.
+use Rattle.std.proofs.Common.{◌≡◌, ◌<◌, ℕ, List, [], ◌∷◌, ◌++◌, length, arith, inl, inr, refl, ap, sym, ◌∙◌, subst}
+use Rattle.std.specs.Prelude.{slice_index_or}
+use Rattle.std.proofs.lemmas.List.{get_or_append_left, get_or_push, length-append}
+use Rattle.std.proofs.lemmas.Bool.{cases_eq}
+
+module _ {X : Type 0} (number_of : X → ℕ) where
+  abbrev pub IsNumbered : List X → Type 0
+  IsNumbered xs = (k : ℕ) (d : X) → k < length xs → number_of (slice_index_or xs k d) ≡ k
+
+  pub numbered_more : (xs : List X) (y : X) → IsNumbered xs → number_of y ≡ length xs → IsNumbered (xs ++ y ∷ [])
+  numbered_more xs y before last k d low = elim (cases_eq k (length xs)) [
+    | inl here ↦ ap number_of (get_or_push xs y d k (sym here)) ∙ last ∙ sym here
+    | inr other ↦
+        let within : k < length xs = (let long = length-append xs (y ∷ []) in omega (arith, low, long, other)) in
+        ap number_of (get_or_append_left xs (y ∷ []) d k within) ∙ before k d within
+  ]

@@ -1,0 +1,6 @@
+use Rattle.std.proofs.Common.{◌≡◌, length}
+use Rattle.locked_doors.specs.Seen.{AreOwn}
+use Rattle.socket_server.proofs.starting.take_seats.Given as goal
+
+abbrev pub invariant-loop-tenant : goal.invariant-loop-tenant
+invariant-loop-tenant l = (length l.own.items ≡ l.tenant) × AreOwn l.own.items

@@ -1,0 +1,32 @@
+-- The places of threads in a server.
+use Rattle.std.specs.Prelude.{◌≡◌, List, length, All}
+use Rattle.call_queues.specs.Queues.{PassSeen}
+use Rattle.locked_doors.specs.Seen.{AreOwn}
+use Rattle.socket_server.specs.Shared.{SharedSeen, ArePassesOf}
+use Rattle.tenant_record.specs.SeatData.{SeatData}
+
+-- the house, and the passes that no thread has yet
+pub record PostsSeen : Type 0 where
+  pub house : SharedSeen
+  pub passes : List PassSeen
+
+-- one thread's pass of the house's queues
+pub record PostSeen : Type 0 where
+  pub house : SharedSeen
+  pub pass : PassSeen
+
+-- one session's pass, and its seat of each tenant
+pub record ClientSeen : Type 0 where
+  pub post : PostSeen
+  pub seats : List SeatData
+
+abbrev pub IsPosts : PostsSeen → Type 0
+IsPosts p = ArePassesOf p.house.queues.queues p.passes
+
+abbrev pub IsPost : PostSeen → Type 0
+IsPost p = p.pass.queues ≡ p.house.queues.queues
+
+-- There is a seat of each tenant of the house.
+pub record IsClient (c : ClientSeen) : Type 0 where
+  pub seats : length c.seats ≡ length c.post.house.doors
+  pub own : AreOwn c.seats

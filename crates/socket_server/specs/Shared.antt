@@ -1,0 +1,20 @@
+-- What all threads of a server share.
+use Rattle.std.specs.Prelude.{ℕ, ◌≡◌, List, length, All}
+use Rattle.call_queues.specs.Queues.{QueuesSeen, QueueSet, PassSeen}
+use Rattle.tenant_lock.specs.Doors.{DoorData}
+use Rattle.tenant_slots.specs.Seen.{AreNumbered}
+
+-- the doors of all tenants, their names, and the queues of calls for workers
+pub record SharedSeen : Type 0 where
+  pub doors : List DoorData
+  pub names : List (List ℕ)
+  pub queues : QueuesSeen
+
+-- The doors are numbered, and there is a level of the queues for each.
+pub record IsShared (h : SharedSeen) : Type 0 where
+  pub doors : AreNumbered h.doors
+  pub levels : length h.queues.config ≡ length h.doors
+
+-- All passes are of these queues.
+abbrev pub ArePassesOf : QueueSet → List PassSeen → Type 0
+ArePassesOf queues passes = All (λ (p : PassSeen). p.queues ≡ queues) passes

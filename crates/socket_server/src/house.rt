@@ -1,0 +1,76 @@
+// What all threads of a server share.
+ghost use Rattle.std.specs.Prelude.{◌≡◌, ◌≤◌, IfOk, length};
+ghost use Rattle.socket_server.specs.Shared.{ArePassesOf};
+
+use crate::starting::{names_of, open_doors};
+use call_queues::{CallQueues, QueuePass};
+use job_language::{Config, TenantName};
+use std::alloc::{AllocError, Global};
+use std::marker::Model;
+use std::sync::Wait;
+use tenant_lock::TenantDoor;
+use tenant_record::Seat;
+use worker_main::Bell;
+use world_core::market_config;
+
+/// What all threads of a server share: the doors of all tenants with their names, the queues of
+/// calls for workers, and the bell that is rung after each push.
+#[derive(Drop)]
+pub struct House {
+    pub(crate) doors: Vec<TenantDoor>,
+    pub(crate) names: Vec<TenantName>,
+    pub(crate) queues: CallQueues,
+    pub(crate) bell: Bell,
+}
+
+impl Model for House {
+    ghost use Rattle.socket_server.specs.Shared.{SharedSeen, IsShared};
+
+    ghost Value = { SharedSeen };
+
+    ghost view = { λ h. record { doors = h.doors.items; names = h.names.items; queues = h.queues } };
+
+    ghost invariant = { λ h. IsShared (record { doors = h.doors.items; names = h.names.items; queues = h.queues }) };
+}
+
+/// A house with all passes of its queues, one for each worker and each connection, and all seats.
+#[derive(Drop)]
+pub struct Opened {
+    pub house: House,
+    pub passes: Vec<QueuePass>,
+    pub seats: Vec<Seat>,
+}
+
+impl House {
+    /// The house of a configuration's tenants, which have done nothing yet, for so many connections.
+    pub fn open(alloc: Global, config: &Config, connections: u8) -> Result<Opened, AllocError>
+        requires { 1 ≤ connections }
+        ensures passes { IfOk result (λ opened. ArePassesOf opened.house.queues.queues opened.passes.items) }
+    {
+        let tenants = config.tenants();
+        let names = names_of(alloc, tenants)?;
+        let (doors, seats) = open_doors(alloc, tenants, usize::from(connections))?;
+        let market = market_config(alloc, config)?;
+        let count = config.workers() + usize::from(connections);
+        let (queues, passes) = CallQueues::new(alloc, market, count)?;
+        let house = House {
+            doors,
+            names,
+            queues,
+            bell: Bell::new(),
+        };
+        Ok(Opened {
+            house,
+            passes,
+            seats,
+        })
+    }
+
+    /// Tells all that wait, for a tenant or for a call, to stop.
+    pub fn stop<R: Wait>(&self, rt: &R) {
+        for door in &self.doors {
+            door.stop(rt);
+        }
+        self.bell.stop(rt);
+    }
+}

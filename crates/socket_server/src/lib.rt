@@ -1,0 +1,12 @@
+//! The server: sessions of clients over a Unix socket, workers beside them, and the tenants that they
+//! share.
+#![tactic(auto)]
+
+mod house;
+mod posts;
+mod serving;
+mod sessions;
+mod starting;
+
+pub use house::{House, Opened};
+pub use serving::{Served, serve_connections};

@@ -1,0 +1,96 @@
+// The places of threads in a server.
+ghost use Rattle.std.specs.Prelude.{◌≡◌, IfSome, IfOk, length};
+ghost use Rattle.locked_doors.specs.Seen.{AreOwn};
+ghost use Rattle.socket_server.specs.Shared.{ArePassesOf};
+
+use crate::house::House;
+use crate::starting::take_seats;
+use call_queues::QueuePass;
+use std::alloc::{AllocError, Global};
+use std::marker::Model;
+use tenant_record::Seat;
+
+/// The passes of a house's queues that no thread has yet.
+#[derive(Drop)]
+pub(crate) struct Posts<'h> {
+    house: &'h House,
+    passes: Vec<QueuePass>,
+}
+
+impl<'h> Model for Posts<'h> {
+    ghost use Rattle.socket_server.specs.Posts.{PostsSeen, IsPosts};
+
+    ghost Value = { PostsSeen };
+
+    ghost view = { λ p. record { house = p.house.now; passes = p.passes.items } };
+
+    ghost invariant = { λ p. IsPosts (record { house = p.house.now; passes = p.passes.items }) };
+}
+
+/// One thread's pass of the queues of a house.
+#[derive(Drop)]
+pub(crate) struct Post<'h> {
+    pub(crate) house: &'h House,
+    pub(crate) pass: QueuePass,
+}
+
+impl<'h> Model for Post<'h> {
+    ghost use Rattle.socket_server.specs.Posts.{PostSeen, IsPost};
+
+    ghost Value = { PostSeen };
+
+    ghost view = { λ p. record { house = p.house.now; pass = p.pass } };
+
+    ghost invariant = { λ p. IsPost (record { house = p.house.now; pass = p.pass }) };
+}
+
+/// One session's pass, and its seat of each tenant.
+#[derive(Drop)]
+pub(crate) struct Client<'h> {
+    pub(crate) post: Post<'h>,
+    pub(crate) seats: Vec<Seat>,
+}
+
+impl<'h> Model for Client<'h> {
+    ghost use Rattle.socket_server.specs.Posts.{ClientSeen, IsClient};
+
+    ghost Value = { ClientSeen };
+
+    ghost view = { λ c. record { post = c.post; seats = c.seats.items } };
+
+    ghost invariant = { λ c. IsClient (record { post = c.post; seats = c.seats.items }) };
+}
+
+impl<'h> Posts<'h> {
+    /// The posts of a house for whose queues the passes are.
+    pub(crate) fn new(house: &'h House, passes: Vec<QueuePass>) -> Self
+        requires { ArePassesOf house.now.queues.queues passes.items }
+    {
+        Posts { house, passes }
+    }
+
+    /// A post, if a pass is left.
+    pub(crate) fn next(&mut self) -> Option<Post<'h>> {
+        let pass = self.passes.pop()?;
+        Some(Post {
+            house: self.house,
+            pass,
+        })
+    }
+
+    /// A post for a session, with a seat of each tenant. None if a pass or a seat is missing.
+    pub(crate) fn next_client(
+        &mut self,
+        alloc: Global,
+        seats: &mut Vec<Seat>,
+    ) -> Result<Option<Client<'h>>, AllocError> {
+        let Some(post) = self.next() else {
+            return Ok(None);
+        };
+        let house = post.house;
+        let Some(seats) = take_seats(alloc, seats, house.doors.len())? else {
+            return Ok(None);
+        };
+        Ok(Some(Client { post, seats }))
+    }
+}

@@ -1,0 +1,79 @@
+// The start of a server.
+ghost use Rattle.std.specs.Prelude.{◌≡◌, IfOk, IfSome, length};
+ghost use Rattle.tenant_slots.specs.Seen.{AreNumbered};
+ghost use Rattle.locked_doors.specs.Seen.{AreOwn};
+
+use job_language::{TenantConfig, TenantName};
+use std::alloc::{AllocError, Global};
+use tenant_lock::TenantDoor;
+use tenant_record::Seat;
+
+/// The doors of all tenants, with so many seats of each. The seats of tenant 0 come first.
+pub(crate) fn open_doors(
+    alloc: Global,
+    tenants: &[TenantConfig],
+    seats: usize,
+) -> Result<(Vec<TenantDoor>, Vec<Seat>), AllocError>
+    ensures numbered { IfOk result (λ opened. AreNumbered opened.0.items) }
+    ensures count { IfOk result (λ opened. length opened.0.items ≡ length tenants.now) }
+{
+    let mut doors = Vec::with_capacity(alloc, tenants.len())?;
+    let mut all = Vec::new(alloc);
+    for (number, tenant) in tenants.iter().enumerate() {
+        let (door, own) = TenantDoor::new(alloc, number, *tenant, seats)?;
+        doors.push(door)?;
+        add_all(&mut all, own)?;
+    }
+    Ok((doors, all))
+}
+
+fn add_all(all: &mut Vec<Seat>, own: Vec<Seat>) -> Result<(), AllocError> {
+    for seat in own {
+        all.push(seat)?;
+    }
+    Ok(())
+}
+
+/// A seat of each tenant, tenant 0 first, taken from those that are left. None if one is missing.
+pub(crate) fn take_seats(
+    alloc: Global,
+    left: &mut Vec<Seat>,
+    tenants: usize,
+) -> Result<Option<Vec<Seat>>, AllocError>
+    ensures own { IfOk result (λ taken. IfSome taken (λ seats. AreOwn seats.items)) }
+    ensures count { IfOk result (λ taken. IfSome taken (λ seats. length seats.items ≡ tenants)) }
+{
+    let mut own = Vec::with_capacity(alloc, tenants)?;
+    for tenant in 0..tenants {
+        let Some(seat) = take_seat(left, tenant) else {
+            return Ok(None);
+        };
+        own.push(seat)?;
+    }
+    Ok(Some(own))
+}
+
+/// A seat of a tenant, if one is left.
+pub(crate) fn take_seat(left: &mut Vec<Seat>, tenant: usize) -> Option<Seat>
+    ensures { IfSome result (λ seat. seat.tenant ≡ tenant) }
+{
+    let place = left.iter().position(|seat| seat.tenant() == tenant)?;
+    let seat = left.swap_remove(place);
+    if seat.tenant() == tenant {
+        Some(seat)
+    } else {
+        None
+    }
+}
+
+/// The names of tenants, in order.
+pub(crate) fn names_of(
+    alloc: Global,
+    tenants: &[TenantConfig],
+) -> Result<Vec<TenantName>, AllocError> {
+    let mut names = Vec::with_capacity(alloc, tenants.len())?;
+    for tenant in tenants {
+        names.push(tenant.tenant().name)?;
+    }
+    Ok(names)
+}
