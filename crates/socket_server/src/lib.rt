@@ -2,11 +2,17 @@
 //! share.
 #![tactic(auto)]
 
+mod closing;
+mod configs;
+mod ends;
 mod house;
 mod posts;
 mod serving;
 mod sessions;
 mod starting;
 
+pub use closing::TenantEnd;
+pub use configs::{MAX_CONFIG, config_of};
+pub use ends::ServerEnd;
 pub use house::{House, Opened};
 pub use serving::{Served, serve_connections};

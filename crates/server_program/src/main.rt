@@ -1,0 +1,157 @@
+//! `arena-server`: serves tenants to clients over a Unix socket.
+#![tactic(auto)]
+
+ghost use Rattle.std.specs.Prelude.{◌≤◌};
+
+use server_words::{Words, WordsFault, read_words};
+use socket_server::{
+    House, MAX_CONFIG, Opened, Served, ServerEnd, TenantEnd, config_of, serve_connections,
+};
+use std::alloc::Global;
+use std::env::Env;
+use std::fs::{File, Files, Permissions};
+use std::io::Read;
+use std::net::Net;
+use std::os::unix::fs::PermissionsExt;
+use std::os::unix::net::UnixListener;
+use std::process::ExitCode;
+use std::sync::Wait;
+use std::thread::Threads;
+use std::{env, fs, io};
+use tenant_record::Seat;
+
+fn main(rt: HostRuntime) -> ExitCode {
+    let end = match words_of(&rt) {
+        Ok(words) => end_of(&rt, words.as_slice()),
+        Err(_) => ServerEnd::Memory,
+    };
+    if let Some(fault) = end.fault() {
+        let _ = rt.eprintln(fault);
+    }
+    ExitCode::from(end.status())
+}
+
+/// The words that the program was called with, its name first.
+fn words_of<R: Env + AllocGlobal>(rt: &R) -> io::Result<Vec<String>> {
+    let mut words = Vec::new(rt.alloc());
+    for word in env::args(rt)? {
+        words.push(word)?;
+    }
+    Ok(words)
+}
+
+fn end_of<R>(rt: &R, words: &[String]) -> ServerEnd
+where
+    R: Files + Net + Threads + Wait + Sync + Print + AllocGlobal,
+{
+    match serve_words(rt, words) {
+        Ok(end) => end,
+        Err(end) => end,
+    }
+}
+
+fn serve_words<R>(rt: &R, words: &[String]) -> Result<ServerEnd, ServerEnd>
+where
+    R: Files + Net + Threads + Wait + Sync + Print + AllocGlobal,
+{
+    let mut texts = Vec::new(rt.alloc());
+    for word in words {
+        if texts.push(word.as_str()).is_err() {
+            return Err(ServerEnd::Memory);
+        }
+    }
+    let words = match read_words(rt.alloc(), texts.as_slice()) {
+        Ok(words) => words,
+        Err(WordsFault::Words) => return Err(ServerEnd::Words),
+        Err(WordsFault::Memory) => return Err(ServerEnd::Memory),
+    };
+    if words.dump.is_some() {
+        return Err(ServerEnd::Words);
+    }
+    serve_tenants(rt, words)
+}
+
+/// Opens the tenants of the configuration, serves them, and closes them.
+fn serve_tenants<R>(rt: &R, words: Words<'_>) -> Result<ServerEnd, ServerEnd>
+where
+    R: Files + Net + Threads + Wait + Sync + Print + AllocGlobal,
+    requires { 1 ≤ words.connections }
+{
+    let alloc = rt.alloc();
+    let bytes = config_bytes(rt, words.config)?;
+    let config = config_of(alloc, bytes.as_slice())?;
+    let Opened {
+        house,
+        passes,
+        seats,
+    } = House::open(alloc, &config, words.connections)?;
+    let Ok(listener) = UnixListener::bind(rt, words.socket) else {
+        return Err(ServerEnd::Device);
+    };
+    let is_ready = is_listening(rt, words.socket);
+    let served = serve_connections(
+        rt,
+        alloc,
+        &house,
+        passes,
+        seats,
+        &listener,
+        config.workers(),
+        words.connections,
+    );
+    let is_removed = fs::remove_file(rt, words.socket).is_ok();
+    let end = close_tenants(rt, alloc, house, served.seats)?;
+    if is_ready && served.is_whole && is_removed {
+        Ok(end)
+    } else {
+        Ok(ServerEnd::Device)
+    }
+}
+
+/// The bytes of a configuration's file, one more than it may have at most.
+fn config_bytes<R: Files + AllocGlobal>(rt: &R, path: &str) -> Result<Vec<u8>, ServerEnd> {
+    let mut bytes = Vec::new(rt.alloc());
+    let Ok(file) = File::open(rt, path) else {
+        return Err(ServerEnd::Device);
+    };
+    match file.take(MAX_CONFIG as u64 + 1).read_to_end(&mut bytes) {
+        Ok(_) => Ok(bytes),
+        Err(_) => Err(ServerEnd::Device),
+    }
+}
+
+/// Keeps the socket for its owner alone, and says that it is there.
+fn is_listening<R: Files + Print>(rt: &R, socket: &str) -> bool {
+    fs::set_permissions(rt, socket, Permissions::from_mode(0o600)).is_ok()
+        && println!(rt; "listening").is_ok()
+}
+
+/// Closes all tenants, and prints a line for each.
+fn close_tenants<R: Print>(
+    rt: &R,
+    alloc: Global,
+    house: House,
+    seats: Vec<Seat>,
+) -> Result<ServerEnd, ServerEnd> {
+    let mut end = ServerEnd::Done;
+    for tenant in house.close(alloc, seats)? {
+        if tenant.closed.is_err() {
+            end = ServerEnd::Close;
+        }
+        if print_end(rt, &tenant).is_err() {
+            return Err(ServerEnd::Device);
+        }
+    }
+    Ok(end)
+}
+
+fn print_end<R: Print>(rt: &R, end: &TenantEnd) -> io::Result<()> {
+    match &end.closed {
+        Ok(closed) => println!(rt;
+            "{}: closed, {} entries",
+            end.name.as_str(),
+            closed.history.len()
+        ),
+        Err(fault) => println!(rt; "{}: close fault {}", end.name.as_str(), fault.code()),
+    }
+}
