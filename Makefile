@@ -1,7 +1,7 @@
 # The commands of this repository; `make help` lists them. `rt` is the command of the Rattle kit.
 
 .DEFAULT_GOAL := help
-.PHONY: help run build test check examples clean
+.PHONY: help run build serve test check examples clean
 
 EXAMPLE ?= first_job
 
@@ -11,13 +11,17 @@ help: ## lists the targets
 run: ## runs an example within a minute, unproved unless it is built: make run EXAMPLE=isolated_waiter
 	@python3 examples/show.py $(EXAMPLE)
 
-build: ## proves arena-script and builds it into out/
+build: ## proves arena-script and arena-server, and builds them into out/
 	@python3 checks/build/run.py
 
-test: ## passes everything: examples, each proof from scratch, each edit, test and program, stored runs, failed allocations
+serve: build ## serves two connections at /tmp/arena.sock (docs/OPERATIONS.md)
+	out/arena-server --config examples/server/config.json --socket /tmp/arena.sock --connections 2
+
+test: ## passes everything: examples, each proof from scratch, each edit, test and program, stored runs, the server, failed allocations
 	checks/examples/run.sh
 	checks/gate/run.py
 	checks/stored_runs/run.sh
+	checks/server/run.py
 	checks/failed_allocations/run.sh
 	@tail -n 1 out/gate.md
 

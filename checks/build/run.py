@@ -1,5 +1,5 @@
 #!/usr/bin/env python3
-"""Proves the crates that arena-script stands on, from the lowest up, and builds the program into out/.
+"""Proves the crates that arena-script and arena-server stand on, from the lowest up, and builds both into out/.
 
 usage: checks/build/run.py, at the top of the repository. It prints a line before and after each crate,
 with the minutes since the start; a crate that has not changed since its last proof takes seconds.
@@ -11,7 +11,7 @@ import subprocess
 import sys
 import time
 
-PROGRAM = "script_program"
+PROGRAMS = {"script_program": "arena-script", "server_program": "arena-server"}
 START = time.monotonic()
 
 
@@ -34,29 +34,30 @@ def say(text):
     print(f"{(time.monotonic() - START) / 60:5.1f} min  {text}", flush=True)
 
 
-def prove(name, command, **streams):
-    """Proves a crate by a command of `rt`, and ends the script if that fails."""
+def prove(name, command):
+    """Proves a crate by a command of `rt`, and ends the script if that fails. A program is also run, on no input; what
+    it then says does not matter."""
     say(f"{name} ..")
     with open(f"out/{name}.log", "w+") as log:
-        streams = {"stdout": log, "stderr": log, **streams}
-        if subprocess.run(command, cwd=f"crates/{name}", **streams).returncode:
-            log.seek(0)
-            sys.exit(f"{''.join(log.readlines()[-40:])}{name} is not proved (out/{name}.log)")
+        status = subprocess.run(command, cwd=f"crates/{name}", stdin=subprocess.DEVNULL, stdout=log, stderr=log).returncode
         log.seek(0)
-        functions = re.findall(r"^logic=proved functions=(\d+)", log.read(), re.M)
+        text = log.read()
+    functions = re.findall(r"^logic=proved functions=(\d+)", text, re.M)
+    if not functions if name in PROGRAMS else status:
+        sys.exit(f"{''.join(text.splitlines(True)[-40:])}{name} is not proved (out/{name}.log)")
     say(f"{name} proved{f', {functions[-1]} functions' if functions else ''}")
 
 
 def main():
     os.makedirs("out", exist_ok=True)
-    order = list(dict.fromkeys(below(read_crates(), PROGRAM)))
+    crates = read_crates()
+    order = list(dict.fromkeys(name for program in PROGRAMS for name in below(crates, program)))
     say(f"proving {len(order)} crates; from scratch this takes a quarter of an hour or more")
-    for name in order[:-1]:
-        prove(name, ["rt", "lib"])
-    with open(f"crates/{PROGRAM}/stdin") as script:
-        prove(PROGRAM, ["rt", "run"], stdin=script, stdout=subprocess.DEVNULL)
-    shutil.copy(f"crates/{PROGRAM}/out/{PROGRAM}", "out/arena-script")
-    say("out/arena-script is built")
+    for name in order:
+        prove(name, ["rt", "run" if name in PROGRAMS else "lib"])
+    for name, program in PROGRAMS.items():
+        shutil.copy(f"crates/{name}/out/{name}", f"out/{program}")
+        say(f"out/{program} is built")
 
 
 main()

@@ -1,0 +1,154 @@
+#!/usr/bin/env python3
+"""Runs arena-server with clients over its socket, and compares what they get, what the server prints and its status.
+
+usage: checks/server/run.py, at the top of the repository, after `rt ci` or `rt run` in crates/server_program.
+"""
+import json
+import os
+import socket
+import stat
+import subprocess
+import sys
+import tempfile
+import threading
+
+PROGRAM = os.path.abspath("crates/server_program/out/server_program")
+
+FIB = {"args": [6, 0], "fuel": 1000, "procs": [[
+    ["set", 2, 2], ["lt", 3, 0, 2], ["jz", 3, 4], ["ret", 0], ["set", 2, 1], ["sub", 3, 0, 2], ["spawn", 0, 0, 3, 1],
+    ["sub", 3, 3, 2], ["spawn", 0, 0, 3, 1], ["wait", 4, 5, 0], ["ret", 4]]]}
+SEVEN = {"args": [7, 0], "fuel": 10, "procs": [[["ret", 0]]]}
+HELLO = {"op": "hello", "tenant": "acme"}
+
+
+def tenant(name, slots, reserved):
+    return {"name": name, "priority": "normal", "reserved": reserved, "rows": 200, "slots": slots, "steps": 10000}
+
+
+class Server:
+    """A server on a socket of its own, with a folder that goes when it ends."""
+
+    def __init__(self, tenants, workers, connections):
+        self.folder = tempfile.TemporaryDirectory()
+        self.path = os.path.join(self.folder.name, "socket")
+        config = os.path.join(self.folder.name, "config")
+        with open(config, "w") as it:
+            json.dump({"tenants": tenants, "workers": workers}, it)
+        words = ["--config", config, "--socket", self.path, "--connections", str(connections)]
+        self.process = subprocess.Popen([PROGRAM, *words], stdout=subprocess.PIPE, stderr=subprocess.PIPE, text=True)
+        assert self.process.stdout.readline() == "listening\n"
+        assert stat.S_IMODE(os.stat(self.path).st_mode) == 0o600
+
+    def connect(self):
+        client = socket.socket(socket.AF_UNIX)
+        client.connect(self.path)
+        return client
+
+    def ask(self, *requests):
+        """Sends requests on a connection of their own, and returns the replies."""
+        with self.connect() as client:
+            lines = "".join(json.dumps(request) + "\n" for request in requests)
+            client.sendall(lines.encode())
+            client.shutdown(socket.SHUT_WR)
+            with client.makefile() as replies:
+                return [json.loads(line) for line in replies]
+
+    def end(self):
+        """Returns what the server printed after its first line, and its status."""
+        out, err = self.process.communicate(timeout=60)
+        assert not os.path.exists(self.path)
+        return out.splitlines(), err, self.process.returncode
+
+
+def job_is_executed_and_polled():
+    server = Server([tenant("acme", 1, 1)], 1, 2)
+    done = {"job": 1, "status": "complete", "value": 8}
+    assert server.ask(HELLO, {"op": "execute", "job": FIB}) == [{"tenant": "acme"}, done]
+    assert server.ask(HELLO, {"op": "poll", "job": 1}) == [{"tenant": "acme"}, done]
+    assert server.end() == (["acme: closed, 88 entries"], "", 0)
+
+
+def workers_share_a_job():
+    server = Server([tenant("acme", 3, 1)], 2, 1)
+    replies = server.ask(HELLO, {"op": "execute", "job": FIB})
+    assert replies == [{"tenant": "acme"}, {"job": 1, "status": "complete", "value": 8}]
+    lines, err, status = server.end()
+    assert len(lines) == 1 and lines[0].startswith("acme: closed, ") and (err, status) == ("", 0)
+
+
+def tenants_do_not_see_each_other():
+    server = Server([tenant("acme", 2, 1), tenant("beta", 1, 0)], 2, 2)
+    assert server.ask(HELLO, {"op": "submit", "job": SEVEN}, {"op": "collect", "job": 1}) == [
+        {"tenant": "acme"}, {"job": 1}, {"job": 1, "status": "complete", "value": 7}]
+    assert server.ask({"op": "hello", "tenant": "beta"}, {"op": "poll", "job": 1}) == [
+        {"tenant": "beta"}, {"code": 6, "error": "unknown_job"}]
+    lines, err, status = server.end()
+    assert lines[1] == "beta: closed, 1 entries" and (err, status) == ("", 0)
+
+
+def client_that_goes_away_ends_its_session_alone():
+    server = Server([tenant("acme", 2, 1)], 1, 3)
+    with server.connect() as client:
+        client.sendall((json.dumps(HELLO) + "\n" + json.dumps({"op": "execute", "job": FIB}) + "\n").encode())
+    with server.connect() as client:
+        client.sendall(b'{"op":"hello","ten')
+    assert server.ask(HELLO, {"op": "execute", "job": SEVEN})[1]["value"] == 7
+    lines, err, status = server.end()
+    assert lines[0].startswith("acme: closed, ") and (err, status) == ("", 0)
+
+
+def many_clients_at_once():
+    server = Server([tenant("acme", 4, 1)], 4, 16)
+    wanted = [{"tenant": "acme"}] + [{"job": 0, "status": "complete", "value": 7}] * 10
+    wrong = []
+
+    def client():
+        replies = server.ask(HELLO, *[{"op": "execute", "job": SEVEN}] * 10)
+        if [{**reply, "job": 0} if "job" in reply else reply for reply in replies] != wanted:
+            wrong.append(replies)
+
+    threads = [threading.Thread(target=client) for _ in range(16)]
+    for thread in threads:
+        thread.start()
+    for thread in threads:
+        thread.join()
+    assert not wrong, wrong
+    lines, err, status = server.end()
+    assert lines[0].startswith("acme: closed, ") and (err, status) == ("", 0)
+
+
+def wrong_words_and_files_are_faults():
+    def run(*words):
+        done = subprocess.run([PROGRAM, *words], capture_output=True, text=True, timeout=60)
+        return done.stdout, done.stderr, done.returncode
+
+    assert run() == ("", "arena-server: words\n", 2)
+    with tempfile.TemporaryDirectory() as folder:
+        at = os.path.join(folder, "socket")
+        config = os.path.join(folder, "config")
+        words = ["--config", config, "--socket", at, "--connections", "1"]
+        assert run(*words) == ("", "arena-server: device\n", 3)
+        with open(config, "w") as it:
+            it.write("{}")
+        assert run(*words) == ("", "arena-server: config\n", 2)
+        with open(config, "w") as it:
+            it.write(" " * 1048577)
+        assert run(*words) == ("", "arena-server: config\n", 2)
+        with open(config, "w") as it:
+            json.dump({"tenants": [tenant("acme", 1, 1)], "workers": 1}, it)
+        with open(at, "w"):
+            pass
+        assert run(*words) == ("", "arena-server: device\n", 3)
+
+
+CHECKS = [job_is_executed_and_polled, workers_share_a_job, tenants_do_not_see_each_other,
+          client_that_goes_away_ends_its_session_alone, many_clients_at_once, wrong_words_and_files_are_faults]
+
+
+def main():
+    for check in CHECKS:
+        check()
+    print(f"{len(CHECKS)} checks of the server passed")
+
+
+main()
