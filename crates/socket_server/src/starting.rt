@@ -58,12 +58,7 @@ pub(crate) fn take_seat(left: &mut Vec<Seat>, tenant: usize) -> Option<Seat>
     ensures { IfSome result (λ seat. seat.tenant ≡ tenant) }
 {
     let place = left.iter().position(|seat| seat.tenant() == tenant)?;
-    let seat = left.swap_remove(place);
-    if seat.tenant() == tenant {
-        Some(seat)
-    } else {
-        None
-    }
+    Some(left.swap_remove(place))
 }
 
 /// The names of tenants, in order.
