@@ -27,6 +27,7 @@ PROMISES = [
     ("what a tenant's lock holds", ["tenant_record.Cell", "tenant_record.Locked"]),
     ("a tenant's lock, and how it is closed", ["tenant_lock.Doors", "tenant_lock.Closing"]),
     ("threads at the slots of locked tenants", ["tenant_slots.Ways"]),
+    ("sessions at locked tenants", ["locked_doors.Ways", "session_core.Sessions"]),
     ("workers, over any doors", ["worker_main.Works"]),
     ("queues that threads share", ["call_queues.Queues"]),
     ("the market's lists", ["market.Waiting", "market.First"]),
