@@ -88,7 +88,7 @@ is_cancelled-with_bound forest c p within free held ordered =
     let after : IsForest (with_bound forest c p) = IsForest-ordered (with_bound forest c p) (ordered-with_bound forest c p within free held ordered) in
     after.walk c ∙ ap (λ o. asks_in o || option_map_or (is_cancelled (with_bound forest c p)) (parent_in o) false) (binding-with_bound forest c p within) ∙ above_kept forest c p p free ordered held
 
-nothing-held : (n c : ℕ) → IsHeld (replicate n None) c → ⊥
+pub nothing-held : (n c : ℕ) → IsHeld (replicate n None) c → ⊥
 nothing-held n c h = grind (arith, common_steps, get_or-replicate, get_or_past)
 
 -- no context

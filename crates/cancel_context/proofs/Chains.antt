@@ -144,11 +144,3 @@ IsSound-is after forest e s = subst IsSound (sym e) s
 
 pub is_cancelled-is : (after forest : Forest) (d : ℕ) → after ≡ forest → is_cancelled after d ≡ is_cancelled forest d
 is_cancelled-is after forest d e = ap (λ (f : Forest). is_cancelled f d) e
-
--- one step of the walk
-step_walk : (forest : Forest) (c p : ℕ) (o : Option Binding) (b : Binding) → o ≡ Some b → b.parent ≡ Some p → b.is_asked ≡ false → b.is_orphan ≡ false → (asks_in o || option_map_or (is_cancelled forest) (parent_in o) false) ≡ is_cancelled forest p
-step_walk forest c p o b at above asked orphan =
-    ap (λ o. asks_in o || option_map_or (is_cancelled forest) (parent_in o) false) at ∙ ap (λ q. (b.is_asked || b.is_orphan) || option_map_or (is_cancelled forest) q false) above ∙ ap (λ t. (t || b.is_orphan) || is_cancelled forest p) asked ∙ ap (λ t. (false || t) || is_cancelled forest p) orphan
-
-pub is_cancelled-step : (forest : Forest) → IsForest forest → (c p : ℕ) (b : Binding) → binding forest c ≡ Some b → b.parent ≡ Some p → b.is_asked ≡ false → b.is_orphan ≡ false → is_cancelled forest c ≡ is_cancelled forest p
-is_cancelled-step forest f c p b at above asked orphan = f.walk c ∙ step_walk forest c p (binding forest c) b at above asked orphan

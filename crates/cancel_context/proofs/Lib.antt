@@ -1,6 +1,10 @@
 pub mod Chains
-pub mod Mapped
 pub mod Requests
 pub mod Bound
 pub mod Released
 pub mod Free
+pub mod Rows
+pub mod Lists
+pub mod Along
+pub mod Spread
+pub mod Kept

@@ -16,7 +16,7 @@ is_some-without_parent : (c : ℕ) (o : Option Binding) → is_some (without_par
 is_some-without_parent c None = refl
 is_some-without_parent c (Some b) = refl
 
-binding-without_other : (forest : Forest) (c d : ℕ) → d ≢ c → binding (without forest c) d ≡ without_parent c (binding forest d)
+pub binding-without_other : (forest : Forest) (c d : ℕ) → d ≢ c → binding (without forest c) d ≡ without_parent c (binding forest d)
 binding-without_other forest c d ne = get_or-set_other (map (without_parent c) forest) c d None None ne ∙ get_or-map (without_parent c) forest d None
 
 pub binding-without : (forest : Forest) (c : ℕ) → IsHeld forest c → binding (without forest c) c ≡ None
@@ -28,11 +28,11 @@ pub held_other : (forest : Forest) (c d : ℕ) → d ≢ c → is_some (binding 
 held_other forest c d ne = ap is_some (binding-without_other forest c d ne) ∙ is_some-without_parent c (binding forest d)
 
 -- an order without one context
-except : ℕ → List ℕ → List ℕ
+unfoldable pub except : ℕ → List ℕ → List ℕ
 except c [] = []
 except c (x ∷ xs) = if x == c then except c xs else x ∷ except c xs
 
-IsIn-except : (c d : ℕ) (order : List ℕ) → IsIn order d → d ≢ c → IsIn (except c order) d
+pub IsIn-except : (c d : ℕ) (order : List ℕ) → IsIn order d → d ≢ c → IsIn (except c order) d
 unfolding except
 IsIn-except c d [] i ne = absurd i
 IsIn-except c d (x ∷ xs) (inl h) ne =
@@ -109,7 +109,7 @@ held_count-without forest c h =
 pub held_count-is : (after forest : Forest) → after ≡ forest → held_count after + 1 ≡ held_count forest + 1
 held_count-is after forest e = ap (λ (f : Forest). held_count f + 1) e
 
-not_released : (forest : Forest) (c d : ℕ) → IsHeld forest c → IsHeld (without forest c) d → d ≢ c
+pub not_released : (forest : Forest) (c d : ℕ) → IsHeld forest c → IsHeld (without forest c) d → d ≢ c
 not_released forest c d h held e =
     let there : IsHeld (without forest c) c = subst (λ y. IsHeld (without forest c) y) e held in
     let wrong : false ≡ true = sym (ap is_some (binding-without forest c h)) ∙ there in

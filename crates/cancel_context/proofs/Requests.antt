@@ -14,7 +14,7 @@ binding-with_request forest c d asked h e =
     let within : c < length forest = IsHeld-within forest c h in
     subst (λ y. binding (with_request forest c asked) y ≡ asking asked (binding forest y)) (sym e) (get_or-set_same forest c (asking asked (binding forest c)) None within)
 
-binding-with_request_other : (forest : Forest) (c d : ℕ) (asked : Bool) → d ≢ c → binding (with_request forest c asked) d ≡ binding forest d
+pub binding-with_request_other : (forest : Forest) (c d : ℕ) (asked : Bool) → d ≢ c → binding (with_request forest c asked) d ≡ binding forest d
 binding-with_request_other forest c d asked ne = get_or-set_other forest c d (asking asked (binding forest c)) None ne
 
 parent_in-asking : (asked : Bool) (o : Option Binding) → parent_in (asking asked o) ≡ parent_in o

@@ -1,3 +1,6 @@
 pub mod Forest
 pub mod Order
 pub mod Free
+pub mod Below
+pub mod Flags
+pub mod Whole

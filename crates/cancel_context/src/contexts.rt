@@ -1,10 +1,13 @@
 // A forest of contexts.
 ghost use Rattle.std.specs.Prelude.{◌≡◌, ◌≢◌, ◌+◌, ◌*◌, ◌-◌, ◌^◌, ◌<◌, ◌≤◌, ◌||◌, ℕ, IsTrue, true, false, not, Some, None, length, map, replicate, IfOk};
 ghost use Rattle.std.specs.Option.{ForSome, option_map_or};
-ghost use Rattle.cancel_context.specs.Forest.{IsHeld, held_count, binding, parent, is_within, is_cancelled, IsForest, with_bound, asking, with_request, without_parent, without};
+ghost use Rattle.cancel_context.specs.Forest.{IsHeld, held_count, binding, parent_in, parent, is_within, is_cancelled, IsForest, with_bound, asking, with_request, without_parent, without};
 ghost use Rattle.cancel_context.specs.Free.{next_of};
+ghost use Rattle.cancel_context.specs.Below.{IsLinked};
 
+use crate::below::Below;
 use crate::bindings::{Binding, ContextId};
+use crate::flags::Flags;
 use std::alloc::{AllocError, Global};
 use std::marker::Model;
 
@@ -27,6 +30,8 @@ pub struct Contexts {
     /// The free place that comes after each free place.
     next_free: Vec<Option<ContextId>>,
     first_free: Option<ContextId>,
+    below: Below,
+    flags: Flags,
 }
 
 impl Model for Contexts {
@@ -36,9 +41,9 @@ impl Model for Contexts {
 
     ghost view = { λ c. c.bindings.items };
 
-    ghost use Rattle.cancel_context.specs.Free.{IsKept};
+    ghost use Rattle.cancel_context.specs.Whole.{IsWhole};
 
-    ghost invariant = { λ c. IsKept c.bindings.items c.next_free.items c.first_free };
+    ghost invariant = { λ c. IsWhole c.bindings.items c.next_free.items c.first_free c.below c.flags };
 }
 
 impl Contexts {
@@ -56,6 +61,8 @@ impl Contexts {
             bindings,
             next_free,
             first_free,
+            below: Below::new(alloc, count)?,
+            flags: Flags::new(alloc, count)?,
         })
     }
 
@@ -76,11 +83,14 @@ impl Contexts {
             unreachable!()
         };
         self.first_free = self.next_free[place.index()];
-        self.bindings[place.index()] = Some(Binding {
+        let binding = Binding {
             parent,
             is_asked: false,
             is_orphan: false,
-        });
+        };
+        self.bindings[place.index()] = Some(binding);
+        self.below.join(place, binding.parent);
+        self.flags.start(place, binding.parent);
         place
     }
 
@@ -97,7 +107,7 @@ impl Contexts {
         ensures reaches { (c : ℕ) → is_cancelled self.new c ≡ (is_cancelled self.old c || is_within self.old c context) }
         ensures forest { IsForest self.new }
     {
-        let first = !walk(&self.bindings, context);
+        let first = !self.flags.get(context);
         self.set_request(context, true);
         first
     }
@@ -109,7 +119,7 @@ impl Contexts {
         ensures value { result ≡ is_cancelled self.now context }
         ensures forest { IsForest self.now }
     {
-        walk(&self.bindings, context)
+        self.flags.get(context)
     }
 
     /// Takes back the cancel request of a context, and no other: one above it still holds.
@@ -135,13 +145,15 @@ impl Contexts {
         ensures others { (c : ℕ) → c ≢ context → is_cancelled self.new c ≡ is_cancelled self.old c }
         ensures forest { IsForest self.new }
     {
-        leave(&mut self.bindings, context);
+        let parent = parent_in(self.bindings[context.index()]);
+        orphan(&mut self.bindings, &self.below, context);
+        self.below.leave(context, parent);
         self.bindings[context.index()] = None;
         self.next_free[context.index()] = self.first_free;
         self.first_free = Some(context);
     }
 
-    /// Makes the request of a context, or takes it back.
+    /// Makes the request of a context, or takes it back, and turns the flags that follow.
     fn set_request(&mut self, context: ContextId, is_asked: bool)
         requires { IsHeld self.old context }
         ensures set { self.new ≡ with_request self.old context is_asked }
@@ -151,6 +163,11 @@ impl Contexts {
     {
         let slot = &mut self.bindings[context.index()];
         *slot = asking(*slot, is_asked);
+        let is_cancelled = self.flags.follows(self.bindings[context.index()]);
+        if self.flags.get(context) != is_cancelled {
+            self.flags
+                .turn(&self.bindings, &self.below, context, is_cancelled);
+        }
     }
 }
 
@@ -172,25 +189,6 @@ fn link_all(next_free: &mut [Option<ContextId>]) -> Option<ContextId>
     previous
 }
 
-/// Whether the walk up from a context finds a request.
-fn walk(bindings: &[Option<Binding>], context: ContextId) -> bool
-    requires forest { IsForest bindings.now }
-    requires held { IsHeld bindings.now context }
-    ensures { result ≡ is_cancelled bindings.now context }
-{
-    let mut here = context;
-    while let Some(binding) = bindings[here.index()] {
-        if binding.is_asked || binding.is_orphan {
-            return true;
-        }
-        let Some(parent) = binding.parent else {
-            return false;
-        };
-        here = parent;
-    }
-    unreachable!()
-}
-
 /// A binding with its request made or taken back.
 fn asking(slot: Option<Binding>, is_asked: bool) -> Option<Binding>
     ensures { result ≡ asking is_asked slot }
@@ -200,13 +198,25 @@ fn asking(slot: Option<Binding>, is_asked: bool) -> Option<Binding>
     Some(binding)
 }
 
-/// Takes a parent from what is bound to it.
-fn leave(bindings: &mut [Option<Binding>], parent: ContextId)
+/// Makes those that are bound to a context orphans.
+fn orphan(bindings: &mut [Option<Binding>], below: &Below, parent: ContextId)
+    requires linked { IsLinked bindings.old below.now }
+    requires held { IsHeld bindings.old parent }
     ensures { bindings.new ≡ map (without_parent parent) bindings.old }
 {
-    for slot in bindings.iter_mut() {
+    let mut following = below.first(parent);
+    while let Some(context) = following {
+        let slot = &mut bindings[context.index()];
         *slot = without_parent(*slot, parent);
+        following = below.next(context);
     }
+}
+
+/// What a context is bound to.
+fn parent_in(slot: Option<Binding>) -> Option<ContextId>
+    ensures { result ≡ parent_in slot }
+{
+    slot?.parent
 }
 
 /// A binding without a parent that is released.

@@ -2,8 +2,10 @@
 //! bound below a context, and nothing above it (the oneAPI's `task_group_context`).
 #![tactic(auto)]
 
+mod below;
 mod bindings;
 mod contexts;
+mod flags;
 #[cfg(test)]
 mod tests;
 

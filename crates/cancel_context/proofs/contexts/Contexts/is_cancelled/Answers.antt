@@ -1,10 +1,7 @@
-use Rattle.std.proofs.Common.{sym, subst}
+use Rattle.std.proofs.Common.{subst}
 use Rattle.cancel_context.specs.Forest.{IsForest}
 use Rattle.cancel_context.proofs.Chains.{IsForest-ordered}
 use Rattle.cancel_context.proofs.contexts.Contexts.is_cancelled.Goals as goal
 
-pub walk-requires-clause-forest : goal.walk-requires-clause-forest
-walk-requires-clause-forest c = subst IsForest (sym c.deref.ensures.value) (IsForest-ordered c.self.inside.bindings.items c.self.invariant.sound.ordered)
-
 pub returns-clause-forest : goal.returns-clause-forest
-returns-clause-forest c = subst IsForest c.self.view_is (IsForest-ordered c.self.inside.bindings.items c.self.invariant.sound.ordered)
+returns-clause-forest c = subst IsForest c.self.view_is (IsForest-ordered c.self.inside.bindings.items c.self.invariant.kept.sound.ordered)
