@@ -9,7 +9,7 @@ use Rattle.cancel_context.specs.Free.{next_of}
 use Rattle.cancel_context.specs.Order.{IsIn}
 use Rattle.cancel_context.specs.Below.{Links, IsRow, IsOnce, IsLinked}
 use Rattle.cancel_context.proofs.Chains.{IsHeld-within, IsHeld-parent_in}
-use Rattle.cancel_context.proofs.Lists.{is_parent, was}
+use Rattle.cancel_context.proofs.Lists.{was}
 use Rattle.cancel_context.proofs.Rows.{steps, steps-row, length-once-le}
 
 -- those from a place on that are bound to a context
@@ -82,17 +82,6 @@ stays_alone c b (Some q) at out = elim (eqb_tells q c) [ inl h ↦ absurd (out (
 left_alone : (c : ℕ) (o : Option Binding) → (parent_in o ≡ Some c → ⊥) → without_parent c o ≡ o
 left_alone c None out = refl
 left_alone c (Some b) out = ap Some (stays_alone c b b.parent refl out)
-
-pub orphaning-start : (forest : Forest) (links : Links) (c : ℕ) → IsHeld forest c → IsLinked forest links → IsOrphaning forest forest links c (next_of links.first c)
-orphaning-start forest links c held l = record {
-  rest = l.below c;
-  along = along-start forest links c held l;
-  same_size = refl;
-  each = λ e. elim (is_parent (parent forest e) c) [
-    | inl at ↦ inr (refl, l.lists.all c e at)
-    | inr out ↦ inl (sym (left_alone c (binding forest e) out))
-  ];
-}
 
 pub orphaning-place : (forest now : Forest) (links : Links) (c x : ℕ) → IsOrphaning forest now links c (Some x) → (x < length now) × (x < length links.next)
 orphaning-place forest now links c x o =
