@@ -97,6 +97,67 @@ def client_that_goes_away_ends_its_session_alone():
     assert lines[0].startswith("acme: closed, ") and (err, status) == ("", 0)
 
 
+def client_that_goes_away_after_any_byte():
+    text = "".join(json.dumps(it, separators=(",", ":")) + "\n" for it in (HELLO, {"op": "execute", "job": SEVEN})).encode()
+    for first in range(0, len(text), 60):
+        ends = range(first, min(first + 60, len(text) + 1))
+        server = Server([tenant("acme", 2, 1)], 2, len(ends) + 1)
+        for end in ends:
+            with server.connect() as client:
+                client.sendall(text[:end])
+        assert server.ask(HELLO, {"op": "execute", "job": SEVEN})[1]["value"] == 7
+        lines, err, status = server.end()
+        assert lines[0].startswith("acme: closed, ") and (err, status) == ("", 0), (first, lines, err, status)
+
+
+def client_that_never_reads():
+    server = Server([tenant("acme", 2, 1)], 1, 2)
+    with server.connect() as client:
+        client.settimeout(1)
+        try:
+            client.sendall((json.dumps(HELLO) + "\n" + '{"op":"cells","key":0}\n' * 1_000_000).encode())
+            raise AssertionError("a million replies were kept")
+        except TimeoutError:
+            pass
+        assert server.ask(HELLO, {"op": "execute", "job": SEVEN})[1]["value"] == 7
+    lines, err, status = server.end()
+    assert lines[0].startswith("acme: closed, ") and (err, status) == ("", 0)
+
+
+def client_that_sends_without_end():
+    server = Server([tenant("acme", 2, 1)], 1, 2)
+    is_over = threading.Event()
+
+    def send(client):
+        while not is_over.is_set():
+            client.sendall(b"x" * 65536)
+
+    with server.connect() as client:
+        client.sendall((json.dumps(HELLO) + "\n").encode())
+        sender = threading.Thread(target=send, args=(client,))
+        sender.start()
+        assert server.ask(HELLO, {"op": "execute", "job": SEVEN})[1]["value"] == 7
+        is_over.set()
+        sender.join()
+        client.sendall(b'\n{"op":"poll","job":1}\n')
+        client.shutdown(socket.SHUT_WR)
+        with client.makefile() as replies:
+            assert [json.loads(line) for line in replies] == [
+                {"tenant": "acme"}, {"code": 1, "error": "line_too_long"}, {"job": 1, "status": "complete", "value": 7}]
+    lines, err, status = server.end()
+    assert lines[0].startswith("acme: closed, ") and (err, status) == ("", 0)
+
+
+def clients_that_say_nothing():
+    server = Server([tenant("acme", 2, 1)], 1, 5)
+    silent = [server.connect() for _ in range(4)]
+    assert server.ask(HELLO, {"op": "execute", "job": SEVEN})[1]["value"] == 7
+    for client in silent:
+        client.close()
+    lines, err, status = server.end()
+    assert lines[0].startswith("acme: closed, ") and (err, status) == ("", 0)
+
+
 def many_clients_at_once():
     server = Server([tenant("acme", 4, 1)], 4, 16)
     wanted = [{"tenant": "acme"}] + [{"job": 0, "status": "complete", "value": 7}] * 10
@@ -142,7 +203,8 @@ def wrong_words_and_files_are_faults():
 
 
 CHECKS = [job_is_executed_and_polled, workers_share_a_job, tenants_do_not_see_each_other,
-          client_that_goes_away_ends_its_session_alone, many_clients_at_once, wrong_words_and_files_are_faults]
+          client_that_goes_away_ends_its_session_alone, client_that_goes_away_after_any_byte, client_that_never_reads,
+          client_that_sends_without_end, clients_that_say_nothing, many_clients_at_once, wrong_words_and_files_are_faults]
 
 
 def main():
