@@ -35,8 +35,8 @@ def hello(name):
     return text({"op": "hello", "tenant": name})
 
 
-def tenant(name, slots, reserved, priority="normal"):
-    return {"name": name, "priority": priority, "reserved": reserved, "rows": 4096, "slots": slots, "steps": 1_048_576}
+def tenant(name, slots, reserved, priority="normal", rows=200):
+    return {"name": name, "priority": priority, "reserved": reserved, "rows": rows, "slots": slots, "steps": 1_048_576}
 
 
 class Server:
@@ -152,7 +152,7 @@ class Bench:
         """Returns the milliseconds that jobs take, the fewest of five times, spread over some tenants."""
         names = [f"t{number}" for number in range(tenants)]
         best = None
-        with arena([tenant(name, 8, 0) for name in names], workers, tenants) as server:
+        with arena([tenant(name, 8, 0, rows=1_000) for name in names], workers, tenants) as server:
             desks = [Desk(server.path, name) for name in names]
             for _ in range(5):
                 wrong = []
