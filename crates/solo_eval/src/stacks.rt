@@ -1,6 +1,6 @@
 // Stacks of slots, and the rows that a slot may take.
 ghost use Rattle.std.specs.Prelude.{◌≡◌, ◌≤◌, ◌==◌, ◌&&◌, length, map, IfSome};
-ghost use Rattle.tenant_model.specs.Walks.{is_open, height, top, is_allowed, pick_of, region_on};
+ghost use Rattle.tenant_model.specs.Walks.{is_open, is_unstarted, height, top, is_allowed, pick_of, region_on};
 ghost use Rattle.std.specs.List.{list_any};
 ghost use Rattle.tenant_model.specs.Asks.{has_outcome};
 ghost use Rattle.tenant_model.specs.Linked.{MakersPrecede};
@@ -43,6 +43,13 @@ pub(crate) fn any_open(rows: &[Row]) -> bool
     ensures { result ≡ list_any (λ r. is_open r.phase) rows.now }
 {
     rows.iter().any(|row| row.phase.is_open())
+}
+
+/// Whether some row waits to be started.
+pub(crate) fn any_unstarted(rows: &[Row]) -> bool
+    ensures { result ≡ list_any (λ r. is_unstarted r.phase) rows.now }
+{
+    rows.iter().any(|row| row.phase.is_unstarted())
 }
 
 /// Whether no row of a job is open.
