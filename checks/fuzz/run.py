@@ -1,0 +1,62 @@
+#!/usr/bin/env python3
+"""Runs `arena_fuzz` on drawn rounds: the arena and the plain evaluator must not differ, and every kind of
+answer, error and fault must have come up, or the comparison means little. The program is built first if a
+source is newer than it.
+
+usage: checks/fuzz/run.py [SEED [ROUNDS]]
+"""
+import pathlib
+import subprocess
+import sys
+import time
+
+ROOT = pathlib.Path(__file__).resolve().parents[2]
+CRATE = ROOT / "crates/arena_fuzz"
+PROGRAM = CRATE / "out/arena_fuzz"
+
+SEED, ROUNDS = 1, 400
+
+KINDS = [
+    *(f"advance: {it}" for it in ("ran", "nested", "freed", "left", "idle", "stale", "full")),
+    *(f"arrive: {it}" for it in ("arrived", "none", "full")),
+    *(f"ask: {it}" for it in ("made", "placed", "pending", "cells", "no cells", "arena", "epoch")),
+    *(f"ask: cancelled {it}" for it in ("first", "again")),
+    *(f"status: {it}" for it in ("running", "cancelled", "complete")),
+    *(f"status: fault {number}" for number in (1, 2, 3, 4, 5)),
+    *(f"error {number}" for number in (3, 6, 7, 8, 10, 12)),
+]
+
+
+def build():
+    """Builds the program unless it is newer than every source."""
+    if PROGRAM.exists():
+        built = PROGRAM.stat().st_mtime
+        if all(it.stat().st_mtime <= built for it in ROOT.glob("crates/*/src/**/*.rt")):
+            return
+    run = subprocess.run(["rt", "run"], cwd=CRATE, stdin=subprocess.DEVNULL, capture_output=True, text=True)
+    if run.returncode:
+        print(*run.stdout.splitlines()[-40:], run.stderr[-4000:], sep="\n")
+        sys.exit(1)
+
+
+def main():
+    seed = int(sys.argv[1]) if len(sys.argv) > 1 else SEED
+    rounds = int(sys.argv[2]) if len(sys.argv) > 2 else ROUNDS
+    build()
+    begun = time.monotonic()
+    run = subprocess.run([PROGRAM, str(seed), str(rounds)], capture_output=True, text=True)
+    seconds = time.monotonic() - begun
+    lines = run.stdout.splitlines()
+    counts = dict(line.rsplit(": ", 1) for line in lines if ": " in line)
+    if run.returncode or f"{rounds} rounds from seed {seed}: no difference" not in lines:
+        print(run.stdout, run.stderr, sep="")
+        sys.exit(1)
+    missing = [kind for kind in KINDS if int(counts.get(kind, 0)) == 0]
+    steps = next(line.split()[0] for line in lines if line.endswith(" steps"))
+    for kind in missing:
+        print(f"never: {kind}")
+    print(f"{rounds} rounds from seed {seed} in {seconds:.0f} s, {steps} steps: no difference, {len(missing)} of {len(KINDS)} kinds missing")
+    sys.exit(1 if missing else 0)
+
+
+main()
