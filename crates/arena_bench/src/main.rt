@@ -1,0 +1,68 @@
+//! Runs jobs on one slot of an arena, and prints how many tasks ran, how many steps that took, and the
+//! value of the last job. `fib N JOBS WAITING` runs jobs of the Nth Fibonacci number beside WAITING
+//! rows that wait; `cancels JOBS` runs jobs that cancel 16 groups. Without words it does a little of each.
+#![tactic(auto)]
+
+mod jobs;
+mod runs;
+
+use jobs::{cancels, fibonacci};
+use runs::{Ran, run_jobs};
+use std::env::Env;
+use std::{env, io};
+
+fn main(rt: HostRuntime) -> io::Result<()> {
+    let mut words = env::args(&rt)?.skip(1);
+    let what = words.next();
+    let (first, second, third) = (words.next(), words.next(), words.next());
+    match what.as_ref().map(|word| word.as_str()) {
+        Some("fib") => print_fib(&rt, number_in(first), number_in(second), number_in(third)),
+        Some("cancels") => print_cancels(&rt, number_in(first)),
+        _ => print_few(&rt),
+    }
+}
+
+/// A little of each.
+fn print_few<R: Print + AllocGlobal>(rt: &R) -> io::Result<()> {
+    print_fib(rt, 12, 1, 0)?;
+    print_fib(rt, 12, 2, 64)?;
+    print_fib(rt, 12, 1, 4_000)?;
+    print_cancels(rt, 2)
+}
+
+fn print_fib<R: Print + AllocGlobal>(
+    rt: &R,
+    number: u64,
+    jobs: u64,
+    waiting: u64,
+) -> io::Result<()> {
+    let text = fibonacci(rt.alloc(), number)?;
+    let ran = run_jobs(rt.alloc(), text.as_str(), jobs, waiting)?;
+    print!(rt; "fib {number} beside {waiting} rows: ")?;
+    print_ran(rt, ran)
+}
+
+fn print_cancels<R: Print + AllocGlobal>(rt: &R, jobs: u64) -> io::Result<()> {
+    let text = cancels(rt.alloc())?;
+    let ran = run_jobs(rt.alloc(), text.as_str(), jobs, 0)?;
+    print!(rt; "cancels: ")?;
+    print_ran(rt, ran)
+}
+
+fn print_ran<R: Print>(rt: &R, ran: Option<Ran>) -> io::Result<()> {
+    match ran {
+        Some(ran) => println!(rt;
+            "{} jobs, {} tasks, {} steps, value {}",
+            ran.jobs, ran.tasks, ran.steps, ran.value
+        ),
+        None => rt.println("a job did not complete"),
+    }
+}
+
+/// The number that a word is, or 0.
+fn number_in(word: Option<String>) -> u64 {
+    match word {
+        Some(word) => word.as_str().parse().unwrap_or(0),
+        None => 0,
+    }
+}
