@@ -1,10 +1,13 @@
 #!/usr/bin/env python3
 """Runs arena-server with clients over its socket, and compares what they get, what the server prints and its status.
+Each server writes dumps, and `arena-script check` must answer `yes` to all of them.
 
-usage: checks/server/run.py, at the top of the repository, after `rt ci` or `rt run` in crates/server_program.
+usage: checks/server/run.py, at the top of the repository, after `rt ci`, or `rt run` in crates/server_program and in
+crates/script_program.
 """
 import json
 import os
+import re
 import socket
 import stat
 import subprocess
@@ -13,6 +16,7 @@ import tempfile
 import threading
 
 PROGRAM = os.path.abspath("crates/server_program/out/server_program")
+SCRIPT = os.path.abspath("crates/script_program/out/script_program")
 
 FIB = {"args": [6, 0], "fuel": 1000, "procs": [[
     ["set", 2, 2], ["lt", 3, 0, 2], ["jz", 3, 4], ["ret", 0], ["set", 2, 1], ["sub", 3, 0, 2], ["spawn", 0, 0, 3, 1],
@@ -31,10 +35,12 @@ class Server:
     def __init__(self, tenants, workers, connections):
         self.folder = tempfile.TemporaryDirectory()
         self.path = os.path.join(self.folder.name, "socket")
+        self.dumps = os.path.join(self.folder.name, "dumps")
+        os.mkdir(self.dumps)
         config = os.path.join(self.folder.name, "config")
         with open(config, "w") as it:
             json.dump({"tenants": tenants, "workers": workers}, it)
-        words = ["--config", config, "--socket", self.path, "--connections", str(connections)]
+        words = ["--config", config, "--socket", self.path, "--connections", str(connections), "--dump", self.dumps]
         self.process = subprocess.Popen([PROGRAM, *words], stdout=subprocess.PIPE, stderr=subprocess.PIPE, text=True)
         assert self.process.stdout.readline() == "listening\n"
         assert stat.S_IMODE(os.stat(self.path).st_mode) == 0o600
@@ -57,7 +63,19 @@ class Server:
         """Returns what the server printed after its first line, and its status."""
         out, err = self.process.communicate(timeout=60)
         assert not os.path.exists(self.path)
+        for line in out.splitlines():
+            name, entries = re.fullmatch("(.*): closed, ([0-9]+) entries", line).groups()
+            assert dump_lines(self.dumps, name) == int(entries) + 1
         return out.splitlines(), err, self.process.returncode
+
+
+def dump_lines(folder, name):
+    """How many lines the dump of a tenant has, which `check` says yes to."""
+    with open(os.path.join(folder, name + ".jsonl")) as dump:
+        done = subprocess.run([SCRIPT, "check"], stdin=dump, capture_output=True, text=True, timeout=60)
+        assert (done.stdout, done.stderr, done.returncode) == ("yes\n", "", 0), done
+        dump.seek(0)
+        return sum(1 for _ in dump)
 
 
 def job_is_executed_and_polled():
@@ -178,6 +196,29 @@ def many_clients_at_once():
     assert lines[0].startswith("acme: closed, ") and (err, status) == ("", 0)
 
 
+def dump_is_the_history():
+    """The lines of the dump are those that the formats give for this history, to the byte."""
+    server = Server([{**tenant("acme", 1, 1), "rows": 8, "steps": 100}], 1, 1)
+    server.ask(HELLO, {"op": "execute", "job": SEVEN}, {"op": "poll", "job": 1})
+    assert server.process.wait(60) == 0
+    with open(os.path.join(server.dumps, "acme.jsonl")) as dump:
+        assert dump.read().splitlines() == [
+            '{"tenant":{"name":"acme","priority":"normal","reserved":1,"rows":8,"slots":1,"steps":100}}',
+            '{"reply":{"job":1,"slot":0},"request":{"job":{"args":[7,0],"fuel":10,"procs":[[["ret",0]]]},"op":"execute"},"step":"ask"}',
+            '{"moved":"freed","slot":0,"step":"advance"}',
+            '{"reply":{"job":1,"status":"complete","value":7},"request":{"job":1,"op":"collect"},"step":"ask"}',
+            '{"reply":{"job":1,"status":"complete","value":7},"request":{"job":1,"op":"poll"},"step":"ask"}']
+    assert server.end() == (["acme: closed, 4 entries"], "", 0)
+
+
+def folder_of_dumps_is_missing():
+    server = Server([tenant("acme", 1, 1)], 1, 1)
+    os.rmdir(server.dumps)
+    server.ask(HELLO)
+    out, err = server.process.communicate(timeout=60)
+    assert (out, err, server.process.returncode) == ("acme: closed, 0 entries\n", "arena-server: device\n", 3)
+
+
 def wrong_words_and_files_are_faults():
     def run(*words):
         done = subprocess.run([PROGRAM, *words], capture_output=True, text=True, timeout=60)
@@ -204,7 +245,8 @@ def wrong_words_and_files_are_faults():
 
 CHECKS = [job_is_executed_and_polled, workers_share_a_job, tenants_do_not_see_each_other,
           client_that_goes_away_ends_its_session_alone, client_that_goes_away_after_any_byte, client_that_never_reads,
-          client_that_sends_without_end, clients_that_say_nothing, many_clients_at_once, wrong_words_and_files_are_faults]
+          client_that_sends_without_end, clients_that_say_nothing, many_clients_at_once, dump_is_the_history,
+          folder_of_dumps_is_missing, wrong_words_and_files_are_faults]
 
 
 def main():

@@ -1,5 +1,4 @@
 mod Answering
 mod Parts
 mod Telling
-mod Requests
 mod Running

@@ -16,7 +16,8 @@ use Rattle.tenant_model.specs.Advance.{arrive}
 use Rattle.tenant_model.specs.State.{State, empty}
 use Rattle.arena_script.specs.Answered.{AnswersLater, AnswersPart}
 use Rattle.arena_script.specs.OwnAnswers.{arrival, told}
-use Rattle.arena_script.specs.ScriptAnswers.{StartsScript, TellsAnswer, line_taken, tenant_in, tenant_of_value}
+use Rattle.dump_lines.specs.Requests.{tenant_in, tenant_of_value}
+use Rattle.arena_script.specs.ScriptAnswers.{StartsScript, TellsAnswer, line_taken}
 use Rattle.arena_script.proofs.Parts.{TakesAll, starts_from_none}
 
 -- each line of the tenant's script has an answer

@@ -5,10 +5,11 @@ use Rattle.std.specs.Option.{option_map_or}
 use Rattle.job_language.specs.declared.steps.Entry.{Entry}
 use Rattle.job_language.specs.declared.tenants.Tenant.{Tenant}
 use Rattle.request_reader.specs.Lines.{Line, whole, too_long}
-use Rattle.arena_script.specs.declared.dumps.Said.{Said}
-use Rattle.arena_script.specs.declared.dumps.Said.TheVariants as said
-use Rattle.arena_script.specs.DumpLines.{said_by, verdict_on}
-use Rattle.arena_script.specs.ScriptAnswers.{tenant_in}
+use Rattle.dump_lines.specs.declared.lines.Said.{Said}
+use Rattle.dump_lines.specs.declared.lines.Said.TheVariants as said
+use Rattle.dump_lines.specs.Lines.{said_by}
+use Rattle.dump_lines.specs.Requests.{tenant_in}
+use Rattle.arena_script.specs.DumpVerdict.{verdict_on}
 use Rattle.arena_script.specs.VerdictText.{verdict_text, bad_line_text}
 
 -- a tenant, the entries before the first that is foreign, and whether there is one

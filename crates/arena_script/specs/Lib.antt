@@ -1,10 +1,9 @@
 pub mod Answered
 pub mod CheckEnds
 pub mod DumpData
-pub mod DumpLines
 pub mod DumpReads
-pub mod DumpReplies
 pub mod DumpText
+pub mod DumpVerdict
 pub mod Ends
 pub mod OwnAnswers
 pub mod OwnEnds

@@ -6,25 +6,16 @@ use Rattle.job_language.specs.declared.answers.Answer.TheVariants as answer
 use Rattle.job_language.specs.declared.answers.Reply.{Reply}
 use Rattle.job_language.specs.declared.answers.Reply.TheVariants.{Refused}
 use Rattle.job_language.specs.declared.errors.Error.{Error}
-use Rattle.job_language.specs.declared.errors.Error.TheVariants.{BadRequest}
 use Rattle.job_language.specs.declared.requests.Request.{Request}
 use Rattle.request_reader.specs.Answers.{HasJob}
-use Rattle.request_reader.specs.Asks.{AskedData, asked_by_value}
+use Rattle.request_reader.specs.Asks.{asked_by_value}
 use Rattle.request_reader.specs.LineAsks.{value_of}
-use Rattle.request_reader.specs.Ready.{ready_of}
 use Rattle.reply_writer.specs.AnswerText.{answer_text}
 use Rattle.tenant_model.specs.Advance.{arrive as came_at, advance as moved_at}
 use Rattle.tenant_model.specs.Asks.{ask as asked_of}
 use Rattle.tenant_model.specs.State.{State}
+use Rattle.dump_lines.specs.Requests.{request_in}
 use Rattle.arena_script.specs.Steps.{OwnData, ask, arrive, advance, own_line}
-
-abbrev pub ready_or_refused : Option AskedData → Result Request Error
-ready_or_refused None = Err BadRequest
-ready_or_refused (Some asked) = ready_of asked
-
--- the request that a value spells, with its job read, or why it is refused
-abbrev pub request_in : Data → Result Request Error
-request_in d = ready_or_refused (asked_by_value d)
 
 abbrev pub reply_to : State → Result Request Error → Reply × State
 reply_to s (Err error) = (Refused error, s)

@@ -1,26 +1,12 @@
 -- The bytes that answer the lines of a script.
-use Rattle.std.specs.Prelude.{◌≡◌, ℕ, List, Option, Some, None, Result, Ok, Err, if◌then◌else◌, codes}
-use Rattle.serde_json.specs.Data.{Data}
-use Rattle.serde_json.specs.Find.{get}
-use Rattle.job_language.specs.Json.{◌>>=◌, has_members}
-use Rattle.job_language.specs.TenantOf.{tenant_of}
+use Rattle.std.specs.Prelude.{◌≡◌, ℕ, List, Option, None}
 use Rattle.job_language.specs.declared.answers.Answer.{Answer}
-use Rattle.job_language.specs.declared.errors.Error.{Error}
 use Rattle.job_language.specs.declared.tenants.Tenant.{Tenant}
-use Rattle.request_reader.specs.LineAsks.{value_of}
 use Rattle.request_reader.specs.Lines.{Line, whole, too_long}
 use Rattle.tenant_model.specs.State.{State, empty}
+use Rattle.dump_lines.specs.Requests.{tenant_in}
 use Rattle.arena_script.specs.Answered.{AnswersFrom, StartsFrom, HasNoFirst}
 use Rattle.arena_script.specs.OwnAnswers.{step_taken, step_in, told}
-
--- a tenant under its name, and nothing else
-abbrev pub tenant_of_value : Result Data Error → Option Tenant
-tenant_of_value (Ok d) = if has_members 1 d then (get (codes "tenant") d >>= tenant_of) else None
-tenant_of_value (Err error) = None
-
--- the tenant that a script's first line names
-abbrev pub tenant_in : List ℕ → Option Tenant
-tenant_in line = tenant_of_value (value_of line)
 
 abbrev pub line_taken : (slots : ℕ) → Line → State → Option Answer × State
 line_taken slots (whole text) s = step_taken slots (step_in text) s

@@ -3,7 +3,6 @@
 
 mod checks;
 mod devices;
-mod dump_replies;
 mod dumps;
 mod ends;
 mod inputs;

@@ -5,20 +5,20 @@ ghost use Rattle.tenant_model.specs.State.{State, empty};
 ghost use Rattle.serde_json.specs.View.{view};
 ghost use Rattle.request_reader.specs.Answers.{HasJob};
 ghost use Rattle.request_reader.specs.Asks.{asked_by_value};
-ghost use Rattle.request_reader.specs.Exact.{ExactOrNoMemory};
 ghost use Rattle.request_reader.specs.LineAsks.{IsText};
 ghost use Rattle.arena_core.specs.Stands.{StandsFor, Takes};
 ghost use Rattle.arena_script.specs.Steps.{own_line};
-ghost use Rattle.arena_script.specs.ScriptAnswers.{line_taken, tenant_in, tenant_of_value};
+ghost use Rattle.dump_lines.specs.Requests.{request_in, tenant_in};
+ghost use Rattle.arena_script.specs.ScriptAnswers.{line_taken};
 ghost use Rattle.arena_script.specs.ScriptLines.{line_of};
-ghost use Rattle.arena_script.specs.OwnAnswers.{request_in, reply_to, arrival, advancement, step_in, step_taken, OwnTakesMemory};
+ghost use Rattle.arena_script.specs.OwnAnswers.{reply_to, arrival, advancement, step_in, step_taken, OwnTakesMemory};
 
 use crate::inputs::Input;
 use crate::steps::{OwnLine, own_line};
 use arena_core::Arena;
-use job_language::values::has_members;
-use job_language::{Answer, Error, Reply, Request, TenantConfig, read_tenant};
-use request_reader::{ready, request_of, value_of};
+use dump_lines::{request_in, tenant_of};
+use job_language::{Answer, Error, Reply, Request};
+use request_reader::value_of;
 use serde_json::Value;
 use std::alloc::{AllocError, Global};
 
@@ -139,32 +139,4 @@ impl Own {
             None
         }
     }
-}
-
-/// The tenant that a line names, if it names one.
-pub(crate) fn tenant_of(alloc: Global, line: &[u8]) -> Result<Option<TenantConfig>, AllocError>
-    ensures ok { IfOk result (λ config. config ≡ tenant_in line.now) }
-    ensures takes { OnErr result (IsText line.now) }
-{
-    match value_of(alloc, line) {
-        Ok(value) => Ok(tenant_of_value(&value)),
-        Err(Error::NoMemory) => Err(AllocError),
-        Err(_) => Ok(None),
-    }
-}
-
-fn tenant_of_value(value: &Value) -> Option<TenantConfig>
-    ensures { result ≡ tenant_of_value (Ok (view value.now)) }
-{
-    if !has_members(1, value) {
-        return None;
-    }
-    read_tenant(value.get("tenant")?).ok()
-}
-
-/// The request that a value spells, with its job read.
-pub(crate) fn request_in(alloc: Global, value: &Value) -> Result<Request, Error>
-    ensures { ExactOrNoMemory (λ request. request) (HasJob (asked_by_value (view value.now))) result (request_in (view value.now)) }
-{
-    ready(alloc, request_of(alloc, value)?)
 }

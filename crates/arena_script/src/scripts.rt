@@ -13,7 +13,8 @@ ghost use Rattle.arena_script.specs.Answered.{AnswersAll, AnswersPart, AppendsPa
 ghost use Rattle.arena_script.specs.DumpText.{told_text};
 ghost use Rattle.arena_script.specs.RunAnswers.{AnswersRun, HasNoConfig, StartsRun};
 ghost use Rattle.arena_script.specs.RunWords.{are_run_words};
-ghost use Rattle.arena_script.specs.ScriptAnswers.{AnswersScript, NamesNoTenant, StartsScript, TellsAnswer, tenant_in};
+ghost use Rattle.dump_lines.specs.Requests.{tenant_in};
+ghost use Rattle.arena_script.specs.ScriptAnswers.{AnswersScript, NamesNoTenant, StartsScript, TellsAnswer};
 ghost use Rattle.arena_script.specs.ScriptLines.{script_lines, all_lines, lines_in};
 ghost use Rattle.arena_script.specs.SerialAnswers.{serial_answers};
 ghost use Rattle.arena_script.specs.SerialEnds.{are_serial_words, IsSerialEnd};

@@ -3,6 +3,8 @@
 
 ghost use Rattle.std.specs.Prelude.{◌≤◌};
 
+use dump_lines::{DumpFault, write_dump};
+use job_language::{Entry, TenantConfig};
 use server_words::{Words, WordsFault, read_words};
 use socket_server::{
     House, MAX_CONFIG, Opened, Served, ServerEnd, TenantEnd, config_of, serve_connections,
@@ -65,9 +67,6 @@ where
         Err(WordsFault::Words) => return Err(ServerEnd::Words),
         Err(WordsFault::Memory) => return Err(ServerEnd::Memory),
     };
-    if words.dump.is_some() {
-        return Err(ServerEnd::Words);
-    }
     serve_tenants(rt, words)
 }
 
@@ -100,7 +99,7 @@ where
         words.connections,
     );
     let is_removed = fs::remove_file(rt, words.socket).is_ok();
-    let end = close_tenants(rt, alloc, house, served.seats)?;
+    let end = close_tenants(rt, alloc, house, served.seats, config.tenants(), words.dump)?;
     if is_ready && served.is_whole && is_removed {
         Ok(end)
     } else {
@@ -126,23 +125,68 @@ fn is_listening<R: Files + Print>(rt: &R, socket: &str) -> bool {
         && println!(rt; "listening").is_ok()
 }
 
-/// Closes all tenants, and prints a line for each.
-fn close_tenants<R: Print>(
+/// Closes all tenants, tells each one's end, and goes on after a fault. The first fault is the end.
+fn close_tenants<R: Files + Print>(
     rt: &R,
     alloc: Global,
     house: House,
     seats: Vec<Seat>,
+    configs: &[TenantConfig],
+    folder: Option<&str>,
 ) -> Result<ServerEnd, ServerEnd> {
     let mut end = ServerEnd::Done;
-    for tenant in house.close(alloc, seats)? {
+    let mut fault = None;
+    for (tenant, config) in house.close(alloc, seats)?.iter().zip(configs) {
         if tenant.closed.is_err() {
             end = ServerEnd::Close;
         }
-        if print_end(rt, &tenant).is_err() {
-            return Err(ServerEnd::Device);
+        if let Err(met) = tell_end(rt, alloc, tenant, config, folder) {
+            fault = fault.or(Some(met));
         }
     }
-    Ok(end)
+    match fault {
+        Some(fault) => Err(fault),
+        None => Ok(end),
+    }
+}
+
+/// Prints a tenant's end, and writes its history to the folder, if there is one.
+fn tell_end<R: Files + Print>(
+    rt: &R,
+    alloc: Global,
+    end: &TenantEnd,
+    config: &TenantConfig,
+    folder: Option<&str>,
+) -> Result<(), ServerEnd> {
+    let is_printed = print_end(rt, end).is_ok();
+    if let (Some(folder), Ok(closed)) = (folder, &end.closed) {
+        dump_history(rt, alloc, folder, config, closed.history.as_slice())?;
+    }
+    if is_printed {
+        Ok(())
+    } else {
+        Err(ServerEnd::Device)
+    }
+}
+
+/// Writes a history to the file of its tenant's name in the folder.
+fn dump_history<R: Files>(
+    rt: &R,
+    alloc: Global,
+    folder: &str,
+    config: &TenantConfig,
+    history: &[Entry],
+) -> Result<(), ServerEnd> {
+    let name = config.tenant().name;
+    let path = format!(in alloc; "{folder}/{}.jsonl", name.as_str())?;
+    let Ok(mut file) = File::create(rt, path.as_str()) else {
+        return Err(ServerEnd::Device);
+    };
+    match write_dump(alloc, &mut file, config, history) {
+        Ok(()) => Ok(()),
+        Err(DumpFault::Memory) => Err(ServerEnd::Memory),
+        Err(DumpFault::Device | DumpFault::Entry) => Err(ServerEnd::Device),
+    }
 }
 
 fn print_end<R: Print>(rt: &R, end: &TenantEnd) -> io::Result<()> {

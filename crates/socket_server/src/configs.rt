@@ -1,25 +1,27 @@
 // The configuration of a server, from the bytes of its file.
+ghost use Rattle.std.specs.Prelude.{◌≡◌, ◌≤◌, ◌⊎◌, ◌<◌, Some, None, Err, IfOk, length};
+ghost use Rattle.socket_server.specs.declared.ends.ServerEnd.TheVariants as end;
+ghost use Rattle.world_script.specs.Takes.{config_in};
+
 use crate::ends::ServerEnd;
-use job_language::{Config, Error, Refused, read_config};
-use request_reader::value_of;
+use job_language::Config;
 use std::alloc::Global;
+use world_script::config_in;
 
 /// How many bytes the file of a configuration may have.
 pub const MAX_CONFIG: usize = 1_048_576;
 
 /// The configuration that a file holds.
-pub fn config_of(alloc: Global, bytes: &[u8]) -> Result<Config, ServerEnd> {
+pub fn config_of(alloc: Global, bytes: &[u8]) -> Result<Config, ServerEnd>
+    ensures config { IfOk result (λ config. config_in bytes.now ≡ Some config) }
+    ensures short { IfOk result (λ config. length bytes.now ≤ MAX_CONFIG) }
+    ensures none { result ≡ Err end.Config → (MAX_CONFIG < length bytes.now) ⊎ (config_in bytes.now ≡ None) }
+{
     if bytes.len() > MAX_CONFIG {
         return Err(ServerEnd::Config);
     }
-    let value = match value_of(alloc, bytes) {
-        Ok(value) => value,
-        Err(Error::NoMemory) => return Err(ServerEnd::Memory),
-        Err(_) => return Err(ServerEnd::Config),
-    };
-    match read_config(alloc, &value) {
-        Ok(config) => Ok(config),
-        Err(Refused::Bad { .. }) => Err(ServerEnd::Config),
-        Err(Refused::Memory(_)) => Err(ServerEnd::Memory),
+    match config_in(alloc, bytes)? {
+        Some(config) => Ok(config),
+        None => Err(ServerEnd::Config),
     }
 }

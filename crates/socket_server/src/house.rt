@@ -1,8 +1,9 @@
 // What all threads of a server share.
 ghost use Rattle.std.specs.Prelude.{◌≡◌, ◌≤◌, IfOk, length};
+ghost use Rattle.job_language.specs.Configuration.{names_of};
 ghost use Rattle.socket_server.specs.Shared.{ArePassesOf};
 
-use crate::starting::{names_of, open_doors};
+use crate::starting::open_doors;
 use call_queues::{CallQueues, QueuePass};
 use job_language::{Config, TenantName};
 use std::alloc::{AllocError, Global};
@@ -12,6 +13,7 @@ use tenant_lock::TenantDoor;
 use tenant_record::Seat;
 use worker_main::Bell;
 use world_core::market_config;
+use world_script::names_of;
 
 /// What all threads of a server share: the doors of all tenants with their names, the queues of
 /// calls for workers, and the bell that is rung after each push.
@@ -46,6 +48,7 @@ impl House {
     pub fn open(alloc: Global, config: &Config, connections: u8) -> Result<Opened, AllocError>
         requires { 1 ≤ connections }
         ensures passes { IfOk result (λ opened. ArePassesOf opened.house.queues.queues opened.passes.items) }
+        ensures names { IfOk result (λ opened. opened.house.names ≡ names_of config.now.tenants) }
     {
         let tenants = config.tenants();
         let names = names_of(alloc, tenants)?;

@@ -3,7 +3,7 @@ ghost use Rattle.std.specs.Prelude.{◌≡◌, IfOk, IfSome, length};
 ghost use Rattle.tenant_slots.specs.Seen.{AreNumbered};
 ghost use Rattle.locked_doors.specs.Seen.{AreOwn};
 
-use job_language::{TenantConfig, TenantName};
+use job_language::TenantConfig;
 use std::alloc::{AllocError, Global};
 use tenant_lock::TenantDoor;
 use tenant_record::Seat;
@@ -59,16 +59,4 @@ pub(crate) fn take_seat(left: &mut Vec<Seat>, tenant: usize) -> Option<Seat>
 {
     let place = left.iter().position(|seat| seat.tenant() == tenant)?;
     Some(left.swap_remove(place))
-}
-
-/// The names of tenants, in order.
-pub(crate) fn names_of(
-    alloc: Global,
-    tenants: &[TenantConfig],
-) -> Result<Vec<TenantName>, AllocError> {
-    let mut names = Vec::with_capacity(alloc, tenants.len())?;
-    for tenant in tenants {
-        names.push(tenant.tenant().name)?;
-    }
-    Ok(names)
 }

@@ -107,7 +107,8 @@ impl<A: TenantArena> NamedWorld<A> {
     }
 }
 
-fn config_in(alloc: Global, line: &[u8]) -> Result<Option<Config>, AllocError>
+/// The configuration that a line holds, if it holds one. It fails only if an allocation failed.
+pub fn config_in(alloc: Global, line: &[u8]) -> Result<Option<Config>, AllocError>
     ensures { IfOk result (λ config. config ≡ config_in line.now) }
 {
     let value = match value_of(alloc, line) {
@@ -122,7 +123,8 @@ fn config_in(alloc: Global, line: &[u8]) -> Result<Option<Config>, AllocError>
     }
 }
 
-fn names_of(alloc: Global, tenants: &[TenantConfig]) -> Result<Vec<TenantName>, AllocError>
+/// The names of tenants, in order. It fails only if an allocation failed.
+pub fn names_of(alloc: Global, tenants: &[TenantConfig]) -> Result<Vec<TenantName>, AllocError>
     ensures { IfOk result (λ names. names.items ≡ names_of tenants.now) }
 {
     let mut names = Vec::with_capacity(alloc, tenants.len())?;

@@ -2,7 +2,8 @@ use Rattle.std.proofs.Common.{◌≡◌, Option, Some, subst}
 use Rattle.std.specs.Prelude.{IfSome}
 use Rattle.tenant_model.specs.State.{empty}
 use Rattle.arena_script.specs.Answered.{AnswersAll, AnswersPart}
-use Rattle.arena_script.specs.ScriptAnswers.{TellsAnswer, tenant_in}
+use Rattle.dump_lines.specs.Requests.{tenant_in}
+use Rattle.arena_script.specs.ScriptAnswers.{TellsAnswer}
 use Rattle.arena_script.specs.ScriptLines.{script_lines}
 use Rattle.arena_script.proofs.Answering.{on_ok-map}
 use Rattle.arena_script.proofs.Telling.{later_part}

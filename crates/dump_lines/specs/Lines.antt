@@ -1,5 +1,5 @@
 -- What a line of a dump says of its tenant's history. It has exactly the members that are listed.
-use Rattle.std.specs.Prelude.{ℕ, ◌+◌, Bool, true, if◌then◌else◌, List, length, Option, Some, None, Result, Ok, Err, option_map, codes}
+use Rattle.std.specs.Prelude.{ℕ, if◌then◌else◌, List, Option, Some, None, Result, Ok, Err, option_map, codes}
 use Rattle.std.specs.Str.{bytes_eq}
 use Rattle.serde_json.specs.Data.{Data}
 use Rattle.serde_json.specs.Find.{get, as_str}
@@ -13,16 +13,12 @@ use Rattle.job_language.specs.declared.requests.Request.{Request}
 use Rattle.job_language.specs.declared.requests.Request.TheVariants.{Hello}
 use Rattle.job_language.specs.declared.steps.Entry.{Entry}
 use Rattle.job_language.specs.declared.steps.Step.TheVariants as step
-use Rattle.job_language.specs.declared.tenants.Tenant.{Tenant}
 use Rattle.job_language.specs.Json.{◌>>=◌, has_members}
 use Rattle.request_reader.specs.LineAsks.{value_of}
-use Rattle.history_check.specs.declared.checking.Verdict.{Verdict}
-use Rattle.history_check.specs.declared.checking.Verdict.TheVariants.{Yes, No}
-use Rattle.history_check.specs.Verdicts.{verdict_of}
-use Rattle.arena_script.specs.declared.dumps.Said.{Said}
-use Rattle.arena_script.specs.declared.dumps.Said.TheVariants as said
-use Rattle.arena_script.specs.DumpReplies.{natural, small, reply_in}
-use Rattle.arena_script.specs.OwnAnswers.{request_in}
+use Rattle.dump_lines.specs.declared.lines.Said.{Said}
+use Rattle.dump_lines.specs.declared.lines.Said.TheVariants as said
+use Rattle.dump_lines.specs.Replies.{natural, small, reply_in}
+use Rattle.dump_lines.specs.Requests.{request_in}
 
 -- the request that a history may hold: one that is valid and no hello
 abbrev pub recorded : Result Request Error → Option Request
@@ -96,11 +92,3 @@ said_of_value (Err error) = None
 -- what a line says, where it has the shape of an entry
 abbrev pub said_by : List ℕ → Option Said
 said_by line = said_of_value (value_of line)
-
-abbrev pub after_entries : ℕ → Bool → Verdict → Verdict
-after_entries count true Yes = No (count + 1)
-after_entries count has_foreign verdict = verdict
-
--- The verdict on entries, with or without a foreign one after them, which is never right.
-abbrev pub verdict_on : Tenant → List Entry → (has_foreign : Bool) → Verdict
-verdict_on c entries has_foreign = after_entries (length entries) has_foreign (verdict_of c entries)

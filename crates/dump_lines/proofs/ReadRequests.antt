@@ -8,7 +8,7 @@ use Rattle.request_reader.specs.Answers.{HasJob}
 use Rattle.request_reader.specs.Asks.{AskedData}
 use Rattle.request_reader.specs.Exact.{ExactOrNoMemory}
 use Rattle.request_reader.specs.Ready.{ready_of}
-use Rattle.arena_script.specs.OwnAnswers.{ready_or_refused}
+use Rattle.dump_lines.specs.Requests.{ready_or_refused}
 
 ok_value : (a b : AskedData) → ◌≡◌ {A = Result AskedData Error} (Ok a) (Ok b) → a ≡ b
 ok_value a b e = cc

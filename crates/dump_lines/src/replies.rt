@@ -1,7 +1,7 @@
-// The replies that entries of a dump hold.
+// The replies that the lines of a dump hold.
 ghost use Rattle.std.specs.Prelude.{◌≡◌};
 ghost use Rattle.serde_json.specs.View.{view};
-ghost use Rattle.arena_script.specs.DumpReplies.{reply_in, single, double, with_job, bare_status, triple, full_status, arena_in, cells_in, placed, canceled, status_of, arena, cells, error_in, error_of, error_coded, fault_in, fault_of, fault_coded, natural, small, byte, signed, is_whole};
+ghost use Rattle.dump_lines.specs.Replies.{reply_in, single, double, with_job, bare_status, triple, full_status, arena_in, cells_in, placed, canceled, status_of, arena, cells, error_in, error_of, error_coded, fault_in, fault_of, fault_coded, natural, small, byte, signed, is_whole};
 
 use job_language::values::has_members;
 use job_language::{Error, JobFault, Key, Level, Reply, Status};

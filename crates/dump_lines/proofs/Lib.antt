@@ -1,0 +1,4 @@
+mod Appending
+mod Plain
+mod ReadRequests
+mod RoundTrip

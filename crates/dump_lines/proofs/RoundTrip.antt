@@ -1,0 +1,32 @@
+-- Lines and refusals read back.
+use Rattle.std.proofs.Common.{◌≡◌, ℕ, List, Option, Some, Ok, Result, true, refl, subst, ap}
+use Rattle.std.specs.Option.{ok_or}
+use Rattle.std.specs.Str.{IsUtf8, is_utf8}
+use Rattle.std.proofs.lemmas.Str.{is_utf8-from_IsUtf8}
+use Rattle.serde_json.specs.Data.{Data}
+use Rattle.serde_json.specs.Read.{read}
+use Rattle.request_reader.specs.LineAsks.{value_of}
+use Rattle.job_language.specs.declared.answers.Reply.TheVariants.{Refused}
+use Rattle.job_language.specs.declared.errors.Error.{Error}
+use Rattle.job_language.specs.declared.errors.Error.TheVariants.{LineTooLong, BadJson, BadRequest, BadProgram, UnknownTenant, UnknownJob, JobLimit, HistoryFull, NoMemory, TaskLimit, NoTenant, Busy}
+use Rattle.dump_lines.specs.Replies.{reply_in}
+use Rattle.dump_lines.specs.Written.{refusal_data}
+
+pub text_reads : (line text : List ℕ) (d : Data) → text ≡ line → IsUtf8 text → read line ≡ Some d → value_of line ≡ Ok d
+text_reads line text d same utf8 reads =
+    let is : is_utf8 line ≡ true = is_utf8-from_IsUtf8 line (subst IsUtf8 same utf8) in
+    rw is (ap (λ r. ok_or r BadJson) reads)
+
+pub read_refusal : (e : Error) → reply_in (refusal_data e) ≡ Some (Some (Refused e))
+read_refusal LineTooLong = refl
+read_refusal BadJson = refl
+read_refusal BadRequest = refl
+read_refusal BadProgram = refl
+read_refusal UnknownTenant = refl
+read_refusal UnknownJob = refl
+read_refusal JobLimit = refl
+read_refusal HistoryFull = refl
+read_refusal NoMemory = refl
+read_refusal TaskLimit = refl
+read_refusal NoTenant = refl
+read_refusal Busy = refl

@@ -1,0 +1,5 @@
+pub mod Dumps
+pub mod Lines
+pub mod Replies
+pub mod Requests
+pub mod Written

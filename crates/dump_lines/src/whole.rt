@@ -1,0 +1,93 @@
+// Writing a whole dump.
+ghost use Rattle.std.specs.Prelude.{◌≡◌, ◌++◌, ◌∷◌, [], OnOk};
+ghost use Rattle.std.specs.Io.KnownBytes.{Appends};
+ghost use Rattle.dump_lines.specs.Dumps.{dump_text, entries_text, entry_text, first_text, line_text};
+ghost use Rattle.dump_lines.specs.declared.whole.DumpFault.TheVariants.{Memory};
+
+use crate::writing::{entry_line, first_line};
+use job_language::{Entry, TenantConfig};
+use reply_writer::write_all_of;
+use std::alloc::{AllocError, Global};
+use std::io::Write;
+
+/// Why a dump was not written whole. The lines before were, and the next perhaps in part.
+#[derive(Clone, Copy, Debug, PartialEq, Eq)]
+pub enum DumpFault {
+    /// The writer failed.
+    Device,
+    /// An allocation failed.
+    Memory,
+    /// No history holds the entry.
+    Entry,
+}
+
+impl From<AllocError> for DumpFault {
+    ghost from_gives = { λ _ e. e ≡ Memory };
+
+    fn from(_error: AllocError) -> DumpFault {
+        DumpFault::Memory
+    }
+}
+
+/// Writes a tenant's dump: its line, and then one for each entry of its history.
+pub fn write_dump<W: Write>(
+    alloc: Global,
+    writer: &mut W,
+    config: &TenantConfig,
+    entries: &[Entry],
+) -> Result<(), DumpFault>
+    ensures { OnOk result (Appends (W.contents writer.old) (W.contents writer.new) (dump_text config.now entries.now)) }
+{
+    write_first(alloc, writer, config)?;
+    write_entries(alloc, writer, entries)
+}
+
+fn write_first<W: Write>(
+    alloc: Global,
+    writer: &mut W,
+    config: &TenantConfig,
+) -> Result<(), DumpFault>
+    ensures { OnOk result (Appends (W.contents writer.old) (W.contents writer.new) (first_text config.now)) }
+{
+    let first = first_line(alloc, config)?;
+    write_line(writer, first.as_str())
+}
+
+fn write_entries<W: Write>(
+    alloc: Global,
+    writer: &mut W,
+    entries: &[Entry],
+) -> Result<(), DumpFault>
+    ensures { OnOk result (Appends (W.contents writer.old) (W.contents writer.new) (entries_text entries.now)) }
+{
+    for entry in entries {
+        write_entry(alloc, writer, entry)?;
+    }
+    Ok(())
+}
+
+fn write_entry<W: Write>(alloc: Global, writer: &mut W, entry: &Entry) -> Result<(), DumpFault>
+    ensures { OnOk result (Appends (W.contents writer.old) (W.contents writer.new) (entry_text entry.now)) }
+{
+    match entry_line(alloc, entry)? {
+        Some(line) => write_line(writer, line.as_str()),
+        None => Err(DumpFault::Entry),
+    }
+}
+
+/// Writes a line and its newline.
+fn write_line<W: Write>(writer: &mut W, line: &str) -> Result<(), DumpFault>
+    ensures { OnOk result (Appends (W.contents writer.old) (W.contents writer.new) (line_text line.now)) }
+{
+    write_bytes(writer, line.as_bytes())?;
+    write_bytes(writer, b"\n")
+}
+
+fn write_bytes<W: Write>(writer: &mut W, bytes: &[u8]) -> Result<(), DumpFault>
+    ensures { OnOk result (Appends (W.contents writer.old) (W.contents writer.new) bytes.now) }
+{
+    match write_all_of(writer, bytes) {
+        Ok(()) => Ok(()),
+        Err(_) => Err(DumpFault::Device),
+    }
+}
