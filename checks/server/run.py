@@ -211,6 +211,13 @@ def dump_is_the_history():
     assert server.end() == (["acme: closed, 4 entries"], "", 0)
 
 
+def waiting_ends_at_a_full_history():
+    server = Server([{**tenant("acme", 1, 0), "steps": 5}], 1, 1)
+    assert server.ask(HELLO, {"op": "submit", "job": FIB}, {"op": "collect", "job": 1}) == [
+        {"tenant": "acme"}, {"job": 1}, {"code": 8, "error": "history_full"}]
+    assert server.end() == (["acme: closed, 5 entries"], "", 0)
+
+
 def folder_of_dumps_is_missing():
     server = Server([tenant("acme", 1, 1)], 1, 1)
     os.rmdir(server.dumps)
@@ -246,7 +253,7 @@ def wrong_words_and_files_are_faults():
 CHECKS = [job_is_executed_and_polled, workers_share_a_job, tenants_do_not_see_each_other,
           client_that_goes_away_ends_its_session_alone, client_that_goes_away_after_any_byte, client_that_never_reads,
           client_that_sends_without_end, clients_that_say_nothing, many_clients_at_once, dump_is_the_history,
-          folder_of_dumps_is_missing, wrong_words_and_files_are_faults]
+          waiting_ends_at_a_full_history, folder_of_dumps_is_missing, wrong_words_and_files_are_faults]
 
 
 def main():

@@ -169,15 +169,15 @@ impl TenantDoor {
         held.is_over()
     }
 
-    /// Waits while a job has no outcome. It says whether to stop: those who wait were told to, or the
-    /// history is full.
+    /// Waits while a job has no outcome and the history is not full. It says whether those who wait
+    /// were told to stop.
     pub fn pause_for<R: Wait>(&self, rt: &R, _seat: &Seat, job: u64) -> bool
         requires { _seat.now.tenant ≡ self.now.tenant }
     {
         let held = self
             .changed
             .wait_while(rt, self.held.lock(rt), |held| held.is_job_open(job));
-        held.is_over()
+        held.is_stopped
     }
 
     /// Tells all that wait to stop, from now on.
