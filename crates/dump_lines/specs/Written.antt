@@ -71,13 +71,17 @@ abbrev pub ask_data : (reply request : Data) → Data
 ask_data reply request = object (member (codes "reply") reply (member (codes "request") request (member (codes "step") (string (codes "ask")) no_members)))
 
 abbrev pub arrival_data : (slot row : ℕ) → Data
-arrival_data slot row = object (member (codes "moved") (string (codes "arrived")) (member (codes "row") (count_data row) (member (codes "slot") (count_data slot) (member (codes "step") (string (codes "arrive")) no_members))))
+arrival_data slot row =
+    object (member (codes "moved") (string (codes "arrived")) (member (codes "row") (count_data row)
+    (member (codes "slot") (count_data slot) (member (codes "step") (string (codes "arrive")) no_members))))
 
 abbrev pub bare_advance : List ℕ → ℕ → Data
 bare_advance word slot = object (member (codes "moved") (string word) (member (codes "slot") (count_data slot) (member (codes "step") (string (codes "advance")) no_members)))
 
 abbrev pub nested_advance : (slot row : ℕ) → Data
-nested_advance slot row = object (member (codes "moved") (string (codes "nested")) (member (codes "row") (count_data row) (member (codes "slot") (count_data slot) (member (codes "step") (string (codes "advance")) no_members))))
+nested_advance slot row =
+    object (member (codes "moved") (string (codes "nested")) (member (codes "row") (count_data row)
+    (member (codes "slot") (count_data slot) (member (codes "step") (string (codes "advance")) no_members))))
 
 abbrev pub advance_data : ℕ → Moved → Option Data
 advance_data slot Ran = Some (bare_advance (codes "ran") slot)
