@@ -196,6 +196,32 @@ def many_clients_at_once():
     assert lines[0].startswith("acme: closed, ") and (err, status) == ("", 0)
 
 
+def jobs_are_retired_round_after_round():
+    """Three rounds in which two clients execute jobs beside workers, and then a third retires them all."""
+    server = Server([tenant("acme", 3, 1)], 2, 9)
+    eight = {"status": "complete", "value": 8}
+    wrong = []
+
+    def client():
+        replies = server.ask(HELLO, *[{"op": "execute", "job": FIB}] * 5)
+        if [{**reply, "job": 0} for reply in replies[1:]] != [{**eight, "job": 0}] * 5:
+            wrong.append(replies)
+
+    for epoch in (1, 2, 3):
+        clients = [threading.Thread(target=client) for _ in range(2)]
+        for it in clients:
+            it.start()
+        for it in clients:
+            it.join()
+        assert not wrong, wrong
+        assert server.ask(HELLO, {"op": "retire"}, {"op": "poll", "job": 10 * epoch}, {"op": "retire"}) == [
+            {"tenant": "acme"}, {"epoch": 2 * epoch - 1}, {"code": 6, "error": "unknown_job"}, {"epoch": 2 * epoch}]
+    lines, err, status = server.end()
+    assert lines[0].startswith("acme: closed, ") and (err, status) == ("", 0)
+    with open(os.path.join(server.dumps, "acme.jsonl")) as dump:
+        assert sum('"reply":{"epoch":' in line for line in dump) == 6
+
+
 def dump_is_the_history():
     """The lines of the dump are those that the formats give for this history, to the byte."""
     server = Server([{**tenant("acme", 1, 1), "rows": 8, "steps": 100}], 1, 1)
@@ -252,8 +278,9 @@ def wrong_words_and_files_are_faults():
 
 CHECKS = [job_is_executed_and_polled, workers_share_a_job, tenants_do_not_see_each_other,
           client_that_goes_away_ends_its_session_alone, client_that_goes_away_after_any_byte, client_that_never_reads,
-          client_that_sends_without_end, clients_that_say_nothing, many_clients_at_once, dump_is_the_history,
-          waiting_ends_at_a_full_history, folder_of_dumps_is_missing, wrong_words_and_files_are_faults]
+          client_that_sends_without_end, clients_that_say_nothing, many_clients_at_once,
+          jobs_are_retired_round_after_round, dump_is_the_history, waiting_ends_at_a_full_history,
+          folder_of_dumps_is_missing, wrong_words_and_files_are_faults]
 
 
 def main():

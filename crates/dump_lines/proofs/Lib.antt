@@ -1,4 +1,5 @@
 mod Appending
+mod Entries
 mod Plain
 mod ReadRequests
 mod RoundTrip

@@ -1,5 +1,5 @@
 -- The text of a dump.
-use Rattle.std.specs.Prelude.{ℕ, List, [], ◌∷◌, ◌++◌}
+use Rattle.std.specs.Prelude.{ℕ, List, [], ◌∷◌, ◌++◌, IsSome}
 use Rattle.std.specs.Option.{option_map_or}
 use Rattle.serde_json.specs.Written.{compact_text}
 use Rattle.job_language.specs.declared.steps.Entry.{Entry}
@@ -15,6 +15,10 @@ first_text c = line_text (compact_text (first_data c))
 
 abbrev pub entry_text : Entry → List ℕ
 entry_text e = option_map_or (λ d. line_text (compact_text d)) (entry_data e) []
+
+-- a history may hold it
+abbrev pub HasLine : Entry → Type 0
+HasLine e = IsSome (entry_data e)
 
 abbrev pub entries_text : List Entry → List ℕ
 entries_text [] = []

@@ -1,8 +1,9 @@
 // Writing a whole dump.
-ghost use Rattle.std.specs.Prelude.{◌≡◌, ◌++◌, ◌∷◌, [], OnOk};
+ghost use Rattle.std.specs.Prelude.{◌≡◌, ◌≢◌, ◌++◌, ◌∷◌, [], All, Any, Err, None, OnOk};
 ghost use Rattle.std.specs.Io.KnownBytes.{Appends};
-ghost use Rattle.dump_lines.specs.Dumps.{dump_text, entries_text, entry_text, first_text, line_text};
-ghost use Rattle.dump_lines.specs.declared.whole.DumpFault.TheVariants.{Memory};
+ghost use Rattle.dump_lines.specs.Dumps.{HasLine, dump_text, entries_text, entry_text, first_text, line_text};
+ghost use Rattle.dump_lines.specs.Written.{entry_data};
+ghost use Rattle.dump_lines.specs.declared.whole.DumpFault.TheVariants.{Memory, NoEntry};
 
 use crate::writing::{entry_line, first_line};
 use job_language::{Entry, TenantConfig};
@@ -18,7 +19,7 @@ pub enum DumpFault {
     /// An allocation failed.
     Memory,
     /// No history holds the entry.
-    Entry,
+    NoEntry,
 }
 
 impl From<AllocError> for DumpFault {
@@ -36,7 +37,9 @@ pub fn write_dump<W: Write>(
     config: &TenantConfig,
     entries: &[Entry],
 ) -> Result<(), DumpFault>
-    ensures { OnOk result (Appends (W.contents writer.old) (W.contents writer.new) (dump_text config.now entries.now)) }
+    ensures written { OnOk result (Appends (W.contents writer.old) (W.contents writer.new) (dump_text config.now entries.now)) }
+    ensures all { OnOk result (All HasLine entries.now) }
+    ensures entry { result ≡ Err NoEntry → Any (λ e. entry_data e ≡ None) entries.now }
 {
     write_first(alloc, writer, config)?;
     write_entries(alloc, writer, entries)
@@ -47,7 +50,8 @@ fn write_first<W: Write>(
     writer: &mut W,
     config: &TenantConfig,
 ) -> Result<(), DumpFault>
-    ensures { OnOk result (Appends (W.contents writer.old) (W.contents writer.new) (first_text config.now)) }
+    ensures written { OnOk result (Appends (W.contents writer.old) (W.contents writer.new) (first_text config.now)) }
+    ensures no_entry { result ≢ Err NoEntry }
 {
     let first = first_line(alloc, config)?;
     write_line(writer, first.as_str())
@@ -58,7 +62,9 @@ fn write_entries<W: Write>(
     writer: &mut W,
     entries: &[Entry],
 ) -> Result<(), DumpFault>
-    ensures { OnOk result (Appends (W.contents writer.old) (W.contents writer.new) (entries_text entries.now)) }
+    ensures written { OnOk result (Appends (W.contents writer.old) (W.contents writer.new) (entries_text entries.now)) }
+    ensures all { OnOk result (All HasLine entries.now) }
+    ensures entry { result ≡ Err NoEntry → Any (λ e. entry_data e ≡ None) entries.now }
 {
     for entry in entries {
         write_entry(alloc, writer, entry)?;
@@ -67,24 +73,28 @@ fn write_entries<W: Write>(
 }
 
 fn write_entry<W: Write>(alloc: Global, writer: &mut W, entry: &Entry) -> Result<(), DumpFault>
-    ensures { OnOk result (Appends (W.contents writer.old) (W.contents writer.new) (entry_text entry.now)) }
+    ensures written { OnOk result (Appends (W.contents writer.old) (W.contents writer.new) (entry_text entry.now)) }
+    ensures line { OnOk result (HasLine entry.now) }
+    ensures entry { result ≡ Err NoEntry → entry_data entry.now ≡ None }
 {
     match entry_line(alloc, entry)? {
         Some(line) => write_line(writer, line.as_str()),
-        None => Err(DumpFault::Entry),
+        None => Err(DumpFault::NoEntry),
     }
 }
 
 /// Writes a line and its newline.
 fn write_line<W: Write>(writer: &mut W, line: &str) -> Result<(), DumpFault>
-    ensures { OnOk result (Appends (W.contents writer.old) (W.contents writer.new) (line_text line.now)) }
+    ensures written { OnOk result (Appends (W.contents writer.old) (W.contents writer.new) (line_text line.now)) }
+    ensures no_entry { result ≢ Err NoEntry }
 {
     write_bytes(writer, line.as_bytes())?;
     write_bytes(writer, b"\n")
 }
 
 fn write_bytes<W: Write>(writer: &mut W, bytes: &[u8]) -> Result<(), DumpFault>
-    ensures { OnOk result (Appends (W.contents writer.old) (W.contents writer.new) bytes.now) }
+    ensures written { OnOk result (Appends (W.contents writer.old) (W.contents writer.new) bytes.now) }
+    ensures no_entry { result ≢ Err NoEntry }
 {
     match write_all_of(writer, bytes) {
         Ok(()) => Ok(()),

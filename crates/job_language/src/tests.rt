@@ -41,15 +41,3 @@ fn place_of(alloc: Global, text: &str) -> Result<Option<Place>, Fail> {
         Err(refused) => Err(refused)?,
     }
 }
-
-/// A piece so many times, with commas between.
-fn times(alloc: Global, count: usize, piece: &str) -> Result<String, Fail> {
-    let mut text = String::new(alloc);
-    for i in 0..count {
-        if i > 0 {
-            text.push_str(",")?;
-        }
-        text.push_str(piece)?;
-    }
-    Ok(text)
-}

@@ -185,7 +185,7 @@ fn dump_history<R: Files>(
     match write_dump(alloc, &mut file, config, history) {
         Ok(()) => Ok(()),
         Err(DumpFault::Memory) => Err(ServerEnd::Memory),
-        Err(DumpFault::Device | DumpFault::Entry) => Err(ServerEnd::Device),
+        Err(DumpFault::Device | DumpFault::NoEntry) => Err(ServerEnd::Device),
     }
 }
 
