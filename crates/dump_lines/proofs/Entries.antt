@@ -1,26 +1,15 @@
--- Entries that are left, and all of them.
-use Rattle.std.proofs.Common.{◌≡◌, ◌<◌, ◌+◌, ◌++◌, ℕ, List, ◌∷◌, Option, Some, None, drop, length, get_or, refl, sym, ◌∙◌, ap, inl, inr, subst}
-use Rattle.std.specs.Prelude.{All, Any, IsSome}
-use Rattle.std.specs.Io.KnownBytes.{Appends}
-use Rattle.std.proofs.KnownBytes.{Appends-trans}
-use Rattle.std.proofs.lemmas.List.{drop_more, at_drop_more}
+-- Entries that have lines.
+use Rattle.std.proofs.Common.{◌≡◌, ◌<◌, ◌+◌, ℕ, List, length, get_or, sym, ◌∙◌, subst, inl, inr, arith}
+use Rattle.std.proofs.lemmas.Bool.Decides.{eqb_tells}
+use Rattle.std.proofs.lemmas.List.{get_or_default}
 use Rattle.job_language.specs.declared.steps.Entry.{Entry}
-use Rattle.dump_lines.specs.Dumps.{HasLine, entries_text, entry_text}
-use Rattle.dump_lines.specs.Written.{entry_data}
+use Rattle.dump_lines.specs.Dumps.{HasLine}
 
--- What holds of the entries that are left holds of all.
-record pub IsRest : (i : ℕ) (es : List Entry) where
-  lines : All HasLine (drop i es) → All HasLine es
-  missing : Any (λ e. entry_data e ≡ None) (drop i es) → Any (λ e. entry_data e ≡ None) es
-
-pub rest_first : (es : List Entry) → IsRest 0 es
-rest_first es = record { lines = λ a. a; missing = λ a. a }
-
-pub rest_next : (i : ℕ) (es : List Entry) (d : Entry) → IsRest i es → i < length es → HasLine (get_or es i d) → IsRest (i + 1) es
-rest_next i es d rest within line = record {
-    lines = λ a. rest.lines (subst (All HasLine) (sym (drop_more es i d within)) (line, a));
-    missing = λ a. rest.missing (subst (Any (λ e. entry_data e ≡ None)) (sym (drop_more es i d within)) (inr a));
-  }
-
-pub rest_missing : (i : ℕ) (es : List Entry) (d : Entry) → IsRest i es → i < length es → entry_data (get_or es i d) ≡ None → Any (λ e. entry_data e ≡ None) es
-rest_missing i es d rest within none = rest.missing (subst (Any (λ e. entry_data e ≡ None)) (sym (drop_more es i d within)) (inl none))
+-- one more of a list's entries has a line
+pub lines_on : (es : List Entry) (i : ℕ) (e : Entry) → i < length es → e ≡ get_or es i e → HasLine e →
+    ((k : ℕ) (d : Entry) → k < i → HasLine (get_or es k d)) → (k : ℕ) (d : Entry) → k < i + 1 → HasLine (get_or es k d)
+lines_on es i e within is line before k d l =
+    elim (eqb_tells k i) [
+      | inl h ↦ subst (λ j. HasLine (get_or es j d)) (sym h.1) (subst HasLine (is ∙ get_or_default es i e d within) line)
+      | inr h ↦ let ne = h.1 in before k d (omega (arith, l, ne))
+    ]

@@ -1,7 +1,7 @@
 -- What a dump's lines are has no float, and does not nest deeply.
-use Rattle.std.proofs.Common.{◌≡◌, ℕ, ◌≤◌, suc, max, List, [], ◌∷◌, map, ℤ, pos, refl, sym, subst, arith, ap, Option, Some, None, option_map}
+use Rattle.std.proofs.Common.{◌≡◌, ℕ, ◌≤◌, suc, max, List, [], ◌∷◌, map, ℤ, pos, refl, sym, subst, arith, Option, Some, None, option_map}
 use Rattle.std.specs.Prelude.{Bool, true, false, ◌||◌, IfSome, negsuc, codes, if◌then◌else◌}
-use Rattle.serde_json.specs.Data.{Data, number, string, array, object, Items, item, Members, member, no_members, depth, items_depth, members_depth}
+use Rattle.serde_json.specs.Data.{Data, string, array, object, Items, item, Members, member, no_members, depth, items_depth, members_depth}
 use Rattle.serde_json.specs.Read.{max_depth}
 use Rattle.serde_json.specs.View.{view, items_of}
 use Rattle.serde_json.specs.declared.value.Value.{Value}
@@ -26,9 +26,9 @@ use Rattle.job_language.specs.declared.tenants.Isolation.{Isolation}
 use Rattle.job_language.specs.declared.tenants.Isolation.TheVariants.{Exact, Within}
 use Rattle.job_language.specs.declared.tenants.Tenant.{Tenant}
 use Rattle.job_language.specs.Recorded.{is_entry}
-use Rattle.job_language.specs.TenantData.{tenant_data, with_isolation}
+use Rattle.job_language.specs.TenantData.{with_isolation}
 use Rattle.dump_lines.specs.Written.{request_data, status_data, reply_data, job_request, ask_data, advance_data, step_data, entry_data, first_data}
-use Rattle.job_language.specs.JobData.{array_of, number_data, instr_data, list_data, proc_data, program_data, job_object, job_data}
+use Rattle.job_language.specs.JobData.{array_of, number_data, instr_data, proc_data, program_data, job_data}
 
 -- No part is a float, and it nests so deep at most.
 pub record IsPlain (n : ℕ) (d : Data) : Type 0 where

@@ -1,5 +1,5 @@
 -- Lines and refusals read back.
-use Rattle.std.proofs.Common.{◌≡◌, ℕ, List, Option, Some, Ok, Result, true, refl, subst, ap}
+use Rattle.std.proofs.Common.{◌≡◌, ℕ, List, Some, Ok, true, refl, subst, ap}
 use Rattle.std.specs.Option.{ok_or}
 use Rattle.std.specs.Str.{IsUtf8, is_utf8}
 use Rattle.std.proofs.lemmas.Str.{is_utf8-from_IsUtf8}

@@ -11,7 +11,6 @@ use Rattle.job_language.specs.declared.answers.Reply.{Reply}
 use Rattle.job_language.specs.declared.errors.Error.{Error}
 use Rattle.job_language.specs.declared.requests.Request.{Request}
 use Rattle.job_language.specs.declared.requests.Request.TheVariants.{Hello}
-use Rattle.job_language.specs.declared.steps.Entry.{Entry}
 use Rattle.job_language.specs.declared.steps.Step.TheVariants as step
 use Rattle.job_language.specs.Json.{◌>>=◌, has_members}
 use Rattle.request_reader.specs.LineAsks.{value_of}

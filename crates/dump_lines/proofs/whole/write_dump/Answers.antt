@@ -2,5 +2,5 @@ use Rattle.dump_lines.specs.Dumps.{entries_text, first_text}
 use Rattle.dump_lines.proofs.Appending.{appends_then}
 use Rattle.dump_lines.proofs.whole.write_dump.Goals as goal
 
-pub returns : goal.returns
-returns g c = appends_then c.write_entries.result _ _ _ (first_text c.args.config.now) (entries_text c.args.entries.now) c.in_ok-write_first.ensures c.write_entries.ensures
+pub returns-clause-written : goal.returns-clause-written
+returns-clause-written g c = appends_then c.write_entries.result _ _ _ (first_text c.args.config.now) (entries_text c.args.entries.now) c.in_ok-write_first.ensures.written c.write_entries.ensures.written
