@@ -1,0 +1,166 @@
+-- Rows of links: one that stays, and one that a place leaves.
+use Rattle.std.proofs.Common.{◌≡◌, ◌≢◌, ◌≤◌, ◌<◌, ◌+◌, ℕ, zero, suc, not, if◌then◌else◌, List, [], ◌∷◌, Option, Some, None, length, refl, sym, ◌∙◌, ap, subst, inl, inr, arith}
+use Rattle.std.specs.Prelude.{slice_set}
+use Rattle.std.proofs.lemmas.Bool.Decides.{eqb_tells}
+use Rattle.std.proofs.lemmas.List.{get_or-set_same, get_or-set_other, length-set}
+use Rattle.place_lists.specs.Links.{link_at, set_at}
+use Rattle.place_lists.specs.Lists.{IsIn, first_of, after, without, walk}
+use Rattle.place_lists.specs.Linked.{IsRow, IsOnce}
+
+pub set_at-other : (links : List (Option ℕ)) (at to : Option ℕ) (x : ℕ) → (at ≡ Some x → ⊥) → link_at (set_at links at to) x ≡ link_at links x
+set_at-other links None to x ne = refl
+set_at-other links (Some c) to x ne = get_or-set_other links c x to None (λ e. ne (ap Some (sym e)))
+
+pub set_at-same : (links : List (Option ℕ)) (at to : Option ℕ) (x : ℕ) → at ≡ Some x → x < length links → link_at (set_at links at to) x ≡ to
+set_at-same links None to x e h = cc
+set_at-same links (Some c) to x e h =
+    let same : c ≡ x = cc in
+    subst (λ y. link_at (slice_set links y to) x ≡ to) (sym same) (get_or-set_same links x to None h)
+
+pub length-set_at : (links : List (Option ℕ)) (at to : Option ℕ) → length (set_at links at to) ≡ length links
+length-set_at links None to = refl
+length-set_at links (Some c) to = length-set links c to
+
+pub without-same : (c x : ℕ) (xs : List ℕ) → x ≡ c → without c (x ∷ xs) ≡ without c xs
+without-same c x xs e = elim (eqb_tells x c) [ inl h ↦ ap (λ b. if not b then x ∷ without c xs else without c xs) h.0 | inr h ↦ absurd (h.1 e) ]
+
+pub without-other : (c x : ℕ) (xs : List ℕ) → x ≢ c → without c (x ∷ xs) ≡ x ∷ without c xs
+without-other c x xs ne = elim (eqb_tells x c) [ inl h ↦ absurd (ne h.1) | inr h ↦ ap (λ b. if not b then x ∷ without c xs else without c xs) h.0 ]
+
+pub without-none : (c : ℕ) (xs : List ℕ) → (IsIn xs c → ⊥) → without c xs ≡ xs
+without-none c [] out = refl
+without-none c (x ∷ xs) out = without-other c x xs (λ e. out (inl e)) ∙ ap (λ l. x ∷ l) (without-none c xs (λ i. out (inr i)))
+
+pub IsIn-from_without : (c d : ℕ) (xs : List ℕ) → IsIn (without c xs) d → IsIn xs d × (d ≢ c)
+IsIn-from_without c d [] i = absurd i
+IsIn-from_without c d (x ∷ xs) i =
+    elim (eqb_tells x c) [
+      | inl h ↦ let there = IsIn-from_without c d xs (subst (λ l. IsIn l d) (without-same c x xs h.1) i) in (inr there.0, there.1)
+      | inr h ↦ elim (subst (λ l. IsIn l d) (without-other c x xs h.1) i) [
+        | inl e ↦ (inl e, λ t. h.1 (e ∙ t))
+        | inr j ↦ let there = IsIn-from_without c d xs j in (inr there.0, there.1)
+      ]
+    ]
+
+pub IsOnce-without : (c : ℕ) (xs : List ℕ) → IsOnce xs → IsOnce (without c xs)
+IsOnce-without c [] o = tt
+IsOnce-without c (x ∷ xs) o =
+    elim (eqb_tells x c) [
+      | inl h ↦ subst IsOnce (sym (without-same c x xs h.1)) (IsOnce-without c xs o.1)
+      | inr h ↦ subst IsOnce (sym (without-other c x xs h.1)) (λ i. o.0 (IsIn-from_without c x xs i).0, IsOnce-without c xs o.1)
+    ]
+
+-- what does not touch a row leaves it
+pub IsRow-same : (next previous next_after previous_after : List (Option ℕ)) (back from : Option ℕ) (xs : List ℕ) → ((x : ℕ) → IsIn xs x → link_at next_after x ≡ link_at next x) → ((x : ℕ) → IsIn xs x → link_at previous_after x ≡ link_at previous x) → IsRow next previous back from xs → IsRow next_after previous_after back from xs
+IsRow-same next previous next_after previous_after back from [] n p r = r
+IsRow-same next previous next_after previous_after back from (x ∷ xs) n p r = (
+  r.0,
+  p x (inl refl) ∙ r.1,
+  subst (λ f. IsRow next_after previous_after (Some x) f xs) (sym (n x (inl refl))) (IsRow-same next previous next_after previous_after (Some x) (link_at next x) xs (λ y i. n y (inr i)) (λ y i. p y (inr i)) r.2),
+)
+
+-- what follows one of a row is in the row
+pub after-in : (next previous : List (Option ℕ)) (back from : Option ℕ) (xs : List ℕ) (c y : ℕ) → IsRow next previous back from xs → IsIn xs c → link_at next c ≡ Some y → IsIn xs y
+after-in next previous back from [] c y r i e = absurd i
+after-in next previous back from (x ∷ []) c y r (inl h) e = let wrong : None ≡ Some y = sym r.2 ∙ ap (link_at next) h ∙ e in cc
+after-in next previous back from (x ∷ z ∷ zs) c y r (inl h) e = let same : Some z ≡ Some y = sym r.2.0 ∙ ap (link_at next) h ∙ e in let there : z ≡ y = cc in inr (inl there)
+after-in next previous back from (x ∷ xs) c y r (inr i) e = inr (after-in next previous (Some x) (link_at next x) xs c y r.2 i e)
+
+-- what comes before one that is not the first is in the row
+pub before-in : (next previous : List (Option ℕ)) (back from : Option ℕ) (x : ℕ) (xs : List ℕ) (c : ℕ) → IsRow next previous back from (x ∷ xs) → IsIn xs c → (y : ℕ) × ((link_at previous c ≡ Some y) × IsIn (x ∷ xs) y)
+before-in next previous back from x [] c r i = absurd i
+before-in next previous back from x (z ∷ zs) c r (inl h) = (x, (ap (link_at previous) (sym h) ∙ r.2.1, inl refl))
+before-in next previous back from x (z ∷ zs) c r (inr i) = let there = before-in next previous (Some x) (link_at next x) z zs c r.2 i in (there.0, (there.1.0, inr there.1.1))
+
+-- what comes before one of a list is in it
+pub before-there : (next previous : List (Option ℕ)) (from : Option ℕ) (xs : List ℕ) (c y : ℕ) → IsRow next previous None from xs → IsIn xs c → link_at previous c ≡ Some y → IsIn xs y
+before-there next previous from [] c y r i e = absurd i
+before-there next previous from (x ∷ xs) c y r (inl h) e = let wrong : None ≡ Some y = sym r.1 ∙ ap (link_at previous) h ∙ e in cc
+before-there next previous from (x ∷ xs) c y r (inr i) e =
+    let there = before-in next previous None from x xs c r i in
+    let both : Some there.0 ≡ Some y = sym there.1.0 ∙ e in
+    let same : there.0 ≡ y = cc in
+    subst (λ t. IsIn (x ∷ xs) t) same there.1.1
+
+pub first-row : (next previous : List (Option ℕ)) (back from : Option ℕ) (xs : List ℕ) → IsRow next previous back from xs → from ≡ first_of xs
+first-row next previous back from [] r = r
+first-row next previous back from (x ∷ xs) r = r.0
+
+pub after-row : (next previous : List (Option ℕ)) (back from : Option ℕ) (xs : List ℕ) (c : ℕ) → IsRow next previous back from xs → IsIn xs c → IsOnce xs → link_at next c ≡ after c xs
+after-row next previous back from [] c r i o = absurd i
+after-row next previous back from (x ∷ xs) c r i o =
+    elim (eqb_tells x c) [
+      | inl h ↦ ap (link_at next) (sym h.1) ∙ first-row next previous (Some x) (link_at next x) xs r.2 ∙ ap (λ b. if b then first_of xs else after c xs) (sym h.0)
+      | inr h ↦
+          let later : IsIn xs c = elim i [ inl e ↦ absurd (h.1 e) | inr j ↦ j ] in
+          after-row next previous (Some x) (link_at next x) xs c r.2 later o.1 ∙ ap (λ b. if b then first_of xs else after c xs) (sym h.0)
+    ]
+
+length-once : (c : ℕ) (xs : List ℕ) → IsOnce xs → length xs ≤ length (without c xs) + 1
+length-once c [] o = omega arith
+length-once c (x ∷ xs) o =
+    elim (eqb_tells x c) [
+      | inl h ↦ let rest : length (without c (x ∷ xs)) ≡ length xs = ap length (without-same c x xs h.1 ∙ without-none c xs (λ i. o.0 (subst (λ y. IsIn xs y) (sym h.1) i))) in omega arith
+      | inr h ↦ let rest : length (without c (x ∷ xs)) ≡ suc (length (without c xs)) = ap length (without-other c x xs h.1) in omega (arith, length-once c xs o.1)
+    ]
+
+-- numbers below n, each once, are at most n
+pub length-once-le : (n : ℕ) (xs : List ℕ) → IsOnce xs → ((x : ℕ) → IsIn xs x → x < n) → length xs ≤ n
+length-once-le zero [] o h = omega arith
+length-once-le zero (x ∷ xs) o h = let wrong : x < zero = h x (inl refl) in absurd (omega arith)
+length-once-le (suc n) xs o h =
+    let rest = length-once-le n (without n xs) (IsOnce-without n xs o) (λ x i. let there = IsIn-from_without n x xs i in let low : x < suc n = h x there.0 in let ne : x ≢ n = there.1 in omega arith) in
+    omega (arith, length-once n xs o)
+
+-- the walk from the beginning of a row is the row
+pub walk-row : (n : ℕ) (next previous : List (Option ℕ)) (back from : Option ℕ) (xs : List ℕ) → IsRow next previous back from xs → length xs ≤ n → walk n next from ≡ xs
+walk-row zero next previous back from [] r h = refl
+walk-row zero next previous back from (x ∷ xs) r h = absurd (omega arith)
+walk-row (suc n) next previous back from [] r h = ap (walk (suc n) next) r
+walk-row (suc n) next previous back from (x ∷ xs) r h =
+    let low : length xs ≤ n = omega arith in
+    ap (walk (suc n) next) r.0 ∙ ap (λ l. x ∷ l) (walk-row n next previous (Some x) (link_at next x) xs r.2 low)
+
+pub walk-none : (n : ℕ) (next : List (Option ℕ)) → walk n next None ≡ []
+walk-none zero next = refl
+walk-none (suc n) next = refl
+
+-- a place leaves its row
+module _ (next previous : List (Option ℕ)) (c : ℕ) where
+  abbrev pub next_left : List (Option ℕ)
+  next_left = set_at next (link_at previous c) (link_at next c)
+
+  abbrev pub previous_left : List (Option ℕ)
+  previous_left = set_at previous (link_at next c) (link_at previous c)
+
+  pub left-first : (back : Option ℕ) (xs : List ℕ) → link_at previous c ≡ back → ((y : ℕ) → back ≡ Some y → IsIn xs y → ⊥) → ((y : ℕ) → IsIn xs y → y < length previous) → IsOnce xs → IsRow next previous (Some c) (link_at next c) xs → IsRow next_left previous_left back (link_at next c) xs
+  left-first back [] b apart within o r = r
+  left-first back (z ∷ zs) b apart within o r =
+      let same_next : (y : ℕ) → IsIn (z ∷ zs) y → link_at next_left y ≡ link_at next y = λ y i. set_at-other next (link_at previous c) (link_at next c) y (λ e. apart y (sym b ∙ e) i) in
+      let other : (y : ℕ) → IsIn zs y → link_at next c ≡ Some y → ⊥ = λ y i e. let same : z ≡ y = let first = r.0 in cc in o.0 (subst (λ t. IsIn zs t) (sym same) i) in (
+        r.0,
+        set_at-same previous (link_at next c) (link_at previous c) z r.0 (within z (inl refl)) ∙ b,
+        subst (λ f. IsRow next_left previous_left (Some z) f zs) (sym (same_next z (inl refl))) (IsRow-same next previous next_left previous_left (Some z) (link_at next z) zs (λ y i. same_next y (inr i)) (λ y i. set_at-other previous (link_at next c) (link_at previous c) y (other y i)) r.2),
+      )
+
+  pub left-later : (back from : Option ℕ) (x : ℕ) (xs : List ℕ) → ((y : ℕ) → IsIn (x ∷ xs) y → (y < length next) × (y < length previous)) → IsOnce (x ∷ xs) → x ≢ c → IsIn xs c → IsRow next previous back from (x ∷ xs) → IsRow next_left previous_left back from (x ∷ without c xs)
+  left-later back from x [] within o ne i r = absurd i
+  left-later back from x (z ∷ zs) within o ne i r =
+      let after : link_at next c ≡ Some x → ⊥ = λ e. o.0 (after-in next previous (Some x) (link_at next x) (z ∷ zs) c x r.2 i e) in
+      let kept : link_at previous_left x ≡ back = set_at-other previous (link_at next c) (link_at previous c) x after ∙ r.1 in
+      elim (eqb_tells z c) [
+        | inl h ↦
+            let at : link_at next c ≡ link_at next z = ap (link_at next) (sym h.1) in
+            let b : link_at previous c ≡ Some x = ap (link_at previous) (sym h.1) ∙ r.2.1 in
+            let out : IsIn zs c → ⊥ = λ j. o.1.0 (subst (λ t. IsIn zs t) (sym h.1) j) in
+            let rest : IsRow next previous (Some c) (link_at next c) zs = subst (λ t. IsRow next previous (Some t) (link_at next t) zs) h.1 r.2.2 in
+            let moved : IsRow next_left previous_left (Some x) (link_at next c) zs = left-first (Some x) zs b (λ y e j. let same : x ≡ y = cc in o.0 (inr (subst (λ t. IsIn zs t) (sym same) j))) (λ y j. (within y (inr (inr j))).1) o.1.1 rest in
+            let to : link_at next_left x ≡ link_at next c = set_at-same next (link_at previous c) (link_at next c) x b (within x (inl refl)).0 in
+            (r.0, kept, subst (λ l. IsRow next_left previous_left (Some x) (link_at next_left x) l) (sym (without-same c z zs h.1 ∙ without-none c zs out)) (subst (λ f. IsRow next_left previous_left (Some x) f zs) (sym to) moved))
+        | inr h ↦
+            let later : IsIn zs c = elim i [ inl e ↦ absurd (h.1 e) | inr j ↦ j ] in
+            let before = before-in next previous (Some x) (link_at next x) z zs c r.2 later in
+            let to : link_at next_left x ≡ link_at next x = set_at-other next (link_at previous c) (link_at next c) x (λ e. let same : before.0 ≡ x = let at = before.1.0 in cc in o.0 (subst (λ t. IsIn (z ∷ zs) t) same before.1.1)) in
+            let moved = left-later (Some x) (link_at next x) z zs (λ y j. within y (inr j)) o.1 h.1 later r.2 in
+            (r.0, kept, subst (λ l. IsRow next_left previous_left (Some x) (link_at next_left x) l) (sym (without-other c z zs h.1)) (subst (λ f. IsRow next_left previous_left (Some x) f (z ∷ without c zs)) (sym to) moved))
+      ]

@@ -1,0 +1,10 @@
+//! Lists of places, linked both ways: a place is added at the end of a list, and leaves from anywhere
+//! in it, without a walk.
+#![tactic(auto)]
+
+mod links;
+mod lists;
+#[cfg(test)]
+mod tests;
+
+pub use lists::Lists;
