@@ -73,8 +73,8 @@ module _ (links : Links) (now : Lists) (list place : ℕ) (view : lists_of links
       pub remove-kept : IsLinked after (list_of after)
       remove-kept = IsLinked-seen after (λ l. without place (list_of links l)) after-left
 
-      pub remove-removed : list_in (lists_of after) list ≡ without place (list_in now list)
-      remove-removed = seen-is after (λ l. without place (list_of links l)) after-left list ∙ ap (without place) (sym (seen list))
+      pub remove-removed : (l : ℕ) → list_in (lists_of after) l ≡ without place (list_in now l)
+      remove-removed l = seen-is after (λ l. without place (list_of links l)) after-left l ∙ ap (without place) (sym (seen l))
 
       pub remove-others : (l : ℕ) → l ≢ list → list_in (lists_of after) l ≡ list_in now l
       remove-others l ne = seen-is after (λ l. without place (list_of links l)) after-left l ∙ without-elsewhere links (list_of links) list place k remove-list held_there l ne ∙ sym (seen l)

@@ -52,7 +52,7 @@ impl Lists {
     /// Takes a place from the list that it is in.
     pub fn remove(&mut self, list: usize, place: usize)
         requires { IsIn (list_in self.old list) place }
-        ensures removed { list_in self.new list ≡ without place (list_in self.old list) }
+        ensures removed { (l : ℕ) → list_in self.new l ≡ without place (list_in self.old l) }
         ensures others { (l : ℕ) → l ≢ list → list_in self.new l ≡ list_in self.old l }
         ensures count { length self.new.lists ≡ length self.old.lists }
         ensures places { self.new.places ≡ self.old.places }
