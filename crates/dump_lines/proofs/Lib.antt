@@ -2,4 +2,5 @@ mod Appending
 mod Entries
 mod Plain
 mod ReadRequests
+mod ReplyTexts
 mod RoundTrip
