@@ -1,15 +1,18 @@
-//! Runs jobs on one slot of an arena, and prints how many tasks ran, how many steps that took, and the
+//! Runs jobs on one slot of an arena or of each tenant of a world, and prints how many tasks ran, how many steps that took, and the
 //! value of the last job. `fib N JOBS WAITING` runs jobs of the Nth Fibonacci number beside WAITING
-//! rows that wait; `cancels JOBS` runs jobs that cancel 16 groups. Without words it does a little of each.
+//! rows that wait; `cancels JOBS` runs jobs that cancel 16 groups; `world TENANTS JOBS` runs jobs of the 12th
+//! Fibonacci number on each tenant of a world. Without words it does a little of each.
 #![tactic(auto)]
 
 mod jobs;
 mod runs;
+mod worlds;
 
 use jobs::{cancels, fibonacci};
 use runs::{Ran, run_jobs};
 use std::env::Env;
 use std::{env, io};
+use worlds::run_world;
 
 fn main(rt: HostRuntime) -> io::Result<()> {
     let mut words = env::args(&rt)?.skip(1);
@@ -18,6 +21,7 @@ fn main(rt: HostRuntime) -> io::Result<()> {
     match what.as_ref().map(|word| word.as_str()) {
         Some("fib") => print_fib(&rt, number_in(first), number_in(second), number_in(third)),
         Some("cancels") => print_cancels(&rt, number_in(first)),
+        Some("world") => print_world(&rt, number_in(first), number_in(second)),
         _ => print_few(&rt),
     }
 }
@@ -27,7 +31,9 @@ fn print_few<R: Print + AllocGlobal>(rt: &R) -> io::Result<()> {
     print_fib(rt, 12, 1, 0)?;
     print_fib(rt, 12, 2, 64)?;
     print_fib(rt, 12, 1, 4_000)?;
-    print_cancels(rt, 2)
+    print_cancels(rt, 2)?;
+    print_world(rt, 1, 1)?;
+    print_world(rt, 8, 2)
 }
 
 fn print_fib<R: Print + AllocGlobal>(
@@ -46,6 +52,12 @@ fn print_cancels<R: Print + AllocGlobal>(rt: &R, jobs: u64) -> io::Result<()> {
     let text = cancels(rt.alloc())?;
     let ran = run_jobs(rt.alloc(), text.as_str(), jobs, 0)?;
     print!(rt; "cancels: ")?;
+    print_ran(rt, ran)
+}
+
+fn print_world<R: Print + AllocGlobal>(rt: &R, tenants: u64, jobs: u64) -> io::Result<()> {
+    let ran = run_world(rt.alloc(), tenants as usize, jobs)?;
+    print!(rt; "world of {tenants} tenants: ")?;
     print_ran(rt, ran)
 }
 

@@ -9,7 +9,7 @@ use serde_json::Value;
 use std::alloc::{AllocError, Global};
 
 /// What ran.
-#[derive(Clone, Copy)]
+#[derive(Clone, Copy, Default)]
 pub(crate) struct Ran {
     pub(crate) jobs: u64,
     /// The rows that were started.
@@ -22,7 +22,7 @@ pub(crate) struct Ran {
 
 impl Ran {
     /// This and one more.
-    fn and(self, more: Ran) -> Ran {
+    pub(crate) fn and(self, more: Ran) -> Ran {
         Ran {
             jobs: self.jobs.wrapping_add(more.jobs),
             tasks: self.tasks.wrapping_add(more.tasks),
@@ -44,12 +44,7 @@ pub(crate) fn run_jobs(
     let (Some(job), Some(before)) = (job_of(alloc, text), job_of(alloc, before.as_str())) else {
         return Ok(None);
     };
-    let mut sum = Ran {
-        jobs: 0,
-        tasks: 0,
-        steps: 0,
-        value: 0,
-    };
+    let mut sum = Ran::default();
     for _ in 0..jobs {
         let Some(ran) = run_alone(alloc, &job, &before)? else {
             return Ok(None);
@@ -104,8 +99,7 @@ fn run(arena: &mut Arena, job: Job) -> Option<(u64, Ran)> {
     let mut ran = Ran {
         jobs: 1,
         tasks: 1,
-        steps: 0,
-        value: 0,
+        ..Ran::default()
     };
     for _ in 0..MAX_STEPS {
         ran.steps = ran.steps.wrapping_add(1);

@@ -1,10 +1,11 @@
 // The tenant, its job and its steps; a reading is repeated if an allocation failed.
-use job_language::{Job, Request, Step, TenantConfig, read_job, read_tenant};
+use crate::retries::again;
+use job_language::{Job, Reply, Request, Status, Step, TenantConfig, read_job, read_tenant};
 use serde_json::Value;
 use std::alloc::Global;
 
 /// The sixth Fibonacci number: a task for each smaller one, in a region each that stores and posts.
-const FIBONACCI: &str =
+pub(crate) const FIBONACCI: &str =
     r#"{"args":[6,0],"fuel":5000,"procs":[[["set",2,2],["lt",3,0,2],["jz",3,4],["ret",0],["isolate",6,1,0,0],["set",2,1],["sub",3,0,2],["spawn",0,0,3,1],["sub",3,3,2],["spawn",0,0,3,1],["wait",4,5,0],["ret",4]],[["store",0,0],["post",2,0,0],["ret",0]],[["ret",0]]]}"#;
 
 /// The same without regions, so that it has a serial value.
@@ -20,12 +21,20 @@ const ADVANCES_OF_ROOT: usize = 133;
 /// How many advances the tasks that it posted take on the other slot.
 const ADVANCES_OF_POSTED: usize = 23;
 
+/// More moves than the job takes on any slot.
+pub(crate) const MOVES: usize = 200;
+
+/// What a reply reports of a job.
+pub(crate) fn status_of(reply: &Reply) -> Option<Status> {
+    match reply {
+        Reply::Job(_, status) => Some(*status),
+        _ => None,
+    }
+}
+
 /// The tenant.
 pub(crate) fn tenant(alloc: Global) -> Option<TenantConfig> {
-    match read_tenant_once(alloc) {
-        Some(config) => Some(config),
-        None => read_tenant_once(alloc),
-    }
+    again(|| read_tenant_once(alloc))
 }
 
 fn read_tenant_once(alloc: Global) -> Option<TenantConfig> {
@@ -35,10 +44,12 @@ fn read_tenant_once(alloc: Global) -> Option<TenantConfig> {
 
 /// The job that has a serial value.
 pub(crate) fn serial_job(alloc: Global) -> Option<Job> {
-    match read(alloc, SERIAL) {
-        Some(job) => Some(job),
-        None => read(alloc, SERIAL),
-    }
+    again(|| read(alloc, SERIAL))
+}
+
+/// The job with the regions and the posts.
+pub(crate) fn fibonacci(alloc: Global) -> Option<Job> {
+    again(|| read(alloc, FIBONACCI))
 }
 
 fn read(alloc: Global, text: &str) -> Option<Job> {
@@ -48,10 +59,7 @@ fn read(alloc: Global, text: &str) -> Option<Job> {
 
 /// The execute, the advances on both slots and the collect.
 pub(crate) fn steps(alloc: Global) -> Option<Vec<Step>> {
-    match steps_once(alloc) {
-        Some(steps) => Some(steps),
-        None => steps_once(alloc),
-    }
+    again(|| steps_once(alloc))
 }
 
 fn steps_once(alloc: Global) -> Option<Vec<Step>> {

@@ -1,23 +1,35 @@
-//! Makes each call of the evaluator that takes memory, and makes it again if an allocation failed,
-//! and prints the answers. What it prints is the same whichever allocation was refused.
+//! Makes each call of the evaluator, of an arena, of a world and of a tenant's door that takes memory, and
+//! makes it again if an allocation failed, and prints the answers. What it prints is the same whichever
+//! allocation was refused.
 #![tactic(auto)]
 
-mod calls;
+mod arenas;
+mod doors;
+mod evaluators;
 mod jobs;
+mod retries;
+mod worlds;
 
-use calls::{checked, run_whole, serial_value, stepped};
+use evaluators::{checked, run_whole, serial_value, stepped};
 use history_check::Verdict;
 use job_language::Status;
+use std::alloc::Global;
 use std::io;
+use std::sync::Wait;
 
 fn main(rt: HostRuntime) -> io::Result<()> {
     let alloc = rt.alloc();
-    if stepped(alloc).is_some_and(is_eight) {
-        rt.println("step: 8")?;
-    }
-    if run_whole(alloc).is_some_and(is_eight) {
-        rt.println("run: 8")?;
-    }
+    print_evaluator(&rt, alloc)?;
+    print_eight(&rt, "arena, submit", arenas::submitted(alloc))?;
+    print_eight(&rt, "arena, execute", arenas::executed(alloc))?;
+    print_eight(&rt, "world, submit", worlds::run_whole(alloc))?;
+    print_eight(&rt, "world, execute", worlds::applied(alloc))?;
+    print_doors(&rt, alloc)
+}
+
+fn print_evaluator<R: Print>(rt: &R, alloc: Global) -> io::Result<()> {
+    print_eight(rt, "step", stepped(alloc))?;
+    print_eight(rt, "run", run_whole(alloc))?;
     if checked(alloc) == Some(Verdict::Yes) {
         rt.println("check: yes")?;
     }
@@ -27,6 +39,15 @@ fn main(rt: HostRuntime) -> io::Result<()> {
     Ok(())
 }
 
-fn is_eight(status: Status) -> bool {
-    status == Status::Complete(8)
+fn print_doors<R: Print + Wait>(rt: &R, alloc: Global) -> io::Result<()> {
+    print_eight(rt, "door, submit", doors::submitted(rt, alloc))?;
+    print_eight(rt, "door, execute", doors::executed(rt, alloc))
+}
+
+/// Prints the value of a job that completed with 8.
+fn print_eight<R: Print>(rt: &R, name: &str, status: Option<Status>) -> io::Result<()> {
+    if status == Some(Status::Complete(8)) {
+        println!(rt; "{name}: 8")?;
+    }
+    Ok(())
 }

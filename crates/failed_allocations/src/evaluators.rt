@@ -1,18 +1,10 @@
-// The calls, each made again if an allocation failed.
-use crate::jobs::{serial_job, steps, tenant};
+// The calls of the evaluator, each made again if an allocation failed.
+use crate::jobs::{serial_job, status_of, steps, tenant};
 use history_check::{Verdict, check};
-use job_language::{Answer, Entry, Reply, Status, Step};
+use job_language::{Answer, Entry, Status, Step};
 use serial_eval::serial;
 use solo_eval::Solo;
 use std::alloc::{AllocError, Global};
-
-/// What a reply reports of a job.
-fn status_of(reply: &Reply) -> Option<Status> {
-    match reply {
-        Reply::Job(_, status) => Some(*status),
-        _ => None,
-    }
-}
 
 /// The outcome that the last step reports, if each step that fails is taken again on the same evaluator.
 pub(crate) fn stepped(alloc: Global) -> Option<Status> {
