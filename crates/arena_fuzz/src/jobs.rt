@@ -8,13 +8,19 @@ use serde_json::Value;
 use std::alloc::{AllocError, Global};
 use worked_jobs::{JobText, VALID};
 
-/// A job of up to five procedures, one that is deep, or one whose steps were worked out by hand.
-pub(crate) fn draw_job(alloc: Global, draws: &mut Pcg32) -> Result<Job, Stop> {
+/// The text of a job of up to five procedures, one that is deep, or one whose steps were worked out by hand.
+pub(crate) fn draw_text(alloc: Global, draws: &mut Pcg32) -> Result<String, Stop> {
     let mut text = String::new(alloc);
     match draws.random_range(0u8..8) {
         0 => draw_worked(draws).write(&mut text)?,
         _ => write_job(&mut text, draws)?,
     }
+    Ok(text)
+}
+
+/// A job of such a text.
+pub(crate) fn draw_job(alloc: Global, draws: &mut Pcg32) -> Result<Job, Stop> {
+    let text = draw_text(alloc, draws)?;
     job_of(alloc, text.as_str())
 }
 
@@ -38,7 +44,8 @@ pub(crate) fn draw_jobs(alloc: Global, draws: &mut Pcg32, count: u8) -> Result<V
     Ok(jobs)
 }
 
-fn job_of(alloc: Global, text: &str) -> Result<Job, Stop> {
+/// The job of a text.
+pub(crate) fn job_of(alloc: Global, text: &str) -> Result<Job, Stop> {
     let Ok(value) = Value::from_str(alloc, text) else {
         return Err(Stop::Invalid);
     };

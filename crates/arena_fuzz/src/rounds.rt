@@ -5,7 +5,7 @@ use crate::pairs::Pair;
 use crate::stops::Stop;
 use crate::tallies::Tally;
 use crate::tenants::draw_tenant;
-use job_language::{Answer, Job, Reply, Request, Step};
+use job_language::{Answer, Job, Level, Reply, Request, Step};
 use rand::RngExt;
 use rand_pcg::Pcg32;
 use std::alloc::Global;
@@ -124,7 +124,7 @@ impl Round {
 /// Takes the round of a seed.
 pub(crate) fn run_round(alloc: Global, seed: u64, tally: &mut Tally) -> Result<(), Stop> {
     let mut draws = Pcg32::new(seed, 54);
-    let Some(config) = draw_tenant(&mut draws) else {
+    let Some(config) = draw_tenant(&mut draws, "acme", Level::Normal) else {
         return Err(Stop::Invalid);
     };
     let jobs = draw_jobs(alloc, &mut draws, 4)?;
