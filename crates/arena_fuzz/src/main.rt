@@ -50,7 +50,7 @@ impl Subject {
         }
     }
 
-    /// How the rounds are called.
+    /// What the rounds are called.
     fn noun(self) -> &'static str {
         match self {
             Subject::Tenants => "rounds",

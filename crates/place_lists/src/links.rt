@@ -25,7 +25,7 @@ impl Model for Links {
 }
 
 impl Links {
-    /// So many lists, each empty.
+    /// `lists` empty lists over `places` places.
     pub(crate) fn new(alloc: Global, lists: usize, places: usize) -> Result<Links, AllocError>
         ensures { IfOk result (λ links. links ≡ record { heads = replicate lists None; tails = replicate lists None; next = replicate places None; previous = replicate places None }) }
     {

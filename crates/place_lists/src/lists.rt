@@ -25,7 +25,7 @@ impl Model for Lists {
 }
 
 impl Lists {
-    /// So many lists over so many places, each empty.
+    /// `lists` empty lists over `places` places. It fails only if an allocation failed.
     pub fn new(alloc: Global, lists: usize, places: usize) -> Result<Lists, AllocError>
         ensures count { IfOk result (λ made. length made.lists ≡ lists) }
         ensures places { IfOk result (λ made. made.places ≡ places) }
@@ -76,7 +76,7 @@ impl Lists {
         self.links.tail(list)
     }
 
-    /// The place that comes after one in the list that it is in.
+    /// The place that comes after one in the list that it is in; nothing is promised of a place in none.
     pub fn next(&self, place: usize) -> Option<usize>
         requires { place < self.now.places }
         ensures { (l : ℕ) → IsIn (list_in self.now l) place → result ≡ after place (list_in self.now l) }

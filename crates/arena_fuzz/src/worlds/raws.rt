@@ -35,7 +35,7 @@ impl Drawn {
 }
 
 /// Draws a step of a master, a worker or the market, most of which are allowed now: masters and pushes are of
-/// that tenant, which has so many slots for masters. It may be missing, and so may a slot.
+/// that tenant, which has `reserved` slots for masters. It may be missing, and so may a slot.
 pub(crate) fn draw_move(
     draws: &mut Pcg32,
     market: &PlainMarket,

@@ -125,7 +125,7 @@ impl Round {
         Ok(())
     }
 
-    /// Moves until nothing is left to do, or for so long.
+    /// Moves until nothing is left to do, `MOVES` times at most.
     fn work_off(&mut self, tally: &mut Tally) -> Result<(), Stop> {
         for _ in 0..MOVES {
             if self.beside.is_at_rest() {
@@ -136,7 +136,7 @@ impl Round {
         Ok(())
     }
 
-    /// Submits the first job so often to the first tenant.
+    /// Submits the first job `FLOOD` times to the first tenant.
     fn flood(&mut self, tally: &mut Tally) -> Result<(), Stop> {
         for _ in 0..FLOOD {
             let Some(spelled) = self.jobs.first() else {
