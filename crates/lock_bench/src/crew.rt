@@ -110,6 +110,24 @@ impl Caller<'_> {
         slot.give_home();
         seat
     }
+
+    /// Submits two jobs, each of which calls a worker, and gives the seat back.
+    pub(crate) fn submit_both<R: Wait>(self, rt: &R, jobs: (Job, Job)) -> Seat
+        ensures { result.tenant ≡ self.entry.seat.tenant }
+    {
+        let Caller {
+            post: Post { shared, pass },
+            mut seat,
+        } = self;
+        let (first, second) = jobs;
+        let mut slots = TenantSlots::new(rt, slice::from_ref(&shared.door));
+        let mut ringer = Ringer::new(rt, &shared.bell, &shared.queues, pass);
+        let (_reply, due) = slots.ask(&mut seat, Request::Submit(first));
+        ringer.call_due(due);
+        let (_reply, due) = slots.ask(&mut seat, Request::Submit(second));
+        ringer.call_due(due);
+        seat
+    }
 }
 
 /// Serves calls until the bell tells to stop.
