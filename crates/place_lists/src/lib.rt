@@ -7,4 +7,4 @@ mod lists;
 #[cfg(test)]
 mod tests;
 
-pub use lists::Lists;
+pub use lists::{Lists, Places};

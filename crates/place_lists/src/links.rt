@@ -39,26 +39,30 @@ impl Links {
 
     /// The first place of a list.
     pub(crate) fn head(&self, list: usize) -> Option<usize>
-        requires { list < length self.now.heads }
         ensures { result ≡ link_at self.now.heads list }
     {
-        self.heads[list]
+        *self.heads.get(list)?
     }
 
     /// The last place of a list.
     pub(crate) fn tail(&self, list: usize) -> Option<usize>
-        requires { list < length self.now.tails }
         ensures { result ≡ link_at self.now.tails list }
     {
-        self.tails[list]
+        *self.tails.get(list)?
     }
 
     /// What comes after a place in the list that it is in.
     pub(crate) fn next(&self, place: usize) -> Option<usize>
-        requires { place < length self.now.next }
         ensures { result ≡ link_at self.now.next place }
     {
-        self.next[place]
+        *self.next.get(place)?
+    }
+
+    /// The number of places.
+    pub(crate) fn places(&self) -> usize
+        ensures { result ≡ length self.now.next }
+    {
+        self.next.len()
     }
 
     /// Puts a place that is in no list at the end of one.

@@ -1,6 +1,7 @@
 // Lists of places.
 ghost use Rattle.std.specs.Prelude.{◌≡◌, ◌≢◌, [], ◌∷◌, ◌++◌, ◌<◌, ◌≤◌, ℕ, IfOk, length};
-ghost use Rattle.place_lists.specs.Lists.{list_in, IsIn, first_of, last_of, after, without};
+ghost use Rattle.std.specs.Iterator.{YieldsFirst, item_count};
+ghost use Rattle.place_lists.specs.Lists.{list_in, IsIn, first_of, last_of, without};
 
 use crate::links::Links;
 use std::alloc::{AllocError, Global};
@@ -60,27 +61,63 @@ impl Lists {
         self.links.leave(list, place);
     }
 
-    /// The first place of a list.
+    /// The first place of a list; a list that is not there is empty.
     pub fn first(&self, list: usize) -> Option<usize>
-        requires { list < length self.now.lists }
         ensures { result ≡ first_of (list_in self.now list) }
     {
         self.links.head(list)
     }
 
-    /// The last place of a list.
+    /// The last place of a list; a list that is not there is empty.
     pub fn last(&self, list: usize) -> Option<usize>
-        requires { list < length self.now.lists }
         ensures { result ≡ last_of (list_in self.now list) }
     {
         self.links.tail(list)
     }
 
-    /// The place that comes after one in the list that it is in; nothing is promised of a place in none.
-    pub fn next(&self, place: usize) -> Option<usize>
-        requires { place < self.now.places }
-        ensures { (l : ℕ) → IsIn (list_in self.now l) place → result ≡ after place (list_in self.now l) }
+    /// The places of a list, from the first to the last.
+    pub fn iter(&self, list: usize) -> Places<'_>
+        ensures { result ≡ list_in self.now list }
     {
-        self.links.next(place)
+        Places {
+            links: &self.links,
+            at: self.links.head(list),
+            left: self.links.places(),
+        }
+    }
+}
+
+/// The places of a list that are still to come.
+#[derive(Drop)]
+pub struct Places<'a> {
+    links: &'a Links,
+    at: Option<usize>,
+    left: usize,
+}
+
+impl<'a> Model for Places<'a> {
+    ghost use Rattle.std.specs.Prelude.{List, ℕ};
+    ghost use Rattle.place_lists.specs.Lists.{walk};
+
+    ghost Value = { List ℕ };
+
+    ghost view = { λ p. walk p.left p.links.now.next p.at };
+}
+
+impl<'a> Iterator for Places<'a> {
+    type Item = usize;
+
+    ghost next_gives = { YieldsFirst (λ s. s) };
+
+    ghost remaining = { item_count (λ s. s) };
+
+    fn next(&mut self) -> Option<usize> {
+        if self.left == 0 {
+            return None;
+        }
+        let place = self.at?;
+        self.left -= 1;
+        self.at = self.links.next(place);
+        Some(place)
     }
 }

@@ -27,15 +27,18 @@ fn a_place_leaves_from_the_middle_and_from_the_ends(rt: HostRuntime) -> Result<(
     lists.push(0, 1);
     lists.push(0, 4);
     assert_eq!(rt; lists.first(0), Some(3));
-    assert_eq!(rt; lists.next(3), Some(1));
-    assert_eq!(rt; lists.next(1), Some(4));
-    assert_eq!(rt; lists.next(4), None);
     assert_eq!(rt; lists.last(0), Some(4));
+    let mut places = lists.iter(0);
+    assert_eq!(rt; places.next(), Some(3));
+    assert_eq!(rt; places.next(), Some(1));
+    assert_eq!(rt; places.next(), Some(4));
+    assert_eq!(rt; places.next(), None);
     lists.remove(0, 1);
-    assert_eq!(rt; lists.next(3), Some(4));
+    let mut places = lists.iter(0);
+    assert_eq!(rt; places.next(), Some(3));
+    assert_eq!(rt; places.next(), Some(4));
     lists.remove(0, 4);
     assert_eq!(rt; lists.last(0), Some(3));
-    assert_eq!(rt; lists.next(3), None);
     lists.remove(0, 3);
     assert_eq!(rt; lists.first(0), None);
     assert_eq!(rt; lists.last(0), None);
@@ -53,7 +56,11 @@ fn lists_are_apart(rt: HostRuntime) -> Result<(), Fail> {
     assert_eq!(rt; lists.first(0), Some(4));
     assert_eq!(rt; lists.last(0), Some(4));
     assert_eq!(rt; lists.first(1), Some(2));
-    assert_eq!(rt; lists.next(2), Some(0));
     assert_eq!(rt; lists.last(1), Some(0));
+    assert_eq!(rt; lists.first(2), None);
+    let mut places = lists.iter(1);
+    assert_eq!(rt; places.next(), Some(2));
+    assert_eq!(rt; places.next(), Some(0));
+    assert_eq!(rt; places.next(), None);
     Ok(())
 }

@@ -1,1 +1,7 @@
 pub mod Picks
+pub mod Rows
+pub mod Keyed
+pub mod Held
+pub mod Put
+pub mod Chosen
+pub mod Leave

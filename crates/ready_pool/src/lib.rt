@@ -1,6 +1,7 @@
 //! The rows that wait to be started, and which of them a slot takes next.
 #![tactic(auto)]
 
+mod families;
 mod pool;
 #[cfg(test)]
 mod tests;

@@ -1,9 +1,13 @@
 // The pool of the rows that wait.
-ghost use Rattle.std.specs.Prelude.{◌≡◌, ◌≢◌, ◌<◌, ◌≤◌, ◌==◌, All, Any, IfOk, IfSome, length};
-ghost use Rattle.std.specs.Option.{ForSome};
-ghost use Rattle.ready_pool.specs.Ready.{AreRising, empty, with_row, is_waiting, without, IsRegionEntered, is_allowed, pick};
+ghost use Rattle.std.specs.Prelude.{◌≡◌, ◌≢◌, ◌<◌, ◌≤◌, ◌==◌, All, Any, IfOk, IfSome, Some, None, filter, length};
+ghost use Rattle.std.specs.Option.{ForSome, option_map};
+ghost use Rattle.ready_pool.specs.Ready.{AreRising, empty, with_row, is_waiting, without, IsRegionEntered, is_made_on, first_of, last_or, pick};
+ghost use Rattle.ready_pool.specs.Held.{find, number_of, place_of, row_at};
+ghost use Rattle.region_tag.specs.Region.{Table};
 
+use crate::families::{join, leave};
 use job_language::{Isolation, MAX_ROWS, MAX_SLOTS};
+use place_lists::Lists;
 use region_tag::{Regions, RowId};
 use std::alloc::{AllocError, Global};
 use std::marker::Model;
@@ -18,24 +22,32 @@ pub struct Waiting {
     pub region: Option<RowId>,
 }
 
-/// The rows of a tenant that wait to be started, in order of making.
+/// The rows of a tenant that wait to be started, in order of making. No call takes memory but `new`,
+/// and none walks over the rows but `pick` for a waiter in mode within.
 #[derive(Drop)]
 pub struct Pool {
     isolation: Isolation,
-    limit: usize,
     slots: usize,
-    rows: Vec<Waiting>,
+    // By place.
+    rows: Vec<Option<Waiting>>,
+    // Places in order of making: of all rows, by the slot on which a row was made, by the place of its
+    // region, and by both.
+    all: Lists,
+    by_slot: Lists,
+    by_region: Lists,
+    by_both: Lists,
 }
 
 impl Model for Pool {
-    ghost use Rattle.std.specs.Prelude.{◌≤◌, vec_capacity};
-    ghost use Rattle.ready_pool.specs.Ready.{Ready, AreRising};
+    ghost use Rattle.std.specs.Prelude.{length};
+    ghost use Rattle.ready_pool.specs.Ready.{Ready};
+    ghost use Rattle.ready_pool.specs.Held.{IsHeld, rows_of};
 
     ghost Value = { Ready };
 
-    ghost view = { λ p. record { isolation = p.isolation; limit = p.limit; slots = p.slots; rows = p.rows.items } };
+    ghost view = { λ p. record { isolation = p.isolation; limit = length p.rows.items; slots = p.slots; rows = rows_of p.rows.items p.all } };
 
-    ghost invariant = { λ p. (p.limit ≤ vec_capacity p.rows) × AreRising p.rows.items };
+    ghost invariant = { λ p. IsHeld (length p.rows.items) (record { slots = p.slots; table = p.rows.items; all = p.all; by_slot = p.by_slot; by_region = p.by_region; by_both = p.by_both }) (rows_of p.rows.items p.all) };
 }
 
 impl Pool {
@@ -52,9 +64,12 @@ impl Pool {
     {
         Ok(Pool {
             isolation,
-            limit: rows,
             slots,
-            rows: Vec::with_capacity(alloc, rows)?,
+            rows: vec![in alloc; None; rows]?,
+            all: Lists::new(alloc, 1, rows)?,
+            by_slot: Lists::new(alloc, slots, rows)?,
+            by_region: Lists::new(alloc, rows, rows)?,
+            by_both: Lists::new(alloc, rows * slots, rows)?,
         })
     }
 
@@ -80,13 +95,18 @@ impl Pool {
         requires regions { All (λ w. IsRegionEntered regions.now w.region) self.old.rows }
         ensures { self.new ≡ with_row self.old (record { row = row; made_on = made_on; region = region }) }
     {
-        let waiting = Waiting {
+        let place = row.place;
+        let region_place = place_of(region);
+        let both = number_of(self.slots, made_on, region_place);
+        join(&mut self.all, Some(0), place);
+        join(&mut self.by_slot, made_on, place);
+        join(&mut self.by_region, region_place, place);
+        join(&mut self.by_both, both, place);
+        self.rows[place] = Some(Waiting {
             row,
             made_on,
             region,
-        };
-        let pushed = self.rows.push(waiting);
-        prove!(pushed.is_ok());
+        });
     }
 
     /// The row that a slot takes next, of those that it may take while its topmost row is in a region:
@@ -98,17 +118,11 @@ impl Pool {
         ensures there { IfSome result (λ row. Any (λ w. w.row ≡ row) self.now.rows) }
         ensures rising { AreRising self.now.rows }
     {
-        let mut oldest = None;
-        let mut newest = None;
-        for waiting in &self.rows {
-            if is_allowed(self.isolation, regions, region, waiting.region) {
-                oldest = oldest.or(Some(waiting.row));
-                if waiting.made_on == Some(slot) {
-                    newest = Some(waiting.row);
-                }
-            }
+        match (region, self.isolation) {
+            (None, _) => self.newest_on(slot).or(self.oldest()),
+            (Some(region), Isolation::Exact) => self.pick_in(slot, region),
+            (Some(region), Isolation::Within) => self.pick_within(slot, region, regions),
         }
-        newest.or(oldest)
     }
 
     /// Takes out a row that has started or was dropped, and returns whether the row was there.
@@ -116,33 +130,110 @@ impl Pool {
         ensures there { result ≡ is_waiting self.old row }
         ensures rest { self.new ≡ without self.old row }
     {
-        let there = self.rows.iter().any(|waiting| waiting.row == row);
-        self.rows.retain(|waiting| waiting.row != row);
-        there
+        let place = row.place;
+        let Some(waiting) = find(&self.rows, row) else {
+            return false;
+        };
+        let region_place = place_of(waiting.region);
+        let both = number_of(self.slots, waiting.made_on, region_place);
+        leave(&mut self.all, Some(0), place);
+        leave(&mut self.by_slot, waiting.made_on, place);
+        leave(&mut self.by_region, region_place, place);
+        leave(&mut self.by_both, both, place);
+        self.rows[place] = None;
+        true
     }
 
     /// Whether no row waits.
     pub fn is_empty(&self) -> bool
         ensures { result ≡ (length self.now.rows == 0) }
     {
-        self.rows.is_empty()
+        self.all.first(0).is_none()
+    }
+
+    /// The oldest row.
+    fn oldest(&self) -> Option<RowId>
+        ensures { result ≡ first_of self.now.rows }
+    {
+        let place = self.all.first(0)?;
+        Some(row_at(&self.rows, place)?.row)
+    }
+
+    /// The newest row that was made on a slot.
+    fn newest_on(&self, slot: usize) -> Option<RowId>
+        ensures { result ≡ last_or None (filter (λ w. is_made_on slot w.made_on) self.now.rows) }
+    {
+        let place = self.by_slot.last(slot)?;
+        Some(row_at(&self.rows, place)?.row)
+    }
+
+    /// The pick for a waiter in a region in mode exact.
+    fn pick_in(&self, slot: usize, region: RowId) -> Option<RowId>
+        requires { slot < self.now.slots }
+        ensures { (regions : Table) → self.now.isolation ≡ Isolation.Exact → result ≡ pick self.now regions slot (Some region) }
+    {
+        let first = self.by_region.first(region.place)?;
+        let oldest = row_at(&self.rows, first)?;
+        // The place may be another region's by now.
+        if oldest.region != Some(region) {
+            return None;
+        }
+        let newest = self.by_both.last(region.place * self.slots + slot);
+        Some(row_at(&self.rows, newest.unwrap_or(first))?.row)
+    }
+
+    /// The pick for a waiter in a region in mode within.
+    fn pick_within(&self, slot: usize, region: RowId, regions: &Regions) -> Option<RowId>
+        ensures { self.now.isolation ≡ Isolation.Within → result ≡ pick self.now regions.now slot (Some region) }
+    {
+        let mut oldest = None;
+        let mut newest = None;
+        for place in self.all.iter(0) {
+            if let Some(waiting) = row_at(&self.rows, place) {
+                if regions.within(waiting.region, region) {
+                    oldest = oldest.or(Some(waiting.row));
+                    if waiting.made_on == Some(slot) {
+                        newest = Some(waiting.row);
+                    }
+                }
+            }
+        }
+        newest.or(oldest)
     }
 }
 
-/// Whether a slot whose topmost row is in a region may take a row of another region.
-fn is_allowed(
-    isolation: Isolation,
-    regions: &Regions,
-    top: Option<RowId>,
-    region: Option<RowId>,
-) -> bool
-    ensures { result ≡ is_allowed isolation regions.now top region }
+/// The row that waits at a place.
+fn row_at(rows: &[Option<Waiting>], place: usize) -> Option<Waiting>
+    ensures { result ≡ row_at rows.now place }
 {
-    let Some(top) = top else {
-        return true;
-    };
-    match isolation {
-        Isolation::Exact => Regions::same(Some(top), region),
-        Isolation::Within => regions.within(region, top),
+    *rows.get(place)?
+}
+
+/// The row of a handle, if it waits.
+fn find(rows: &[Option<Waiting>], row: RowId) -> Option<Waiting>
+    ensures { result ≡ find rows.now row }
+{
+    let waiting = row_at(rows, row.place)?;
+    if waiting.row != row {
+        return None;
     }
+    Some(waiting)
+}
+
+/// The place of a region.
+fn place_of(region: Option<RowId>) -> Option<usize>
+    ensures { result ≡ place_of region }
+{
+    Some(region?.place)
+}
+
+/// The number of the list of a slot and the place of a region; `None` if one of them is missing.
+fn number_of(slots: usize, slot: Option<usize>, place: Option<usize>) -> Option<usize>
+    requires slots { slots ≤ MAX_SLOTS }
+    requires slot { ForSome slot (λ s. s < slots) }
+    requires place { ForSome place (λ p. p < MAX_ROWS) }
+    ensures { result ≡ number_of slots slot place }
+{
+    let (slot, place) = slot.zip(place)?;
+    Some(place * slots + slot)
 }

@@ -104,3 +104,24 @@ fn waiters_pick_within_their_region(rt: HostRuntime) -> Result<(), Fail> {
     assert_eq!(rt; pool.pick(1, None, &regions), Some(third));
     Ok(())
 }
+
+#[test]
+fn an_ended_region_is_told_from_another_at_its_place(rt: HostRuntime) -> Result<(), Fail> {
+    let later = RowId {
+        number: 3,
+        place: OUTER.place,
+    };
+    let row = RowId {
+        number: 4,
+        place: 0,
+    };
+    let mut pool = pool_of(rt.alloc(), Isolation::Exact)?;
+    let mut regions = no_regions(rt.alloc())?;
+    regions.enter(OUTER, None, true);
+    regions.exit(OUTER);
+    regions.enter(later, None, true);
+    pool.put(row, Some(0), Some(later), &regions);
+    assert_eq!(rt; pool.pick(0, Some(OUTER), &regions), None);
+    assert_eq!(rt; pool.pick(0, Some(later), &regions), Some(row));
+    Ok(())
+}

@@ -1,10 +1,35 @@
-use Rattle.std.proofs.Common.{◌≡◌, arith}
-use Rattle.std.proofs.lemmas.Grind.{common_steps}
-use Rattle.ready_pool.specs.Ready.{pick}
+use Rattle.std.proofs.Common.{◌≡◌, Some, None, sym, ◌∙◌, ap, filter, subst}
+use Rattle.std.specs.Prelude.{Any, IfSome}
+use Rattle.std.specs.Option.{option_or}
+use Rattle.ready_pool.specs.declared.pool.Waiting.{Waiting}
+use Rattle.ready_pool.specs.Ready.{Ready, is_made_on, last_or, pick}
 use Rattle.ready_pool.proofs.Picks.{picked_row_waits}
+use Rattle.ready_pool.proofs.Chosen.{outside}
 use Rattle.ready_pool.proofs.pool.Pool.pick.Goals as goal
 
-pub returns-clause-there : goal.returns-clause-there
-returns-clause-there c =
-    let value : c.or.result ≡ pick c.args.self.now c.args.regions.now c.args.slot c.args.region = grind (arith, common_steps) in
-    rw value (picked_row_waits c.args.self.now c.args.regions.now c.args.slot c.args.region)
+pub returns-in-None-default-clause-value : goal.returns-in-None-default-clause-value
+returns-in-None-default-clause-value c =
+    let pool = c.args.self.now in
+    let table = c.args.regions.now in
+    c.or.ensures ∙ ap (λ o. option_or o c.oldest.result) c.newest_on.ensures ∙ ap (option_or (last_or None (filter (λ (w : Waiting). is_made_on c.args.slot w.made_on) pool.rows))) c.oldest.ensures ∙ outside pool table c.args.slot ∙ ap (pick pool table c.args.slot) (sym c.in-None-default.is-0)
+
+pub returns-in-None-default-clause-there : goal.returns-in-None-default-clause-there
+returns-in-None-default-clause-there c =
+    let pool = c.args.self.now in
+    let table = c.args.regions.now in
+    let value : c.or.result ≡ pick pool table c.args.slot None = c.or.ensures ∙ ap (λ o. option_or o c.oldest.result) c.newest_on.ensures ∙ ap (option_or (last_or None (filter (λ (w : Waiting). is_made_on c.args.slot w.made_on) pool.rows))) c.oldest.ensures ∙ outside pool table c.args.slot in
+    subst (λ result. IfSome result (λ row. Any (λ (w : Waiting). w.row ≡ row) pool.rows)) (sym value) (picked_row_waits pool table c.args.slot None)
+
+pub returns-in-Some-Exact-clause-there : goal.returns-in-Some-Exact-clause-there
+returns-in-Some-Exact-clause-there c =
+    let pool = c.args.self.now in
+    let table = c.args.regions.now in
+    let value = c.pick_in.ensures table (ap (λ (p : Ready). p.isolation) (sym c.self.view_is) ∙ c.in-Some-Exact.is-1) in
+    subst (λ result. IfSome result (λ row. Any (λ (w : Waiting). w.row ≡ row) pool.rows)) (sym value) (picked_row_waits pool table c.args.slot (Some c.in-Some-Exact.region))
+
+pub returns-in-Some-Within-clause-there : goal.returns-in-Some-Within-clause-there
+returns-in-Some-Within-clause-there c =
+    let pool = c.args.self.now in
+    let table = c.args.regions.now in
+    let value = c.pick_within.ensures (ap (λ (p : Ready). p.isolation) (sym c.self.view_is) ∙ c.in-Some-Within.is-1) in
+    subst (λ result. IfSome result (λ row. Any (λ (w : Waiting). w.row ≡ row) pool.rows)) (sym value) (picked_row_waits pool table c.args.slot (Some c.in-Some-Within.region))
