@@ -4,7 +4,7 @@ use Rattle.std.specs.Prelude.{slice_set}
 use Rattle.std.proofs.lemmas.Bool.Decides.{eqb_tells}
 use Rattle.std.proofs.lemmas.List.{get_or-set_same, get_or-set_other, length-set}
 use Rattle.place_lists.specs.Links.{link_at, set_at}
-use Rattle.place_lists.specs.Lists.{IsIn, first_of, after, without, walk}
+use Rattle.place_lists.specs.Lists.{IsIn, without, walk}
 use Rattle.place_lists.specs.Linked.{IsRow, IsOnce}
 
 pub set_at-other : (links : List (Option ℕ)) (at to : Option ℕ) (x : ℕ) → (at ≡ Some x → ⊥) → link_at (set_at links at to) x ≡ link_at links x
@@ -81,20 +81,6 @@ before-there next previous from (x ∷ xs) c y r (inr i) e =
     let both : Some there.0 ≡ Some y = sym there.1.0 ∙ e in
     let same : there.0 ≡ y = cc in
     subst (λ t. IsIn (x ∷ xs) t) same there.1.1
-
-pub first-row : (next previous : List (Option ℕ)) (back from : Option ℕ) (xs : List ℕ) → IsRow next previous back from xs → from ≡ first_of xs
-first-row next previous back from [] r = r
-first-row next previous back from (x ∷ xs) r = r.0
-
-pub after-row : (next previous : List (Option ℕ)) (back from : Option ℕ) (xs : List ℕ) (c : ℕ) → IsRow next previous back from xs → IsIn xs c → IsOnce xs → link_at next c ≡ after c xs
-after-row next previous back from [] c r i o = absurd i
-after-row next previous back from (x ∷ xs) c r i o =
-    elim (eqb_tells x c) [
-      | inl h ↦ ap (link_at next) (sym h.1) ∙ first-row next previous (Some x) (link_at next x) xs r.2 ∙ ap (λ b. if b then first_of xs else after c xs) (sym h.0)
-      | inr h ↦
-          let later : IsIn xs c = elim i [ inl e ↦ absurd (h.1 e) | inr j ↦ j ] in
-          after-row next previous (Some x) (link_at next x) xs c r.2 later o.1 ∙ ap (λ b. if b then first_of xs else after c xs) (sym h.0)
-    ]
 
 length-once : (c : ℕ) (xs : List ℕ) → IsOnce xs → length xs ≤ length (without c xs) + 1
 length-once c [] o = omega arith

@@ -1,5 +1,5 @@
 -- Lists of places.
-use Rattle.std.specs.Prelude.{◌≡◌, ◌⊎◌, ◌==◌, ℕ, zero, suc, not, if◌then◌else◌, List, [], ◌∷◌, Option, Some, None, length, map, filter, slice_index_or}
+use Rattle.std.specs.Prelude.{◌≡◌, ◌⊎◌, ◌==◌, ℕ, zero, suc, not, List, [], ◌∷◌, Option, Some, None, length, map, filter, slice_index_or}
 use Rattle.place_lists.specs.Links.{Links, link_at}
 
 -- over how many places there are lists, and what is in each list
@@ -25,11 +25,6 @@ last_from back (x ∷ xs) = last_from (Some x) xs
 
 abbrev pub last_of : List ℕ → Option ℕ
 last_of xs = last_from None xs
-
--- what comes after a place
-abbrev pub after : ℕ → List ℕ → Option ℕ
-after place [] = None
-after place (x ∷ xs) = if x == place then first_of xs else after place xs
 
 abbrev pub without : ℕ → List ℕ → List ℕ
 without place xs = filter (λ x. not (x == place)) xs
