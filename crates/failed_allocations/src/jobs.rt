@@ -9,7 +9,7 @@ pub(crate) const FIBONACCI: &str =
     r#"{"args":[6,0],"fuel":5000,"procs":[[["set",2,2],["lt",3,0,2],["jz",3,4],["ret",0],["isolate",6,1,0,0],["set",2,1],["sub",3,0,2],["spawn",0,0,3,1],["sub",3,3,2],["spawn",0,0,3,1],["wait",4,5,0],["ret",4]],[["store",0,0],["post",2,0,0],["ret",0]],[["ret",0]]]}"#;
 
 /// The same without regions, so that it has a serial value.
-const SERIAL: &str =
+pub(crate) const SERIAL: &str =
     r#"{"args":[6,0],"fuel":5000,"procs":[[["set",2,2],["lt",3,0,2],["jz",3,4],["ret",0],["set",2,1],["sub",3,0,2],["spawn",0,0,3,1],["sub",3,3,2],["spawn",0,0,3,1],["wait",4,5,0],["ret",4]]]}"#;
 
 const TENANT: &str =

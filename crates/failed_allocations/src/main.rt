@@ -1,6 +1,6 @@
-//! Makes each call of the evaluator, of an arena, of a world and of a tenant's door that takes memory, and
-//! makes it again if an allocation failed, and prints the answers. What it prints is the same whichever
-//! allocation was refused.
+//! Makes each call of the evaluator, of an arena, of a world, of a session and of a tenant's door that takes
+//! memory, and makes it again if an allocation failed, and prints the answers. What it prints is the same
+//! whichever allocation was refused.
 #![tactic(auto)]
 
 mod arenas;
@@ -8,6 +8,7 @@ mod doors;
 mod evaluators;
 mod jobs;
 mod retries;
+mod sessions;
 mod worlds;
 
 use evaluators::{checked, run_whole, serial_value, stepped};
@@ -24,6 +25,7 @@ fn main(rt: HostRuntime) -> io::Result<()> {
     print_eight(&rt, "arena, execute", arenas::executed(alloc))?;
     print_eight(&rt, "world, submit", worlds::run_whole(alloc))?;
     print_eight(&rt, "world, execute", worlds::applied(alloc))?;
+    print_session(&rt, alloc)?;
     print_doors(&rt, alloc)
 }
 
@@ -35,6 +37,16 @@ fn print_evaluator<R: Print>(rt: &R, alloc: Global) -> io::Result<()> {
     }
     if serial_value(alloc) == Some(8) {
         rt.println("serial: 8")?;
+    }
+    Ok(())
+}
+
+fn print_session<R: Print>(rt: &R, alloc: Global) -> io::Result<()> {
+    if sessions::is_served(alloc) == Some(true) {
+        rt.println("session: served")?;
+    }
+    if let Some(passes) = sessions::passes(alloc) {
+        println!(rt; "queues: {passes} passes")?;
     }
     Ok(())
 }
