@@ -6,6 +6,7 @@ use Rattle.std.specs.Io.KnownBytes.{Appends}
 use Rattle.reply_writer.specs.SerialText.{serial_text}
 use Rattle.reply_writer.specs.declared.serials.SerialAnswer.{SerialAnswer}
 use Rattle.request_reader.specs.Lines.{Line, newline}
+use Rattle.dump_lines.proofs.Parts.{appends_nothing}
 use Rattle.arena_script.specs.Answered.{AnswersAll}
 use Rattle.arena_script.specs.ScriptLines.{line_of, input_lines}
 use Rattle.arena_script.specs.SerialAnswers.{serial_answer, serial_answers}
@@ -23,10 +24,6 @@ appends_two (Some x) None after line rest first next = absurd first
 appends_two (Some x) (Some y) None line rest first next = absurd next
 appends_two (Some x) (Some y) (Some z) line rest first next =
     next ∙ ap (λ t. t ++ rest) first ∙ append_assoc x (line ++ newline ∷ []) rest ∙ ap (λ t. x ++ t) (append_assoc line (newline ∷ []) rest)
-
-pub appends_nothing : (known : Option (List ℕ)) → Appends known known []
-appends_nothing None = tt
-appends_nothing (Some x) = sym (append-nil x)
 
 -- An input that is not the end is one line.
 pub input_lines-line : (i : Input) (text : List ℕ) → i ≢ input.End → input_lines i text ≡ line_of i text ∷ []

@@ -6,28 +6,18 @@ use Rattle.std.specs.Io.KnownBytes.{Appends}
 use Rattle.reply_writer.specs.SerialText.{serial_text}
 use Rattle.reply_writer.specs.declared.serials.SerialAnswer.{SerialAnswer}
 use Rattle.request_reader.specs.Lines.{Line, whole, too_long, newline}
-use Rattle.arena_script.specs.Answered.{Answered, AnswersPart, AnswersLater, AppendsFewer, AppendsPart, StartsFrom}
+use Rattle.dump_lines.specs.Parts.{AppendsFewer, AppendsPart}
+use Rattle.dump_lines.proofs.Parts.{appends_nothing, part_none}
+use Rattle.arena_script.specs.Answered.{Answered, AnswersPart, AnswersLater, StartsFrom}
 use Rattle.arena_script.specs.ScriptLines.{line_of, input_lines}
 use Rattle.arena_script.specs.SerialAnswers.{serial_answer, serial_answers}
 use Rattle.arena_script.specs.declared.inputs.Input.{Input}
 use Rattle.arena_script.specs.declared.inputs.Input.TheVariants as input
-use Rattle.arena_script.proofs.Answering.{appends_nothing, appends_two, input_lines-line}
+use Rattle.arena_script.proofs.Answering.{appends_two, input_lines-line}
 
 -- Every line can be taken.
 abbrev pub TakesAll : {S : Type 0} → (takes : S → Line → List ℕ → S → Type 0) → Type 0
 TakesAll {S = S} takes = (line : Line) (s : S) → (said : List ℕ) × (mid : S) × takes s line said mid
-
--- Nothing is written yet.
-pub part_none : (known : Option (List ℕ)) (text : List ℕ) → AppendsPart known known text
-part_none known text = record { count = 0; appended = appends_nothing known }
-
--- All is written.
-pub part_all : (before after : Option (List ℕ)) (text : List ℕ) → Appends before after text → AppendsPart before after text
-part_all before after text h = record { count = length text; appended = subst (λ (t : List ℕ). Appends before after t) (sym (take_all (length text) text (omega arith))) h }
-
--- Fewer bytes than all are written.
-pub part_fewer : (before after : Option (List ℕ)) (text : List ℕ) → AppendsFewer before after text → AppendsPart before after text
-part_fewer before after text h = record { count = h.count; appended = h.appended }
 
 -- A line is written, and a part of the rest.
 part_on : (before middle after : Option (List ℕ)) (line rest : List ℕ) → Appends before middle (line ++ newline ∷ []) → AppendsPart middle after rest → AppendsPart before after (line ++ newline ∷ rest)

@@ -1,6 +1,7 @@
 -- The bytes that answer the lines of a script of any kind: the answer to each, on a line of its own.
-use Rattle.std.specs.Prelude.{◌≡◌, ℕ, ◌<◌, List, [], ◌∷◌, ◌++◌, length, take, Option, Some, None}
+use Rattle.std.specs.Prelude.{◌≡◌, ℕ, List, [], ◌∷◌, ◌++◌, Option, Some, None}
 use Rattle.std.specs.Io.KnownBytes.{Appends}
+use Rattle.dump_lines.specs.Parts.{AppendsPart}
 use Rattle.request_reader.specs.Lines.{Line, whole, too_long, newline}
 
 -- each line is taken in turn, and leads from one state to the next
@@ -11,17 +12,6 @@ Answered {S = S} takes (line ∷ lines) old text new = (said : List ℕ) × (mid
 -- the answers are what a writer gets
 abbrev pub AnswersAll : {S : Type 0} → (takes : S → Line → List ℕ → S → Type 0) → List Line → S → Option (List ℕ) → Option (List ℕ) → S → Type 0
 AnswersAll {S = S} takes lines old before after new = (text : List ℕ) × Answered takes lines old text new × Appends before after text
-
--- some of the bytes, from the first on
-pub record AppendsPart (before after : Option (List ℕ)) (text : List ℕ) : Type 0 where
-  pub count : ℕ
-  pub appended : Appends before after (take count text)
-
--- fewer than all of them
-pub record AppendsFewer (before after : Option (List ℕ)) (text : List ℕ) : Type 0 where
-  pub count : ℕ
-  pub fewer : count < length text
-  pub appended : Appends before after (take count text)
 
 -- a part of what answers all lines
 pub record AnswersPart {S : Type 0} (takes : S → Line → List ℕ → S → Type 0) (lines : List Line) (old : S) (before after : Option (List ℕ)) : Type 0 where

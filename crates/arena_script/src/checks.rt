@@ -2,7 +2,7 @@
 ghost use Rattle.std.specs.Prelude.{◌≡◌, Err, IsSome, IfErr, IfOk, OnOk, string_bytes};
 ghost use Rattle.arena_script.specs.CheckEnds.{IsCheckFault};
 ghost use Rattle.arena_script.specs.DumpData.{dump_of, TellsVerdict, TellsBadLine};
-ghost use Rattle.arena_script.specs.Answered.{AppendsPart};
+ghost use Rattle.dump_lines.specs.Parts.{AppendsPart};
 ghost use Rattle.arena_script.specs.DumpText.{told_text};
 ghost use Rattle.arena_script.specs.ScriptLines.{lines_in};
 ghost use Rattle.arena_script.specs.VerdictText.{verdict_text, bad_line_text};
@@ -15,7 +15,7 @@ use std::alloc::{AllocError, Global};
 use std::io::{Read, Write};
 
 /// Reads a dump, and writes its verdict, or the number of its first bad line.
-#[tactic(auto, using(crate::proofs::Parts::part_none, crate::proofs::Parts::part_all, crate::proofs::Parts::part_fewer))]
+#[tactic(auto, using(dump_lines::proofs::Parts::part_none, dump_lines::proofs::Parts::part_all, dump_lines::proofs::Parts::part_fewer))]
 pub(crate) fn check_dump<R: Read, W: Write>(
     alloc: Global,
     reader: &mut R,

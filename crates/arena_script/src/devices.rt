@@ -2,7 +2,7 @@
 ghost use Rattle.std.specs.Prelude.{◌≡◌, ◌≢◌, ◌<◌, ◌≤◌, ◌++◌, [], unwrap_or, Ok, IsSome, IfOk, OnOk, OnErr};
 ghost use Rattle.std.specs.Io.KnownBytes.{Appends};
 ghost use Rattle.request_reader.specs.Reading.{lines_left, work_left};
-ghost use Rattle.arena_script.specs.Answered.{AppendsFewer};
+ghost use Rattle.dump_lines.specs.Parts.{AppendsFewer};
 ghost use Rattle.arena_script.specs.ScriptLines.{lines_read, WasLost};
 
 use crate::inputs::Input;

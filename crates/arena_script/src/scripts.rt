@@ -9,7 +9,8 @@ ghost use Rattle.arena_script.specs.DumpData.{dump_of, TellsVerdict, TellsBadLin
 ghost use Rattle.arena_script.specs.KnownWords.{are_known_words};
 ghost use Rattle.arena_script.specs.OwnAnswers.{told};
 ghost use Rattle.arena_script.specs.OwnEnds.{are_own_words, IsFault, IsOwnEnd};
-ghost use Rattle.arena_script.specs.Answered.{AnswersAll, AnswersPart, AppendsPart};
+ghost use Rattle.dump_lines.specs.Parts.{AppendsPart};
+ghost use Rattle.arena_script.specs.Answered.{AnswersAll, AnswersPart};
 ghost use Rattle.arena_script.specs.DumpText.{told_text};
 ghost use Rattle.arena_script.specs.RunAnswers.{AnswersRun, HasNoConfig, StartsRun};
 ghost use Rattle.arena_script.specs.RunWords.{are_run_words};

@@ -4,7 +4,7 @@ ghost use Rattle.std.specs.Io.KnownBytes.{Appends};
 ghost use Rattle.serde_json.specs.View.{view};
 ghost use Rattle.job_language.specs.Job.{job_of};
 ghost use Rattle.request_reader.specs.LineAsks.{IsText};
-ghost use Rattle.arena_script.specs.Answered.{AppendsPart};
+ghost use Rattle.dump_lines.specs.Parts.{AppendsPart};
 ghost use Rattle.arena_script.specs.ScriptLines.{line_of, all_lines};
 ghost use Rattle.arena_script.specs.SerialAnswers.{serial_answer, serial_answers, serial_in, serial_of_job, serial_of_read};
 ghost use Rattle.arena_script.specs.SerialEnds.{IsSerialFault};

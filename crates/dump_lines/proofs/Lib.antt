@@ -1,5 +1,6 @@
 mod Appending
 mod Entries
+pub mod Parts
 mod Plain
 mod ReadRequests
 mod ReplyTexts

@@ -1,6 +1,7 @@
 // Writing a whole dump.
 ghost use Rattle.std.specs.Prelude.{◌≡◌, ◌≢◌, ◌++◌, ◌∷◌, [], All, Any, Err, None, OnOk};
 ghost use Rattle.std.specs.Io.KnownBytes.{Appends};
+ghost use Rattle.dump_lines.specs.Parts.{AppendsPart};
 ghost use Rattle.dump_lines.specs.Dumps.{HasLine, dump_text, entries_text, entry_text, first_text, line_text};
 ghost use Rattle.dump_lines.specs.Written.{entry_data};
 ghost use Rattle.dump_lines.specs.declared.whole.DumpFault.TheVariants.{Memory, NoEntry};
@@ -11,7 +12,7 @@ use reply_writer::write_all_of;
 use std::alloc::{AllocError, Global};
 use std::io::Write;
 
-/// Why a dump was not written whole. The lines before were, and the next perhaps in part.
+/// Why a dump was not written whole.
 #[derive(Clone, Copy, Debug, PartialEq, Eq)]
 pub enum DumpFault {
     /// The writer failed.
@@ -30,7 +31,8 @@ impl From<AllocError> for DumpFault {
     }
 }
 
-/// Writes a tenant's dump: its line, and then one for each entry of its history.
+/// Writes a tenant's dump: its line, and then one for each entry of its history. At a fault the writer
+/// has a first part of it.
 pub fn write_dump<W: Write>(
     alloc: Global,
     writer: &mut W,
@@ -38,6 +40,7 @@ pub fn write_dump<W: Write>(
     entries: &[Entry],
 ) -> Result<(), DumpFault>
     ensures written { OnOk result (Appends (W.contents writer.old) (W.contents writer.new) (dump_text config.now entries.now)) }
+    ensures part { AppendsPart (W.contents writer.old) (W.contents writer.new) (dump_text config.now entries.now) }
     ensures all { OnOk result (All HasLine entries.now) }
     ensures entry { result ≡ Err NoEntry → Any (λ e. entry_data e ≡ None) entries.now }
 {
@@ -51,6 +54,7 @@ fn write_first<W: Write>(
     config: &TenantConfig,
 ) -> Result<(), DumpFault>
     ensures written { OnOk result (Appends (W.contents writer.old) (W.contents writer.new) (first_text config.now)) }
+    ensures part { AppendsPart (W.contents writer.old) (W.contents writer.new) (first_text config.now) }
     ensures no_entry { result ≢ Err NoEntry }
 {
     let first = first_line(alloc, config)?;
@@ -63,6 +67,7 @@ fn write_entries<W: Write>(
     entries: &[Entry],
 ) -> Result<(), DumpFault>
     ensures written { OnOk result (Appends (W.contents writer.old) (W.contents writer.new) (entries_text entries.now)) }
+    ensures part { AppendsPart (W.contents writer.old) (W.contents writer.new) (entries_text entries.now) }
     ensures all { OnOk result (All HasLine entries.now) }
     ensures entry { result ≡ Err NoEntry → Any (λ e. entry_data e ≡ None) entries.now }
 {
@@ -74,6 +79,7 @@ fn write_entries<W: Write>(
 
 fn write_entry<W: Write>(alloc: Global, writer: &mut W, entry: &Entry) -> Result<(), DumpFault>
     ensures written { OnOk result (Appends (W.contents writer.old) (W.contents writer.new) (entry_text entry.now)) }
+    ensures part { AppendsPart (W.contents writer.old) (W.contents writer.new) (entry_text entry.now) }
     ensures line { OnOk result (HasLine entry.now) }
     ensures entry { result ≡ Err NoEntry → entry_data entry.now ≡ None }
 {
@@ -84,16 +90,20 @@ fn write_entry<W: Write>(alloc: Global, writer: &mut W, entry: &Entry) -> Result
 }
 
 /// Writes a line and its newline.
+#[tactic(auto, using(crate::proofs::Parts::part_then, crate::proofs::Parts::part_more))]
 fn write_line<W: Write>(writer: &mut W, line: &str) -> Result<(), DumpFault>
     ensures written { OnOk result (Appends (W.contents writer.old) (W.contents writer.new) (line_text line.now)) }
+    ensures part { AppendsPart (W.contents writer.old) (W.contents writer.new) (line_text line.now) }
     ensures no_entry { result ≢ Err NoEntry }
 {
     write_bytes(writer, line.as_bytes())?;
     write_bytes(writer, b"\n")
 }
 
+#[tactic(auto, using(crate::proofs::Parts::part_all))]
 fn write_bytes<W: Write>(writer: &mut W, bytes: &[u8]) -> Result<(), DumpFault>
     ensures written { OnOk result (Appends (W.contents writer.old) (W.contents writer.new) bytes.now) }
+    ensures part { AppendsPart (W.contents writer.old) (W.contents writer.new) bytes.now }
     ensures no_entry { result ≢ Err NoEntry }
 {
     match write_all_of(writer, bytes) {

@@ -1,7 +1,7 @@
 use Rattle.std.proofs.Common.{ℕ, List, Option, IsSome}
 use Rattle.std.specs.Io.KnownBytes.{Appends}
 use Rattle.request_reader.specs.Reading.{work_left}
-use Rattle.arena_script.specs.Answered.{AppendsPart}
+use Rattle.dump_lines.specs.Parts.{AppendsPart}
 use Rattle.arena_script.specs.ScriptLines.{script_lines, all_lines}
 use Rattle.arena_script.specs.SerialAnswers.{serial_answers}
 use Rattle.arena_script.proofs.serials.serial_values.Given as goal

@@ -4,7 +4,9 @@ use Rattle.std.proofs.KnownBytes.{Appends-trans}
 use Rattle.std.proofs.lemmas.List.{drop_more}
 use Rattle.job_language.specs.declared.steps.Entry.{Entry}
 use Rattle.dump_lines.specs.Dumps.{entries_text, entry_text}
+use Rattle.dump_lines.specs.Parts.{AppendsPart}
 use Rattle.dump_lines.proofs.Entries.{lines_on}
+use Rattle.dump_lines.proofs.Parts.{part_then, part_more}
 use Rattle.dump_lines.proofs.whole.write_entries.Goals as goal
 
 pub loop-entry-preserved : goal.loop-entry-preserved
@@ -18,5 +20,20 @@ loop-entry-preserved g c =
           (subst (λ (l : List Entry). Appends (g.W.Write.contents c.loop-entry.writer) after (entries_text l)) (sym (drop_more es i e within))
           (subst (λ (d : Entry). Appends (g.W.Write.contents c.loop-entry.writer) after (entries_text (d ∷ drop (i + 1) es))) c.entry-item.is
           (Appends-trans _ _ after (entry_text e) (entries_text (drop (i + 1) es)) c.in_ok-write_entry.ensures.written more)));
+      part = λ after more. c.loop-entry.invariant.part after
+          (subst (λ (l : List Entry). AppendsPart (g.W.Write.contents c.loop-entry.writer) after (entries_text l)) (sym (drop_more es i e within))
+          (subst (λ (d : Entry). AppendsPart (g.W.Write.contents c.loop-entry.writer) after (entries_text (d ∷ drop (i + 1) es))) c.entry-item.is
+          (part_then _ _ after (entry_text e) (entries_text (drop (i + 1) es)) c.in_ok-write_entry.ensures.written more)));
       lines = lines_on es i e within c.entry-item.is c.in_ok-write_entry.ensures.line c.loop-entry.invariant.lines;
     }
+
+pub returns-in_err-write_entry-clause-part : goal.returns-in_err-write_entry-clause-part
+returns-in_err-write_entry-clause-part g c =
+    let es = c.args.entries.now in
+    let i = c.loop-entry.entry-index in
+    let e = c.entry-item.result in
+    let after = g.W.Write.contents c.write_entry.new.writer in
+    c.loop-entry.invariant.part after
+    (subst (λ (l : List Entry). AppendsPart (g.W.Write.contents c.loop-entry.writer) after (entries_text l)) (sym (drop_more es i e c.loop-entry-test.true))
+    (subst (λ (d : Entry). AppendsPart (g.W.Write.contents c.loop-entry.writer) after (entries_text (d ∷ drop (i + 1) es))) c.entry-item.is
+    (part_more _ after (entry_text e) (entries_text (drop (i + 1) es)) c.write_entry.ensures.part)))

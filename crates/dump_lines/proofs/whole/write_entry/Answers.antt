@@ -1,0 +1,21 @@
+use Rattle.std.proofs.Common.{◌≡◌, [], List, ℕ, Option, Some, None, option_map, string_bytes, refl, sym, ◌∙◌, ap, subst}
+use Rattle.std.specs.Option.{option_map_or}
+use Rattle.serde_json.specs.Data.{Data}
+use Rattle.serde_json.specs.Written.{compact_text}
+use Rattle.dump_lines.specs.Dumps.{entry_text, line_text}
+use Rattle.dump_lines.specs.Parts.{AppendsPart}
+use Rattle.dump_lines.specs.Written.{entry_data}
+use Rattle.dump_lines.proofs.whole.write_entry.Goals as goal
+
+in_two_turns : (d : Option Data) → option_map_or (λ (d : Data). line_text (compact_text d)) d [] ≡ option_map_or line_text (option_map compact_text d) []
+in_two_turns None = refl
+in_two_turns (Some d) = refl
+
+pub returns-in-Some-clause-part : goal.returns-in-Some-clause-part
+returns-in-Some-clause-part g c =
+    let text : entry_text c.args.entry.now ≡ line_text c.as_str.result.now =
+    in_two_turns (entry_data c.args.entry.now)
+    ∙ ap (λ (o : Option (List ℕ)). option_map_or line_text o []) (sym c.in_ok-line.ensures.text)
+    ∙ ap (λ (o : Option _). option_map_or line_text (option_map string_bytes o) []) c.in-Some.is
+    ∙ ap line_text (sym c.as_str.ensures.value) in
+    subst (λ (t : List ℕ). AppendsPart (g.W.Write.contents c.args.writer.now) (g.W.Write.contents c.write_line.new.writer) t) (sym text) c.write_line.ensures.part
