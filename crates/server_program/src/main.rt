@@ -6,9 +6,7 @@ ghost use Rattle.std.specs.Prelude.{◌≤◌};
 use dump_lines::{DumpFault, write_dump};
 use job_language::{Entry, TenantConfig};
 use server_words::{Words, WordsFault, read_words};
-use socket_server::{
-    House, MAX_CONFIG, Opened, Served, ServerEnd, TenantEnd, config_of, serve_connections,
-};
+use socket_server::{House, MAX_CONFIG, Opened, Served, ServerEnd, config_of, serve_connections};
 use std::alloc::Global;
 use std::env::Env;
 use std::fs::{File, Files, Permissions};
@@ -20,6 +18,7 @@ use std::process::ExitCode;
 use std::sync::Wait;
 use std::thread::Threads;
 use std::{env, fs, io};
+use tenant_lock::{CloseFault, Closed};
 use tenant_record::Seat;
 
 fn main(rt: HostRuntime) -> ExitCode {
@@ -136,11 +135,11 @@ fn close_tenants<R: Files + Print>(
 ) -> Result<ServerEnd, ServerEnd> {
     let mut end = ServerEnd::Done;
     let mut fault = None;
-    for (tenant, config) in house.close(alloc, seats)?.iter().zip(configs) {
-        if tenant.closed.is_err() {
+    for (closed, config) in house.close(alloc, seats)?.iter().zip(configs) {
+        if closed.is_err() {
             end = ServerEnd::Close;
         }
-        if let Err(met) = tell_end(rt, alloc, tenant, config, folder) {
+        if let Err(met) = tell_end(rt, alloc, closed, config, folder) {
             fault = fault.or(Some(met));
         }
     }
@@ -154,12 +153,12 @@ fn close_tenants<R: Files + Print>(
 fn tell_end<R: Files + Print>(
     rt: &R,
     alloc: Global,
-    end: &TenantEnd,
+    end: &Result<Closed, CloseFault>,
     config: &TenantConfig,
     folder: Option<&str>,
 ) -> Result<(), ServerEnd> {
-    let is_printed = print_end(rt, end).is_ok();
-    if let (Some(folder), Ok(closed)) = (folder, &end.closed) {
+    let is_printed = print_end(rt, end, config).is_ok();
+    if let (Some(folder), Ok(closed)) = (folder, end) {
         dump_history(rt, alloc, folder, config, closed.history.as_slice())?;
     }
     if is_printed {
@@ -189,13 +188,18 @@ fn dump_history<R: Files>(
     }
 }
 
-fn print_end<R: Print>(rt: &R, end: &TenantEnd) -> io::Result<()> {
-    match &end.closed {
+fn print_end<R: Print>(
+    rt: &R,
+    end: &Result<Closed, CloseFault>,
+    config: &TenantConfig,
+) -> io::Result<()> {
+    let name = config.tenant().name;
+    match end {
         Ok(closed) => println!(rt;
             "{}: closed, {} entries",
-            end.name.as_str(),
+            name.as_str(),
             closed.history.len()
         ),
-        Err(fault) => println!(rt; "{}: close fault {}", end.name.as_str(), fault.code()),
+        Err(fault) => println!(rt; "{}: close fault {}", name.as_str(), fault.code()),
     }
 }

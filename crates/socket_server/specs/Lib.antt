@@ -1,3 +1,4 @@
 pub mod Shared
 pub mod Posts
 pub mod Ends
+pub mod Houses

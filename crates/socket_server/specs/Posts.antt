@@ -1,5 +1,5 @@
 -- The places of threads in a server.
-use Rattle.std.specs.Prelude.{◌≡◌, List, length, All}
+use Rattle.std.specs.Prelude.{◌≡◌, List, length}
 use Rattle.call_queues.specs.Queues.{PassSeen}
 use Rattle.locked_doors.specs.Seen.{AreOwn}
 use Rattle.socket_server.specs.Shared.{SharedSeen, ArePassesOf}

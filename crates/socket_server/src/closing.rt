@@ -1,42 +1,64 @@
 // The end of a server: its tenants are closed.
+ghost use Rattle.std.specs.Prelude.{◌≡◌, IfOk, filter, not};
+ghost use Rattle.job_language.specs.Tenant.{IsValidTenant};
+ghost use Rattle.socket_server.specs.Houses.{AreEnds, IsEnd, is_of};
+
 use crate::house::House;
-use crate::starting::take_seat;
-use job_language::TenantName;
 use std::alloc::{AllocError, Global};
-use tenant_lock::{CloseFault, Closed};
+use tenant_lock::{CloseFault, Closed, TenantDoor};
 use tenant_record::Seat;
 
-/// How a tenant was closed.
-#[derive(Drop)]
-pub struct TenantEnd {
-    pub name: TenantName,
-    /// The tenant's history, or what was wrong with it.
-    pub closed: Result<Closed, CloseFault>,
-}
-
 impl House {
-    /// Closes all tenants, in order, with the seats that came back.
-    pub fn close(self, alloc: Global, seats: Vec<Seat>) -> Result<Vec<TenantEnd>, AllocError> {
-        let House { doors, names, .. } = self;
+    /// Closes all tenants, in order, each with its own seats of those that came back: its history, or what
+    /// is wrong. It fails only if an allocation failed, and then all tenants are given up.
+    pub fn close(
+        self,
+        alloc: Global,
+        seats: Vec<Seat>,
+    ) -> Result<Vec<Result<Closed, CloseFault>>, AllocError>
+        ensures { IfOk result (λ ends. AreEnds self.doors seats.items ends.items) }
+    {
+        let House { doors, .. } = self;
         let mut left = seats;
         let mut ends = Vec::with_capacity(alloc, doors.len())?;
-        for (door, name) in doors.into_iter().zip(names) {
-            let own = seats_of(alloc, &mut left, door.tenant())?;
-            let closed = door.close(own);
-            ends.push(TenantEnd { name, closed })?;
+        for door in doors {
+            let Parted { own, others } = Parted::new(alloc, left, door.tenant())?;
+            ends.push(close_door(door, own))?;
+            left = others;
         }
         Ok(ends)
     }
 }
 
-/// All seats of a tenant that are left.
-fn seats_of(alloc: Global, left: &mut Vec<Seat>, tenant: usize) -> Result<Vec<Seat>, AllocError> {
-    let mut own = Vec::new(alloc);
-    for _seat in 0..left.len() {
-        let Some(seat) = take_seat(left, tenant) else {
-            break;
-        };
-        own.push(seat)?;
+/// Closes a tenant with its seats.
+fn close_door(door: TenantDoor, seats: Vec<Seat>) -> Result<Closed, CloseFault>
+    requires { IsValidTenant door.config }
+    ensures { IsEnd door seats.items result }
+{
+    door.close(seats)
+}
+
+/// The seats of a tenant, and those of all others, in their order.
+#[derive(Drop)]
+struct Parted {
+    own: Vec<Seat>,
+    others: Vec<Seat>,
+}
+
+impl Parted {
+    fn new(alloc: Global, seats: Vec<Seat>, tenant: usize) -> Result<Parted, AllocError>
+        ensures own { IfOk result (λ parted. parted.own.items ≡ filter (is_of tenant) seats.items) }
+        ensures others { IfOk result (λ parted. parted.others.items ≡ filter (λ s. not (is_of tenant s)) seats.items) }
+    {
+        let mut own = Vec::new(alloc);
+        let mut others = Vec::new(alloc);
+        for seat in seats {
+            if seat.tenant() == tenant {
+                own.push(seat)?;
+            } else {
+                others.push(seat)?;
+            }
+        }
+        Ok(Parted { own, others })
     }
-    Ok(own)
 }

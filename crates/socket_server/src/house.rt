@@ -1,6 +1,7 @@
 // What all threads of a server share.
-ghost use Rattle.std.specs.Prelude.{◌≡◌, ◌≤◌, IfOk, length};
+ghost use Rattle.std.specs.Prelude.{◌≡◌, ◌≤◌, ◌+◌, IfOk, length};
 ghost use Rattle.job_language.specs.Configuration.{names_of};
+ghost use Rattle.socket_server.specs.Houses.{doors_of, seats_of};
 ghost use Rattle.socket_server.specs.Shared.{ArePassesOf};
 
 use crate::starting::open_doors;
@@ -48,7 +49,10 @@ impl House {
     pub fn open(alloc: Global, config: &Config, connections: u8) -> Result<Opened, AllocError>
         requires { 1 ≤ connections }
         ensures passes { IfOk result (λ opened. ArePassesOf opened.house.queues.queues opened.passes.items) }
+        ensures count { IfOk result (λ opened. length opened.passes.items ≡ config.now.workers + connections) }
+        ensures doors { IfOk result (λ opened. opened.house.doors ≡ doors_of connections config.now.tenants) }
         ensures names { IfOk result (λ opened. opened.house.names ≡ names_of config.now.tenants) }
+        ensures seats { IfOk result (λ opened. opened.seats.items ≡ seats_of connections config.now.tenants) }
     {
         let tenants = config.tenants();
         let names = names_of(alloc, tenants)?;

@@ -11,7 +11,6 @@ mod serving;
 mod sessions;
 mod starting;
 
-pub use closing::TenantEnd;
 pub use configs::{MAX_CONFIG, config_of};
 pub use ends::ServerEnd;
 pub use house::{House, Opened};

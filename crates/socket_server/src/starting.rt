@@ -1,7 +1,7 @@
 // The start of a server.
-ghost use Rattle.std.specs.Prelude.{◌≡◌, IfOk, IfSome, length};
-ghost use Rattle.tenant_slots.specs.Seen.{AreNumbered};
+ghost use Rattle.std.specs.Prelude.{◌≡◌, ◌++◌, IfOk, IfSome, OnOk, length};
 ghost use Rattle.locked_doors.specs.Seen.{AreOwn};
+ghost use Rattle.socket_server.specs.Houses.{doors_of, seats_of};
 
 use job_language::TenantConfig;
 use std::alloc::{AllocError, Global};
@@ -14,8 +14,8 @@ pub(crate) fn open_doors(
     tenants: &[TenantConfig],
     seats: usize,
 ) -> Result<(Vec<TenantDoor>, Vec<Seat>), AllocError>
-    ensures numbered { IfOk result (λ opened. AreNumbered opened.0.items) }
-    ensures count { IfOk result (λ opened. length opened.0.items ≡ length tenants.now) }
+    ensures doors { IfOk result (λ opened. opened.0.items ≡ doors_of seats tenants.now) }
+    ensures seats { IfOk result (λ opened. opened.1.items ≡ seats_of seats tenants.now) }
 {
     let mut doors = Vec::with_capacity(alloc, tenants.len())?;
     let mut all = Vec::new(alloc);
@@ -27,7 +27,9 @@ pub(crate) fn open_doors(
     Ok((doors, all))
 }
 
-fn add_all(all: &mut Vec<Seat>, own: Vec<Seat>) -> Result<(), AllocError> {
+fn add_all(all: &mut Vec<Seat>, own: Vec<Seat>) -> Result<(), AllocError>
+    ensures { OnOk result (all.new.items ≡ all.old.items ++ own.items) }
+{
     for seat in own {
         all.push(seat)?;
     }

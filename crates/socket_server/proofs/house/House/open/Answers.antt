@@ -1,0 +1,19 @@
+use Rattle.std.proofs.Common.{◌≡◌, length, sym, ◌∙◌, ap, subst, arith}
+use Rattle.std.specs.Prelude.{All}
+use Rattle.std.proofs.lemmas.List.{length-map}
+use Rattle.job_language.specs.Tenant.{IsValidTenant}
+use Rattle.tenant_lock.specs.Doors.{DoorData}
+use Rattle.tenant_slots.specs.Seen.{AreNumbered}
+use Rattle.socket_server.specs.Houses.{doors_of}
+use Rattle.socket_server.proofs.Houses.{length_doors, numbered_from, valid_from}
+use Rattle.socket_server.proofs.house.House.open.Goals as goal
+
+pub invariant_of-house : goal.invariant_of-house
+invariant_of-house c =
+    let tenants = c.args.config.now.tenants in
+    let doors : c.in_ok-doors.doors.items ≡ doors_of c.from.result tenants = c.in_ok-doors.ensures.doors ∙ ap (doors_of c.from.result) c.tenants-tenants.ensures.value in
+    record {
+      doors = subst AreNumbered (sym doors) (λ k d low. let it = numbered_from c.from.result 0 tenants k d low in omega (arith, it));
+      tenants = subst (All (λ (d : DoorData). IsValidTenant d.config)) (sym doors) (valid_from c.from.result 0 tenants c.tenants-tenants.ensures.valid.each);
+      levels = ap length c.in_ok-queues.ensures.queues.0 ∙ ap length c.in_ok-market.ensures ∙ length-map tenants _ ∙ sym (ap length doors ∙ length_doors c.from.result 0 tenants);
+    }

@@ -1,0 +1,46 @@
+-- The tenants of a house, at its start and at its end.
+use Rattle.std.specs.Prelude.{ℕ, ◌==◌, Bool, List, Result, IfOk, IfErr, map, filter}
+use Rattle.std.specs.List.{AllZip, enumerate_from, flat_map}
+use Rattle.job_language.specs.declared.steps.Entry.{Entry}
+use Rattle.job_language.specs.declared.tenants.Tenant.{Tenant}
+use Rattle.tenant_model.specs.State.{empty}
+use Rattle.tenant_model.specs.Regions.{KeepsRegions}
+use Rattle.serial_law.specs.SerialValues.{KeepsSerialValues}
+use Rattle.tenant_record.specs.History.{IsHistory, steps_of}
+use Rattle.tenant_record.specs.SeatData.{SeatData, first_seats}
+use Rattle.tenant_lock.specs.Closing.{Closes, IsRefused}
+use Rattle.tenant_lock.specs.Doors.{DoorData}
+use Rattle.tenant_lock.specs.declared.doors.Closed.{Closed}
+use Rattle.tenant_lock.specs.declared.faults.CloseFault.{CloseFault}
+
+-- the door of the tenant of a number, with so many seats
+abbrev pub door_of : (seats : ℕ) → ℕ × Tenant → DoorData
+door_of seats t = record { tenant = t.0; config = t.1; seats = seats }
+
+-- the doors of tenants, which are numbered from 0
+abbrev pub doors_of : (seats : ℕ) → List Tenant → List DoorData
+doors_of seats tenants = map (door_of seats) (enumerate_from 0 tenants)
+
+-- all their seats, which have asked nothing yet, those of tenant 0 first
+abbrev pub seats_of : (seats : ℕ) → List Tenant → List SeatData
+seats_of seats tenants = flat_map (λ (t : ℕ × Tenant). first_seats t.0 t.1.steps seats) (enumerate_from 0 tenants)
+
+-- Is it a seat of that tenant?
+abbrev pub is_of : ℕ → SeatData → Bool
+is_of tenant s = s.tenant == tenant
+
+-- A history is a tenant's own: its answers are those that the plain evaluator gives to its steps, regions protect the tenant's cells in it, and serial jobs that complete have their serial values.
+pub record IsOwnHistory (c : Tenant) (history : List Entry) : Type 0 where
+  pub replays : IsHistory c history
+  pub regions : KeepsRegions (empty c) (steps_of history)
+  pub serial : KeepsSerialValues (empty c) (steps_of history)
+
+-- How a tenant is closed with these seats: with its own history, with which they and all passes agree, or for a fault.
+pub record IsEnd (d : DoorData) (seats : List SeatData) (end : Result Closed CloseFault) : Type 0 where
+  pub closed : IfOk end (λ closed. Closes d seats closed.history.items)
+  pub own : IfOk end (λ closed. IsOwnHistory d.config closed.history.items)
+  pub refused : IfErr end (λ fault. IsRefused d seats fault)
+
+-- Each tenant is closed with its own seats of those that came back.
+abbrev pub AreEnds : List DoorData → List SeatData → List (Result Closed CloseFault) → Type 0
+AreEnds doors seats ends = AllZip (λ (d : DoorData) end. IsEnd d (filter (is_of d.tenant) seats) end) doors ends
