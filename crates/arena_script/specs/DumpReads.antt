@@ -1,4 +1,4 @@
--- What reading a dump comes to.
+-- The result of reading a dump.
 use Rattle.std.specs.Prelude.{ℕ, List, Option, Some, None, Result, Ok, Err}
 use Rattle.request_reader.specs.Lines.{Line}
 use Rattle.arena_script.specs.declared.dumps.DumpRead.{DumpRead}

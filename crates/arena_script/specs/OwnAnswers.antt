@@ -52,7 +52,7 @@ step_of_value (Err error) = None
 abbrev pub step_in : List ℕ → Option OwnData
 step_in line = step_of_value (value_of line)
 
--- the text of an answer, or of what is told where there is none
+-- the text of an answer, or that of a bad step where there is none
 abbrev pub told : Option Answer → List ℕ
 told (Some answer) = answer_text answer
 told None = codes "{\"moved\":\"bad_step\"}"

@@ -57,7 +57,7 @@ pub fn script<R: Read, W: Write>(
     ensures unwritten { result ≡ ScriptEnd.Words → writer.new ≡ writer.old }
     ensures no_answer { result ≡ ScriptEnd.Config → writer.new ≡ writer.old }
 
-    // Where the bytes are known, the answers to all lines are written, or what a dump comes to.
+    // Where the bytes are known, the answers to all lines are written, or the result of a check.
     ensures no_tenant { are_own_words words.now ≡ true → result ≡ ScriptEnd.Config → IsSome (R.remaining reader.old)
         → NamesNoTenant (all_lines (R.remaining reader.old)) }
     ensures no_config { are_run_words words.now ≡ true → result ≡ ScriptEnd.Config → IsSome (R.remaining reader.old)

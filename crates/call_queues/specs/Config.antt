@@ -1,4 +1,4 @@
--- What the queues are told of the tenants: how many calls each level holds.
+-- What the queues know of the tenants, and how many calls each level holds.
 use Rattle.std.specs.Prelude.{ℕ, ◌-◌, ◌≤◌, List, length, max, if◌then◌else◌, slice_index_or}
 use Rattle.std.specs.List.{sum_by, All}
 use Rattle.job_language.specs.declared.configs.TheConstants.{MAX_TENANTS}

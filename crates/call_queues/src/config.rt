@@ -1,4 +1,4 @@
-// What the queues are told of the tenants.
+// What the queues know of the tenants.
 ghost use Rattle.std.specs.Prelude.{◌≡◌, ◌+◌, ◌*◌, ◌<◌, ◌≤◌, length};
 ghost use Rattle.call_queues.specs.Config.{IsMarketConfig, level_in, room_at};
 

@@ -47,7 +47,7 @@ impl Model for Contexts {
 }
 
 impl Contexts {
-    /// No context, with room for those of so many rows and 256 more.
+    /// No contexts, with room for those of `rows` rows and 256 more.
     pub fn new(alloc: Global, rows: usize) -> Result<Contexts, AllocError>
         requires { rows ≤ MAX_ROWS }
         ensures empty { IfOk result (λ forest. forest ≡ replicate (BASE_CONTEXTS + CONTEXTS_PER_ROW * rows) None) }

@@ -52,7 +52,7 @@ four f g h k (x ∷ y ∷ z ∷ w ∷ []) = do
   Some (a, b, c, d)
 four f g h k ds = None
 
--- What an instruction of that name spells with these operands, in a program of so many procedures and a procedure of so many instructions.
+-- The instruction of that name with these operands, in a program and a procedure of these sizes.
 abbrev pub instr_from : Operation → (procs instrs : ℕ) → List Data → Option Instr
 instr_from Set procs instrs ds = two register integer ds >>= λ x. Some (instr.Set x.0 x.1)
 instr_from Add procs instrs ds = three register register register ds >>= λ x. Some (instr.Add x.0 x.1 x.2)

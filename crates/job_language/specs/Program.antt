@@ -69,7 +69,7 @@ is_last (Jmp t) = true
 is_last (Ret a) = true
 is_last i = false
 
--- each number that it names is there, in a procedure of so many instructions
+-- each number that it names is in range, in a procedure of that many instructions
 pub record IsInRange (instrs : ℕ) (i : Instr) : Type 0 where
   pub registers : All (λ r. r < REGISTERS) (registers_of i)
   pub group : IfSome (group_of i) (λ g. g < GROUPS)

@@ -1,4 +1,4 @@
-// Worked examples, refusals, and want of memory.
+// Worked examples, refusals, and failed allocations.
 mod examples;
 mod memory;
 mod refusals;

@@ -66,7 +66,7 @@ impl SharedTenant {
     }
 }
 
-/// What the queues are told of the tenant.
+/// What the queues know of the tenant.
 fn market_of(alloc: Global, config: &TenantConfig) -> Result<MarketConfig, AllocError>
     ensures { IfOk result (λ market. length market ≡ 1) }
 {

@@ -58,7 +58,7 @@ module _ {D : Type 0} (pauses : D → Bool → D → Type 0) where
     reaches_lower : (n : ℕ) (d e : D) → Reaches (TurnFrom turn heights high) pauses n d e → Reaches (TurnFrom turn heights low) pauses n d e
     reaches_lower n d e reaches = record { answers = reaches.answers; leads = leads_lower reaches.answers d e reaches.leads; long = reaches.long }
 
-    -- what a call deeper comes to
+    -- what the end of a deeper call means for the outer one
     module _ (n : ℕ) (old d e : D) (so_far : Reaches (TurnFrom turn heights low) pauses n old d) where
       pub ends : (how : Attended) → Ends (TurnFrom turn heights high) heights pauses high how d e → (how ≡ Below → ⊥) → Ends (TurnFrom turn heights low) heights pauses low how old e
       ends Below is deeper = absurd (deeper refl)

@@ -1,4 +1,4 @@
--- What attending a door comes to.
+-- How attending a door runs, and how it ends.
 use Rattle.std.specs.Prelude.{ℕ, ◌≡◌, ◌<◌, ◌≤◌, ◌⊎◌, Bool, true, false, List, [], ◌∷◌, length}
 use Rattle.job_language.specs.declared.answers.Moved.{Moved}
 use Rattle.job_language.specs.declared.answers.Moved.TheVariants as moved
@@ -17,7 +17,7 @@ abbrev pub Leads : {D : Type 0} → (D → Moved → D → Type 0) → (D → Bo
 Leads {D = D} turn pauses [] d e = e ≡ d
 Leads {D = D} turn pauses (m ∷ ms) d e = (f : D) × (g : D) × (turn d m f × GoesOn pauses m f g × Leads turn pauses ms g e)
 
--- at least so many turns led there
+-- at least that many turns led there
 pub record Reaches {D : Type 0} (turn : D → Moved → D → Type 0) (pauses : D → Bool → D → Type 0) (least : ℕ) (old new : D) : Type 0 where
   pub answers : List Moved
   pub leads : Leads turn pauses answers old new

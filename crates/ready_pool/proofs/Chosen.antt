@@ -86,7 +86,7 @@ same-back (Some s) r e = ap Some (same-row s r e)
 pub same-itself : (r : RowId) → same_region (Some r) (Some r) ≡ true
 same-itself r = ap (λ b. b && (r.place == r.place)) (eqb-same r.number r.number refl) ∙ eqb-same r.place r.place refl
 
--- A slot below the number of slots and a place are told by the number of their list.
+-- The number of a list identifies its place and its slot, which is below the number of slots.
 numbered : (slots slot place : ℕ) (made : Option ℕ) (region : Option ℕ) → slot < slots → ((s : ℕ) → made ≡ Some s → s < slots) → (is_made_on place region && is_made_on slot made) ≡ is_made_on (place * slots + slot) (number_of slots made region)
 numbered slots slot place None region below few = and-false (is_made_on place region)
 numbered slots slot place (Some s) None below few = refl

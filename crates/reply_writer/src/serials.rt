@@ -8,7 +8,7 @@ use crate::texts::{MAX_LINE, ReplyBuf, push_signed};
 use arrayvec::ArrayString;
 use job_language::{Error, Reply};
 
-/// What is told of a job whose serial value is asked.
+/// The answer to a job whose serial value is asked.
 #[derive(Clone, Copy, Debug, PartialEq, Eq)]
 pub enum SerialAnswer {
     Value(i64),

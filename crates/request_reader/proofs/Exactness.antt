@@ -1,4 +1,4 @@
--- Refusals of one request that are told as those of another.
+-- Refusals that carry over from one request to another.
 use Rattle.std.proofs.Common.{◌≡◌, Result, Ok, Err, ◌∙◌}
 use Rattle.job_language.specs.declared.errors.Error.{Error}
 use Rattle.job_language.specs.declared.errors.Error.TheVariants as error

@@ -1,4 +1,4 @@
--- What is told of the bytes that are held.
+-- The lines that are reported from the bytes that are held.
 use Rattle.std.proofs.Common.{IsSome, inl, inr, Option, Some, None, subst, ◌≡◌, ◌≢◌, ℕ, ◌+◌, ◌≤◌, ◌<◌, List, [], ◌∷◌, ◌++◌, length, take, drop, true, false, sym, ap, refl, ◌∙◌, arith, append_assoc}
 use Rattle.std.specs.Prelude.{◌⊎◌, unwrap_or, ◌||◌, nat_lt}
 use Rattle.std.proofs.lemmas.Bool.{both_ways, cases_Bool, ltb-false, or_parts}

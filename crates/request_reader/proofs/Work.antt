@@ -1,4 +1,4 @@
--- The work that a reader of lines has left, when a line is told.
+-- The work that a reader of lines has left, when a line is reported.
 use Rattle.std.proofs.Common.{◌≡◌, ℕ, ◌+◌, ◌*◌, ◌≤◌, ◌<◌, length, arith}
 use Rattle.std.proofs.Math.Nat.{mul-le-mul_right}
 use Rattle.request_reader.specs.declared.lines.LineRead.{LineRead}

@@ -21,7 +21,7 @@ ComesTo read.End old new = IsDone new
 ComesTo read.ReadFault old new = IsPending new × (new.turns < old.turns)
 ComesTo read.TurnLimit old new = IsPending new × (new.turns ≡ 0)
 
--- A line that is told lowers the work that is left.
+-- A line that is reported lowers the work that is left.
 abbrev pub LowersWork : LineRead → Reading → Reading → Type 0
 LowersWork read.Line old new = work_left new < work_left old
 LowersWork read.TooLong old new = work_left new < work_left old

@@ -8,9 +8,9 @@ use Rattle.request_reader.specs.Lines.{newline, HasNoNewline, Line, too_long, li
 pub record Reading : Type 0 where
   -- how many bytes a line may have
   pub limit : ℕ
-  -- the line that was told last
+  -- the line that was reported last
   pub line : List ℕ
-  -- the bytes that came and belong to no line that was told
+  -- the bytes that came and belong to no line reported so far
   pub held : List ℕ
   -- whether they are within a line that is too long, whose first bytes are dropped
   pub is_within_long : Bool
@@ -32,7 +32,7 @@ lines_from limit true bytes = too_long ∷ lines_of limit (drop_through newline 
 abbrev pub lines_left : Reading → List ℕ → List Line
 lines_left r bytes = lines_from r.limit r.is_within_long (r.held ++ (if r.is_ended then [] else bytes))
 
--- These bytes come and these lines are told: whatever comes next, they were the first of the lines left, and the others are left now.
+-- These bytes come, these lines are reported: whatever comes next, the first of those left; the rest remain.
 pub record Tells (old new : Reading) (came : List ℕ) (told : List Line) : Type 0 where
   pub limit : new.limit ≡ old.limit
   pub ended : old.is_ended ≡ true → (came ≡ []) × (new.is_ended ≡ true)
@@ -46,7 +46,7 @@ pub record Reads (old new : Reading) (before after : Option (List ℕ)) (told : 
   pub turns : new.turns ≤ old.turns
   pub end : (old.is_ended ≡ true → IsAtEnd before) → new.is_ended ≡ true → IsAtEnd after
 
--- no whole line is held, and none was told last
+-- no whole line is held, and none was reported last
 pub record IsPending (r : Reading) : Type 0 where
   pub not_ended : r.is_ended ≡ false
   pub held : HasNoNewline r.held
@@ -58,11 +58,11 @@ pub record NeedsBytes (r : Reading) : Type 0 where
   pub not_ended : r.is_ended ≡ false
   pub held : HasNoNewline r.held
 
--- How much a reader of lines may still do: what is held, and for each call that is left as much as has room. It falls with each line that is told.
+-- The work left: what is held, and for each call left as much as has room. Each line reported lowers it.
 abbrev pub work_left : Reading → ℕ
 work_left r = r.turns * (r.limit + BLOCK + 1) + length r.held
 
--- all is told
+-- every line is reported
 pub record IsDone (r : Reading) : Type 0 where
   pub ended : r.is_ended ≡ true
   pub held : r.held ≡ []

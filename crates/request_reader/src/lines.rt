@@ -56,7 +56,7 @@ impl LineReader {
     ghost use Rattle.request_reader.specs.Newlines.{IsFirstNewline};
     ghost use Rattle.request_reader.specs.Reading.{is_long, lines_left, IsPending, NeedsBytes, Reads};
 
-    /// A reader of lines that have so many bytes at most, without their newline.
+    /// A reader of lines of at most `limit` bytes, not counting the newline.
     pub fn new(alloc: Global, limit: usize) -> Result<LineReader, AllocError>
         requires { limit + BLOCK < 2 ^ 64 }
         ensures { IfOk result (λ r. r ≡ record { limit = limit; line = []; held = []; is_within_long = false; is_ended = false; turns = MAX_TURNS }) }
@@ -81,18 +81,18 @@ impl LineReader {
     /// Reads on to the end of the next line. A line that is longer than the limit is read to its
     /// newline and told once. An interrupted call of `read` counts, and is tried again.
     pub fn read_line<R: Read>(&mut self, reader: &mut R) -> LineRead
-        // Where the bytes are known, the lines that were left are those that are told now, and then
+        // Where the bytes are known, the lines that were left are those reported now, followed by
         // those that are left.
         ensures lines { IsSome (R.remaining reader.old) → lines_left self.old (unwrap_or (R.remaining reader.old) [])
             ≡ told_by result self.new ++ lines_left self.new (unwrap_or (R.remaining reader.new) []) }
         ensures known { IsSome (R.remaining reader.old) → IsSome (R.remaining reader.new) }
 
-        // At any reader, the lines that are told are those of the bytes that came.
+        // At any reader, the lines reported are those of the bytes that came.
         ensures reads { Reads self.old self.new (R.remaining reader.old) (R.remaining reader.new) (told_by result self.new) }
         ensures comes_to { ComesTo result self.old self.new }
         ensures unread { self.new.turns ≡ self.old.turns → reader.new ≡ reader.old }
 
-        // A line that is held whole is told without a call of the reader, and so is the end.
+        // A line that is held whole is reported without a call of the reader, and so is the end.
         ensures at_once { NeedsBytes self.old ⊎ (self.new.turns ≡ self.old.turns) }
         ensures lowers { LowersWork result self.old self.new }
     {

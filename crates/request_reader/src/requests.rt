@@ -50,7 +50,7 @@ pub fn read_request(alloc: Global, line: &[u8]) -> Result<Asked, Error>
     request_of(alloc, &value)
 }
 
-/// The JSON value that a line is. Its errors are no JSON and want of memory.
+/// The JSON value that a line spells. Its errors are `BadJson` and `NoMemory`.
 pub fn value_of(alloc: Global, line: &[u8]) -> Result<Value, Error>
     ensures { ExactOrNoMemory view (IsText line.now) result (value_of line.now) }
 {

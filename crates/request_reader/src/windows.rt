@@ -31,7 +31,7 @@ impl Model for Window {
 }
 
 impl Window {
-    /// An empty window over so many bytes.
+    /// An empty window over `size` bytes.
     pub(crate) fn new(alloc: Global, size: usize) -> Result<Window, AllocError>
         ensures { IfOk result (λ w. w ≡ record { size = size; line = []; held = [] }) }
     {

@@ -37,7 +37,7 @@ module _ {S : Type 0} (replies : List ℕ → S → Option Reply → S → Type 
   }
 
   module _ (now next : Reading) (bytes left left2 written out : Option (List ℕ)) (old new : S) (so_far : Served replies now bytes left written out old new) where
-    -- nothing more was told
+    -- no further line was reported
     pub stays : Reads now next left left2 [] → Served replies next bytes left2 written out old new
     stays reads = record {
       lines = so_far.lines;

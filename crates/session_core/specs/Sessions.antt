@@ -1,4 +1,4 @@
--- What a session comes to.
+-- How a session ends, and what holds then.
 use Rattle.std.specs.Prelude.{ℕ, ◌≡◌, ◌<◌, Bool, false, List, [], ◌∷◌, ◌++◌, length, take, Option, Result, Ok, Err}
 use Rattle.std.specs.Io.KnownBytes.{Appends, IsAtEnd}
 use Rattle.request_reader.specs.declared.turns.TheConstants.{MAX_TURNS}

@@ -20,7 +20,7 @@ pub enum SessionEnd {
     Ended,
     /// The reader failed.
     ReadFault,
-    /// The writer failed within a reply, of which so many bytes went out.
+    /// The writer failed within a reply, of which `sent` bytes went out.
     WriteFault { sent: usize },
     /// The reader was called 1,048,576 times.
     TurnLimit,

@@ -60,13 +60,13 @@ pub record IsFirstWrong (c : CellData) (seats : List SeatData) (d : DoorData) (a
   pub before : AreWhole c at
   pub wrong : IsSlotFault c at (Some fault)
 
--- Seats, passes and the cell agree. A token was told that the history is at its limit only if it is.
+-- Seats, passes and the cell agree. A token reports a full history only if the history is at its limit.
 pub record Agree (c : CellData) (seats : List SeatData) (d : DoorData) : Type 0 where
   pub asked : FitsAsked c seats d
   pub slots : AreWhole c c.config.slots
   pub full : is_one_full c seats ≡ true → c.config.steps ≤ length c.history
 
--- All agree but for a token that was told that the history is at its limit, which it is not.
+-- All agree, but a token reports a full history, and the history is not at its limit.
 pub record IsFullWrong (c : CellData) (seats : List SeatData) (d : DoorData) : Type 0 where
   pub asked : FitsAsked c seats d
   pub slots : AreWhole c c.config.slots

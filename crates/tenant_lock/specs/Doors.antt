@@ -22,7 +22,7 @@ pub record HasArrived (tenant slot row : ℕ) (p : PassData) : Type 0 where
   pub before : PassData
   pub told : p ≡ arrived before row
 
--- There is a pass if and only if a row was found, and it was told so.
+-- There is a pass if and only if a row was found, and its log ends with that arrival.
 abbrev pub ComesWith : (tenant slot : ℕ) → Came → Option PassData → Type 0
 ComesWith tenant slot (At row) None = ⊥
 ComesWith tenant slot (At row) (Some p) = HasArrived tenant slot row p

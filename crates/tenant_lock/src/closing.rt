@@ -79,7 +79,7 @@ fn fault_at(slot: u8, fault: SlotFault) -> CloseFault
     }
 }
 
-/// Whether a token was told that the history is at its limit, which it is not.
+/// Whether a token reports a full history, but the history is not at its limit.
 fn is_full_wrong(cell: &TenantCell, seats: &[Seat]) -> bool
     ensures { result ≡ (is_one_full cell.now seats.now && nat_lt (length cell.now.history) cell.now.config.steps) }
 {

@@ -12,7 +12,7 @@ use job_step::Segment;
 use tenant_record::{Advanced, Arrived, Asked, Pass, Seat, TenantCell};
 use world_model::Call;
 
-/// A tenant's cell, and whether those who wait for it are told to stop.
+/// A tenant's cell, and whether those who wait for it must stop.
 #[derive(Drop)]
 pub(crate) struct Held {
     pub(crate) cell: TenantCell,

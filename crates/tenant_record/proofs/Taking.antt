@@ -110,7 +110,7 @@ pub commit_takes : (b : Bool) (s : State) (slot : ℕ) (p : Top) (m : Moved) (t 
 commit_takes b s slot p m t is (inl same) = rw (same.1, same.2) (advance_takes b s slot is)
 commit_takes b s slot p m t is (inr stale) = rw (stale.1, stale.2) (inr (refl, refl))
 
--- the same, where answer and state are told by equations
+-- the same, where equations give the answer and the state
 pub advance_taken : (b : Bool) (s : State) (slot : ℕ) (m : Moved) (t : State) → IsWellFormed s → m ≡ (advance_within b s slot).0 → t ≡ (advance_within b s slot).1 → Takes s (steps.Advance slot) (answer.Moved m) t
 advance_taken b s slot m t is answered led = rw (answered, led) (advance_takes b s slot is)
 

@@ -18,12 +18,12 @@ pub record Agrees (c : CellData) (at : ℕ) (p : PassData) : Type 0 where
   pub log : p.log ≡ entries_on at c.history
   pub still : p.still ≡ still_of c at
 
--- The pass of the slot was told another number of entries than the history has of the slot.
+-- The log of the pass has more or fewer entries than the history has of the slot.
 pub record Miscounts (c : CellData) (at : ℕ) (p : PassData) : Type 0 where
   pub home : pass_in (place c.home at) ≡ Some p
   pub counts : length p.log ≢ count_by (is_on at) c.history
 
--- It was told as many entries, but others, or it knows of another idle advance.
+-- The log has as many entries, but others, or the pass knows of another idle advance than the cell.
 pub record Differs (c : CellData) (at : ℕ) (p : PassData) : Type 0 where
   pub home : pass_in (place c.home at) ≡ Some p
   pub counts : length p.log ≡ count_by (is_on at) c.history

@@ -32,7 +32,7 @@ move_note (moved.Nested row) = Some (Nested row)
 move_note moved.Freed = Some Freed
 move_note m = None
 
--- what the holder of a pass is told of a step of its slot with that answer
+-- what a pass notes of a step of its slot with that answer
 abbrev pub note_of : Step → Answer → Option Told
 note_of (Arrive slot) (answer.Came c) = came_note c
 note_of (Advance slot) (answer.Moved m) = move_note m

@@ -1,4 +1,4 @@
--- Passes: what their holder was told.
+-- Passes, and what they keep of the answers to their holders.
 use Rattle.std.specs.Prelude.{ℕ, ◌≡◌, nat_lt, Bool, true, false, ◌||◌, List, [], ◌∷◌, ◌++◌, length, map, Option, Some, None}
 use Rattle.job_language.specs.declared.answers.Answer.TheVariants as answer
 use Rattle.job_language.specs.declared.answers.Came.TheVariants.{At}
@@ -11,7 +11,7 @@ use Rattle.tenant_record.specs.declared.notes.Told.{Told}
 use Rattle.tenant_record.specs.declared.notes.Told.TheVariants.{Arrived, Ran, Nested, Freed}
 
 -- The pass of a slot: how many entries its log may have, the entries of the slot that its holders were told of, in order,
--- whether one of them was told that the history is at its limit, and how many entries the history had at the last idle
+-- whether one of them got the answer Full, and how many entries the history had at the last idle
 -- advance, if the slot was not touched since.
 pub record PassData : Type 0 where
   pub tenant : ℕ
@@ -24,7 +24,7 @@ pub record PassData : Type 0 where
 abbrev pub has_room : PassData → Bool
 has_room p = nat_lt (length p.log) p.limit
 
--- the entry of a slot that a pass was told of
+-- the entry of a slot that a note of its pass stands for
 abbrev pub entry_told : ℕ → Told → Entry
 entry_told slot (Arrived row) = record { step = Arrive slot; answer = answer.Came (At row) }
 entry_told slot Ran = record { step = Advance slot; answer = answer.Moved moved.Ran }
@@ -34,7 +34,7 @@ entry_told slot Freed = record { step = Advance slot; answer = answer.Moved move
 abbrev pub log_of : ℕ → List Told → List Entry
 log_of slot log = map (entry_told slot) log
 
--- what is told of an advance, if it is an entry
+-- what a pass notes of an advance, if it is an entry
 abbrev pub told_of : Moved → List Told
 told_of moved.Ran = Ran ∷ []
 told_of (moved.Nested row) = Nested row ∷ []

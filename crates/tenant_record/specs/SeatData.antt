@@ -1,4 +1,4 @@
--- Seats: what their holder was told.
+-- Seats, and what they keep of the replies to their holders.
 use Rattle.std.specs.Prelude.{ℕ, nat_lt, Bool, true, false, ◌||◌, List, [], ◌++◌, length, map}
 use Rattle.std.specs.List.{range_with_len}
 use Rattle.job_language.specs.declared.answers.Answer.TheVariants.{Replied}
@@ -10,7 +10,7 @@ use Rattle.job_language.specs.declared.steps.Entry.{Entry}
 use Rattle.job_language.specs.declared.steps.Step.TheVariants.{Ask}
 use Rattle.tenant_record.specs.History.{entries_of}
 
--- A seat of a tenant: its number, from 0, how many entries its log may have, the asks that its holders were told the replies of, in order, and whether one of them was told that the history is at its limit.
+-- A tenant's seat: its number from 0, its log of asks, the log's limit, and whether one met a full history.
 pub record SeatData : Type 0 where
   pub tenant : ℕ
   pub number : ℕ

@@ -125,7 +125,7 @@ impl TenantCell {
         self.slots.stills[slot as usize]
     }
 
-    /// Whether a pass that is home was told that the history is at its limit.
+    /// Whether a pass that is home reports a full history.
     pub(crate) fn has_full_pass(&self) -> bool
         ensures { result ≡ list_any is_told_full self.now.home }
     {

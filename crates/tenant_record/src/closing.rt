@@ -12,9 +12,9 @@ use crate::seats::Seat;
 pub enum SlotFault {
     /// The pass is not home.
     PassLost,
-    /// It was told another number of entries than the history has of the slot.
+    /// Its log has more or fewer entries than the history has of the slot.
     CountWrong,
-    /// It was told other entries, or another idle advance than the cell knows of.
+    /// Its log has other entries, or it knows of another idle advance than the cell.
     LogWrong,
 }
 
@@ -70,7 +70,7 @@ pub fn are_all_told(cell: &TenantCell, seats: &[Seat]) -> bool
     left == 0
 }
 
-/// Whether a token that came back was told that the history is at its limit.
+/// Whether a token that came back reports a full history.
 pub fn is_one_full(cell: &TenantCell, seats: &[Seat]) -> bool
     ensures { result ≡ (are_some_seats_full seats.now || list_any is_told_full cell.now.home) }
 {

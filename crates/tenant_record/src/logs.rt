@@ -46,7 +46,7 @@ fn is_same(told: Told, other: Told) -> bool
     told == other
 }
 
-/// What the holder of a pass is told of an entry of its slot.
+/// What a pass notes of an entry of its slot.
 fn note_of(entry: &Entry) -> Option<Told>
     ensures { result ≡ note_of entry.now.step entry.now.answer }
 {

@@ -1,4 +1,4 @@
-// What the holder of a pass was told of its slot's entries.
+// What a pass notes of its slot's entries.
 ghost use Rattle.std.specs.Prelude.{◌≡◌, ◌+◌, ◌≤◌, ◌++◌, length, vec_len, vec_capacity};
 ghost use Rattle.tenant_record.specs.PassData.{told_of};
 

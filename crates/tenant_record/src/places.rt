@@ -30,7 +30,7 @@ impl Place {
         matches!(self, Place::Home(_))
     }
 
-    /// Whether the pass is there and was told that the history is at its limit.
+    /// Whether the pass is there and reports a full history.
     pub(crate) fn is_told_full(&self) -> bool
         ensures { result ≡ is_told_full self.now }
     {

@@ -15,7 +15,7 @@ use Rattle.tenant_record.specs.SeatData.{SeatData, asked}
 use Rattle.tenant_slots.specs.Seen.{SlotsSeen}
 use Rattle.world_model.specs.declared.calls.Call.{Call}
 
--- the pass after an advance or a commit with that answer: it was told the answer, unless it went home
+-- the pass after an advance or a commit with that answer: it carries the answer, unless it went home
 abbrev pub IsBack : PassData → Moved → Option PassData → Type 0
 IsBack p m None = goes_home m ≡ true
 IsBack p m (Some q) = (goes_home m ≡ false) × Carries p m q

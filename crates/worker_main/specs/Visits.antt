@@ -1,4 +1,4 @@
--- What a worker's visit to a slot comes to.
+-- A worker's visit to a slot: its rounds and its end.
 use Rattle.std.specs.Prelude.{◌≡◌, ℕ, zero, suc, ◌≤◌, ◌⊎◌}
 use Rattle.job_language.specs.declared.answers.Moved.{Moved}
 use Rattle.job_language.specs.declared.answers.Moved.TheVariants as moved

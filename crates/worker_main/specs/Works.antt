@@ -1,4 +1,4 @@
--- What a worker does until it is told to stop.
+-- What a worker does until the signal says to stop.
 use Rattle.std.specs.Prelude.{◌≡◌, ℕ, zero, suc, ◌≤◌, ◌⊎◌, Option, Some, None}
 use Rattle.world_model.specs.declared.calls.Call.{Call}
 use Rattle.nested_wait.specs.Runs.{most_turns}
@@ -13,11 +13,11 @@ AfterPopping {D = D} w (Some call) s t = Comes w call s t
 abbrev pub TakesTurn : {D : Type 0} → Ways D → SlotSeen D → SlotSeen D → Type 0
 TakesTurn {D = D} w s t = (popped : Option Call) × (f : SlotSeen D) × (PopsAt s popped f × AfterPopping w popped f t)
 
--- so many turns
+-- that many turns, one after another
 abbrev pub TakesTurns : {D : Type 0} → Ways D → (turns : ℕ) → SlotSeen D → SlotSeen D → Type 0
 TakesTurns {D = D} w zero s t = t ≡ s
 TakesTurns {D = D} w (suc n) s t = (f : SlotSeen D) × (TakesTurns w n s f × TakesTurn w f t)
 
--- It takes turns until it is told to stop, or has taken 2^64 - 1.
+-- It takes turns until the signal says to stop, or it has taken 2^64 - 1.
 abbrev pub Works : {D : Type 0} → Ways D → (stops : Type 0) → SlotSeen D → SlotSeen D → Type 0
 Works {D = D} w stops s t = (turns : ℕ) × (TakesTurns w turns s t × (stops ⊎ (most_turns ≤ turns)))

@@ -11,10 +11,10 @@ pub trait Signal {
     /// Rings once, after a call was pushed. It wakes a worker, if one waits.
     fn ring<R: Wait>(&self, rt: &R);
 
-    /// A number that each ring changes. `None` if the workers are told to stop.
+    /// A number that each ring changes. `None` if the workers must stop.
     fn listen<R: Wait>(&self, rt: &R) -> Option<u64>
         ensures { result ≡ None → stops self.now };
 
-    /// Waits until that number is no longer the one that was heard, or the workers are told to stop.
+    /// Waits until that number is no longer the one that was heard, or the workers must stop.
     fn wait_past<R: Wait>(&self, rt: &R, heard: u64);
 }

@@ -12,9 +12,9 @@ use crate::visits::answer_call;
 use call_queues::{CallQueues, QueuePass};
 use std::sync::Wait;
 
-/// Serves calls until it is told to stop: it pops a call, arrives at its slot and attends it until
-/// the slot is left. It waits where there is no call. The queue pass and the doors come back. A
-/// worker makes at most 2^64 - 1 turns.
+/// Serves calls until the signal says to stop: it pops a call, arrives at its slot and attends it
+/// until the slot is left. It waits where there is no call. The queue pass and the doors come back.
+/// A worker makes at most 2^64 - 1 turns.
 pub fn worker<R, S, G, D>(
     rt: &R,
     queues: &CallQueues,
@@ -40,7 +40,7 @@ where
     door.into_parts()
 }
 
-/// Takes turns until it is told to stop.
+/// Takes turns until the signal says to stop.
 fn work<R, S, G, D>(rt: &R, signal: &S, door: &mut SlotDoor<'_, R, S, G, D>)
 where
     R: Wait,

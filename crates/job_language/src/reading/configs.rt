@@ -13,7 +13,7 @@ use crate::values::{has_members, items_of, number_in};
 use serde_json::Value;
 use std::alloc::Global;
 
-/// Reads a configuration. Want of memory is told only where it is met.
+/// Reads a configuration. `Refused::Memory` comes only where an allocation failed.
 pub fn read_config(alloc: Global, value: &Value) -> Result<Config, Refused>
     ensures { Reads (λ config. config) result (ok_or (config_of (view value.now)) Place.Head) }
 {

@@ -66,8 +66,8 @@ fn below(limit: usize, value: &Value) -> Option<u8>
     }
 }
 
-/// The instruction of that name with these operands, in a program of so many procedures and a
-/// procedure of so many instructions.
+/// The instruction of that name with these operands, in a program of `procs` procedures and a
+/// procedure of `instrs` instructions.
 fn instr_from(
     operation: Operation,
     procs: usize,

@@ -24,8 +24,8 @@ struct Outline<'v> {
     procs: &'v [Value],
 }
 
-/// Reads a job. Want of memory is told only where it is met; otherwise a value that is no job is
-/// refused with the first place where it breaks the rules.
+/// Reads a job. `Refused::Memory` comes only where an allocation failed; otherwise a value that
+/// is no job is refused with the first place where it breaks the rules.
 pub fn read_job(alloc: Global, value: &Value) -> Result<Job, Refused>
     ensures { Reads (λ job. job) result (job_of (view value.now)) }
 {

@@ -24,7 +24,7 @@ impl Read for Few<'_> {
     }
 }
 
-/// A writer that takes so many bytes, and then fails.
+/// A writer that takes `room` bytes, and then fails.
 #[derive(Drop)]
 pub(super) struct Full {
     pub taken: Vec<u8>,

@@ -54,7 +54,7 @@ fn write_maker(text: &mut String, draws: &mut Pcg32, procedure: u8) -> Result<()
     }
 }
 
-/// Writes a procedure that makes rows of later ones alone, so that every job comes to an end.
+/// Writes a procedure that makes rows of later procedures only, so that every job ends.
 fn write_procedure(
     text: &mut String,
     draws: &mut Pcg32,

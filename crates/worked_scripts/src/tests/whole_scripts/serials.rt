@@ -1,4 +1,4 @@
-// Serial values: lines that are no serial jobs, and want of memory.
+// Serial values: lines that are no serial jobs, and failed allocations.
 use super::run;
 use arena_script::{MAX_SCRIPT_LINE, ScriptEnd, script};
 use std::alloc::{AllocError, Global};
