@@ -19,7 +19,7 @@ PROMISES = [
     ("lines out", ["reply_writer.ReplyText", "reply_writer.AnswerText"]),
     ("the program's scripts of one tenant", ["arena_script.ScriptLines", "arena_script.ScriptAnswers", "arena_script.DumpData", "arena_script.DumpText"]),
     ("the program's scripts of a world", ["arena_script.ScriptLines", "arena_script.RunAnswers"]),
-    ("dumps that are written", ["dump_lines.Dumps", "dump_lines.Lines"]),
+    ("dumps that are written", ["dump_lines.Dumps", "dump_lines.Parts", "dump_lines.Lines"]),
     ("many tenants", ["world_model.Laws"]),
     ("the fast arena", ["arena_core.Stands", "arena_core.Views"]),
     ("waiting, over any door", ["nested_wait.Runs", "nested_wait.Turns"]),
@@ -33,6 +33,7 @@ PROMISES = [
     ("queues that threads share", ["call_queues.Queues"]),
     ("the market's lists", ["market.Waiting", "market.First"]),
     ("the words of the server", ["server_words.Reading"]),
+    ("a server's tenants, from its start to its end", ["socket_server.Houses"]),
 ]
 
 
