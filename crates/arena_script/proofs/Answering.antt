@@ -1,7 +1,6 @@
 -- The answers to the lines of a script, one after another.
 use Rattle.std.proofs.Common.{◌≡◌, ◌≢◌, ℕ, List, [], ◌∷◌, ◌++◌, Option, Some, None, Ok, Err, OnOk, refl, sym, ap, ◌∙◌, append_assoc, subst}
 use Rattle.std.specs.Prelude.{Result}
-use Rattle.std.proofs.lemmas.List.{append-nil}
 use Rattle.std.specs.Io.KnownBytes.{Appends}
 use Rattle.reply_writer.specs.SerialText.{serial_text}
 use Rattle.reply_writer.specs.declared.serials.SerialAnswer.{SerialAnswer}

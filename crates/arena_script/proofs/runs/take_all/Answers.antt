@@ -1,5 +1,4 @@
-use Rattle.std.proofs.Common.{◌≡◌, ◌≢◌, rules, List, ℕ, [], ◌∷◌, ◌++◌, ap, sym, ◌∙◌, Ok, refl}
-use Rattle.world_model.specs.World.{World}
+use Rattle.std.proofs.Common.{◌≡◌, ◌≢◌, rules, List, ℕ, [], ◌∷◌, ◌++◌, ap, ◌∙◌, Ok, refl}
 use Rattle.world_script.specs.Takes.{told}
 use Rattle.arena_script.specs.RunAnswers.{TellsOutcome}
 use Rattle.arena_script.specs.declared.inputs.Input.{Input}

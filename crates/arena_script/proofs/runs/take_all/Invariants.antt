@@ -1,4 +1,4 @@
-use Rattle.std.proofs.Common.{◌≡◌, ℕ, List, Option, IsSome}
+use Rattle.std.proofs.Common.{ℕ, List, Option, IsSome}
 use Rattle.request_reader.specs.Reading.{work_left}
 use Rattle.world_model.specs.World.{World}
 use Rattle.world_script.specs.Knowing.{Knows}
