@@ -10,7 +10,7 @@ use Rattle.job_language.specs.declared.steps.Entry.{Entry}
 use Rattle.job_language.specs.declared.steps.Step.TheVariants.{Ask}
 use Rattle.tenant_record.specs.History.{entries_of}
 
--- A tenant's seat: its number from 0, its log of asks, the log's limit, and whether one met a full history.
+-- A tenant's seat: its number, from 0, how many entries its log may have, the asks that were recorded, in order and with their replies, and whether one of them met a full history.
 pub record SeatData : Type 0 where
   pub tenant : ℕ
   pub number : ℕ
