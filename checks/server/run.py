@@ -14,6 +14,7 @@ import subprocess
 import sys
 import tempfile
 import threading
+import time
 
 PROGRAM = os.path.abspath("crates/server_program/out/server_program")
 SCRIPT = os.path.abspath("crates/script_program/out/script_program")
@@ -22,6 +23,7 @@ FIB = {"args": [6, 0], "fuel": 1000, "procs": [[
     ["set", 2, 2], ["lt", 3, 0, 2], ["jz", 3, 4], ["ret", 0], ["set", 2, 1], ["sub", 3, 0, 2], ["spawn", 0, 0, 3, 1],
     ["sub", 3, 3, 2], ["spawn", 0, 0, 3, 1], ["wait", 4, 5, 0], ["ret", 4]]]}
 SEVEN = {"args": [7, 0], "fuel": 10, "procs": [[["ret", 0]]]}
+JUMPS_AWAY = {"args": [0, 0], "fuel": 1000, "procs": [[["jmp", 1]]]}
 HELLO = {"op": "hello", "tenant": "acme"}
 
 
@@ -87,11 +89,63 @@ def job_is_executed_and_polled():
 
 
 def workers_share_a_job():
-    server = Server([tenant("acme", 3, 1)], 2, 1)
-    replies = server.ask(HELLO, {"op": "execute", "job": FIB})
-    assert replies == [{"tenant": "acme"}, {"job": 1, "status": "complete", "value": 8}]
+    server = Server([tenant("acme", 3, 1)], 2, 2)
+    done = {"job": 1, "status": "complete", "value": 8}
+    assert server.ask(HELLO, {"op": "execute", "job": FIB}) == [{"tenant": "acme"}, done]
+    assert server.ask(HELLO, {"op": "poll", "job": 1}) == [{"tenant": "acme"}, done]
     lines, err, status = server.end()
     assert len(lines) == 1 and lines[0].startswith("acme: closed, ") and (err, status) == ("", 0)
+
+
+def chain(count):
+    """A job whose tasks nest as deep as the count, and which gives 7."""
+    return {"args": [count, 7], "fuel": 1000, "procs": [[
+        ["jz", 0, 6], ["set", 2, 1], ["sub", 3, 0, 2], ["spawn", 0, 0, 3, 1], ["wait", 4, 5, 0], ["ret", 4], ["ret", 1]]]}
+
+
+def job(*procs, args=(0, 0), fuel=1000):
+    return {"args": args, "fuel": fuel, "procs": procs}
+
+
+# Jobs with the value that each gives, or the fault that it ends with, where one slot does all its work.
+ENDS = [
+    # A wait for a group that never had a member: a total of 0, and status 1.
+    (job([["wait", 2, 3, 0], ["set", 4, 10], ["mul", 2, 2, 4], ["add", 2, 2, 3], ["ret", 2]]), {"value": 1}),
+    # Two waits for a group that is cancelled: status 2, and then 1.
+    (job([["cancel", 0], ["spawn", 0, 1, 0, 1], ["wait", 2, 3, 0], ["wait", 4, 5, 0], ["set", 6, 10], ["mul", 3, 3, 6],
+          ["add", 3, 3, 5], ["add", 3, 3, 2], ["add", 3, 3, 4], ["ret", 3]], [["ret", 0]], args=(7, 0)), {"value": 21}),
+    # A waiter that runs a task of another group, which overwrites its cell.
+    (job([["set", 2, 5], ["store", 0, 2], ["spawn", 1, 1, 0, 1], ["spawn", 0, 2, 0, 1], ["wait", 3, 4, 1], ["load", 5, 0],
+          ["wait", 3, 4, 0], ["ret", 5]], [["ret", 0]], [["set", 2, 9], ["store", 0, 2], ["ret", 2]]), {"value": 9}),
+    # A waiter in a region that runs the region's own task, which overwrites its cell.
+    (job([["set", 2, 5], ["store", 0, 2], ["isolate", 3, 1, 0, 1], ["load", 5, 0], ["ret", 5]],
+         [["spawn", 0, 2, 0, 1], ["wait", 2, 3, 0], ["ret", 2]], [["set", 2, 9], ["store", 0, 2], ["ret", 2]]),
+     {"value": 9}),
+    # A return while a group is used.
+    (job([["spawn", 0, 1, 0, 1], ["ret", 0]], [["ret", 0]]), {"fault": 5}),
+    # 128 rows on one slot, and one more.
+    (chain(127), {"value": 7}),
+    (chain(128), {"fault": 3}),
+    # Numbers that wrap; a division by 0, with fuel for it and without; one that rounds toward 0.
+    (job([["set", 2, 2**63 - 1], ["set", 3, 1], ["add", 2, 2, 3], ["ret", 2]]), {"value": -(2**63)}),
+    (job([["set", 2, -(2**63)], ["set", 3, -1], ["div", 2, 2, 3], ["ret", 2]]), {"value": -(2**63)}),
+    (job([["set", 2, 1], ["div", 2, 2, 3], ["ret", 2]]), {"fault": 1}),
+    (job([["set", 2, 1], ["div", 2, 2, 3], ["ret", 2]], fuel=1), {"fault": 2}),
+    (job([["div", 2, 0, 1], ["ret", 2]], args=(-7, 2)), {"value": -3}),
+    # 13 leaves of 4 instructions and 12 inner tasks of 10 cost 172.
+    ({**FIB, "fuel": 172}, {"value": 8}),
+    ({**FIB, "fuel": 171}, {"fault": 2}),
+]
+
+
+def each_job_has_its_end():
+    server = Server([tenant("acme", 1, 1)], 1, 1)
+    replies = server.ask(HELLO, *[{"op": "execute", "job": it} for it, _ in ENDS], {"op": "retire"})
+    wanted = [{"job": number, "status": "complete" if "value" in end else "fault", **end}
+              for number, (_, end) in enumerate(ENDS, 1)]
+    assert replies == [{"tenant": "acme"}, *wanted, {"epoch": 1}], replies
+    lines, err, status = server.end()
+    assert lines[0].startswith("acme: closed, ") and (err, status) == ("", 0)
 
 
 def tenants_do_not_see_each_other():
@@ -126,6 +180,67 @@ def client_that_goes_away_after_any_byte():
         assert server.ask(HELLO, {"op": "execute", "job": SEVEN})[1]["value"] == 7
         lines, err, status = server.end()
         assert lines[0].startswith("acme: closed, ") and (err, status) == ("", 0), (first, lines, err, status)
+
+
+def job_stands_though_its_reply_is_lost():
+    """The client reads the 18 bytes of its first reply and no more, so the write of the second fails."""
+    server = Server([tenant("acme", 1, 1)], 1, 2)
+    with server.connect() as client:
+        client.sendall((json.dumps(HELLO) + "\n").encode())
+        assert client.recv(18, socket.MSG_WAITALL) == b'{"tenant":"acme"}\n'
+        client.shutdown(socket.SHUT_RD)
+        client.sendall((json.dumps({"op": "execute", "job": SEVEN}) + "\n").encode())
+        try:
+            # Blank lines, until the session has ended.
+            for _ in range(6000):
+                client.sendall(b"\n")
+                time.sleep(0.01)
+            raise AssertionError("the session goes on")
+        except BrokenPipeError:
+            pass
+    done = {"job": 1, "status": "complete", "value": 7}
+    assert server.ask(HELLO, {"op": "poll", "job": 1}) == [{"tenant": "acme"}, done]
+    # The execute, an advance, the collect and the poll.
+    assert server.end() == (["acme: closed, 4 entries"], "", 0)
+
+
+def hostile_lines_have_their_errors():
+    """Each line beside its reply. The last one has no newline."""
+    hello, arena = json.dumps(HELLO).encode(), b'{"op":"arena"}'
+    limits = {"priority": "normal", "reserved": 1, "slots": 1}
+
+    def error(code, name):
+        return {"code": code, "error": name}
+
+    table = [
+        (b'{"job":1,"op":"poll"}', error(11, "no_tenant")),
+        (json.dumps({"op": "submit", "job": JUMPS_AWAY}).encode(), error(11, "no_tenant")),
+        (b'{"op":"hello","tenant":"zed"}', error(5, "unknown_tenant")),
+        (hello, {"tenant": "acme"}),
+        (hello, error(3, "bad_request")),
+        (b'{"key":0,"op":"cells"}', {"count": 0, "key": 0, "sum": 0}),
+        (arena.ljust(65536), limits),
+        (arena.ljust(65537), error(1, "line_too_long")),
+        (b'{"op":"submit"}', error(3, "bad_request")),
+        (json.dumps({"op": "submit", "job": JUMPS_AWAY}).encode(), error(4, "bad_program")),
+        (b'{"job":9,"op":"poll"}', error(6, "unknown_job")),
+        (b'{"op":', error(2, "bad_json")),
+        (b"\xff", error(2, "bad_json")),
+        (b"[" * 127 + b"]" * 127, error(3, "bad_request")),
+        (b"[" * 128 + b"]" * 128, error(2, "bad_json")),
+        (b'{"op":"arena","x":1}', error(3, "bad_request")),
+        (b'{"job":1.0,"op":"poll"}', error(3, "bad_request")),
+        (arena, limits),
+    ]
+    server = Server([tenant("acme", 1, 1)], 1, 1)
+    with server.connect() as client:
+        client.sendall(b"\n".join(line for line, _ in table))
+        client.shutdown(socket.SHUT_WR)
+        with client.makefile() as replies:
+            got = [json.loads(reply) for reply in replies]
+    assert got == [wanted for _, wanted in table], got
+    # The cells, the arena twice, and the poll: errors of the reading are no entries.
+    assert server.end() == (["acme: closed, 4 entries"], "", 0)
 
 
 def client_that_never_reads():
@@ -177,16 +292,17 @@ def clients_that_say_nothing():
 
 
 def many_clients_at_once():
-    server = Server([tenant("acme", 4, 1)], 4, 16)
-    wanted = [{"tenant": "acme"}] + [{"job": 0, "status": "complete", "value": 7}] * 10
+    """As many clients as a server may have, which together make as many jobs as a tenant may have."""
+    server = Server([tenant("acme", 4, 1)], 4, 64)
+    wanted = [{"tenant": "acme"}] + [{"job": 0, "status": "complete", "value": 7}] * 4
     wrong = []
 
     def client():
-        replies = server.ask(HELLO, *[{"op": "execute", "job": SEVEN}] * 10)
+        replies = server.ask(HELLO, *[{"op": "execute", "job": SEVEN}] * 4)
         if [{**reply, "job": 0} if "job" in reply else reply for reply in replies] != wanted:
             wrong.append(replies)
 
-    threads = [threading.Thread(target=client) for _ in range(16)]
+    threads = [threading.Thread(target=client) for _ in range(64)]
     for thread in threads:
         thread.start()
     for thread in threads:
@@ -244,6 +360,17 @@ def waiting_ends_at_a_full_history():
     assert server.end() == (["acme: closed, 5 entries"], "", 0)
 
 
+def executes_end_at_a_full_history():
+    """The execute is the first entry. With room for two the first advance, up to the first spawn, is the second; the
+    next advance finds the history full, which ends the attending with error 8, and a poll finds it full too."""
+    for steps in (1, 2):
+        server = Server([{**tenant("acme", 1, 1), "steps": steps}], 1, 1)
+        full = {"code": 8, "error": "history_full"}
+        replies = server.ask(HELLO, {"op": "execute", "job": FIB}, {"op": "poll", "job": 1})
+        assert replies == [{"tenant": "acme"}, full, full]
+        assert server.end() == ([f"acme: closed, {steps} entries"], "", 0)
+
+
 def folder_of_dumps_is_missing():
     server = Server([tenant("acme", 1, 1)], 1, 1)
     os.rmdir(server.dumps)
@@ -276,11 +403,12 @@ def wrong_words_and_files_are_faults():
         assert run(*words) == ("", "arena-server: device\n", 3)
 
 
-CHECKS = [job_is_executed_and_polled, workers_share_a_job, tenants_do_not_see_each_other,
-          client_that_goes_away_ends_its_session_alone, client_that_goes_away_after_any_byte, client_that_never_reads,
+CHECKS = [job_is_executed_and_polled, workers_share_a_job, each_job_has_its_end, tenants_do_not_see_each_other,
+          client_that_goes_away_ends_its_session_alone, client_that_goes_away_after_any_byte,
+          job_stands_though_its_reply_is_lost, hostile_lines_have_their_errors, client_that_never_reads,
           client_that_sends_without_end, clients_that_say_nothing, many_clients_at_once,
           jobs_are_retired_round_after_round, dump_is_the_history, waiting_ends_at_a_full_history,
-          folder_of_dumps_is_missing, wrong_words_and_files_are_faults]
+          executes_end_at_a_full_history, folder_of_dumps_is_missing, wrong_words_and_files_are_faults]
 
 
 def main():

@@ -67,3 +67,4 @@ pub mod Retired
 pub mod Founded
 pub mod FaultSteps
 pub mod FaultEnds
+pub mod RowsFiled

@@ -1,36 +1,31 @@
--- Settling place by place.
-use Rattle.std.proofs.Common.{◌≡◌, ◌≢◌, ℕ, zero, suc, ◌+◌, ◌-◌, ◌<◌, ◌≤◌, ◌&&◌, List, length, Option, Some, None, Bool, true, false, ◌⊎◌, refl, sym, ap, ◌∙◌, arith, inl, inr, subst}
-use Rattle.std.specs.Option.{option_map}
-use Rattle.std.proofs.lemmas.Bool.{cases_eq, cases_lt}
-use Rattle.cancel_context.specs.Forest.{IsForest, IsHeld, is_cancelled}
+-- Settling row by row.
+use Rattle.std.proofs.Common.{◌≡◌, ℕ, ◌<◌, ◌≤◌, ◌&&◌, length, Some, Bool, true, false, refl, sym, ap, ◌∙◌, arith, inl, inr, subst}
+use Rattle.cancel_context.specs.Forest.{IsForest, is_cancelled}
+use Rattle.region_tag.specs.declared.row_id.RowId.{RowId}
 use Rattle.job_step.specs.declared.frames.Frame.{Frame}
-use Rattle.tenant_model.specs.declared.rows.Phase.{Phase}
-use Rattle.tenant_model.specs.declared.rows.Phase.TheVariants.{Unstarted, Live, Done, Dropped, Faulted}
 use Rattle.tenant_model.specs.declared.rows.Row.{Row}
 use Rattle.tenant_model.specs.State.{State, row}
 use Rattle.tenant_model.specs.Walks.{is_unstarted, is_open, is_context_cancelled, settle, settled_row}
 use Rattle.tenant_model.proofs.AttendedSteps.{open_there}
-use Rattle.tenant_model.proofs.Changed.{row-with_same, row-with_other}
 use Rattle.tenant_model.proofs.Contexts.{SameContexts, is_context_cancelled-same}
-use Rattle.tenant_model.proofs.Settling.{settled_at}
 use Rattle.tenant_model.proofs.Tended.{unstarted_open}
 use Rattle.tenant_model.proofs.Within.{either_way}
 use Rattle.arena_rows.specs.declared.rows.OpenRow.{OpenRow}
 use Rattle.arena_rows.specs.declared.rows.Stage.{Stage}
 use Rattle.arena_rows.specs.declared.rows.Stage.TheVariants as stage
 use Rattle.arena_rows.specs.Held.{Held}
+use Rattle.arena_rows.specs.OpenRows.{is_waiting, AreFine}
 use Rattle.arena_rows.specs.Represents.{at_place, id_of, stage_of, Holds, HoldsSomehow}
-use Rattle.arena_rows.specs.Endings.{number_at, settled_in}
+use Rattle.arena_rows.specs.Endings.{rows_of, IsCancelled, IsWaiting}
 use Rattle.arena_rows.proofs.Contexts.{context_is, live_open}
 use Rattle.arena_rows.proofs.Dropping.{Drops, Drops-none, Drops-more, Drops-all, dropped}
-use Rattle.arena_rows.proofs.Grouped.{IsEntry, is_entry}
-use Rattle.arena_rows.proofs.RowHeld.{row_held}
-use Rattle.arena_rows.proofs.Started.{some_is, some_none}
+use Rattle.arena_rows.proofs.Ending.{room_for_place}
+use Rattle.arena_rows.proofs.Grouped.{IsEntry, is_entry, entry_of}
 use Rattle.arena_rows.proofs.Starts.{unstarted_is}
 
-abbrev is_waiting : Stage → Bool
-is_waiting (stage.Waiting f) = true
-is_waiting (stage.Live s h) = false
+waiting_frame : (s : Stage) → is_waiting s ≡ true → (f : Frame) × (s ≡ stage.Waiting f)
+waiting_frame (stage.Waiting f) waits = (f, refl)
+waiting_frame (stage.Live slot h) waits = cc
 
 -- an entry at a place
 module _ (a : Held) (t : State) (is : Holds a t) (p : ℕ) (e : OpenRow) (there : at_place a.table p ≡ Some e) where
@@ -49,9 +44,6 @@ module _ (a : Held) (t : State) (is : Holds a t) (p : ℕ) (e : OpenRow) (there 
   context_told : e.context ≡ is.assigned.of_row e.number
   context_told = (is.contexts.in_table p e there).0
 
-  pub context_held : IsHeld a.contexts e.context
-  context_held = rw context_told (row_held a t is e.number opened)
-
   pub cancelled_told : IsForest a.contexts → is_cancelled a.contexts e.context ≡ is_context_cancelled t e.number
   cancelled_told forest =
       let place = open_there t.rows e.number opened in
@@ -66,28 +58,8 @@ module _ (a : Held) (t : State) (is : Holds a t) (p : ℕ) (e : OpenRow) (there 
         absurd (grind (arith, ap is_waiting both))
   ]
 
-  pub started_by_stage : ((f : Frame) → e.stage ≡ stage.Waiting f → ⊥) → is_unstarted (row t.rows e.number).phase ≡ false
-  started_by_stage none = elim (either_way (is_unstarted (row t.rows e.number).phase)) [
-    | inl is_one ↦ absurd (none (row t.rows e.number).frame (entry.its.stage ∙ ap (stage_of (row t.rows e.number).frame) (unstarted_is (row t.rows e.number).phase is_one)))
-    | inr started ↦ started
-  ]
-
   pub its_place : is.places e.number ≡ p
   its_place = place_is
-
--- Nothing is dropped at a place where nothing stands, or where the row has started, or is not cancelled;
-pub stays_none : (t : State) (o : Option OpenRow) → o ≡ None → settled_in t o ≡ t
-stays_none t o none = rw none refl
-
-pub stays_started : (t : State) (o : Option OpenRow) (e : OpenRow) → o ≡ Some e → is_unstarted (row t.rows e.number).phase ≡ false → settled_in t o ≡ t
-stays_started t o e some started = rw (some, started) refl
-
-pub stays_fine : (t : State) (o : Option OpenRow) (e : OpenRow) → o ≡ Some e → is_context_cancelled t e.number ≡ false → settled_in t o ≡ t
-stays_fine t o e some fine = rw (some, fine) (elim (either_way (is_unstarted (row t.rows e.number).phase)) [ inl is ↦ rw is refl | inr not_so ↦ rw not_so refl ])
-
--- otherwise the row is.
-pub goes : (t : State) (o : Option OpenRow) (e : OpenRow) → o ≡ Some e → is_unstarted (row t.rows e.number).phase ≡ true → is_context_cancelled t e.number ≡ true → settled_in t o ≡ dropped t e.number
-goes t o e some waits cancelled = rw (some, waits, cancelled) refl
 
 -- rows that were settled are of the same makers, and have the same marks
 dropped_part : {A : Type 0} (s t : State) → Drops s t → (f : Row → A) → ((r : Row) (b : Bool) → f (settled_row r b) ≡ f r) → (n : ℕ) → f (row t.rows n) ≡ f (row s.rows n)
@@ -118,88 +90,64 @@ Drops-waits s t drops n waits = elim (drops.each n) [
   | inr went ↦ went ∙ settled_waits (row s.rows n) (is_context_cancelled s n) (ap (λ (r : Row). is_unstarted r.phase) (sym went) ∙ waits)
 ]
 
--- what is held once the rows at the places below one are settled
-pub record SettledBelow (s : State) (a : Held) (p : ℕ) : Type 0 where
+-- what is held once some of the rows are settled
+pub record SettledSome (s : State) (a : Held) : Type 0 where
   pub t : State
   pub drops : Drops s t
   pub holds : Holds a t
-  pub fine : (q : ℕ) (e : OpenRow) → q < p → at_place a.table q ≡ Some e → is_unstarted (row t.rows e.number).phase ≡ true → is_context_cancelled s e.number ≡ false
 
-pub settled_first : (s : State) (a : Held) → Holds a s → SettledBelow s a 0
-settled_first s a is = record { t = s; drops = Drops-none s; holds = is; fine = λ q e low. absurd (omega (arith, low)) }
+pub settled_first : (s : State) (a : Held) → Holds a s → SettledSome s a
+settled_first s a is = record { t = s; drops = Drops-none s; holds = is }
 
--- One place more.
-module _ (s : State) (a b : Held) (p : ℕ) (so_far : SettledBelow s a p) (holds : Holds b (settled_in so_far.t (at_place a.table p))) (numbers : (q : ℕ) (e : OpenRow) → at_place b.table q ≡ Some e → number_at a.table q ≡ Some e.number) where
-  abbrev t : State
-  t = so_far.t
+-- A row that waits, and whose context is cancelled,
+module _ (a : Held) (id : RowId) (sound : IsForest a.contexts) (cancelled : IsCancelled a id) where
+  abbrev e : OpenRow
+  e = cancelled.doomed.entry
 
-  old_entry : (q : ℕ) (e : OpenRow) (o : Option OpenRow) → at_place a.table q ≡ o → option_map (λ (x : OpenRow). x.number) o ≡ Some e.number → (x : OpenRow) × (at_place a.table q ≡ Some x) × (x.number ≡ e.number)
-  old_entry q e None here number = absurd (some_none e.number (sym number))
-  old_entry q e (Some x) here number = (x, here, some_is x.number e.number number)
+  waits_in : (t : State) → Holds a t → is_unstarted (row t.rows e.number).phase ≡ true
+  waits_in t is = let frame = waiting_frame e.stage cancelled.doomed.waits in waits_by_stage a t is id.place e cancelled.doomed.there frame.0 frame.1
 
-  -- nothing changed
-  unchanged : settled_in t (at_place a.table p) ≡ t → ((e : OpenRow) → at_place a.table p ≡ Some e → is_unstarted (row t.rows e.number).phase ≡ true → is_context_cancelled t e.number ≡ false) → SettledBelow s b (p + 1)
-  unchanged same fine_here = record {
-    t = t;
-    drops = so_far.drops;
-    holds = subst (Holds b) same holds;
-    fine = λ q e low there waits.
-        let was = old_entry q e (at_place a.table q) refl (numbers q e there) in
-        let waits_then : is_unstarted (row t.rows was.0.number).phase ≡ true = ap (λ n. is_unstarted (row t.rows n).phase) was.2 ∙ waits in
-        ap (is_context_cancelled s) (sym was.2) ∙ elim (cases_eq q p) [
-          | inl here ↦ sym (Drops-cancelled s t so_far.drops was.0.number) ∙ fine_here was.0 (ap (at_place a.table) (sym here) ∙ was.1) waits_then
-          | inr other ↦ so_far.fine q was.0 (omega (arith, low, other)) was.1 waits_then
-        ];
-  }
+  its_id : (t : State) (is : Holds a t) → id ≡ id_of is.places e.number
+  its_id t is =
+      let at : ℕ → ℕ → RowId = λ n p. record { number = n; place = p } in
+      ap (λ n. at n id.place) (sym cancelled.number) ∙ ap (at e.number) (sym (its_place a t is id.place e cancelled.doomed.there))
 
-  -- or the row there is dropped
-  module _ (x : OpenRow) (there : at_place a.table p ≡ Some x) (waits : is_unstarted (row t.rows x.number).phase ≡ true) (cancelled : is_context_cancelled t x.number ≡ true) where
-    abbrev n : ℕ
-    n = x.number
+  -- waits in each state that is held,
+  pub cancelled_waits : HoldsSomehow a → IsWaiting a id
+  cancelled_waits h = (h.0, e.number, h.1, waits_in h.0 h.1, its_id h.0 h.1)
 
-    place : (1 ≤ n) × (n ≤ length t.rows)
-    place = open_there t.rows n (unstarted_open (row t.rows n).phase waits)
+  pub room_left : HoldsSomehow a → length a.free < length a.table
+  room_left h =
+      let opened = unstarted_open (row h.0.rows e.number).phase (waits_in h.0 h.1) in
+      let found = entry_of a h.0 h.1 e.number opened in
+      room_for_place a h.0 h.1 e.number found.0 found.1
 
-    is_dropped : is_unstarted (row (dropped t n).rows n).phase ≡ false
-    is_dropped = ap (λ (r : Row). is_unstarted r.phase) (row-with_same t.rows n (record (row t.rows n) { phase = Dropped }) place.0 place.1)
+  -- and can be dropped.
+  module _ (b : Held) (drop : (t : State) (n : ℕ) (is : Holds a t) → is_unstarted (row t.rows n).phase ≡ true → id ≡ id_of is.places n → Holds b (dropped t n)) where
+    pub still_held : HoldsSomehow a → HoldsSomehow b
+    still_held h = (dropped h.0 e.number, drop h.0 e.number h.1 (waits_in h.0 h.1) (its_id h.0 h.1))
 
-    went : SettledBelow s b (p + 1)
-    went = record {
-      t = dropped t n;
-      drops = Drops-more s t n place.0 (omega (arith, place, so_far.drops.long)) waits (Drops-waits s t so_far.drops n waits) (sym (Drops-cancelled s t so_far.drops n) ∙ cancelled) so_far.drops;
-      holds = subst (Holds b) (goes t (at_place a.table p) x there waits cancelled) holds;
-      fine = λ q e low here waits_e.
-          let was = old_entry q e (at_place a.table q) refl (numbers q e here) in
-          let apart : e.number ≢ n = λ same. let no : is_unstarted (row (dropped t n).rows e.number).phase ≡ false = ap (λ k. is_unstarted (row (dropped t n).rows k).phase) same ∙ is_dropped in grind (arith, no, waits_e) in
-          let then : is_unstarted (row t.rows e.number).phase ≡ true = ap (λ (r : Row). is_unstarted r.phase) (sym (row-with_other t.rows n e.number (record (row t.rows n) { phase = Dropped }) place.0 apart)) ∙ waits_e in
-          let waits_then : is_unstarted (row t.rows was.0.number).phase ≡ true = ap (λ k. is_unstarted (row t.rows k).phase) was.2 ∙ then in
-          ap (is_context_cancelled s) (sym was.2) ∙ elim (cases_eq q p) [
-            | inl same ↦
-                let one : was.0 ≡ x = some_is was.0 x (sym was.1 ∙ ap (at_place a.table) same ∙ there) in
-                absurd (apart (sym was.2 ∙ ap (λ (y : OpenRow). y.number) one))
-            | inr other ↦ so_far.fine q was.0 (omega (arith, low, other)) was.1 waits_then
-          ];
-    }
+    pub settled_more : (s : State) → SettledSome s a → SettledSome s b
+    settled_more s so_far =
+        let t = so_far.t in
+        let waits = waits_in t so_far.holds in
+        let place : (1 ≤ e.number) × (e.number ≤ length t.rows) = open_there t.rows e.number (unstarted_open (row t.rows e.number).phase waits) in
+        let told : is_context_cancelled t e.number ≡ true = sym (cancelled_told a t so_far.holds id.place e cancelled.doomed.there sound) ∙ cancelled.doomed.cancelled in
+        record {
+          t = dropped t e.number;
+          drops = Drops-more s t e.number place.0 (omega (arith, place, so_far.drops.long)) waits (Drops-waits s t so_far.drops e.number waits) (sym (Drops-cancelled s t so_far.drops e.number) ∙ told) so_far.drops;
+          holds = drop t e.number so_far.holds waits (its_id t so_far.holds);
+        }
 
-  by_entry : (o : Option OpenRow) → at_place a.table p ≡ o → SettledBelow s b (p + 1)
-  by_entry None there = unchanged (stays_none t (at_place a.table p) there) (λ e here. absurd (some_none e (sym here ∙ there)))
-  by_entry (Some x) there = elim (either_way (is_unstarted (row t.rows x.number).phase)) [
-    | inl waits ↦ elim (either_way (is_context_cancelled t x.number)) [
-      | inl cancelled ↦ went x there waits cancelled
-      | inr fine ↦ unchanged (stays_fine t (at_place a.table p) x there fine) (λ e here waits_e. let one : x ≡ e = some_is x e (sym there ∙ here) in ap (λ (y : OpenRow). is_context_cancelled t y.number) (sym one) ∙ fine)
-    ]
-    | inr started ↦ unchanged (stays_started t (at_place a.table p) x there started) (λ e here waits_e. let one : x ≡ e = some_is x e (sym there ∙ here) in absurd (let no : is_unstarted (row t.rows e.number).phase ≡ false = ap (λ (y : OpenRow). is_unstarted (row t.rows y.number).phase) (sym one) ∙ started in grind (arith, no, waits_e)))
-  ]
-
-  pub settled_more : SettledBelow s b (p + 1)
-  settled_more = by_entry (at_place a.table p) refl
-
--- All places are settled.
-pub settled_all : (s : State) (a : Held) (p : ℕ) → length a.table ≤ p → SettledBelow s a p → Holds a (settle s)
-settled_all s a p all so_far =
+-- Where no row waits any more whose context is cancelled, all are settled.
+pub settled_all : (s : State) (a : Held) → IsForest a.contexts → AreFine (rows_of a) → SettledSome s a → Holds a (settle s)
+settled_all s a sound fine so_far =
+    let t = so_far.t in
     let is = so_far.holds in
-    let same : so_far.t ≡ settle s = Drops-all s so_far.t so_far.drops (λ n waits.
-    let stands = is.table.each n (unstarted_open (row so_far.t.rows n).phase waits) in
-    let number = stands.is.number in
-    ap (is_context_cancelled s) (sym number) ∙ so_far.fine (is.places n) stands.entry (omega (arith, stands.within, all)) stands.there (ap (λ k. is_unstarted (row so_far.t.rows k).phase) number ∙ waits)) in
+    let same : t ≡ settle s = Drops-all s t so_far.drops (λ n waits.
+    let stands = is.table.each n (unstarted_open (row t.rows n).phase waits) in
+    let e = stands.entry in
+    let waiting : is_waiting e.stage ≡ true = ap is_waiting (stands.is.stage ∙ ap (stage_of (row t.rows n).frame) (unstarted_is (row t.rows n).phase waits)) in
+    let told : is_context_cancelled t e.number ≡ false = sym (cancelled_told a t is (is.places n) e stands.there sound) ∙ fine (is.places n) e stands.there waiting in
+    sym (Drops-cancelled s t so_far.drops n) ∙ ap (is_context_cancelled t) (sym stands.is.number) ∙ told) in
     subst (Holds a) same is

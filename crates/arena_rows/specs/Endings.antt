@@ -1,5 +1,5 @@
 -- What the parts of an arena are after a row has ended.
-use Rattle.std.specs.Prelude.{◌≡◌, ◌≢◌, ℕ, zero, suc, ◌+◌, ◌-◌, ◌<◌, ◌==◌, ◌&&◌, ℤ, Bool, true, false, if◌then◌else◌, List, [], ◌∷◌, ◌++◌, Option, Some, None, slice_index_or, slice_set, length, map, IsSome}
+use Rattle.std.specs.Prelude.{◌≡◌, ◌≢◌, ℕ, zero, suc, ◌+◌, ◌-◌, ◌<◌, ◌==◌, ℤ, Bool, true, false, if◌then◌else◌, List, [], ◌∷◌, ◌++◌, Option, Some, None, slice_index_or, slice_set, length, map, IsSome}
 use Rattle.std.specs.List.{list_any}
 use Rattle.std.specs.Option.{option_map}
 use Rattle.std.specs.Int.{int_wrapping_add, w64}
@@ -11,15 +11,15 @@ use Rattle.tenant_model.specs.declared.rows.Kind.TheVariants as kind
 use Rattle.nest_stack.specs.Nest as nest
 use Rattle.nest_stack.specs.Nest.{stack, with_stack}
 use Rattle.tenant_model.specs.State.{State, row, job}
-use Rattle.tenant_model.specs.Walks.{is_open, is_unstarted, is_context_cancelled, top}
-use Rattle.tenant_model.specs.Changes.{on_row, task_height, faulted_row}
-use Rattle.tenant_model.specs.declared.rows.Phase.TheVariants.{Dropped}
+use Rattle.tenant_model.specs.Walks.{is_open, is_unstarted, top}
+use Rattle.tenant_model.specs.Changes.{task_height, faulted_row}
 use Rattle.tenant_model.specs.Shared.{has_used_group}
 use Rattle.arena_rows.specs.declared.rows.OpenRow.{OpenRow}
 use Rattle.arena_rows.specs.declared.rows.CurrentJob.{CurrentJob}
 use Rattle.arena_rows.specs.declared.rows.Source.{Source}
 use Rattle.arena_rows.specs.declared.rows.Source.TheVariants.{Root, Posted, Spawned, Region}
 use Rattle.arena_rows.specs.Held.{Held}
+use Rattle.arena_rows.specs.OpenRows.{OpenRows, IsDoomed}
 use Rattle.arena_rows.specs.HeldChanges.{index_of, no_job}
 use Rattle.arena_rows.specs.Represents.{at_place, id_of, is_spawned, Assigned, Holds}
 
@@ -140,10 +140,14 @@ IsWaiting a id = (s : State) × (n : ℕ) × (is : Holds a s) × (is_unstarted (
 abbrev pub number_at : List (Option OpenRow) → ℕ → Option ℕ
 number_at table q = option_map (λ (e : OpenRow). e.number) (at_place table q)
 
--- a state without the row of an entry, if that waits and its context is cancelled
-abbrev pub settled_in : State → Option OpenRow → State
-settled_in t None = t
-settled_in t (Some e) = if is_unstarted (row t.rows e.number).phase && is_context_cancelled t e.number then on_row t e.number (λ r. record r { phase = Dropped }) else t
+-- the open rows and the contexts of an arena
+abbrev pub rows_of : Held → OpenRows
+rows_of a = record { table = a.table; contexts = a.contexts }
+
+-- A row stands at its place and waits, and its context is cancelled.
+pub record IsCancelled (a : Held) (id : RowId) : Type 0 where
+  pub doomed : IsDoomed (rows_of a) id.place
+  pub number : doomed.entry.number ≡ id.number
 
 -- The topmost row of a slot has faulted, and those below it, down to and including the first that is not a region.
 abbrev pub faulted_rows : State → (slot : ℕ) → State

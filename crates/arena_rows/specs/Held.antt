@@ -1,5 +1,5 @@
 -- What an arena holds.
-use Rattle.std.specs.Prelude.{ℕ, ◌≤◌, ◌&&◌, ◌==◌, Bool, true, false, if◌then◌else◌, List, [], ◌∷◌, Option, Some, None, slice_index_or, slice_set, vec_capacity, map, length}
+use Rattle.std.specs.Prelude.{ℕ, ◌≤◌, List, Option, vec_capacity, length}
 use Rattle.job_language.specs.declared.tenants.Tenant.{Tenant}
 use Rattle.cancel_context.specs.Forest.{Forest}
 use Rattle.nest_stack.specs.Nest.{Stacks}
@@ -30,7 +30,7 @@ pub record Held : Type 0 where
 abbrev pub shown : Inside → Held
 shown p = record {
   config = p.config;
-  table = p.table.items;
+  table = p.rows.table;
   free = p.free.items;
   made = p.made;
   jobs = p.jobs.items;
@@ -39,12 +39,12 @@ shown p = record {
   entries = p.entries;
   epoch = p.epoch;
   regions = p.regions;
-  contexts = p.contexts;
+  contexts = p.rows.contexts;
   pool = p.pool;
   nests = p.nests;
 }
 
 -- A place or a job more needs no memory.
 pub record IsRoomy (p : Inside) : Type 0 where
-  pub places : length p.table.items ≤ vec_capacity p.free
+  pub places : length p.rows.table ≤ vec_capacity p.free
   pub jobs : MAX_JOBS ≤ vec_capacity p.jobs

@@ -6,3 +6,4 @@ pub mod MarkedGroups
 pub mod HeldReads
 pub mod Retiring
 pub mod Founding
+pub mod OpenRows

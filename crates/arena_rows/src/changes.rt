@@ -31,14 +31,14 @@ impl Parts {
     {
         let on = usize::from(slot);
         let height = self.nests.height(on) as u64 + 1;
-        let Some(opened) = self.table[row.place] else {
+        let Some(opened) = self.rows.get(row.place) else {
             return;
         };
         let Stage::Waiting(frame) = opened.stage else {
             return;
         };
         let stage = Stage::Live(slot, height);
-        self.table[row.place] = Some(OpenRow { stage, ..opened });
+        self.rows.set(row.place, Some(OpenRow { stage, ..opened }));
         self.pool.remove(row, &self.regions);
         self.nests.push(on, frame, row, false);
     }
@@ -109,7 +109,7 @@ impl Parts {
         };
         let is_region = matches!(source, Source::Region(_));
         self.regions.enter(row, outer, is_region);
-        self.table[place] = Some(OpenRow {
+        let entry = OpenRow {
             number,
             source,
             job,
@@ -118,7 +118,8 @@ impl Parts {
             groups: Groups::new(),
             group_contexts: [None; GROUPS],
             context,
-        });
+        };
+        self.rows.set(place, Some(entry));
         row
     }
 
@@ -139,11 +140,11 @@ impl Parts {
         requires few { (e : OpenRow) → at_place self.old.table place ≡ Some e → (group e.groups number).pending < u32.MAX }
         ensures { (e : OpenRow) → at_place self.old.table place ≡ Some e → self.new ≡ with_entry self.old place (with_member number e) }
     {
-        let Some(mut maker) = self.table[place] else {
+        let Some(mut maker) = self.rows.get(place) else {
             return;
         };
         maker.groups.add(number.index());
-        self.table[place] = Some(maker);
+        self.rows.set(place, Some(maker));
     }
 
     /// Lets a row wait to be started.

@@ -27,7 +27,7 @@ impl Parts {
     {
         let mut maker = self.entry_at(place);
         add_ended(&mut maker.groups, number.index());
-        self.table[place] = Some(maker);
+        self.rows.set(place, Some(maker));
     }
 
     /// Counts a row as made that has no place.

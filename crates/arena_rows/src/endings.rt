@@ -9,32 +9,35 @@ ghost use Rattle.arena_rows.specs.Represents.{at_place};
 ghost use Rattle.arena_rows.specs.HeldChanges.{index_of, with_entry};
 ghost use Rattle.arena_rows.specs.Endings.{Left, below, contexts_of, MayLeave, MayEnd, member_left, open_maker, parted, with_ended, CanEnd, HasEnded};
 
+use crate::open_rows::OpenRows;
 use crate::parts::Parts;
 use crate::rows::{OpenRow, Source};
-use cancel_context::{ContextId, Contexts};
+use cancel_context::ContextId;
 use job_language::{GROUPS, Group};
 use region_tag::RowId;
 
 /// Releases the contexts of groups.
-fn release_groups(contexts: &mut Contexts, groups: &[Option<ContextId>; GROUPS])
-    requires { MayLeave contexts.old groups.now }
-    ensures { Left contexts.old contexts.new (below groups.now GROUPS) }
+fn release_groups(rows: &mut OpenRows, groups: &[Option<ContextId>; GROUPS])
+    requires { MayLeave rows.old.contexts groups.now }
+    ensures left { Left rows.old.contexts rows.new.contexts (below groups.now GROUPS) }
+    ensures table { rows.new.table ≡ rows.old.table }
 {
     for number in 0..GROUPS {
         if let Some(context) = groups[number] {
-            contexts.release(context);
+            rows.release(context);
         }
     }
 }
 
 /// Releases the contexts of an open row: those of its groups, and its own if it has one.
-fn release_all(contexts: &mut Contexts, entry: &OpenRow)
-    requires { MayEnd contexts.old entry.now }
-    ensures { Left contexts.old contexts.new (contexts_of entry.now) }
+fn release_all(rows: &mut OpenRows, entry: &OpenRow)
+    requires { MayEnd rows.old.contexts entry.now }
+    ensures left { Left rows.old.contexts rows.new.contexts (contexts_of entry.now) }
+    ensures table { rows.new.table ≡ rows.old.table }
 {
-    release_groups(contexts, &entry.group_contexts);
+    release_groups(rows, &entry.group_contexts);
     if let Source::Spawned(_, _) = entry.source {
-        contexts.release(entry.context);
+        rows.release(entry.context);
     }
 }
 
@@ -46,9 +49,7 @@ impl Parts {
         let Source::Spawned(maker, group) = source else {
             return None;
         };
-        let Some(entry) = self.table.get(maker.place)? else {
-            return None;
-        };
+        let entry = self.rows.get(maker.place)?;
         if entry.number == maker.number {
             Some((maker.place, group))
         } else {
@@ -62,11 +63,11 @@ impl Parts {
         requires pending { (e : OpenRow) → at_place self.old.table place ≡ Some e → 0 < (group e.groups number).pending }
         ensures { (e : OpenRow) → at_place self.old.table place ≡ Some e → self.new ≡ with_entry self.old place (member_left number value e) }
     {
-        let Some(mut maker) = self.table[place] else {
+        let Some(mut maker) = self.rows.get(place) else {
             return;
         };
         maker.groups.finish(number.index(), value);
-        self.table[place] = Some(maker);
+        self.rows.set(place, Some(maker));
     }
 
     /// Lets what spawned a row have one pending member less, if it is open.
@@ -92,7 +93,7 @@ impl Parts {
           regions = slice_set self.old.regions row.place None;
         } }
     {
-        self.table[row.place] = None;
+        self.rows.set(row.place, None);
         self.free.push_reserved(row.place);
         self.regions.exit(row);
     }
@@ -115,7 +116,7 @@ impl Parts {
         ensures { (e : OpenRow) → at_place self.old.table row.place ≡ Some e → HasEnded self.old self.new row e value }
     {
         let entry = self.entry_at(row.place);
-        release_all(&mut self.contexts, &entry);
+        release_all(&mut self.rows, &entry);
         self.leave_maker(entry.source, value);
         self.take_out(row);
         self.count_out(entry.job, row.number, value);

@@ -93,6 +93,7 @@ impl Parts {
             → Holds self.new (on_row s n (λ r. record r { phase = Dropped })) }
         ensures forest { IsForest self.old.contexts → IsForest self.new.contexts }
         ensures long { length self.new.table ≡ length self.old.table }
+        ensures freed { length self.new.free ≡ length self.old.free + 1 }
         ensures numbers { (q : ℕ) (e : OpenRow) → at_place self.new.table q ≡ Some e → number_at self.old.table q ≡ Some e.number }
     {
         self.end(id, 0);

@@ -1,12 +1,12 @@
 // Parts that stand for a tenant that has done nothing yet.
-ghost use Rattle.std.specs.Prelude.{◌≡◌, ◌≤◌, IfOk, None, replicate, vec_capacity};
+ghost use Rattle.std.specs.Prelude.{◌≡◌, ◌≤◌, IfOk, vec_capacity};
 ghost use Rattle.std.specs.List.{range_with_len};
 ghost use Rattle.tenant_model.specs.State.{empty};
 ghost use Rattle.arena_rows.specs.Represents.{Rests};
 ghost use Rattle.arena_rows.specs.Founding.{founded};
 
+use crate::open_rows::OpenRows;
 use crate::parts::Parts;
-use cancel_context::Contexts;
 use job_language::TenantConfig;
 use nest_stack::Nests;
 use ready_pool::Pool;
@@ -33,13 +33,12 @@ impl Parts {
         let free = all_places(alloc, rows)?;
         let jobs = Vec::with_capacity(alloc, MAX_JOBS)?;
         let regions = Regions::new(alloc, rows)?;
-        let contexts = Contexts::new(alloc, rows)?;
         let pool = Pool::new(alloc, rows, slots, isolation)?;
         let nests = Nests::new(alloc, slots)?;
-        let table = vacant(alloc, rows)?;
+        let open = OpenRows::new(alloc, rows)?;
         Ok(Parts {
             config,
-            table,
+            rows: open,
             free,
             made: 0,
             jobs,
@@ -48,22 +47,10 @@ impl Parts {
             entries: 0,
             epoch: 0,
             regions,
-            contexts,
             pool,
             nests,
         })
     }
-}
-
-/// A table with nothing at each of that many places.
-fn vacant<T: Copy>(alloc: Global, count: usize) -> Result<Vec<Option<T>>, AllocError>
-    ensures { IfOk result (λ table. table.items ≡ replicate count None) }
-{
-    let mut table = Vec::with_capacity(alloc, count)?;
-    for _ in 0..count {
-        table.push(None)?;
-    }
-    Ok(table)
 }
 
 /// That many places, from 0 on.

@@ -20,7 +20,7 @@ impl Parts {
         requires there { IsSome (at_place self.now.table place) }
         ensures { at_place self.now.table place ≡ Some result }
     {
-        let Some(entry) = self.table[place] else {
+        let Some(entry) = self.rows.get(place) else {
             unreachable!();
         };
         entry
@@ -104,7 +104,7 @@ impl Parts {
         ensures forest { IsForest self.new.contexts }
     {
         let index = self.index_of(job);
-        self.contexts.cancel(self.jobs[index].context);
+        self.rows.cancel(self.jobs[index].context);
     }
 
     /// Notes a fault of the job of a slot's topmost row, unless it has one already, and cancels what

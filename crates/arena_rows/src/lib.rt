@@ -12,6 +12,7 @@ mod isolated;
 mod jobs;
 mod limits;
 mod marks;
+mod open_rows;
 mod parts;
 mod posts;
 mod reads;

@@ -21,7 +21,7 @@ impl Parts {
         ensures requested { self.new ≡ requested self.old context true }
         ensures count { held_count self.new.contexts ≡ held_count self.old.contexts }
     {
-        self.contexts.cancel(context);
+        self.rows.cancel(context);
     }
 
     /// Takes back the cancel request of a context.
@@ -30,7 +30,7 @@ impl Parts {
         ensures taken_back { self.new ≡ requested self.old context false }
         ensures count { held_count self.new.contexts ≡ held_count self.old.contexts }
     {
-        self.contexts.reset(context);
+        self.rows.reset(context);
     }
 
     /// Cancels a group of a slot's topmost row, and moves the row's frame on (`task_group::cancel`).
@@ -56,7 +56,7 @@ impl Parts {
     {
         let mut entry = self.entry_at(place);
         entry.groups.take_total(number.index());
-        self.table[place] = Some(entry);
+        self.rows.set(place, Some(entry));
     }
 
     /// Lets a group of a slot's topmost row start afresh. Its context, if it has one, stays with it.

@@ -3,8 +3,8 @@ ghost use Rattle.std.specs.Prelude.{◌≡◌, ◌<◌, length, nat_le, option_a
 ghost use Rattle.nest_stack.specs.Nest.{stack, top};
 ghost use Rattle.region_tag.specs.Region.{region_of};
 
-use crate::rows::{CurrentJob, OpenRow};
-use cancel_context::Contexts;
+use crate::open_rows::OpenRows;
+use crate::rows::CurrentJob;
 use job_language::{Tenant, TenantConfig};
 use nest_stack::{Nested, Nests};
 use ready_pool::Pool;
@@ -16,8 +16,8 @@ use thread_cells::Cells;
 #[derive(Drop)]
 pub struct Parts {
     pub(crate) config: TenantConfig,
-    /// The open rows, by their places.
-    pub(crate) table: Vec<Option<OpenRow>>,
+    /// The open rows by their places, and the contexts.
+    pub(crate) rows: OpenRows,
     /// The places that are free.
     pub(crate) free: Vec<usize>,
     /// How many rows were made.
@@ -29,7 +29,6 @@ pub struct Parts {
     pub(crate) entries: usize,
     pub(crate) epoch: u64,
     pub(crate) regions: Regions,
-    pub(crate) contexts: Contexts,
     pub(crate) pool: Pool,
     pub(crate) nests: Nests,
 }

@@ -63,7 +63,7 @@ impl Parts {
         ensures value { result ≡ is_cancelled self.now.contexts context }
         ensures forest { IsForest self.now.contexts }
     {
-        self.contexts.is_cancelled(context)
+        self.rows.is_cancelled(context)
     }
 
     /// Whether the context of a slot's topmost row is cancelled.

@@ -8,9 +8,9 @@ ghost use Rattle.tenant_model.specs.Asks.{retired_work};
 ghost use Rattle.arena_rows.specs.Represents.{Rests};
 ghost use Rattle.arena_rows.specs.Retiring.{HoldJobs, AreRetired, IsIdle};
 
+use crate::open_rows::OpenRows;
 use crate::parts::Parts;
 use crate::rows::CurrentJob;
-use cancel_context::Contexts;
 
 impl Parts {
     /// Retires all jobs, takes all cells away, begins the next epoch, and counts an entry.
@@ -19,7 +19,7 @@ impl Parts {
         requires room { self.old.entries < self.old.config.steps }
         ensures { AreRetired self.old self.new }
     {
-        release_jobs(&mut self.contexts, &self.jobs);
+        release_jobs(&mut self.rows, &self.jobs);
         self.retired += self.jobs.len() as u64;
         self.jobs.clear();
         self.cells.clear();
@@ -39,12 +39,13 @@ impl Parts {
 }
 
 /// Releases the contexts of jobs, where no others are held.
-fn release_jobs(contexts: &mut Contexts, jobs: &[CurrentJob])
-    requires { HoldJobs contexts.old jobs.now 0 }
-    ensures none { held_count contexts.new ≡ 0 }
-    ensures long { length contexts.new ≡ length contexts.old }
+fn release_jobs(rows: &mut OpenRows, jobs: &[CurrentJob])
+    requires { HoldJobs rows.old.contexts jobs.now 0 }
+    ensures none { held_count rows.new.contexts ≡ 0 }
+    ensures long { length rows.new.contexts ≡ length rows.old.contexts }
+    ensures table { rows.new.table ≡ rows.old.table }
 {
     for job in jobs {
-        contexts.release(job.context);
+        rows.release(job.context);
     }
 }

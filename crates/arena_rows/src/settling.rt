@@ -1,50 +1,27 @@
 // Settling: the rows that wait and whose context is cancelled are dropped.
-ghost use Rattle.std.specs.Prelude.{◌≡◌, ◌<◌, ℕ, length, Some};
+ghost use Rattle.std.specs.Prelude.{◌≡◌, ◌<◌, None, IfSome};
+ghost use Rattle.cancel_context.specs.Forest.{IsForest};
 ghost use Rattle.tenant_model.specs.State.{State};
 ghost use Rattle.tenant_model.specs.Walks.{settle};
 ghost use Rattle.tenant_model.specs.Changes.{entry};
-ghost use Rattle.arena_rows.specs.declared.rows.OpenRow.{OpenRow};
-ghost use Rattle.arena_rows.specs.Represents.{at_place, Holds, HoldsSomehow, Rests};
-ghost use Rattle.arena_rows.specs.Endings.{number_at, settled_in};
+ghost use Rattle.arena_rows.specs.OpenRows.{AreFine};
+ghost use Rattle.arena_rows.specs.Represents.{Holds, HoldsSomehow, Rests};
+ghost use Rattle.arena_rows.specs.Endings.{rows_of, IsCancelled};
 
 use crate::parts::Parts;
-use crate::rows::{OpenRow, Stage};
 use region_tag::RowId;
 
 impl Parts {
-    /// How many places there are.
-    fn places(&self) -> usize
-        ensures { result ≡ length self.now.table }
+    /// A row that waits and whose context is cancelled.
+    fn next_cancelled(&mut self) -> Option<RowId>
+        ensures same { self.new ≡ self.old }
+        ensures sound { IsForest self.old.contexts }
+        ensures none { result ≡ None → AreFine (rows_of self.old) }
+        ensures some { IfSome result (λ id. IsCancelled self.old id) }
     {
-        self.table.len()
-    }
-
-    /// What stands at a place.
-    fn standing(&self, place: usize) -> Option<OpenRow>
-        requires { place < length self.now.table }
-        ensures { result ≡ at_place self.now.table place }
-    {
-        self.table[place]
-    }
-
-    /// Drops the row at a place if it waits and its context is cancelled.
-    fn settle_at(&mut self, place: usize)
-        requires held { HoldsSomehow self.old }
-        requires place { place < length self.old.table }
-        ensures holds { (t : State) → Holds self.old t → Holds self.new (settled_in t (at_place self.old.table place)) }
-        ensures long { length self.new.table ≡ length self.old.table }
-        ensures numbers { (q : ℕ) (e : OpenRow) → at_place self.new.table q ≡ Some e → number_at self.old.table q ≡ Some e.number }
-    {
-        let Some(entry) = self.standing(place) else {
-            return;
-        };
-        let Stage::Waiting(_) = entry.stage else {
-            return;
-        };
-        if self.is_context_cancelled(entry.context) {
-            let number = entry.number;
-            self.drop_row(RowId { number, place });
-        }
+        let place = self.rows.next_doomed()?;
+        let number = self.entry_at(place).number;
+        Some(RowId { number, place })
     }
 
     /// Drops the rows that wait and whose context is cancelled.
@@ -52,9 +29,8 @@ impl Parts {
         requires { HoldsSomehow self.old }
         ensures { (s : State) → Holds self.old s → Rests self.new (settle s) }
     {
-        let places = self.places();
-        for place in 0..places {
-            self.settle_at(place);
+        while let Some(row) = self.next_cancelled() {
+            self.drop_row(row);
         }
     }
 

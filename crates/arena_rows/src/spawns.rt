@@ -30,9 +30,9 @@ impl Parts {
         ensures given { (e : OpenRow) → at_place self.old.table place ≡ Some e → self.new ≡ group_given self.old place group result e }
     {
         let mut entry = self.entry_at(place);
-        let context = self.contexts.bind(Some(entry.context));
+        let context = self.rows.bind(Some(entry.context));
         entry.group_contexts[group.index()] = Some(context);
-        self.table[place] = Some(entry);
+        self.rows.set(place, Some(entry));
         context
     }
 
@@ -45,7 +45,7 @@ impl Parts {
         ensures count { held_count self.new.contexts ≡ held_count self.old.contexts + 1 }
         ensures bound { self.new ≡ bound_to self.old result (Some group) }
     {
-        self.contexts.bind(Some(group))
+        self.rows.bind(Some(group))
     }
 
     /// The context of a group of a slot's topmost row, made where there is none yet.

@@ -27,7 +27,7 @@ impl Parts {
         ensures begun { IsBegun self.old self.new job stage }
     {
         let number = self.retired + self.jobs.len() as u64 + 1;
-        let context = self.contexts.bind(None);
+        let context = self.rows.bind(None);
         let work = Work {
             program: job.program,
             fuel: job.fuel.instructions(),

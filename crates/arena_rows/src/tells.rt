@@ -33,7 +33,7 @@ impl Parts {
     pub fn is_busy(&self) -> bool
         ensures { (s : State) → Holds self.now s → result ≡ list_any (λ r. is_open r.phase) s.rows }
     {
-        self.free.len() < self.table.len()
+        self.free.len() < self.rows.len()
     }
 
     /// Whether a row waits to be started.

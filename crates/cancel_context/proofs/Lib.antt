@@ -8,3 +8,4 @@ pub mod Lists
 pub mod Along
 pub mod Spread
 pub mod Kept
+pub mod Noted

@@ -1,5 +1,5 @@
 -- A request that is made or taken back.
-use Rattle.std.proofs.Common.{◌≡◌, ◌≢◌, ◌≤◌, ◌^◌, ◌<◌, ◌==◌, ℕ, Bool, true, false, ◌||◌, if◌then◌else◌, List, [], ◌∷◌, Option, Some, None, is_some, length, refl, sym, ◌∙◌, ap, subst, inl, inr, arith}
+use Rattle.std.proofs.Common.{◌≡◌, ◌≢◌, ◌≤◌, ◌^◌, ◌<◌, ◌==◌, ◌⊎◌, ℕ, Bool, true, false, ◌||◌, if◌then◌else◌, List, [], ◌∷◌, Option, Some, None, is_some, length, refl, sym, ◌∙◌, ap, subst, inl, inr, arith}
 use Rattle.std.specs.List.{list_any}
 use Rattle.std.proofs.Math.Bool.{or-true, or-false}
 use Rattle.std.proofs.lemmas.Bool.Decides.{eqb_tells}
@@ -28,6 +28,10 @@ is_some-asking asked (Some b) = refl
 asks_in-asking : (o : Option Binding) → is_some o ≡ true → asks_in (asking true o) ≡ true
 asks_in-asking None h = cc
 asks_in-asking (Some b) h = refl
+
+-- a context that is held asks once a request was made
+pub asks-requested : (forest : Forest) (c : ℕ) → IsHeld forest c → asks_in (binding (with_request forest c true) c) ≡ true
+asks-requested forest c h = ap asks_in (binding-with_request forest c c true h refl) ∙ asks_in-asking (binding forest c) h
 
 pub parent-with_request : (forest : Forest) (c : ℕ) (asked : Bool) → IsHeld forest c → (d : ℕ) → parent (with_request forest c asked) d ≡ parent forest d
 parent-with_request forest c asked h d =
@@ -105,3 +109,29 @@ list_any-avoids f g c same (x ∷ xs) e =
 pub is_cancelled-elsewhere : (forest : Forest) (c : ℕ) (asked : Bool) → IsHeld forest c → (d : ℕ) → is_within forest d c ≡ false → is_cancelled (with_request forest c asked) d ≡ is_cancelled forest d
 is_cancelled-elsewhere forest c asked h d out =
     ap (list_any (λ x. asks_in (binding (with_request forest c asked) x))) (chain-with_request forest c asked h d) ∙ list_any-avoids (λ x. asks_in (binding (with_request forest c asked) x)) (λ x. asks_in (binding forest x)) c (λ x ne. ap asks_in (binding-with_request_other forest c x asked ne)) (chain forest d) out
+
+asks-taken_back : (o : Option Binding) → asks_in (asking false o) ≡ true → asks_in o ≡ true
+asks-taken_back None e = e
+asks-taken_back (Some b) e = ap (λ o. b.is_asked || o) e ∙ or-true b.is_asked
+
+true_or : (a b : Bool) → (a || b) ≡ true → (a ≡ true) ⊎ (b ≡ true)
+true_or true b e = inl refl
+true_or false b e = inr e
+
+list_any-more : (f g : ℕ → Bool) → ((d : ℕ) → f d ≡ true → g d ≡ true) → (l : List ℕ) → list_any f l ≡ true → list_any g l ≡ true
+list_any-more f g more [] e = e
+list_any-more f g more (x ∷ xs) e =
+    elim (true_or (f x) (list_any f xs) e) [
+      | inl own ↦ ap (λ b. b || list_any g xs) (more x own)
+      | inr rest ↦ ap (λ b. g x || b) (list_any-more f g more xs rest) ∙ or-true (g x)
+    ]
+
+-- A request that is taken back cancels nothing.
+pub is_cancelled-taken_back : (forest : Forest) (c : ℕ) → IsHeld forest c → (d : ℕ) → is_cancelled (with_request forest c false) d ≡ true → is_cancelled forest d ≡ true
+is_cancelled-taken_back forest c h d e =
+    let at : ℕ → Bool = λ x. asks_in (binding (with_request forest c false) x) in
+    let more : (x : ℕ) → at x ≡ true → asks_in (binding forest x) ≡ true = λ x asks. elim (eqb_tells x c) [
+      | inl s ↦ asks-taken_back (binding forest x) (sym (ap asks_in (binding-with_request forest c x false h s.1)) ∙ asks)
+      | inr o ↦ sym (ap asks_in (binding-with_request_other forest c x false o.1)) ∙ asks
+    ] in
+    list_any-more at (λ x. asks_in (binding forest x)) more (chain forest d) (ap (list_any at) (sym (chain-with_request forest c false h d)) ∙ e)

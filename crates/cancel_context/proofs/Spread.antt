@@ -45,7 +45,7 @@ parent-apart forest f c p e same =
     let equal : length (chain forest p) ≡ length (chain forest c) = ap (λ x. length (chain forest x)) same in
     absurd (omega arith)
 
-bool_cases : (b : Bool) → (b ≡ true) ⊎ (b ≡ false)
+pub bool_cases : (b : Bool) → (b ≡ true) ⊎ (b ≡ false)
 bool_cases true = inl refl
 bool_cases false = inr refl
 
@@ -67,7 +67,7 @@ count-turned flags c value within d =
     let is : one value ≡ 0 = ap (λ b. if b then 1 else 0) (differs-same value) in
     omega (arith, was, is, sum_by-set one flags c value false within)
 
-IsIn-left : (xs ys : List ℕ) (c : ℕ) → IsIn xs c → IsIn (xs ++ ys) c
+pub IsIn-left : (xs ys : List ℕ) (c : ℕ) → IsIn xs c → IsIn (xs ++ ys) c
 IsIn-left [] ys c i = absurd i
 IsIn-left (x ∷ xs) ys c (inl e) = inl e
 IsIn-left (x ∷ xs) ys c (inr i) = inr (IsIn-left xs ys c i)
@@ -76,7 +76,7 @@ pub IsIn-last : (xs : List ℕ) (c : ℕ) → IsIn (xs ++ c ∷ []) c
 IsIn-last [] c = inl refl
 IsIn-last (x ∷ xs) c = inr (IsIn-last xs c)
 
-IsIn-split : (xs : List ℕ) (c d : ℕ) → IsIn (xs ++ c ∷ []) d → IsIn xs d ⊎ (d ≡ c)
+pub IsIn-split : (xs : List ℕ) (c d : ℕ) → IsIn (xs ++ c ∷ []) d → IsIn xs d ⊎ (d ≡ c)
 IsIn-split [] c d (inl e) = inr (sym e)
 IsIn-split [] c d (inr i) = absurd i
 IsIn-split (x ∷ xs) c d (inl e) = inl (inl e)
@@ -254,6 +254,31 @@ module _ (forest : Forest) (flags : List Bool) (reached : List ℕ) (x : ℕ) (x
             let at : visited forest state x value ≡ to = ap (λ b. if b then state else record { flags = slice_set flags x value; reached = reached ++ x ∷ [] }) t in
             subst (λ (f : Flagged). IsSpreading forest f.flags f.reached xs value × (flag f.flags d ≡ value) × (length f.reached + count_by (differs value) f.flags ≡ length reached + count_by (differs value) flags)) (sym at) (turned_on differ.0 differ.1, get_or-set_other flags x d value false (above_apart differ.0 differ.1) ∙ above, count_on differ.0 differ.1)
       ]
+
+-- A flag that turns is that of a context which is reached then, and what was reached stays so.
+pub visited-turned : (forest : Forest) (f : Flagged) (x : ℕ) (value : Bool) (after : Flagged) → after ≡ visited forest f x value → (c : ℕ) → ((flag after.flags c ≡ flag f.flags c) ⊎ IsIn after.reached c) × (IsIn f.reached c → IsIn after.reached c)
+visited-turned forest f x value after is c =
+    let to : Flagged = record { flags = slice_set f.flags x value; reached = f.reached ++ x ∷ [] } in
+    let tells : Flagged → Type 0 = λ (g : Flagged). ((flag g.flags c ≡ flag f.flags c) ⊎ IsIn g.reached c) × (IsIn f.reached c → IsIn g.reached c) in
+    let turned : tells to = (
+      elim (eqb_tells c x) [
+        | inl same ↦ inr (subst (IsIn (f.reached ++ x ∷ [])) (sym same.1) (IsIn-last f.reached x))
+        | inr ne ↦ inl (get_or-set_other f.flags x c value false ne.1)
+      ],
+      IsIn-left f.reached (x ∷ []) c,
+    ) in
+    subst tells (sym is) (elim (bool_cases (not (differs value (flag f.flags x)) || asks_in (binding forest x))) [
+      | inl t ↦ subst tells (sym (ap (λ b. if b then f else to) t)) (inl refl, λ i. i)
+      | inr t ↦ subst tells (sym (ap (λ b. if b then f else to) t)) turned
+    ])
+
+-- so a context whose flag has turned over several visits is reached
+pub turned-more : (before now after : Flagged) → ((c : ℕ) → ((flag now.flags c ≡ flag before.flags c) ⊎ IsIn now.reached c)) → ((c : ℕ) → ((flag after.flags c ≡ flag now.flags c) ⊎ IsIn after.reached c) × (IsIn now.reached c → IsIn after.reached c)) → (c : ℕ) → (flag after.flags c ≡ flag before.flags c) ⊎ IsIn after.reached c
+turned-more before now after so_far step c =
+    elim (so_far c) [
+      | inl same ↦ elim ((step c).0) [ inl kept ↦ inl (kept ∙ same) | inr i ↦ inr i ]
+      | inr i ↦ inr ((step c).1 i)
+    ]
 
 -- What is bound to a reached context is looked at, one after another.
 pub record IsVisiting (forest : Forest) (links : Links) (flags : List Bool) (reached : List ℕ) (following : Option ℕ) (d : ℕ) (value : Bool) : Type 0 where

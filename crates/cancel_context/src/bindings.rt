@@ -19,8 +19,9 @@ impl Model for ContextId {
 }
 
 impl ContextId {
-    /// Its place among the contexts.
-    pub(crate) fn index(self) -> usize
+    /// Its place among the contexts, which is below their number while it is held. Two contexts that are
+    /// held at once have different places.
+    pub fn index(self) -> usize
         ensures { result ≡ self }
     {
         usize::from(self.0)

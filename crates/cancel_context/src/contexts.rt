@@ -1,5 +1,5 @@
 // A forest of contexts.
-ghost use Rattle.std.specs.Prelude.{◌≡◌, ◌≢◌, ◌+◌, ◌*◌, ◌-◌, ◌^◌, ◌<◌, ◌≤◌, ◌||◌, ℕ, IsTrue, true, false, not, Some, None, length, map, replicate, IfOk};
+ghost use Rattle.std.specs.Prelude.{◌≡◌, ◌≢◌, ◌+◌, ◌*◌, ◌-◌, ◌^◌, ◌<◌, ◌≤◌, ◌||◌, ℕ, Contains, IsTrue, true, false, not, Some, None, length, map, replicate, vec_capacity, IfOk};
 ghost use Rattle.std.specs.Option.{ForSome, option_map_or};
 ghost use Rattle.cancel_context.specs.Forest.{IsHeld, held_count, binding, parent_in, parent, is_within, is_cancelled, IsForest, with_bound, asking, with_request, without_parent, without};
 ghost use Rattle.cancel_context.specs.Free.{next_of};
@@ -112,6 +112,32 @@ impl Contexts {
         first
     }
 
+    /// Asks for the cancellation of a context, as `cancel` does, and puts the contexts that are cancelled
+    /// now and were not before into `turned`.
+    pub fn cancel_noted(&mut self, context: ContextId, turned: &mut Vec<ContextId>) -> bool
+        requires held { IsHeld self.old context }
+        requires unnoted { length turned.old.items ≡ 0 }
+        requires room { length self.old ≤ vec_capacity turned.old }
+        ensures first { result ≡ not (is_cancelled self.old context) }
+        ensures asked { self.new ≡ with_request self.old context true }
+        ensures keeps { (c : ℕ) → IsHeld self.old c → IsHeld self.new c }
+        ensures count { held_count self.new ≡ held_count self.old }
+        ensures cancelled { IsTrue (is_cancelled self.new context) }
+        ensures reaches { (c : ℕ) → is_cancelled self.new c ≡ (is_cancelled self.old c || is_within self.old c context) }
+        ensures forest { IsForest self.new }
+        ensures noted { (c : ℕ) → is_cancelled self.new c ≡ true → is_cancelled self.old c ≡ false → Contains turned.new.items c }
+        ensures capacity { vec_capacity turned.new ≡ vec_capacity turned.old }
+    {
+        let slot = &mut self.bindings[context.index()];
+        *slot = asking(*slot, true);
+        let first = !self.flags.get(context);
+        if first {
+            self.flags
+                .turn_noted(&self.bindings, &self.below, context, turned);
+        }
+        first
+    }
+
     /// Whether a context, or one above it, has a cancel request, or was bound to one that was released
     /// while it was cancelled.
     pub fn is_cancelled(&self, context: ContextId) -> bool
@@ -122,6 +148,16 @@ impl Contexts {
         self.flags.get(context)
     }
 
+    /// Whether an id stands for a context that is cancelled. One that stands for none is not.
+    pub fn is_held_and_cancelled(&self, context: ContextId) -> bool
+        ensures { result ≡ is_cancelled self.now context }
+    {
+        match self.bindings.get(context.index()) {
+            Some(Some(_)) => self.flags.get(context),
+            _ => false,
+        }
+    }
+
     /// Takes back the cancel request of a context, and no other: one above it still holds.
     pub fn reset(&mut self, context: ContextId)
         requires { IsHeld self.old context }
@@ -129,6 +165,7 @@ impl Contexts {
         ensures keeps { (c : ℕ) → IsHeld self.old c → IsHeld self.new c }
         ensures count { held_count self.new ≡ held_count self.old }
         ensures others { (c : ℕ) → is_within self.old c context ≡ false → is_cancelled self.new c ≡ is_cancelled self.old c }
+        ensures no_more { (c : ℕ) → is_cancelled self.new c ≡ true → is_cancelled self.old c ≡ true }
         ensures forest { IsForest self.new }
     {
         self.set_request(context, false);

@@ -1,8 +1,8 @@
 // A flag for each context: whether it is cancelled.
-ghost use Rattle.std.specs.Prelude.{◌≡◌, false, ◌+◌, ◌<◌, ◌≤◌, ◌||◌, IfOk, [], ◌∷◌, ◌++◌, length, replicate, slice_set, count_by};
+ghost use Rattle.std.specs.Prelude.{◌≡◌, ◌⊎◌, ℕ, true, false, ◌+◌, ◌<◌, ◌≤◌, ◌||◌, IfOk, [], ◌∷◌, ◌++◌, Contains, length, replicate, slice_set, count_by, vec_capacity};
 ghost use Rattle.std.specs.Option.{ForSome, option_map_or};
 ghost use Rattle.cancel_context.specs.Forest.{IsHeld, parent_in, asks_in};
-ghost use Rattle.cancel_context.specs.Order.{HasBindingOrder};
+ghost use Rattle.cancel_context.specs.Order.{HasBindingOrder, IsIn};
 ghost use Rattle.cancel_context.specs.Below.{IsLinked};
 ghost use Rattle.cancel_context.specs.Flags.{flag, AreFlags, differs, visited, IsSpreading};
 
@@ -104,6 +104,36 @@ impl Flags {
         }
     }
 
+    /// Turns the flag of a context that is cancelled now, and then those of the contexts below it that
+    /// follow, and notes each of these contexts.
+    pub(crate) fn turn_noted(
+        &mut self,
+        bindings: &[Option<Binding>],
+        below: &Below,
+        context: ContextId,
+        turned: &mut Vec<ContextId>,
+    )
+        requires forest { HasBindingOrder bindings.now }
+        requires linked { IsLinked bindings.now below.now }
+        requires none { self.old.reached ≡ [] }
+        requires spreads { IsSpreading bindings.now (slice_set self.old.flags context true) (context ∷ []) [] true }
+        requires size { length self.old.flags ≡ length bindings.now }
+        requires unnoted { length turned.old.items ≡ 0 }
+        requires room { length self.old.flags ≤ vec_capacity turned.old }
+        ensures flags { AreFlags bindings.now self.new.flags }
+        ensures none { self.new.reached ≡ [] }
+        ensures noted { (c : ℕ) → (flag self.new.flags c ≡ flag self.old.flags c) ⊎ Contains turned.new.items c }
+        ensures capacity { vec_capacity turned.new ≡ vec_capacity turned.old }
+    {
+        self.is_cancelled[context.index()] = true;
+        let pushed = self.reached.push(context);
+        prove!(pushed.is_ok());
+        while let Some(parent) = self.reached.pop() {
+            turned.push_reserved(parent);
+            self.spread(bindings, below, parent, true);
+        }
+    }
+
     /// Turns the flags of those bound to a context, where they follow its flag.
     fn spread(
         &mut self,
@@ -116,6 +146,8 @@ impl Flags {
         requires spreads { IsSpreading bindings.now self.old.flags (self.old.reached ++ parent ∷ []) [] is_cancelled }
         ensures spreads { IsSpreading bindings.now self.new.flags self.new.reached [] is_cancelled }
         ensures fewer { length self.new.reached + count_by (differs is_cancelled) self.new.flags ≡ length self.old.reached + count_by (differs is_cancelled) self.old.flags }
+        ensures turned { (c : ℕ) → (flag self.new.flags c ≡ flag self.old.flags c) ⊎ IsIn self.new.reached c }
+        ensures kept { (c : ℕ) → IsIn self.old.reached c → IsIn self.new.reached c }
     {
         let mut following = below.first(parent);
         while let Some(context) = following {

@@ -1,5 +1,7 @@
 mod Appending
+mod DumpLines
 mod Entries
+mod Newlines
 pub mod Parts
 mod Plain
 mod ReadRequests

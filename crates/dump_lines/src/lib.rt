@@ -8,7 +8,7 @@ mod requests;
 mod whole;
 mod writing;
 
-pub use laws::replies_have_one_text;
+pub use laws::{dumps_have_these_lines, replies_have_one_text};
 pub use lines::{Said, said_by};
 pub use requests::{request_in, tenant_of};
 pub use whole::{DumpFault, write_dump};

@@ -2,7 +2,7 @@
 ghost use Rattle.std.specs.Prelude.{◌≡◌, ◌≢◌, ◌++◌, ◌∷◌, [], All, Any, Err, None, OnOk};
 ghost use Rattle.std.specs.Io.KnownBytes.{Appends};
 ghost use Rattle.dump_lines.specs.Parts.{AppendsPart};
-ghost use Rattle.dump_lines.specs.Dumps.{HasLine, dump_text, entries_text, entry_text, first_text, line_text};
+ghost use Rattle.dump_lines.specs.Dumps.{HasLine, NamesItself, ReadsBack, SaysItself, dump_text, entries_text, entry_text, first_text, line_text};
 ghost use Rattle.dump_lines.specs.Written.{entry_data};
 ghost use Rattle.dump_lines.specs.declared.whole.DumpFault.TheVariants.{Memory, NoEntry};
 
@@ -31,8 +31,8 @@ impl From<AllocError> for DumpFault {
     }
 }
 
-/// Writes a tenant's dump: its line, and then one for each entry of its history. At a fault the writer
-/// has a first part of it.
+/// Writes a tenant's dump: its line, and then one for each entry of its history, which all read back. At
+/// a fault the writer has a first part of it.
 pub fn write_dump<W: Write>(
     alloc: Global,
     writer: &mut W,
@@ -42,6 +42,7 @@ pub fn write_dump<W: Write>(
     ensures written { OnOk result (Appends (W.contents writer.old) (W.contents writer.new) (dump_text config.now entries.now)) }
     ensures part { AppendsPart (W.contents writer.old) (W.contents writer.new) (dump_text config.now entries.now) }
     ensures all { OnOk result (All HasLine entries.now) }
+    ensures reads_back { OnOk result (ReadsBack (dump_text config.now entries.now) config.now entries.now) }
     ensures entry { result ≡ Err NoEntry → Any (λ e. entry_data e ≡ None) entries.now }
 {
     write_first(alloc, writer, config)?;
@@ -55,6 +56,7 @@ fn write_first<W: Write>(
 ) -> Result<(), DumpFault>
     ensures written { OnOk result (Appends (W.contents writer.old) (W.contents writer.new) (first_text config.now)) }
     ensures part { AppendsPart (W.contents writer.old) (W.contents writer.new) (first_text config.now) }
+    ensures reads_back { OnOk result (NamesItself config.now) }
     ensures no_entry { result ≢ Err NoEntry }
 {
     let first = first_line(alloc, config)?;
@@ -69,6 +71,7 @@ fn write_entries<W: Write>(
     ensures written { OnOk result (Appends (W.contents writer.old) (W.contents writer.new) (entries_text entries.now)) }
     ensures part { AppendsPart (W.contents writer.old) (W.contents writer.new) (entries_text entries.now) }
     ensures all { OnOk result (All HasLine entries.now) }
+    ensures read_back { OnOk result (All SaysItself entries.now) }
     ensures entry { result ≡ Err NoEntry → Any (λ e. entry_data e ≡ None) entries.now }
 {
     for entry in entries {
@@ -81,6 +84,7 @@ fn write_entry<W: Write>(alloc: Global, writer: &mut W, entry: &Entry) -> Result
     ensures written { OnOk result (Appends (W.contents writer.old) (W.contents writer.new) (entry_text entry.now)) }
     ensures part { AppendsPart (W.contents writer.old) (W.contents writer.new) (entry_text entry.now) }
     ensures line { OnOk result (HasLine entry.now) }
+    ensures reads_back { OnOk result (SaysItself entry.now) }
     ensures entry { result ≡ Err NoEntry → entry_data entry.now ≡ None }
 {
     match entry_line(alloc, entry)? {

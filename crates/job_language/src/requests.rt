@@ -57,6 +57,7 @@ impl Request {
     {
         match self {
             Request::Submit(job) | Request::Execute(job) => {
+                // Proof hint: a program is valid by its type.
                 let _ = job.program.procs();
                 Some(job)
             }

@@ -4,3 +4,4 @@ pub mod Views
 pub mod Joined
 pub mod Left
 pub mod Calls
+pub mod Filed

@@ -1,3 +1,4 @@
 pub mod Links
 pub mod Lists
 pub mod Linked
+pub mod Filing

@@ -2,9 +2,11 @@
 //! in it, without a walk.
 #![tactic(auto)]
 
+mod filing;
 mod links;
 mod lists;
 #[cfg(test)]
 mod tests;
 
+pub use filing::Filing;
 pub use lists::{Lists, Places};

@@ -1,8 +1,8 @@
 // Worked examples: places that come and go, and memory that is refused.
-ghost use Rattle.std.specs.Prelude.{◌≡◌, IfOk, [], length, ℕ};
+ghost use Rattle.std.specs.Prelude.{◌≡◌, IfOk, [], None, length, replicate, ℕ};
 ghost use Rattle.place_lists.specs.Lists.{list_in};
 
-use crate::Lists;
+use crate::{Filing, Lists};
 use std::alloc::{AllocError, Global};
 use std::test::Fail;
 
@@ -62,5 +62,35 @@ fn lists_are_apart(rt: HostRuntime) -> Result<(), Fail> {
     assert_eq!(rt; places.next(), Some(2));
     assert_eq!(rt; places.next(), Some(0));
     assert_eq!(rt; places.next(), None);
+    Ok(())
+}
+
+/// Two lists over five places that are filed in none. If an allocation failed they are made once more.
+fn unfiled(alloc: Global) -> Result<Filing, AllocError>
+    ensures { IfOk result (λ filing. filing ≡ record { lists = 2; by_place = replicate 5 None }) }
+{
+    match Filing::new(alloc, 2, 5) {
+        Ok(filing) => Ok(filing),
+        Err(_) => Filing::new(alloc, 2, 5),
+    }
+}
+
+#[test]
+fn a_place_is_filed_in_one_list(rt: HostRuntime) -> Result<(), Fail> {
+    let mut filing = unfiled(rt.alloc())?;
+    assert_eq!(rt; filing.first(0), None);
+    filing.file(3, 0);
+    filing.file(1, 0);
+    filing.file(3, 1);
+    assert_eq!(rt; filing.first(0), Some(1));
+    assert_eq!(rt; filing.first(1), Some(3));
+    filing.file_all(1, 0);
+    assert_eq!(rt; filing.first(1), None);
+    filing.unfile(1);
+    assert_eq!(rt; filing.first(0), Some(3));
+    filing.unfile(4);
+    filing.unfile(3);
+    assert_eq!(rt; filing.first(0), None);
+    assert_eq!(rt; filing.first(2), None);
     Ok(())
 }

@@ -9,10 +9,10 @@ use Rattle.region_tag.specs.declared.row_id.RowId.{RowId}
 use Rattle.region_tag.specs.Region.{Table, is_same, same_region}
 use Rattle.ready_pool.specs.declared.pool.Waiting.{Waiting}
 use Rattle.ready_pool.specs.Ready.{Ready, first_of, last_or, is_made_on, is_allowed, pick}
-use Rattle.ready_pool.specs.Held.{Held, IsHeld, Waits, row_at, place_of, number_of, places_of, region_key, both_key}
+use Rattle.ready_pool.specs.Parts.{PoolParts, HoldsRows, Waits, row_at, place_of, number_of, places_of, region_key, both_key}
 use Rattle.ready_pool.proofs.Rows.{tells, filter-every, filter-as, filter-none, filter-filter, Waits-filter, Waits-kept, row-same}
 use Rattle.ready_pool.proofs.Keyed.{named-itself, named-is, listed-below}
-use Rattle.ready_pool.proofs.Held.{eqb-same, and-false}
+use Rattle.ready_pool.proofs.Holding.{eqb-same, and-false}
 
 abbrev pub id_at : List (Option Waiting) → ℕ → Option RowId
 id_at table place = option_map (λ (w : Waiting). w.row) (row_at table place)
@@ -129,7 +129,7 @@ outside pool table slot =
 pub exact-is : (pool : Ready) (table : Table) (slot : ℕ) (r : RowId) → pool.isolation ≡ Exact → pick pool table slot (Some r) ≡ chosen slot (of_region r pool.rows)
 exact-is pool table slot r e = ap (λ mode. chosen slot (filter (λ (w : Waiting). is_allowed mode table (Some r) w.region) pool.rows)) e
 
-module _ (limit : ℕ) (held : Held) (rows : List Waiting) (k : IsHeld limit held rows) where
+module _ (limit : ℕ) (held : PoolParts) (rows : List Waiting) (k : HoldsRows limit held rows) where
   there-of : (f : Waiting → Bool) (w : Waiting) → Waits (filter f rows) w → row_at held.table w.row.place ≡ Some w
   there-of f w i = k.there w (Waits-filter f rows w i).0
 

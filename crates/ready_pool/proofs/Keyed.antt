@@ -6,7 +6,7 @@ use Rattle.std.proofs.lemmas.List.Elements.{filter-append}
 use Rattle.place_lists.specs.Lists.{Lists, list_in, IsIn, without}
 use Rattle.ready_pool.specs.declared.pool.Waiting.{Waiting}
 use Rattle.ready_pool.specs.Ready.{is_made_on}
-use Rattle.ready_pool.specs.Held.{Waits, places_of, AreListed, extended}
+use Rattle.ready_pool.specs.Parts.{Waits, places_of, AreListed, extended}
 use Rattle.ready_pool.proofs.Rows.{tells, filter-yes, filter-no, Waits-filter, Waits-kept, IsIn-place, place-IsIn}
 
 pub named-itself : (l : ℕ) → is_made_on l (Some l) ≡ true

@@ -6,10 +6,10 @@ use Rattle.place_lists.specs.Lists.{Lists, list_in, IsIn}
 use Rattle.region_tag.specs.declared.row_id.RowId.{RowId}
 use Rattle.ready_pool.specs.declared.pool.Waiting.{Waiting}
 use Rattle.ready_pool.specs.Ready.{is_of}
-use Rattle.ready_pool.specs.Held.{Held, IsHeld, AreListed, Waits, find, row_at}
+use Rattle.ready_pool.specs.Parts.{PoolParts, HoldsRows, AreListed, Waits, find, row_at}
 use Rattle.ready_pool.proofs.Rows.{tells, filter-every}
 use Rattle.ready_pool.proofs.Keyed.{listed-in, listed-alone, listed-below}
-use Rattle.ready_pool.proofs.Held.{only, absent-of}
+use Rattle.ready_pool.proofs.Holding.{only, absent-of}
 
 found : (f : Waiting → Bool) (o : Option Waiting) (w : Waiting) → option_and_then (λ v. if f v then Some v else None) o ≡ Some w → (o ≡ Some w) × (f w ≡ true)
 found f None w e = cc
@@ -45,7 +45,7 @@ any-none : (f : Waiting → Bool) (rows : List Waiting) → ((w : Waiting) → W
 any-none f [] none = refl
 any-none f (x ∷ xs) none = any-none f xs (λ w i. none w (inr i)) ∙ sym (ap (λ b. b || list_any f xs) (none x (inl refl)))
 
-module _ (limit : ℕ) (held : Held) (rows : List Waiting) (k : IsHeld limit held rows) (row : RowId) where
+module _ (limit : ℕ) (held : PoolParts) (rows : List Waiting) (k : HoldsRows limit held rows) (row : RowId) where
   module _ (none : find held.table row ≡ None) where
     absent : (w : Waiting) → Waits rows w → is_of row w ≡ false
     absent = absent-of limit held rows k row (λ w at. missed (is_of row) (row_at held.table row.place) w none at)

@@ -1,7 +1,7 @@
 pub mod Picks
 pub mod Rows
 pub mod Keyed
-pub mod Held
+pub mod Holding
 pub mod Put
 pub mod Chosen
 pub mod Leave

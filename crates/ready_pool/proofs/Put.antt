@@ -11,10 +11,10 @@ use Rattle.region_tag.specs.declared.regions.Tagged.{Tagged}
 use Rattle.region_tag.specs.Region.{Table, get, of_row}
 use Rattle.ready_pool.specs.declared.pool.Waiting.{Waiting}
 use Rattle.ready_pool.specs.Ready.{IsRegionEntered}
-use Rattle.ready_pool.specs.Held.{Held, IsHeld, AreAlike, Waits, rows_of, place_of, number_of, all_key, slot_key, region_key, both_key}
+use Rattle.ready_pool.specs.Parts.{PoolParts, HoldsRows, AreAlike, Waits, rows_of, place_of, number_of, all_key, slot_key, region_key, both_key}
 use Rattle.ready_pool.proofs.Rows.{Waits-of_All, Waits-append, row-same}
 use Rattle.ready_pool.proofs.Keyed.{listed-free}
-use Rattle.ready_pool.proofs.Held.{rows_of-is}
+use Rattle.ready_pool.proofs.Holding.{rows_of-is}
 
 of_row-is : (row : RowId) (u t : Tagged) → of_row row u ≡ Some t → (u ≡ t) × (u.number ≡ row.number)
 of_row-is row u t e =
@@ -88,7 +88,7 @@ number-below slots limit (Some a) (Some b) s p n e =
     let most : suc b * slots ≤ limit * slots = mul-le-mul_right slots high in
     omega (arith, most, low, same, suc-mul b slots)
 
-module _ (held : Held) (k : IsHeld (length held.table) held (rows_of held.table held.all)) where
+module _ (held : PoolParts) (k : HoldsRows (length held.table) held (rows_of held.table held.all)) where
   module _ (place : ℕ) (free : All (λ (v : Waiting). v.row.place ≢ place) (rows_of held.table held.all)) where
     out : (v : Waiting) → Waits (rows_of held.table held.all) v → v.row.place ≡ place → ⊥
     out v i = Waits-of_All (λ (u : Waiting). u.row.place ≢ place) (rows_of held.table held.all) free v i
@@ -106,5 +106,5 @@ module _ (held : Held) (k : IsHeld (length held.table) held (rows_of held.table 
     free-both = listed-free (both_key held.slots) (length held.table * held.slots) (length held.table) held.by_both (rows_of held.table held.all) k.both_listed place out
 
 -- What a pool sees of what is held after its type's invariant is shown for some rows.
-pub seen-held : (limit : ℕ) (held : Held) (rows : List Waiting) → IsHeld limit held rows → IsHeld (length held.table) held (rows_of held.table held.all)
-seen-held limit held rows k = subst (λ l. IsHeld l held (rows_of held.table held.all)) (sym k.size) (subst (λ ws. IsHeld limit held ws) (sym (rows_of-is limit held rows k)) k)
+pub seen-held : (limit : ℕ) (held : PoolParts) (rows : List Waiting) → HoldsRows limit held rows → HoldsRows (length held.table) held (rows_of held.table held.all)
+seen-held limit held rows k = subst (λ l. HoldsRows l held (rows_of held.table held.all)) (sym k.size) (subst (λ ws. HoldsRows limit held ws) (sym (rows_of-is limit held rows k)) k)

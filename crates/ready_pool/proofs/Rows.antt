@@ -4,7 +4,7 @@ use Rattle.std.specs.Prelude.{All}
 use Rattle.region_tag.specs.declared.row_id.RowId.{RowId}
 use Rattle.place_lists.specs.Lists.{IsIn}
 use Rattle.ready_pool.specs.declared.pool.Waiting.{Waiting}
-use Rattle.ready_pool.specs.Held.{Waits, places_of}
+use Rattle.ready_pool.specs.Parts.{Waits, places_of}
 
 pub tells : (b : Bool) → (b ≡ true) ⊎ (b ≡ false)
 tells true = inl refl

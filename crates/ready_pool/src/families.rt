@@ -2,7 +2,7 @@
 ghost use Rattle.std.specs.Prelude.{◌≡◌, ◌<◌, ℕ, Some, length};
 ghost use Rattle.std.specs.Option.{ForSome};
 ghost use Rattle.place_lists.specs.Lists.{list_in, IsIn, without};
-ghost use Rattle.ready_pool.specs.Held.{extended};
+ghost use Rattle.ready_pool.specs.Parts.{extended};
 
 use place_lists::Lists;
 

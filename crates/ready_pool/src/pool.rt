@@ -2,7 +2,7 @@
 ghost use Rattle.std.specs.Prelude.{◌≡◌, ◌≢◌, ◌<◌, ◌≤◌, ◌==◌, All, Any, IfOk, IfSome, Some, None, filter, length};
 ghost use Rattle.std.specs.Option.{ForSome, option_map};
 ghost use Rattle.ready_pool.specs.Ready.{AreRising, empty, with_row, is_waiting, without, IsRegionEntered, is_made_on, first_of, last_or, pick};
-ghost use Rattle.ready_pool.specs.Held.{find, number_of, place_of, row_at};
+ghost use Rattle.ready_pool.specs.Parts.{find, number_of, place_of, row_at};
 ghost use Rattle.region_tag.specs.Region.{Table};
 
 use crate::families::{join, leave};
@@ -41,13 +41,13 @@ pub struct Pool {
 impl Model for Pool {
     ghost use Rattle.std.specs.Prelude.{length};
     ghost use Rattle.ready_pool.specs.Ready.{Ready};
-    ghost use Rattle.ready_pool.specs.Held.{IsHeld, rows_of};
+    ghost use Rattle.ready_pool.specs.Parts.{HoldsRows, rows_of};
 
     ghost Value = { Ready };
 
     ghost view = { λ p. record { isolation = p.isolation; limit = length p.rows.items; slots = p.slots; rows = rows_of p.rows.items p.all } };
 
-    ghost invariant = { λ p. IsHeld (length p.rows.items) (record { slots = p.slots; table = p.rows.items; all = p.all; by_slot = p.by_slot; by_region = p.by_region; by_both = p.by_both }) (rows_of p.rows.items p.all) };
+    ghost invariant = { λ p. HoldsRows (length p.rows.items) (record { slots = p.slots; table = p.rows.items; all = p.all; by_slot = p.by_slot; by_region = p.by_region; by_both = p.by_both }) (rows_of p.rows.items p.all) };
 }
 
 impl Pool {

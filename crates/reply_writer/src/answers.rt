@@ -8,6 +8,9 @@ use crate::texts::{MAX_LINE, ReplyBuf, push_number};
 use arrayvec::ArrayString;
 use job_language::{Answer, Came, Moved, Reply};
 
+/// No word of an answer is longer, in bytes.
+const MAX_WORD: usize = 8;
+
 /// The line of an answer.
 pub fn answer_line(answer: &Answer) -> ReplyBuf
     ensures { result ≡ answer_text answer.now }
@@ -60,7 +63,7 @@ pub fn bad_step_line() -> ReplyBuf
 }
 
 fn word_line(word: &str) -> ReplyBuf
-    requires { length word.now ≤ 8 }
+    requires { length word.now ≤ MAX_WORD }
     ensures { result ≡ codes "{\"moved\":\"" ++ word.now ++ codes "\"}" }
 {
     let mut text = ArrayString::<MAX_LINE>::new();
@@ -71,7 +74,7 @@ fn word_line(word: &str) -> ReplyBuf
 }
 
 fn row_line(word: &str, row: u64) -> ReplyBuf
-    requires { length word.now ≤ 8 }
+    requires { length word.now ≤ MAX_WORD }
     ensures { result ≡ row_text word.now row }
 {
     let mut text = ArrayString::<MAX_LINE>::new();

@@ -91,6 +91,27 @@ fn a_job_runs_through_the_door(rt: HostRuntime) -> Result<(), Fail> {
     Ok(())
 }
 
+#[test]
+fn nobody_arrives_where_the_pass_is_out(rt: HostRuntime) -> Result<(), Fail> {
+    let (door, mut seats) = TenantDoor::new(rt.alloc(), 0, two_slots()?, 1)?;
+    let mut seat = seats.pop().ok_or("a seat")?;
+    let submit = Request::Submit(returning_seven(rt.alloc()).ok_or("a job")?);
+    let _asked = ask(&rt, &door, &mut seat, submit).ok_or("another door")?;
+    let arrived = door.arrive(&rt, CALL);
+    let ran = advance(&rt, &door, arrived.pass).ok_or("no pass came")?;
+    assert_eq!(rt; ran.moved, Moved::Ran);
+    let submit = Request::Submit(returning_seven(rt.alloc()).ok_or("a job")?);
+    let _asked = ask(&rt, &door, &mut seat, submit).ok_or("another door")?;
+
+    // The second job's row waits, for the holder of the pass alone.
+    let arrived = door.arrive(&rt, CALL);
+    assert_eq!(rt; arrived.came, Came::Nothing);
+    assert!(rt; arrived.pass.is_none());
+    let nested = advance(&rt, &door, ran.pass).ok_or("no pass was left")?;
+    assert_eq!(rt; nested.moved, Moved::Nested(2));
+    Ok(())
+}
+
 /// The segment of the topmost frame of a pass's slot, if the pass is one of the door's.
 fn segment<R: Wait>(rt: &R, door: &TenantDoor, pass: &Option<Pass>) -> Option<Segment> {
     let pass = pass.as_ref()?;
@@ -130,16 +151,29 @@ fn a_private_run_is_committed_once(rt: HostRuntime) -> Result<(), Fail> {
     assert_eq!(rt; ran.moved, Moved::Ran);
     let stale = commit(&rt, &door, ran.pass, second).ok_or("no pass was left")?;
     assert_eq!(rt; stale.moved, Moved::Stale);
-    assert!(rt; stale.pass.is_some());
+    let pass = stale.pass.ok_or("a stale run takes no pass")?;
+    if pass.tenant() != door.tenant() {
+        return Err("another door")?;
+    }
+    door.give_home(&rt, pass);
+    seats.push(seat)?;
+    let closed = door.close(seats)?;
+    assert_eq!(rt; closed.history.len(), 3);
     Ok(())
 }
 
-/// Submits a job and polls it, 50 times.
+/// Submits a job and polls it, 50 times. No worker is there, so each job is running.
 fn ask_often<R: Wait>(rt: &R, alloc: Global, door: &TenantDoor, mut seat: Seat) -> Option<Seat> {
     for _ in 0..50 {
         let submit = Request::Submit(returning_seven(alloc)?);
-        let _made = ask(rt, door, &mut seat, submit)?;
-        let _polled = ask(rt, door, &mut seat, Request::Poll(1))?;
+        let made = ask(rt, door, &mut seat, submit)?;
+        let Reply::Made(job) = made.reply else {
+            return None;
+        };
+        let polled = ask(rt, door, &mut seat, Request::Poll(job))?;
+        if polled.reply != Reply::Job(job, Status::Running) {
+            return None;
+        }
     }
     Some(seat)
 }

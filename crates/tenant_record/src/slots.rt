@@ -142,7 +142,7 @@ impl SlotBooks {
 
 /// Counts an entry of a slot, if there is one.
 fn count(counts: &mut [usize; 16], slot: u8, has_entered: bool)
-    requires slot { slot < 16 }
+    requires slot { slot < MAX_SLOTS }
     requires few { slice_index_or counts.old slot 0 + 1 < 2 ^ 64 }
     ensures { counts.new ≡ counted counts.old slot has_entered }
 {
@@ -153,7 +153,7 @@ fn count(counts: &mut [usize; 16], slot: u8, has_entered: bool)
 
 /// Notes since when a slot is idle, after an advance of it.
 fn mark(stills: &mut [Option<usize>; 16], slot: u8, moved: Moved, entries: usize)
-    requires { slot < 16 }
+    requires { slot < MAX_SLOTS }
     ensures { stills.new ≡ slice_set stills.old slot (still_after (slice_index_or stills.old slot None) moved entries) }
 {
     let at = slot as usize;
@@ -162,7 +162,7 @@ fn mark(stills: &mut [Option<usize>; 16], slot: u8, moved: Moved, entries: usize
 
 /// Notes that a slot, if one is named, is not known to be idle.
 fn touch(stills: &mut [Option<usize>; 16], slot: Option<u8>)
-    requires { IfSome slot (λ slot. slot < 16) }
+    requires { IfSome slot (λ slot. slot < MAX_SLOTS) }
     ensures { stills.new ≡ touched slot stills.old }
 {
     if let Some(slot) = slot {

@@ -13,9 +13,9 @@ abbrev pub AreNumbered : List DoorData → Type 0
 AreNumbered doors = (k : ℕ) (d : DoorData) → k < length doors → (slice_index_or doors k d).tenant ≡ k
 
 -- The pass is of one of the tenants.
-abbrev pub IsHeld : List DoorData → Option PassData → Type 0
-IsHeld doors pass = MatchOption pass (Unit {0}) (λ p. p.tenant < length doors)
+abbrev pub HasDoor : List DoorData → Option PassData → Type 0
+HasDoor doors pass = MatchOption pass (Unit {0}) (λ p. p.tenant < length doors)
 
 pub record IsAtDoors (s : SlotsSeen) : Type 0 where
   pub doors : AreNumbered s.doors
-  pub pass : IsHeld s.doors s.pass
+  pub pass : HasDoor s.doors s.pass

@@ -2,7 +2,6 @@
 //! tests alone; the expected lines were worked out by hand from the rules, not from a run.
 #![tactic(auto)]
 
-pub mod jobs;
 pub mod scripts;
 #[cfg(test)]
 mod tests;

@@ -1,7 +1,7 @@
 // Scripts in few words: a tenant, its steps, and the lines that these have to print.
-use crate::jobs::JobText;
 use arena_script::{ScriptEnd, script};
 use std::alloc::{AllocError, Global};
+use worked_jobs::JobText;
 
 /// The tenant of a script: its slots, those reserved for masters, the limits of open rows and of
 /// history entries, and whether waiters in a region also take the rows of inner regions.
@@ -63,8 +63,8 @@ impl Does {
     /// Writes the line of a step.
     pub fn write_line(self, text: &mut String) -> Result<(), AllocError> {
         match self {
-            Does::Submit(job) => job.write_ask(text, "submit"),
-            Does::Execute(job) => job.write_ask(text, "execute"),
+            Does::Submit(job) => write_job_ask(text, "submit", job),
+            Does::Execute(job) => write_job_ask(text, "execute", job),
             Does::Poll(job) => write_number_ask(text, "poll", "job", job),
             Does::Collect(job) => write_number_ask(text, "collect", "job", job),
             Does::Cancel(job) => write_number_ask(text, "cancel", "job", job),
@@ -83,16 +83,10 @@ impl Does {
     }
 }
 
-impl JobText {
-    fn write_ask(self, text: &mut String, op: &str) -> Result<(), AllocError> {
-        let ([first, second], fuel, procs) = (self.args, self.fuel, self.procs);
-        write!(
-            text,
-            "{{\"request\":{{\"job\":{{\"args\":[{first},{second}],"
-        )?;
-        write!(text, "\"fuel\":{fuel},\"procs\":{procs}}},")?;
-        writeln!(text, "\"op\":\"{op}\"}},\"step\":\"ask\"}}")
-    }
+fn write_job_ask(text: &mut String, op: &str, job: JobText) -> Result<(), AllocError> {
+    write!(text, "{{\"request\":{{\"job\":")?;
+    job.write(text)?;
+    writeln!(text, ",\"op\":\"{op}\"}},\"step\":\"ask\"}}")
 }
 
 fn write_number_ask(text: &mut String, op: &str, of: &str, number: u64) -> Result<(), AllocError> {

@@ -1,8 +1,8 @@
 // Worked examples: each row is a script as a table of steps, beside the line that each prints.
-use crate::jobs::JobText;
 use crate::scripts::{Does, TenantText, printed};
 use std::alloc::Global;
 use std::test::Fail;
+use worked_jobs::JobText;
 
 mod cancellation;
 mod limits;

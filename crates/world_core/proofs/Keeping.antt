@@ -7,7 +7,7 @@ use Rattle.world_model.specs.Market.{Market, slots_of, slot_at, with_slot, worke
 use Rattle.world_model.specs.Orderly.{is_reserved}
 use Rattle.world_model.proofs.Ruling.{held_at, in_at, calls_rest, wake_orderly, push_orderly, pop_orderly, came_orderly, left_orderly}
 use Rattle.world_model.proofs.Counting.{there_is}
-use Rattle.world_core.specs.Held.{Held, IsHeld, KeepsOrder}
+use Rattle.world_core.specs.WorldData.{WorldData, IsAligned, KeepsOrder}
 
 pub keeps_same : (m : Market) → KeepsOrder m m
 keeps_same m = record { orderly = λ is. is; aligned = refl }
@@ -57,7 +57,7 @@ pop_long m k [] [] [] = refl
 pub pop_keeps : (m : Market) (k : ℕ) → is_free (worker_at m k) ≡ true → KeepsOrder m (pop m k).1
 pop_keeps m k free = record { orderly = pop_orderly m k free; aligned = pop_long m k m.high m.normal m.low }
 
-module _ {A : Type 0} (h : Held A) (is : IsHeld h) (k : ℕ) (c : Call) where
+module _ {A : Type 0} (h : WorldData A) (is : IsAligned h) (k : ℕ) (c : Call) where
   -- A call that a worker holds is of a tenant that has an arena.
   pub held_there : held_by (worker_at h.market k) ≡ Some c → c.tenant < length h.arenas
   held_there held =
@@ -73,5 +73,5 @@ module _ {A : Type 0} (h : Held A) (is : IsHeld h) (k : ℕ) (c : Call) where
       omega (arith, there, is.aligned)
 
 -- What is held is in order after a change of the market.
-pub held_market : {A : Type 0} (arenas : List A) (m n : Market) → IsHeld (record { arenas = arenas; market = m }) → KeepsOrder m n → IsHeld (record { arenas = arenas; market = n })
+pub held_market : {A : Type 0} (arenas : List A) (m n : Market) → IsAligned (record { arenas = arenas; market = m }) → KeepsOrder m n → IsAligned (record { arenas = arenas; market = n })
 held_market arenas m n is keeps = record { orderly = keeps.orderly is.orderly; aligned = keeps.aligned ∙ is.aligned }

@@ -14,7 +14,7 @@ use Rattle.world_model.specs.Market.{Market}
 use Rattle.world_model.specs.World.{start, first_slots, no_tenant, state_of}
 use Rattle.world_model.proofs.Forgetting.{start_orderly}
 use Rattle.world_core.specs.First.{market_tenant}
-use Rattle.world_core.specs.Held.{IsHeld}
+use Rattle.world_core.specs.WorldData.{IsAligned}
 use Rattle.world_core.specs.Represents.{Represents}
 
 levels_are : (ts : List Tenant) → map (λ (t : MarketTenant). t.level) (map market_tenant ts) ≡ map (λ (t : Tenant). t.priority) ts
@@ -31,7 +31,7 @@ first_is c = λ i. record { levels = levels_are c.tenants i; slots = slots_are c
 
 module _ {A : Type 0} (arenas : List A) (m : Market) (c : Configuration) (long : length arenas ≡ length c.tenants) (same : m ≡ (start c).market) where
   -- the start is in order
-  pub start_held : IsHeld (record { arenas = arenas; market = m })
+  pub start_held : IsAligned (record { arenas = arenas; market = m })
   start_held = rw same (record {
     orderly = start_orderly c;
     aligned = length-map c.tenants first_slots ∙ sym long;

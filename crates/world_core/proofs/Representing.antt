@@ -6,10 +6,10 @@ use Rattle.std.proofs.lemmas.List.{get_or-set_same, get_or-set_other}
 use Rattle.tenant_model.specs.State.{State, empty}
 use Rattle.world_model.specs.Market.{Market}
 use Rattle.world_model.specs.World.{World, no_tenant, state_of}
-use Rattle.world_core.specs.Held.{Held}
+use Rattle.world_core.specs.WorldData.{WorldData}
 use Rattle.world_core.specs.Represents.{Represents}
 
-module _ {A : Type 0} (stands_for : A → State → Type 0) (h : Held A) (w : World) (is : Represents stands_for h w) where
+module _ {A : Type 0} (stands_for : A → State → Type 0) (h : WorldData A) (w : World) (is : Represents stands_for h w) where
   -- the arena of a tenant has changed, and the market
   pub represents_step : (t : ℕ) (a : A) (s : State) (m n : Market) → stands_for a s → m ≡ n →
       Represents stands_for (record { arenas = slice_set h.arenas t a; market = m }) (record { states = slice_set w.states t s; market = n })

@@ -7,18 +7,18 @@ use Rattle.world_model.specs.Raw.{Raw}
 use Rattle.world_model.specs.Refusals.{AreAnswers, IsAnswer, next, steps_taken}
 use Rattle.world_model.specs.World.{World, after}
 use Rattle.world_model.proofs.Taking.{after_push, answers_push}
-use Rattle.world_core.specs.Held.{Held}
+use Rattle.world_core.specs.WorldData.{WorldData}
 use Rattle.world_core.specs.Represents.{Represents}
 use Rattle.world_core.specs.RawOf.{raw_of}
 use Rattle.world_core.specs.declared.raws.Raw.{Raw as Code}
 
 -- Steps with these outcomes lead from what is held to what is held then, in every world that is represented.
-pub record HasRun {A : Type 0} (stands_for : A → State → Type 0) (old new : Held A) (xs : List Raw) (os : List Outcome) : Type 0 where
+pub record HasRun {A : Type 0} (stands_for : A → State → Type 0) (old new : WorldData A) (xs : List Raw) (os : List Outcome) : Type 0 where
   pub long : length os ≡ length xs
   pub answers : (w : World) → Represents stands_for old w → AreAnswers w xs os
   pub world : (w : World) → Represents stands_for old w → Represents stands_for new (after w (steps_taken xs os))
 
-module _ {A : Type 0} (stands_for : A → State → Type 0) (old mid new : Held A) (os : List Outcome) (o : Outcome) where
+module _ {A : Type 0} (stands_for : A → State → Type 0) (old mid new : WorldData A) (os : List Outcome) (o : Outcome) where
   run_push : (xs : List Raw) (x : Raw) → HasRun stands_for old mid xs os → ((w : World) → Represents stands_for mid w → IsAnswer w x o) → ((w : World) → Represents stands_for mid w → Represents stands_for new (next w x o)) →
       HasRun stands_for old new (xs ++ x ∷ []) (os ++ o ∷ [])
   run_push xs x run answer world = record {

@@ -19,7 +19,7 @@ use Rattle.world_model.specs.Raw as raw
 use Rattle.world_model.specs.Refusals.{is_no_memory, no_memory, TakesMemory, next}
 use Rattle.world_model.specs.World.{World, state_of, is_blank, arrival_of, advance_of, own_of, market_after, wake_after, answer_step, step_own, step}
 use Rattle.world_model.proofs.Taking.{never_no_memory}
-use Rattle.world_core.specs.Held.{Held}
+use Rattle.world_core.specs.WorldData.{WorldData}
 use Rattle.world_core.specs.Represents.{Represents}
 use Rattle.world_core.specs.Steps.{IsTaken, Steps}
 use Rattle.world_core.proofs.Reading.{request_short}
@@ -31,9 +31,9 @@ next_is w x o is =
     let own : is_no_memory o ≡ false = ap is_no_memory is ∙ never_no_memory w x in
     rw own refl
 
-module _ {A : Type 0} (stands_for : A → State → Type 0) (h : Held A) where
+module _ {A : Type 0} (stands_for : A → State → Type 0) (h : WorldData A) where
   -- what is held then is a world that each step leads to
-  exactly : (x : Raw) (o : Outcome) (k : Held A) → ((w : World) → Represents stands_for h w → (v : World) × (step w x ≡ (o, v)) × Represents stands_for k v) → Steps stands_for h k x o
+  exactly : (x : Raw) (o : Outcome) (k : WorldData A) → ((w : World) → Represents stands_for h w → (v : World) × (step w x ≡ (o, v)) × Represents stands_for k v) → Steps stands_for h k x o
   exactly x o k leads = record {
     answer = λ w is. inl (sym (ap (λ r. r.0) (leads w is).1));
     world = λ w is.
@@ -65,7 +65,7 @@ module _ {A : Type 0} (stands_for : A → State → Type 0) (h : Held A) where
       rw (known, filled) refl
 
   -- it may be refused because an allocation failed, and then the arena stands for the same state
-  no_memory_steps : (t : ℕ) (text : List ℕ) (k : Held A) → t < length h.arenas → is_blank text ≡ false → IsShortText text →
+  no_memory_steps : (t : ℕ) (text : List ℕ) (k : WorldData A) → t < length h.arenas → is_blank text ≡ false → IsShortText text →
       ((w : World) → Represents stands_for h w → Represents stands_for k w) → Steps stands_for h k (raw.line t text) no_memory
   no_memory_steps t text k there filled short same = record {
     answer = λ w is.

@@ -1,4 +1,4 @@
-pub mod Held
+pub mod WorldData
 pub mod Represents
 pub mod RawOf
 pub mod First

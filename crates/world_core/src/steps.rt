@@ -4,7 +4,7 @@ ghost use Rattle.job_language.specs.declared.steps.Step.TheVariants as step;
 ghost use Rattle.tenant_model.specs.State.{State};
 ghost use Rattle.world_model.specs.Raw as raw;
 ghost use Rattle.world_model.specs.World.{wake_after};
-ghost use Rattle.world_core.specs.Held.{KeepsOrder};
+ghost use Rattle.world_core.specs.WorldData.{KeepsOrder};
 ghost use Rattle.world_core.specs.Steps.{IsTaken};
 
 use crate::arenas::TenantArena;

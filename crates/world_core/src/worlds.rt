@@ -29,13 +29,13 @@ pub struct World<A: TenantArena> {
 }
 
 impl<A: TenantArena> Model for World<A> {
-    ghost use Rattle.world_core.specs.Held.{Held, IsHeld};
+    ghost use Rattle.world_core.specs.WorldData.{WorldData, IsAligned};
 
-    ghost Value = { Held A };
+    ghost Value = { WorldData A };
 
     ghost view = { λ w. record { arenas = w.arenas.items; market = w.market } };
 
-    ghost invariant = { λ w. IsHeld (record { arenas = w.arenas.items; market = w.market }) };
+    ghost invariant = { λ w. IsAligned (record { arenas = w.arenas.items; market = w.market }) };
 }
 
 impl<A: TenantArena> World<A> {

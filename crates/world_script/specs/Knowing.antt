@@ -3,12 +3,12 @@ use Rattle.std.specs.Prelude.{ℕ, ◌≡◌, List, Option, Some, None}
 use Rattle.job_language.specs.Configuration.{Configuration, names_of}
 use Rattle.tenant_model.specs.State.{State}
 use Rattle.world_model.specs.World.{World, start}
-use Rattle.world_core.specs.Held.{Held}
+use Rattle.world_core.specs.WorldData.{WorldData}
 use Rattle.world_core.specs.Represents.{Represents}
 
 pub record Named (A : Type 0) : Type 0 where
   pub names : List (List ℕ)
-  pub world : Held A
+  pub world : WorldData A
 
 -- The names are these, and the world is represented.
 pub record Knows {A : Type 0} (stands_for : A → State → Type 0) (names : List (List ℕ)) (w : World) (held : Named A) : Type 0 where

@@ -8,14 +8,15 @@ ghost use Rattle.job_language.specs.Instruction.{register, group, key, below, on
 
 use crate::instructions::{GROUPS, Group, Instr, KEYS, Key, REGISTERS, Register};
 use crate::operations::Operation;
+use crate::programs::{MAX_INSTRS, MAX_PROCS};
 use crate::values::items_of;
 use serde_json::Value;
 
 /// The instruction that a value spells, in a program of so many procedures and a procedure of so
 /// many instructions.
 pub(super) fn instr_of(procs: usize, instrs: usize, value: &Value) -> Option<Instr>
-    requires procs { procs ≤ 16 }
-    requires instrs { instrs ≤ 256 }
+    requires procs { procs ≤ MAX_PROCS }
+    requires instrs { instrs ≤ MAX_INSTRS }
     ensures value { result ≡ instr_of procs instrs (view value.now) }
     ensures in_range { IfSome result (IsInRange instrs) }
     ensures calls { IfSome result (Calls procs) }
@@ -54,7 +55,7 @@ fn number(value: &Value) -> Option<i64>
 }
 
 fn below(limit: usize, value: &Value) -> Option<u8>
-    requires { limit ≤ 256 }
+    requires { limit ≤ MAX_INSTRS }
     ensures value { result ≡ below limit (view value.now) }
     ensures in_range { IfSome result (λ n. n < limit) }
 {
@@ -74,8 +75,8 @@ fn instr_from(
     instrs: usize,
     operands: &[Value],
 ) -> Option<Instr>
-    requires procs { procs ≤ 16 }
-    requires instrs { instrs ≤ 256 }
+    requires procs { procs ≤ MAX_PROCS }
+    requires instrs { instrs ≤ MAX_INSTRS }
     ensures value { result ≡ instr_from operation procs instrs (map view operands.now) }
     ensures in_range { IfSome result (IsInRange instrs) }
     ensures calls { IfSome result (Calls procs) }
@@ -126,7 +127,7 @@ fn one_group(operands: &[Value]) -> Option<Group>
 }
 
 fn one_place(instrs: usize, operands: &[Value]) -> Option<u8>
-    requires { instrs ≤ 256 }
+    requires { instrs ≤ MAX_INSTRS }
     ensures value { result ≡ one (below instrs) (map view operands.now) }
     ensures in_range { IfSome result (λ t. t < instrs) }
 {
@@ -143,7 +144,7 @@ fn register_and_number(operands: &[Value]) -> Option<(Register, i64)>
 }
 
 fn register_and_place(instrs: usize, operands: &[Value]) -> Option<(Register, u8)>
-    requires { instrs ≤ 256 }
+    requires { instrs ≤ MAX_INSTRS }
     ensures value { result ≡ two register (below instrs) (map view operands.now) }
     ensures in_range { IfSome result (λ x. (x.0 < REGISTERS) × (x.1 < instrs)) }
 {
@@ -184,7 +185,7 @@ fn two_registers_and_group(operands: &[Value]) -> Option<(Register, Register, Gr
 }
 
 fn call(procs: usize, operands: &[Value]) -> Option<(u8, Register, Register)>
-    requires { procs ≤ 256 }
+    requires { procs ≤ MAX_PROCS }
     ensures value { result ≡ three (below procs) register register (map view operands.now) }
     ensures in_range { IfSome result (λ x. (x.0 < procs) × (x.1 < REGISTERS) × (x.2 < REGISTERS)) }
 {
@@ -193,7 +194,7 @@ fn call(procs: usize, operands: &[Value]) -> Option<(u8, Register, Register)>
 }
 
 fn group_and_call(procs: usize, operands: &[Value]) -> Option<(Group, u8, Register, Register)>
-    requires { procs ≤ 256 }
+    requires { procs ≤ MAX_PROCS }
     ensures value { result ≡ four group (below procs) register register (map view operands.now) }
     ensures in_range { IfSome result (λ x. (x.0 < GROUPS) × (x.1 < procs) × (x.2 < REGISTERS) × (x.3 < REGISTERS)) }
 {
@@ -202,7 +203,7 @@ fn group_and_call(procs: usize, operands: &[Value]) -> Option<(Group, u8, Regist
 }
 
 fn register_and_call(procs: usize, operands: &[Value]) -> Option<(Register, u8, Register, Register)>
-    requires { procs ≤ 256 }
+    requires { procs ≤ MAX_PROCS }
     ensures value { result ≡ four register (below procs) register register (map view operands.now) }
     ensures in_range { IfSome result (λ x. (x.0 < REGISTERS) × (x.1 < procs) × (x.2 < REGISTERS) × (x.3 < REGISTERS)) }
 {

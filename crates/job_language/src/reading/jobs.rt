@@ -114,8 +114,8 @@ fn all_procs(values: &[Value]) -> bool
 
 /// The instruction at a place of a procedure. The last one is a `ret` or a `jmp`.
 fn instr_at(procs: usize, instrs: usize, place: usize, value: &Value) -> Option<Instr>
-    requires procs { procs ≤ 16 }
-    requires instrs { instrs ≤ 256 }
+    requires procs { procs ≤ MAX_PROCS }
+    requires instrs { instrs ≤ MAX_INSTRS }
     requires place { place < instrs }
     ensures value { result ≡ instr_at procs instrs place (view value.now) }
     ensures in_range { IfSome result (IsInRange instrs) }
@@ -136,9 +136,9 @@ fn read_instrs(
     number: usize,
     values: &[Value],
 ) -> Result<Vec<Instr>, Refused>
-    requires procs { procs ≤ 16 }
+    requires procs { procs ≤ MAX_PROCS }
     requires some { 0 < length values.now }
-    requires most { length values.now ≤ 256 }
+    requires most { length values.now ≤ MAX_INSTRS }
     ensures read { Reads (λ v. v.items) result (proc_of procs number (map view values.now)) }
     ensures valid { IfOk result (λ v. IsValidProc v.items) }
     ensures calls { IfOk result (λ v. All (Calls procs) v.items) }
@@ -156,7 +156,7 @@ fn read_instrs(
 }
 
 fn read_proc(alloc: Global, procs: usize, number: usize, value: &Value) -> Result<Proc, Refused>
-    requires procs { procs ≤ 16 }
+    requires procs { procs ≤ MAX_PROCS }
     requires list { is_proc (view value.now) ≡ true }
     ensures read { Reads (λ p. p) result (proc_at procs number (view value.now)) }
     ensures valid { IfOk result IsValidProc }

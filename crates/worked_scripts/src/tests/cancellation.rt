@@ -1,8 +1,8 @@
 // Requests to cancel, of jobs and of groups.
 use super::{RAN, RUNNING, arrived, executed, run_row};
-use crate::jobs::{CANCEL_THEN_WAIT, FIRST};
 use crate::scripts::{Does, tenant};
 use std::test::Fail;
+use worked_jobs::{CANCEL_THEN_WAIT, FIRST};
 
 #[test]
 fn a_cancelled_job_drops_nothing_that_runs(rt: HostRuntime) -> Result<(), Fail> {

@@ -1,8 +1,8 @@
 // Histories, open rows, jobs, heights and fuel at their limits.
 use super::{LEFT, RAN, arrived, executed, lines_of, run_row};
-use crate::jobs::{CHAIN, FIB, FIRST, JobText, UNWAITED};
 use crate::scripts::{Does, TenantText, tenant};
 use std::test::Fail;
+use worked_jobs::{CHAIN, FIB, FIRST, JobText, UNWAITED};
 
 fn with_limits(rows: u16, steps: u32) -> TenantText {
     TenantText {

@@ -1,8 +1,8 @@
 // Private instructions and fuel.
 use super::{RAN, RUNNING, arrived, executed, run_row};
-use crate::jobs::{FIRST, HALF, JobText, LEAST_BY_MINUS_ONE, NOT_VALID, SPIN, WRAP, ZERO_DIVISOR};
 use crate::scripts::{Does, tenant};
 use std::test::Fail;
+use worked_jobs::{FIRST, HALF, JobText, LEAST_BY_MINUS_ONE, NOT_VALID, SPIN, WRAP, ZERO_DIVISOR};
 
 #[test]
 fn the_first_job_is_complete(rt: HostRuntime) -> Result<(), Fail> {

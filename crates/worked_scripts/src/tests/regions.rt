@@ -1,8 +1,8 @@
 // Isolated regions, posts and stolen tasks, in both modes of isolation.
 use super::{FREED, IDLE, LEFT, RAN, executed, run_row};
-use crate::jobs::{ISOLATED, NESTED, NINE, PLAIN, POSTED, STOLEN};
 use crate::scripts::{Does, TenantText, tenant};
 use std::test::Fail;
+use worked_jobs::{ISOLATED, NESTED, NINE, PLAIN, POSTED, STOLEN};
 
 fn within(of: TenantText) -> TenantText {
     TenantText { within: true, ..of }

@@ -1,8 +1,8 @@
 // Retired jobs and epochs.
 use super::{RAN, run_row};
-use crate::jobs::{FIRST, NINE};
 use crate::scripts::{Does, TenantText, tenant};
 use std::test::Fail;
+use worked_jobs::{FIRST, NINE};
 
 #[test]
 fn retired_jobs_and_their_cells_are_gone(rt: HostRuntime) -> Result<(), Fail> {

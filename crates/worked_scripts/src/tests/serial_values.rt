@@ -1,18 +1,9 @@
 // Serial values: each row is a job beside the line that tells its serial value.
-use crate::jobs::{CHAIN, FIB, ISOLATED, JobText, NOT_VALID, SPIN, UNUSED, UNWAITED, ZERO_DIVISOR};
 use arena_script::{ScriptEnd, script};
-use std::alloc::AllocError;
 use std::test::Fail;
+use worked_jobs::{CHAIN, FIB, ISOLATED, JobText, NOT_VALID, SPIN, UNUSED, UNWAITED, ZERO_DIVISOR};
 
 const NONE: &str = r#"{"serial":"none"}"#;
-
-fn write_job(text: &mut String, job: JobText) -> Result<(), AllocError> {
-    let ([first, second], fuel, procs) = (job.args, job.fuel, job.procs);
-    writeln!(
-        text,
-        "{{\"args\":[{first},{second}],\"fuel\":{fuel},\"procs\":{procs}}}"
-    )
-}
 
 fn with_fuel(fuel: u64, job: JobText) -> JobText {
     JobText { fuel, ..job }
@@ -38,7 +29,8 @@ fn each_job_has_its_serial_value(rt: HostRuntime) -> Result<(), Fail> {
     ];
     let mut text = String::new(rt.alloc());
     for (job, _) in &table {
-        write_job(&mut text, *job)?;
+        job.write(&mut text)?;
+        text.push_str("\n")?;
     }
     let mut written = Vec::new(rt.alloc());
     let end = script(rt.alloc(), &["serial"], &mut text.as_bytes(), &mut written);

@@ -1,8 +1,8 @@
 // Tasks and waits.
 use super::{FREED, LEFT, RAN, arrived, executed, run_row};
-use crate::jobs::{CLASSIC, FIB, FIRST, UNUSED, UNWAITED};
 use crate::scripts::{Does, tenant};
 use std::test::Fail;
+use worked_jobs::{CLASSIC, FIB, FIRST, UNUSED, UNWAITED};
 
 #[test]
 fn fibonacci_takes_85_advances(rt: HostRuntime) -> Result<(), Fail> {

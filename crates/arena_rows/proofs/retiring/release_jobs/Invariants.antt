@@ -4,6 +4,7 @@ use Rattle.arena_rows.proofs.retiring.release_jobs.Given as goal
 
 abbrev pub invariant-loop-job : goal.invariant-loop-job
 invariant-loop-job l = record {
-  hold : HoldJobs l.contexts l.jobs l.job-index;
-  long : length l.contexts ≡ length l.fn.contexts;
+  hold : HoldJobs l.rows.contexts l.jobs l.job-index;
+  long : length l.rows.contexts ≡ length l.fn.rows.contexts;
+  table : l.rows.table ≡ l.fn.rows.table;
 }

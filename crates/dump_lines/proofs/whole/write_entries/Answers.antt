@@ -3,9 +3,9 @@ use Rattle.std.specs.Io.KnownBytes.{Appends}
 use Rattle.std.proofs.KnownBytes.{Appends-trans}
 use Rattle.std.proofs.lemmas.List.{drop_more}
 use Rattle.job_language.specs.declared.steps.Entry.{Entry}
-use Rattle.dump_lines.specs.Dumps.{entries_text, entry_text}
+use Rattle.dump_lines.specs.Dumps.{HasLine, SaysItself, entries_text, entry_text}
 use Rattle.dump_lines.specs.Parts.{AppendsPart}
-use Rattle.dump_lines.proofs.Entries.{lines_on}
+use Rattle.dump_lines.proofs.Entries.{one_more}
 use Rattle.dump_lines.proofs.Parts.{part_then, part_more}
 use Rattle.dump_lines.proofs.whole.write_entries.Goals as goal
 
@@ -24,7 +24,8 @@ loop-entry-preserved g c =
           (subst (λ (l : List Entry). AppendsPart (g.W.Write.contents c.loop-entry.writer) after (entries_text l)) (sym (drop_more es i e within))
           (subst (λ (d : Entry). AppendsPart (g.W.Write.contents c.loop-entry.writer) after (entries_text (d ∷ drop (i + 1) es))) c.entry-item.is
           (part_then _ _ after (entry_text e) (entries_text (drop (i + 1) es)) c.in_ok-write_entry.ensures.written more)));
-      lines = lines_on es i e within c.entry-item.is c.in_ok-write_entry.ensures.line c.loop-entry.invariant.lines;
+      lines = one_more HasLine es i e within c.entry-item.is c.in_ok-write_entry.ensures.line c.loop-entry.invariant.lines;
+      said = one_more SaysItself es i e within c.entry-item.is c.in_ok-write_entry.ensures.reads_back c.loop-entry.invariant.said;
     }
 
 pub returns-in_err-write_entry-clause-part : goal.returns-in_err-write_entry-clause-part

@@ -1,7 +1,7 @@
 use Rattle.std.proofs.Common.{◌<◌, List, ℕ, Option, drop, get_or}
 use Rattle.std.specs.Io.KnownBytes.{Appends}
 use Rattle.job_language.specs.declared.steps.Entry.{Entry}
-use Rattle.dump_lines.specs.Dumps.{HasLine, entries_text}
+use Rattle.dump_lines.specs.Dumps.{HasLine, SaysItself, entries_text}
 use Rattle.dump_lines.specs.Parts.{AppendsPart}
 use Rattle.dump_lines.proofs.whole.write_entries.Given as goal
 
@@ -15,4 +15,5 @@ invariant-loop-entry g l = record {
       AppendsPart (g.W.Write.contents l.writer) after (entries_text (drop l.entry-index l.entries)) →
       AppendsPart (g.W.Write.contents l.initial.writer) after (entries_text l.entries);
   lines : (k : ℕ) (d : Entry) → k < l.entry-index → HasLine (get_or l.entries k d);
+  said : (k : ℕ) (d : Entry) → k < l.entry-index → SaysItself (get_or l.entries k d);
 }

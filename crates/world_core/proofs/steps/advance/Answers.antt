@@ -1,6 +1,6 @@
 use Rattle.std.proofs.Common.{sym, ◌∙◌, subst}
 use Rattle.world_model.specs.Market.{Market}
-use Rattle.world_core.specs.Held.{KeepsOrder}
+use Rattle.world_core.specs.WorldData.{KeepsOrder}
 use Rattle.world_core.proofs.Keeping.{keeps_same, keeps_both, left_keeps}
 use Rattle.world_core.proofs.steps.advance.Goals.{then-matches, else-matches}
 use Rattle.world_core.proofs.steps.advance.Goals as goal

@@ -1,13 +1,13 @@
-use Rattle.std.proofs.Common.{◌≡◌, ◌<◌, ℕ, pos, length, length-set, Some, None, sym, ap, ◌∙◌, arith, subst}
+use Rattle.std.proofs.Common.{◌≡◌, ◌<◌, pos, length, length-set, Some, None, sym, ap, ◌∙◌, arith, subst}
 use Rattle.std.specs.Prelude.{slice_set}
-use Rattle.region_tag.specs.declared.row_id.RowId.{RowId}
+use Rattle.std.proofs.lemmas.List.{length_push}
 use Rattle.ready_pool.specs.Ready as ready
-use Rattle.tenant_model.specs.State.{State, row}
+use Rattle.tenant_model.specs.State.{row}
 use Rattle.tenant_model.specs.Changes.{on_row}
 use Rattle.tenant_model.specs.declared.rows.Phase.TheVariants.{Dropped}
 use Rattle.tenant_model.proofs.Tended.{unstarted_open}
 use Rattle.arena_rows.specs.Held.{Held}
-use Rattle.arena_rows.specs.Represents.{at_place, id_of, Holds}
+use Rattle.arena_rows.specs.Represents.{at_place, Holds}
 use Rattle.arena_rows.specs.Endings.{IsWaiting, parted}
 use Rattle.arena_rows.proofs.EndHolds.{dropped_holds}
 use Rattle.arena_rows.proofs.EndSteps.{parted_long}
@@ -50,6 +50,14 @@ returns-clause-long c =
     let found = entry_of a h.0 h.2 h.1 (unstarted_open (row h.0.rows h.1).phase h.3) in
     let it = over_of a c.end.new.self c.args.id (pos 0) c.end.ensures h.0 h.2 h.1 found.0 found.1 h.4 in
     rw c.unwait.ensures (ap (λ (x : Held). length x.table) it.over.rest ∙ length-set (parted a.table it.e.source (pos 0)) (h.2.places h.1) None ∙ parted_long a.table it.e.source (pos 0))
+
+pub returns-clause-freed : goal.returns-clause-freed
+returns-clause-freed c =
+    let a = c.args.self.now in
+    let h : IsWaiting a c.args.id = c.requires in
+    let found = entry_of a h.0 h.2 h.1 (unstarted_open (row h.0.rows h.1).phase h.3) in
+    let it = over_of a c.end.new.self c.args.id (pos 0) c.end.ensures h.0 h.2 h.1 found.0 found.1 h.4 in
+    rw c.unwait.ensures (ap (λ (x : Held). length x.free) it.over.rest ∙ length_push a.free (h.2.places h.1))
 
 pub returns-clause-numbers : goal.returns-clause-numbers
 returns-clause-numbers c = λ q e there.

@@ -1,33 +1,56 @@
-use Rattle.std.proofs.Common.{◌≡◌, ◌<◌, ◌≤◌, length, sym, ap, ◌∙◌, arith}
-use Rattle.arena_rows.specs.Represents.{at_place, Holds, HoldsSomehow}
-use Rattle.arena_rows.specs.Endings.{settled_in}
+use Rattle.std.proofs.Common.{◌≡◌, length, refl, sym, ap, subst, arith}
+use Rattle.cancel_context.specs.Forest.{IsForest}
 use Rattle.tenant_model.proofs.SoundSteps.{entry_settled}
-use Rattle.arena_rows.proofs.SettledRows.{settled_first, settled_more, settled_all}
+use Rattle.arena_rows.specs.Held.{Held}
+use Rattle.arena_rows.specs.OpenRows.{AreFine}
+use Rattle.arena_rows.specs.Represents.{HoldsSomehow}
+use Rattle.arena_rows.specs.Endings.{rows_of, IsCancelled}
+use Rattle.arena_rows.proofs.SettledRows.{SettledSome, settled_first, settled_more, settled_all, cancelled_waits, still_held, room_left}
 use Rattle.arena_rows.proofs.parts.Parts.settle.Goals as goal
 
-pub loop-place-init : goal.loop-place-init
-loop-place-init c = record { held = c.requires; long = sym c.places-places.ensures; settled = λ s is. settled_first s c.args.self.now is }
+pub loop-row-init : goal.loop-row-init
+loop-row-init c = record { held = c.requires; settled = λ s is. settled_first s c.args.self.now is }
 
-pub settle_at-requires-clause-held : goal.settle_at-requires-clause-held
-settle_at-requires-clause-held c = c.loop-place.invariant.held
+pub drop_row-requires : goal.drop_row-requires
+drop_row-requires c =
+    let now : Held = c.next_cancelled.new.self in
+    let same : now ≡ c.loop-row.self = c.next_cancelled.ensures.same in
+    let held = subst HoldsSomehow (sym same) c.loop-row.invariant.held in
+    let sound = subst (λ (a : Held). IsForest a.contexts) (sym same) c.next_cancelled.ensures.sound in
+    let cancelled = subst (λ (a : Held). IsCancelled a c.in-Some.row) (sym same) c.in-Some.ensures.some in
+    cancelled_waits now c.in-Some.row sound cancelled held
 
-pub settle_at-requires-clause-place : goal.settle_at-requires-clause-place
-settle_at-requires-clause-place c = omega (arith, c.loop-place-test.true, c.loop-place.invariant.long)
+pub loop-row-smaller : goal.loop-row-smaller
+loop-row-smaller c =
+    let now : Held = c.next_cancelled.new.self in
+    let same : now ≡ c.loop-row.self = c.next_cancelled.ensures.same in
+    let held = subst HoldsSomehow (sym same) c.loop-row.invariant.held in
+    let sound = subst (λ (a : Held). IsForest a.contexts) (sym same) c.next_cancelled.ensures.sound in
+    let cancelled = subst (λ (a : Held). IsCancelled a c.in-Some.row) (sym same) c.in-Some.ensures.some in
+    let room = room_left now c.in-Some.row sound cancelled held in
+    let table = ap (λ (a : Held). length a.table) same in
+    let free = ap (λ (a : Held). length a.free) same in
+    omega (arith, room, table, free, c.drop_row.ensures.long, c.drop_row.ensures.freed)
 
-pub loop-place-preserved : goal.loop-place-preserved
-loop-place-preserved c =
-    let a = c.loop-place.self in
-    let h : HoldsSomehow a = c.loop-place.invariant.held in
+pub loop-row-preserved : goal.loop-row-preserved
+loop-row-preserved c =
+    let now : Held = c.next_cancelled.new.self in
+    let same : now ≡ c.loop-row.self = c.next_cancelled.ensures.same in
+    let held = subst HoldsSomehow (sym same) c.loop-row.invariant.held in
+    let sound = subst (λ (a : Held). IsForest a.contexts) (sym same) c.next_cancelled.ensures.sound in
+    let cancelled = subst (λ (a : Held). IsCancelled a c.in-Some.row) (sym same) c.in-Some.ensures.some in
     record {
-      held = (settled_in h.0 (at_place a.table c.loop-place.place), c.settle_at.ensures.holds h.0 h.1);
-      long = c.settle_at.ensures.long ∙ c.loop-place.invariant.long;
-      settled = λ s is.
-          let so_far = c.loop-place.invariant.settled s is in
-          settled_more s a c.settle_at.new.self c.loop-place.place so_far (c.settle_at.ensures.holds so_far.t so_far.holds) c.settle_at.ensures.numbers;
+      held = still_held now c.in-Some.row sound cancelled c.drop_row.new.self c.drop_row.ensures.holds held;
+      settled = λ s is. settled_more now c.in-Some.row sound cancelled c.drop_row.new.self c.drop_row.ensures.holds s (subst (SettledSome s) (sym same) (c.loop-row.invariant.settled s is));
     }
 
 pub returns : goal.returns
-returns c = λ s is. record {
-  holds = settled_all s c.loop-place.self c.loop-place.place (omega (arith, c.loop-place-test.false, c.loop-place.invariant.long)) (c.loop-place.invariant.settled s is);
-  settled = entry_settled s;
-}
+returns c = λ s is.
+    let now : Held = c.next_cancelled.new.self in
+    let same : now ≡ c.loop-row.self = c.next_cancelled.ensures.same in
+    let sound = subst (λ (a : Held). IsForest a.contexts) (sym same) c.next_cancelled.ensures.sound in
+    let fine = subst (λ (a : Held). AreFine (rows_of a)) (sym same) (c.in_default.ensures.none refl) in
+    record {
+      holds = settled_all s now sound fine (subst (SettledSome s) (sym same) (c.loop-row.invariant.settled s is));
+      settled = entry_settled s;
+    }

@@ -1,7 +1,7 @@
-use Rattle.std.proofs.Common.{length, refl, sym, ◌∙◌, ap, subst, arith}
+use Rattle.std.proofs.Common.{length, refl, sym, ◌∙◌, ap, subst, inl, arith}
 use Rattle.cancel_context.proofs.Chains.{IsHeld-within}
 use Rattle.cancel_context.proofs.Along.{along-fewer}
-use Rattle.cancel_context.proofs.Spread.{IsVisiting, IsIn-last, visiting-start, visiting-held, visiting-more, visiting-end}
+use Rattle.cancel_context.proofs.Spread.{IsVisiting, IsIn-last, visiting-start, visiting-held, visiting-more, visiting-end, visited-turned, turned-more}
 use Rattle.cancel_context.proofs.Rows.{steps}
 use Rattle.cancel_context.proofs.flags.Flags.spread.Goals as goal
 
@@ -20,6 +20,8 @@ loop-following-init c =
     record {
       visiting = subst (λ t. IsVisiting c.args.bindings.now links f.flags f.reached t c.args.parent c.args.is_cancelled) (sym c.first-following.ensures) start;
       fewer = refl;
+      turned = λ d. inl refl;
+      kept = λ d i. i;
     }
 
 pub visit-requires-clause-place : goal.visit-requires-clause-place
@@ -59,9 +61,12 @@ loop-following-preserved c =
     let after = c.visit.new.self in
     let v = subst (λ t. IsVisiting c.args.bindings.now links f.flags f.reached t c.args.parent c.args.is_cancelled) c.in-Some.is c.loop-following.invariant.visiting in
     let more = visiting-more c.args.bindings.now links f.flags f.reached c.in-Some.context c.args.parent c.args.is_cancelled after c.visit.ensures v in
+    let step = visited-turned c.args.bindings.now f c.in-Some.context c.args.is_cancelled after c.visit.ensures in
     record {
       visiting = subst (λ t. IsVisiting c.args.bindings.now links after.flags after.reached t c.args.parent c.args.is_cancelled) (sym c.next-following.ensures) more.0;
       fewer = more.1 ∙ c.loop-following.invariant.fewer;
+      turned = turned-more c.args.self.now f after c.loop-following.invariant.turned step;
+      kept = λ d i. (step d).1 (c.loop-following.invariant.kept d i);
     }
 
 pub returns-clause-spreads : goal.returns-clause-spreads

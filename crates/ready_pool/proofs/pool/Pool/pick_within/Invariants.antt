@@ -4,7 +4,7 @@ use Rattle.std.specs.Option.{option_or}
 use Rattle.region_tag.specs.Region.{is_within}
 use Rattle.ready_pool.specs.declared.pool.Waiting.{Waiting}
 use Rattle.ready_pool.specs.Ready.{first_of, is_made_on, last_or}
-use Rattle.ready_pool.specs.Held.{row_at, rows_of}
+use Rattle.ready_pool.specs.Parts.{row_at, rows_of}
 use Rattle.ready_pool.proofs.Chosen.{chosen}
 use Rattle.ready_pool.proofs.pool.Pool.pick_within.Given as goal
 

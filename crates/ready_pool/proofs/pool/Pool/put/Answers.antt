@@ -2,8 +2,8 @@ use Rattle.std.proofs.Common.{◌≡◌, ◌≢◌, ◌<◌, ◌*◌, ◌++◌, 
 use Rattle.std.specs.Prelude.{All, slice_set}
 use Rattle.ready_pool.specs.declared.pool.Waiting.{Waiting}
 use Rattle.ready_pool.specs.Ready.{Ready, IsRegionEntered, with_row}
-use Rattle.ready_pool.specs.Held.{Held, IsHeld, rows_of, place_of, number_of}
-use Rattle.ready_pool.proofs.Held.{AreJoined, held-put, rows_of-is}
+use Rattle.ready_pool.specs.Parts.{PoolParts, HoldsRows, rows_of, place_of, number_of}
+use Rattle.ready_pool.proofs.Holding.{AreJoined, held-put, rows_of-is}
 use Rattle.ready_pool.proofs.Put.{free-all, free-slot, free-region, free-both, region-below, number-below, AreAlike-entered, seen-held}
 use Rattle.ready_pool.proofs.pool.Pool.put.Goals as goal
 
@@ -16,13 +16,13 @@ number_of-both-requires-clause-place c x e =
 pub join-requires-clause-free : goal.join-requires-clause-free
 join-requires-clause-free c =
     let i = c.self.inside in
-    let held : Held = record { slots = i.slots; table = i.rows.items; all = i.all; by_slot = i.by_slot; by_region = i.by_region; by_both = i.by_both } in
+    let held : PoolParts = record { slots = i.slots; table = i.rows.items; all = i.all; by_slot = i.by_slot; by_region = i.by_region; by_both = i.by_both } in
     free-all held c.self.invariant c.args.row.place (subst (λ (pool : Ready). All (λ (w : Waiting). w.row.place ≢ c.args.row.place) pool.rows) (sym c.self.view_is) c.requires.free)
 
 pub join-requires-2-clause-free : goal.join-requires-2-clause-free
 join-requires-2-clause-free c =
     let i = c.self.inside in
-    let held : Held = record { slots = i.slots; table = i.rows.items; all = i.all; by_slot = i.by_slot; by_region = i.by_region; by_both = i.by_both } in
+    let held : PoolParts = record { slots = i.slots; table = i.rows.items; all = i.all; by_slot = i.by_slot; by_region = i.by_region; by_both = i.by_both } in
     free-slot held c.self.invariant c.args.row.place (subst (λ (pool : Ready). All (λ (w : Waiting). w.row.place ≢ c.args.row.place) pool.rows) (sym c.self.view_is) c.requires.free)
 
 pub join-requires-3-clause-list : goal.join-requires-3-clause-list
@@ -34,7 +34,7 @@ join-requires-3-clause-list c x e =
 pub join-requires-3-clause-free : goal.join-requires-3-clause-free
 join-requires-3-clause-free c =
     let i = c.self.inside in
-    let held : Held = record { slots = i.slots; table = i.rows.items; all = i.all; by_slot = i.by_slot; by_region = i.by_region; by_both = i.by_both } in
+    let held : PoolParts = record { slots = i.slots; table = i.rows.items; all = i.all; by_slot = i.by_slot; by_region = i.by_region; by_both = i.by_both } in
     free-region held c.self.invariant c.args.row.place (subst (λ (pool : Ready). All (λ (w : Waiting). w.row.place ≢ c.args.row.place) pool.rows) (sym c.self.view_is) c.requires.free)
 
 pub join-requires-4-clause-list : goal.join-requires-4-clause-list
@@ -54,13 +54,13 @@ join-requires-4-clause-list c x e =
 pub join-requires-4-clause-free : goal.join-requires-4-clause-free
 join-requires-4-clause-free c =
     let i = c.self.inside in
-    let held : Held = record { slots = i.slots; table = i.rows.items; all = i.all; by_slot = i.by_slot; by_region = i.by_region; by_both = i.by_both } in
+    let held : PoolParts = record { slots = i.slots; table = i.rows.items; all = i.all; by_slot = i.by_slot; by_region = i.by_region; by_both = i.by_both } in
     free-both held c.self.invariant c.args.row.place (subst (λ (pool : Ready). All (λ (w : Waiting). w.row.place ≢ c.args.row.place) pool.rows) (sym c.self.view_is) c.requires.free)
 
 pub invariant_of-self : goal.invariant_of-self
 invariant_of-self c =
     let i = c.self.inside in
-    let held : Held = record { slots = i.slots; table = i.rows.items; all = i.all; by_slot = i.by_slot; by_region = i.by_region; by_both = i.by_both } in
+    let held : PoolParts = record { slots = i.slots; table = i.rows.items; all = i.all; by_slot = i.by_slot; by_region = i.by_region; by_both = i.by_both } in
     let rows : List Waiting = rows_of i.rows.items i.all in
     let w : Waiting = record { row = c.args.row; made_on = c.args.made_on; region = c.args.region } in
     let place : ℕ = c.args.row.place in
@@ -73,8 +73,8 @@ invariant_of-self c =
     let r : AreJoined c.place_of-region_place.result place i.by_region c.join-3.new.lists = record { joined = c.join-3.ensures.joined; count = c.join-3.ensures.count; places = c.join-3.ensures.places } in
     let b : AreJoined c.number_of-both.result place i.by_both c.join-4.new.lists = record { joined = c.join-4.ensures.joined; count = c.join-4.ensures.count; places = c.join-4.ensures.places } in
     let number : c.number_of-both.result ≡ number_of i.slots c.args.made_on (place_of c.args.region) = c.number_of-both.ensures ∙ ap (number_of i.slots c.args.made_on) c.place_of-region_place.ensures in
-    let after : Held = record { slots = i.slots; table = slice_set i.rows.items place (Some w); all = c.join.new.lists; by_slot = c.join-2.new.lists; by_region = c.join-3.new.lists; by_both = c.join-4.new.lists } in
-    let kept : IsHeld (length i.rows.items) after (rows ++ w ∷ []) =
+    let after : PoolParts = record { slots = i.slots; table = slice_set i.rows.items place (Some w); all = c.join.new.lists; by_slot = c.join-2.new.lists; by_region = c.join-3.new.lists; by_both = c.join-4.new.lists } in
+    let kept : HoldsRows (length i.rows.items) after (rows ++ w ∷ []) =
     held-put (length i.rows.items) held rows c.self.invariant w newest there free (AreAlike-entered c.args.regions.now rows w entered c.requires.region) c.join.new.lists c.join-2.new.lists c.join-3.new.lists c.join-4.new.lists a s
     (subst (λ o. AreJoined o place i.by_region c.join-3.new.lists) c.place_of-region_place.ensures r)
     (subst (λ o. AreJoined o place i.by_both c.join-4.new.lists) number b) in
@@ -83,7 +83,7 @@ invariant_of-self c =
 pub returns : goal.returns
 returns c =
     let i = c.self.inside in
-    let held : Held = record { slots = i.slots; table = i.rows.items; all = i.all; by_slot = i.by_slot; by_region = i.by_region; by_both = i.by_both } in
+    let held : PoolParts = record { slots = i.slots; table = i.rows.items; all = i.all; by_slot = i.by_slot; by_region = i.by_region; by_both = i.by_both } in
     let rows : List Waiting = rows_of i.rows.items i.all in
     let w : Waiting = record { row = c.args.row; made_on = c.args.made_on; region = c.args.region } in
     let place : ℕ = c.args.row.place in
@@ -96,8 +96,8 @@ returns c =
     let r : AreJoined c.place_of-region_place.result place i.by_region c.join-3.new.lists = record { joined = c.join-3.ensures.joined; count = c.join-3.ensures.count; places = c.join-3.ensures.places } in
     let b : AreJoined c.number_of-both.result place i.by_both c.join-4.new.lists = record { joined = c.join-4.ensures.joined; count = c.join-4.ensures.count; places = c.join-4.ensures.places } in
     let number : c.number_of-both.result ≡ number_of i.slots c.args.made_on (place_of c.args.region) = c.number_of-both.ensures ∙ ap (number_of i.slots c.args.made_on) c.place_of-region_place.ensures in
-    let after : Held = record { slots = i.slots; table = slice_set i.rows.items place (Some w); all = c.join.new.lists; by_slot = c.join-2.new.lists; by_region = c.join-3.new.lists; by_both = c.join-4.new.lists } in
-    let kept : IsHeld (length i.rows.items) after (rows ++ w ∷ []) =
+    let after : PoolParts = record { slots = i.slots; table = slice_set i.rows.items place (Some w); all = c.join.new.lists; by_slot = c.join-2.new.lists; by_region = c.join-3.new.lists; by_both = c.join-4.new.lists } in
+    let kept : HoldsRows (length i.rows.items) after (rows ++ w ∷ []) =
     held-put (length i.rows.items) held rows c.self.invariant w newest there free (AreAlike-entered c.args.regions.now rows w entered c.requires.region) c.join.new.lists c.join-2.new.lists c.join-3.new.lists c.join-4.new.lists a s
     (subst (λ o. AreJoined o place i.by_region c.join-3.new.lists) c.place_of-region_place.ensures r)
     (subst (λ o. AreJoined o place i.by_both c.join-4.new.lists) number b) in

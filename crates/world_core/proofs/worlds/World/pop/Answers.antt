@@ -1,7 +1,7 @@
 use Rattle.std.proofs.Common.{◌≡◌, Some, sym, ap, ◌∙◌, subst}
 use Rattle.world_model.specs.declared.calls.WorkerState.TheVariants.{Free}
 use Rattle.world_model.specs.Market.{Market, worker_at, is_free}
-use Rattle.world_core.specs.Held.{KeepsOrder}
+use Rattle.world_core.specs.WorldData.{KeepsOrder}
 use Rattle.world_core.proofs.Keeping.{held_market, pop_keeps}
 use Rattle.world_core.proofs.worlds.World.pop.Goals as goal
 

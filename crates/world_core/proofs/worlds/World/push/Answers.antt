@@ -1,7 +1,7 @@
 use Rattle.std.proofs.Common.{◌≡◌, sym, ap, ◌∙◌, subst}
 use Rattle.world_model.specs.declared.calls.SlotState.TheVariants.{Due}
 use Rattle.world_model.specs.Market.{Market, slot_at, is_due}
-use Rattle.world_core.specs.Held.{KeepsOrder}
+use Rattle.world_core.specs.WorldData.{KeepsOrder}
 use Rattle.world_core.proofs.Keeping.{held_market, push_keeps}
 use Rattle.world_core.proofs.worlds.World.push.Goals as goal
 

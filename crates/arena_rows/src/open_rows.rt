@@ -1,0 +1,231 @@
+// The open rows and their contexts, with the rows that wait filed by their contexts.
+ghost use Rattle.std.specs.Prelude.{◌≡◌, ◌⊎◌, ◌≢◌, ◌+◌, ◌*◌, ◌<◌, ◌≤◌, ℕ, None, Some, Contains, IfOk, IfSome, [], false, true, length, replicate, slice_index_or, slice_set, vec_capacity};
+ghost use Rattle.std.specs.Option.{ForSome};
+ghost use Rattle.cancel_context.specs.Forest.{IsForest, IsHeld, binding, held_count, is_cancelled, parent, with_bound, with_request, without};
+ghost use Rattle.cancel_context.specs.declared.contexts.TheConstants.{BASE_CONTEXTS, CONTEXTS_PER_ROW, MAX_ROWS};
+ghost use Rattle.place_lists.specs.Filing.{filed_in};
+ghost use Rattle.arena_rows.specs.OpenRows.{AreFiled, AreFine, IsDoomed, list_for};
+
+use crate::rows::{OpenRow, Stage};
+use cancel_context::{BASE_CONTEXTS, CONTEXTS_PER_ROW, ContextId, Contexts};
+use place_lists::Filing;
+use std::alloc::{AllocError, Global};
+use std::marker::Model;
+
+/// The open rows by their places, and the contexts. A row that waits is filed by its context, so that a
+/// cancellation leads to the rows that are to be dropped, and no others are looked at.
+#[derive(Drop)]
+pub(crate) struct OpenRows {
+    table: Vec<Option<OpenRow>>,
+    contexts: Contexts,
+    /// For each context the places of the rows that wait under it; and last the doomed: rows that wait
+    /// whose context was cancelled when they were filed, or since then.
+    filing: Filing,
+    /// The list of the doomed: the number of contexts.
+    doomed: usize,
+    /// Room for the contexts that a cancellation reaches.
+    turned: Vec<ContextId>,
+}
+
+impl Model for OpenRows {
+    ghost use Rattle.std.specs.Prelude.{◌≤◌, length, vec_capacity};
+    ghost use Rattle.arena_rows.specs.OpenRows.{OpenRows, AreFiled};
+
+    ghost Value = { OpenRows };
+
+    ghost view = { λ r. record { table = r.table.items; contexts = r.contexts } };
+
+    ghost invariant = { λ r. AreFiled r.table.items r.contexts r.filing r.doomed r.turned.items × (length r.contexts ≤ vec_capacity r.turned) };
+}
+
+impl OpenRows {
+    /// No rows and no contexts, with room for as many rows as asked for and for their contexts.
+    pub(crate) fn new(alloc: Global, rows: usize) -> Result<OpenRows, AllocError>
+        requires { rows ≤ MAX_ROWS }
+        ensures { IfOk result (λ made. made ≡ record { table = replicate rows None; contexts = replicate (BASE_CONTEXTS + CONTEXTS_PER_ROW * rows) None }) }
+    {
+        let doomed = BASE_CONTEXTS + CONTEXTS_PER_ROW * rows;
+        let table = vacant(alloc, rows)?;
+        let contexts = Contexts::new(alloc, rows)?;
+        let filing = Filing::new(alloc, doomed + 1, rows)?;
+        let turned = Vec::with_capacity(alloc, doomed)?;
+        Ok(OpenRows {
+            table,
+            contexts,
+            filing,
+            doomed,
+            turned,
+        })
+    }
+
+    /// How many places there are.
+    pub(crate) fn len(&self) -> usize
+        ensures { result ≡ length self.now.table }
+    {
+        self.table.len()
+    }
+
+    /// What stands at a place; nothing where it is free, or not there.
+    pub(crate) fn get(&self, place: usize) -> Option<OpenRow>
+        ensures { result ≡ slice_index_or self.now.table place None }
+    {
+        *self.table.get(place)?
+    }
+
+    /// Lets a row stand at a place, or nothing.
+    pub(crate) fn set(&mut self, place: usize, entry: Option<OpenRow>)
+        requires { place < length self.old.table }
+        ensures { self.new ≡ record self.old { table = slice_set self.old.table place entry } }
+    {
+        let list = list_for(&self.contexts, self.doomed, &entry);
+        self.table[place] = entry;
+        file(&mut self.filing, place, list);
+    }
+
+    /// The place of a row that waits and whose context is cancelled.
+    pub(crate) fn next_doomed(&mut self) -> Option<usize>
+        ensures same { self.new ≡ self.old }
+        ensures sound { IsForest self.old.contexts }
+        ensures none { result ≡ None → AreFine self.old }
+        ensures some { IfSome result (IsDoomed self.old) }
+    {
+        next_doomed(&self.table, &self.contexts, &mut self.filing, self.doomed)
+    }
+
+    /// Whether a context is cancelled, by itself or from above.
+    pub(crate) fn is_cancelled(&self, context: ContextId) -> bool
+        requires { IsHeld self.now.contexts context }
+        ensures value { result ≡ is_cancelled self.now.contexts context }
+        ensures forest { IsForest self.now.contexts }
+    {
+        self.contexts.is_cancelled(context)
+    }
+
+    /// A new context, bound to another or to none.
+    pub(crate) fn bind(&mut self, parent: Option<ContextId>) -> ContextId
+        requires room { held_count self.old.contexts < length self.old.contexts }
+        requires parent { ForSome parent (IsHeld self.old.contexts) }
+        ensures fresh { binding self.old.contexts result ≡ None }
+        ensures bound { self.new ≡ record self.old { contexts = with_bound self.old.contexts result parent } }
+        ensures held { IsHeld self.new.contexts result }
+        ensures count { held_count self.new.contexts ≡ held_count self.old.contexts + 1 }
+    {
+        let context = self.contexts.bind(parent);
+        // Nothing waits under an id that was free, and this way that need not be known.
+        self.filing.file_all(context.index(), self.doomed);
+        context
+    }
+
+    /// Asks for the cancellation of a context. The rows that wait under the contexts that it reaches are
+    /// doomed.
+    pub(crate) fn cancel(&mut self, context: ContextId)
+        requires { IsHeld self.old.contexts context }
+        ensures requested { self.new ≡ record self.old { contexts = with_request self.old.contexts context true } }
+        ensures count { held_count self.new.contexts ≡ held_count self.old.contexts }
+        ensures forest { IsForest self.new.contexts }
+    {
+        self.contexts.cancel_noted(context, &mut self.turned);
+        doom(&mut self.filing, &mut self.turned, self.doomed);
+    }
+
+    /// Takes back the cancel request of a context.
+    pub(crate) fn reset(&mut self, context: ContextId)
+        requires { IsHeld self.old.contexts context }
+        ensures taken_back { self.new ≡ record self.old { contexts = with_request self.old.contexts context false } }
+        ensures count { held_count self.new.contexts ≡ held_count self.old.contexts }
+    {
+        self.contexts.reset(context);
+    }
+
+    /// Ends a context. Where it is cancelled, what is bound to it stays cancelled for good.
+    pub(crate) fn release(&mut self, context: ContextId)
+        requires held { IsHeld self.old.contexts context }
+        requires ends { (c : ℕ) → parent self.old.contexts c ≡ Some context → is_cancelled self.old.contexts context ≡ true }
+        ensures released { self.new ≡ record self.old { contexts = without self.old.contexts context } }
+        ensures keeps { (c : ℕ) → c ≢ context → IsHeld self.old.contexts c → IsHeld self.new.contexts c }
+        ensures count { held_count self.new.contexts + 1 ≡ held_count self.old.contexts }
+        ensures others { (c : ℕ) → c ≢ context → is_cancelled self.new.contexts c ≡ is_cancelled self.old.contexts c }
+        ensures forest { IsForest self.new.contexts }
+    {
+        self.contexts.release(context);
+    }
+}
+
+/// A table with nothing at each of that many places.
+fn vacant<T: Copy>(alloc: Global, count: usize) -> Result<Vec<Option<T>>, AllocError>
+    ensures { IfOk result (λ table. table.items ≡ replicate count None) }
+{
+    let mut table = Vec::with_capacity(alloc, count)?;
+    for _ in 0..count {
+        table.push(None)?;
+    }
+    Ok(table)
+}
+
+/// Where a row is filed.
+fn list_for(contexts: &Contexts, doomed: usize, entry: &Option<OpenRow>) -> Option<usize>
+    requires { doomed ≡ length contexts.now }
+    ensures { result ≡ list_for contexts.now entry.now }
+{
+    let Some(entry) = entry else {
+        return None;
+    };
+    let Stage::Waiting(_) = entry.stage else {
+        return None;
+    };
+    if contexts.is_held_and_cancelled(entry.context) {
+        return Some(doomed);
+    }
+    let list = entry.context.index();
+    if list < doomed { Some(list) } else { None }
+}
+
+/// The place of a row that waits and whose context is cancelled. A row that is with the doomed, and whose
+/// context is not cancelled any more, is filed anew on the way.
+fn next_doomed(
+    table: &[Option<OpenRow>],
+    contexts: &Contexts,
+    filing: &mut Filing,
+    doomed: usize,
+) -> Option<usize>
+    requires { AreFiled table.now contexts.now filing.old doomed [] }
+    ensures filed { AreFiled table.now contexts.now filing.new doomed [] }
+    ensures none { result ≡ None → AreFine (record { table = table.now; contexts = contexts.now }) }
+    ensures some { IfSome result (IsDoomed (record { table = table.now; contexts = contexts.now })) }
+{
+    while let Some(place) = filing.first(doomed) {
+        let list = list_for(contexts, doomed, &table[place]);
+        if list == Some(doomed) {
+            return Some(place);
+        }
+        file(filing, place, list);
+    }
+    None
+}
+
+/// Files a place in a list, or in none.
+fn file(filing: &mut Filing, place: usize, list: Option<usize>)
+    requires place { place < length filing.old.by_place }
+    requires list { ForSome list (λ l. l < filing.old.lists) }
+    ensures { filing.new ≡ record filing.old { by_place = slice_set filing.old.by_place place list } }
+{
+    match list {
+        Some(list) => filing.file(place, list),
+        None => filing.unfile(place),
+    }
+}
+
+/// Files with the doomed what waits under contexts that were cancelled, and forgets these.
+fn doom(filing: &mut Filing, turned: &mut Vec<ContextId>, doomed: usize)
+    requires { doomed < filing.old.lists }
+    ensures moved { (p c : ℕ) → Contains turned.old.items c → filed_in filing.old p ≡ Some c → filed_in filing.new p ≡ Some doomed }
+    ensures others { (p : ℕ) → (filed_in filing.new p ≡ filed_in filing.old p) ⊎ (filed_in filing.new p ≡ Some doomed) }
+    ensures places { length filing.new.by_place ≡ length filing.old.by_place }
+    ensures lists { filing.new.lists ≡ filing.old.lists }
+    ensures none { turned.new.items ≡ [] }
+    ensures capacity { vec_capacity turned.new ≡ vec_capacity turned.old }
+{
+    while let Some(context) = turned.pop() {
+        filing.file_all(context.index(), doomed);
+    }
+}

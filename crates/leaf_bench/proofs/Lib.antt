@@ -1,0 +1,4 @@
+pub mod Exited
+pub mod Popped
+pub mod Released
+pub mod Removed

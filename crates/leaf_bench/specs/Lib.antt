@@ -1,0 +1,4 @@
+pub mod Bound
+pub mod Entered
+pub mod Nested
+pub mod Waiting
