@@ -1,7 +1,7 @@
 #!/usr/bin/env python3
 """Runs `rt ci`, passes its lines on as they come, each with the minutes since the start, and prints at the end how
-many processor minutes each crate took: for its proofs, for its tests, and for its must-fail edits. The end stays in
-out/gate.md.
+many processor minutes each crate took, for its proofs, for its tests, and for its must-fail edits, the dearest crate
+last, and then once more each line that tells of a fault. The end stays in out/gate.md.
 
 usage: checks/gate/run.py, at the top of the repository. It exits as `rt ci` does.
 """
@@ -57,13 +57,13 @@ def watch(above, spent, is_over):
 
 
 def table(spent):
-    """Returns the lines of the table, the dearest crate first."""
+    """Returns the lines of the table, the dearest crate last."""
     kinds = ("proofs", "tests", "edits")
     sums = {}
     for (_, crate, kind), seconds in spent.items():
         row = sums.setdefault(crate, dict.fromkeys(kinds, 0))
         row[kind] += seconds / 60
-    rows = sorted(sums.items(), key=lambda it: -sum(it[1].values()))
+    rows = sorted(sums.items(), key=lambda it: sum(it[1].values()))
     total = {kind: sum(row[kind] for _, row in rows) for kind in kinds}
     yield "| Crate | Proofs | Tests | Edits | Processor minutes |"
     yield "|---|---|---|---|---|"
@@ -74,7 +74,7 @@ def table(spent):
 
 def main():
     start, spent, is_over = time.monotonic(), {}, threading.Event()
-    last = ""
+    last, faults = "", []
     with subprocess.Popen(["rt", "ci"], stdout=subprocess.PIPE, stderr=subprocess.STDOUT, text=True, errors="replace") as run:
         watcher = threading.Thread(target=watch, args=(str(run.pid), spent, is_over))
         watcher.start()
@@ -83,10 +83,12 @@ def main():
             # what a check says of each library and function it reads is left out
             if re.match(r"(rt: |== |\d+ passed|error|note: .*may be false|fn .*no proof)", last):
                 print(f"{(time.monotonic() - start) / 60:6.1f}  {last}", flush=True)
+            if re.match(r"rt: .*(FAILED|NOT PROVED|NOT REFUSED|NOT TRIED|BAD EDIT)", last):
+                faults.append(last)
     is_over.set()
     watcher.join()
     minutes = f"{(time.monotonic() - start) / 60:.1f} minutes on {len(os.sched_getaffinity(0))} processors"
-    said = "\n".join([*table(spent), "", minutes, last])
+    said = "\n".join([*table(spent), "", *faults, minutes, last])
     print(f"\n{said}")
     os.makedirs("out", exist_ok=True)
     with open("out/gate.md", "w") as kept:

@@ -11,8 +11,6 @@ mod places;
 mod replay;
 mod seats;
 mod slots;
-#[cfg(test)]
-mod tests;
 
 pub use cells::{Asked, TenantCell};
 pub use closing::{SlotFault, are_all_told, are_seats, first_slot_fault, is_one_full, slot_fault};
