@@ -1,14 +1,17 @@
-//! Runs jobs on one slot of an arena or of each tenant of a world, and prints how many tasks ran, how many steps that took, and the
-//! value of the last job. `fib N JOBS WAITING` runs jobs of the Nth Fibonacci number beside WAITING
-//! rows that wait; `cancels JOBS` runs jobs that cancel 16 groups; `world TENANTS JOBS` runs jobs of the 12th
+//! Runs jobs on one slot of an arena, of a tenant's cell or of each tenant of a world, and prints how many
+//! tasks ran, how many steps that took, and the value of the last job. `fib N JOBS WAITING` runs jobs of the
+//! Nth Fibonacci number beside WAITING rows that wait; `recorded N JOBS` runs them on a cell, which records
+//! each step; `cancels JOBS` runs jobs that cancel 16 groups; `world TENANTS JOBS` runs jobs of the 12th
 //! Fibonacci number on each tenant of a world. Without words it does a little of each.
 #![tactic(auto)]
 
 mod jobs;
+mod recorded;
 mod runs;
 mod worlds;
 
 use jobs::{cancels, fibonacci};
+use recorded::run_recorded;
 use runs::{Ran, run_jobs};
 use std::env::Env;
 use std::{env, io};
@@ -20,6 +23,7 @@ fn main(rt: HostRuntime) -> io::Result<()> {
     let (first, second, third) = (words.next(), words.next(), words.next());
     match what.as_ref().map(|word| word.as_str()) {
         Some("fib") => print_fib(&rt, number_in(first), number_in(second), number_in(third)),
+        Some("recorded") => print_recorded(&rt, number_in(first), number_in(second)),
         Some("cancels") => print_cancels(&rt, number_in(first)),
         Some("world") => print_world(&rt, number_in(first), number_in(second)),
         _ => print_few(&rt),
@@ -31,6 +35,7 @@ fn print_few<R: Print + AllocGlobal>(rt: &R) -> io::Result<()> {
     print_fib(rt, 12, 1, 0)?;
     print_fib(rt, 12, 2, 64)?;
     print_fib(rt, 12, 1, 4_000)?;
+    print_recorded(rt, 12, 1)?;
     print_cancels(rt, 2)?;
     print_world(rt, 1, 1)?;
     print_world(rt, 8, 2)
@@ -45,6 +50,13 @@ fn print_fib<R: Print + AllocGlobal>(
     let text = fibonacci(rt.alloc(), number)?;
     let ran = run_jobs(rt.alloc(), text.as_str(), jobs, waiting)?;
     print!(rt; "fib {number} beside {waiting} rows: ")?;
+    print_ran(rt, ran)
+}
+
+fn print_recorded<R: Print + AllocGlobal>(rt: &R, number: u64, jobs: u64) -> io::Result<()> {
+    let text = fibonacci(rt.alloc(), number)?;
+    let ran = run_recorded(rt.alloc(), text.as_str(), jobs)?;
+    print!(rt; "fib {number}, recorded: ")?;
     print_ran(rt, ran)
 }
 

@@ -54,13 +54,14 @@ pub(crate) fn run_jobs(
     Ok(Some(sum))
 }
 
-fn job_of(alloc: Global, text: &str) -> Option<Job> {
+/// The job that a text spells.
+pub(crate) fn job_of(alloc: Global, text: &str) -> Option<Job> {
     let value = Value::from_str(alloc, text).ok()?;
     read_job(alloc, &value).ok()
 }
 
 /// A reserved slot, and one for workers to which none comes.
-fn two_slots() -> Option<TenantConfig> {
+pub(crate) fn two_slots() -> Option<TenantConfig> {
     TenantConfig::new(Tenant {
         name: TenantName::new("acme")?,
         priority: Level::Normal,

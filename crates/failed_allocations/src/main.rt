@@ -1,5 +1,5 @@
-//! Makes each call of the evaluator, of an arena, of a world, of a session and of a tenant's door that takes
-//! memory, and makes it again if an allocation failed, and prints the answers. What it prints is the same
+//! Makes each call of the readers and writers of texts, of the evaluator, of an arena, of a world, of a
+//! session and of a tenant's door that takes memory, and makes it again if an allocation failed, and prints the answers. What it prints is the same
 //! whichever allocation was refused.
 #![tactic(auto)]
 
@@ -9,6 +9,7 @@ mod evaluators;
 mod jobs;
 mod retries;
 mod sessions;
+mod texts;
 mod worlds;
 
 use evaluators::{checked, run_whole, serial_value, stepped};
@@ -20,6 +21,7 @@ use std::sync::Wait;
 
 fn main(rt: HostRuntime) -> io::Result<()> {
     let alloc = rt.alloc();
+    print_texts(&rt, alloc)?;
     print_evaluator(&rt, alloc)?;
     print_eight(&rt, "arena, submit", arenas::submitted(alloc))?;
     print_eight(&rt, "arena, execute", arenas::executed(alloc))?;
@@ -27,6 +29,19 @@ fn main(rt: HostRuntime) -> io::Result<()> {
     print_eight(&rt, "world, execute", worlds::applied(alloc))?;
     print_session(&rt, alloc)?;
     print_doors(&rt, alloc)
+}
+
+fn print_texts<R: Print>(rt: &R, alloc: Global) -> io::Result<()> {
+    if texts::is_job_written_back(alloc) == Some(true) {
+        rt.println("job: written as it was read")?;
+    }
+    if let Some(rows) = texts::rows_of_tenant(alloc) {
+        println!(rt; "tenant: {rows} rows")?;
+    }
+    if let Some(argument) = texts::argument_of_request(alloc) {
+        println!(rt; "request: a job with argument {argument}")?;
+    }
+    Ok(())
 }
 
 fn print_evaluator<R: Print>(rt: &R, alloc: Global) -> io::Result<()> {

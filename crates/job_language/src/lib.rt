@@ -15,8 +15,6 @@ mod requests;
 mod serials;
 mod steps;
 mod tenants;
-#[cfg(test)]
-mod tests;
 pub mod values;
 mod writing;
 

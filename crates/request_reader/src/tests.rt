@@ -1,6 +1,5 @@
-// Worked examples: lines, the requests that they spell, and readers and memory that fail.
+// Worked examples: lines, the requests that they spell, and readers that fail.
 mod hostile;
 mod lines;
-mod memory;
 mod readers;
 mod requests;

@@ -1,6 +1,6 @@
 // Worked examples: what is read, and what is written.
 use super::{EVERY_INSTRUCTION, TENANT, job_of, job_text, value_of};
-use crate::{
+use job_language::{
     Config, Error, Fuel, Group, Instr, Isolation, JobFault, Key, Level, Proc, Program, Register,
     TenantConfig, TenantName, read_config, read_tenant, write_job, write_tenant,
 };

@@ -1,6 +1,6 @@
 // The places of the faults of jobs that are refused, one for each rule.
 use super::{job_text, place_of};
-use crate::Place;
+use job_language::Place;
 use std::test::Fail;
 
 const HEAD: Option<Place> = Some(Place::Head);

@@ -1,9 +1,8 @@
-// Worked examples, refusals, and failed allocations.
+// Worked examples and refusals.
 mod examples;
-mod memory;
 mod refusals;
 
-use crate::{Job, Place, Refused, read_job};
+use job_language::{Job, Place, Refused, read_job};
 use serde_json::Value;
 use std::alloc::Global;
 use std::test::Fail;
@@ -15,12 +14,9 @@ const EVERY_INSTRUCTION: &str =
 const TENANT: &str =
     "{\"name\":\"acme\",\"priority\":\"normal\",\"reserved\":1,\"rows\":200,\"slots\":2,\"steps\":10000}";
 
-/// The value that a text spells, with one more try where memory was refused.
+/// The value that a text spells.
 fn value_of(alloc: Global, text: &str) -> Result<Value, Fail> {
-    match Value::from_str(alloc, text) {
-        Ok(value) => Ok(value),
-        Err(_) => Ok(Value::from_str(alloc, text)?),
-    }
+    Ok(Value::from_str(alloc, text)?)
 }
 
 /// The text of a job with these procedures, arguments 0 and 0, and fuel 10.
