@@ -9,7 +9,11 @@ use std::test::Fail;
 
 /// One procedure with all 21 instructions, and one that only returns.
 const EVERY_INSTRUCTION: &str =
-    "[[[\"set\",1,-9223372036854775808],[\"add\",2,0,1],[\"sub\",3,0,1],[\"mul\",4,0,1],[\"div\",5,0,1],[\"lt\",6,0,1],[\"jz\",6,7],[\"jmp\",7],[\"slot\",7],[\"width\",0],[\"spawn\",3,1,0,1],[\"post\",1,0,1],[\"wait\",2,3,3],[\"cancel\",0],[\"ask\",1],[\"isolate\",2,1,0,1],[\"load\",3,7],[\"store\",0,4],[\"sum\",5,1],[\"count\",6,2],[\"ret\",7]],[[\"ret\",0]]]";
+    "[[[\"set\",1,-9223372036854775808],[\"add\",2,0,1],[\"sub\",3,0,1],[\"mul\",4,0,1],[\
+    \"div\",5,0,1],[\"lt\",6,0,1],[\"jz\",6,7],[\"jmp\",7],[\"slot\",7],[\"width\",0],[\
+    \"spawn\",3,1,0,1],[\"post\",1,0,1],[\"wait\",2,3,3],[\"cancel\",0],[\"ask\",1],[\
+    \"isolate\",2,1,0,1],[\"load\",3,7],[\"store\",0,4],[\"sum\",5,1],[\"count\",6,2],[\
+    \"ret\",7]],[[\"ret\",0]]]";
 
 const TENANT: &str =
     "{\"name\":\"acme\",\"priority\":\"normal\",\"reserved\":1,\"rows\":200,\"slots\":2,\"steps\":10000}";
