@@ -5,8 +5,6 @@ mod answers;
 mod markets;
 mod replies;
 mod serials;
-#[cfg(test)]
-mod tests;
 mod texts;
 mod writes;
 

@@ -5,8 +5,6 @@ mod job_requests;
 mod lines;
 mod newlines;
 mod requests;
-#[cfg(test)]
-mod tests;
 mod turns;
 mod windows;
 

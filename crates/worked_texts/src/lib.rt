@@ -1,5 +1,6 @@
-//! Worked jobs, tenants and configurations: the text of each beside what it is read as. They are tests
-//! alone; what is expected was taken from the documented format, not from a run.
+//! Worked texts: jobs, tenants, configurations, lines and requests beside what they are read as, and replies
+//! beside what is written for them. They are tests alone; what is expected was taken from the documented
+//! format, not from a run.
 #![tactic(auto)]
 
 #[cfg(test)]

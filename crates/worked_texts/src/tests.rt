@@ -1,6 +1,12 @@
-// Worked examples and refusals.
+// Worked examples, refusals, and readers and writers that fail.
 mod examples;
+mod hostile;
+mod lines;
+mod readers;
 mod refusals;
+mod replies;
+mod requests;
+mod writers;
 
 use job_language::{Job, Place, Refused, read_job};
 use serde_json::Value;

@@ -1,6 +1,6 @@
 // Lines of bytes, however they come.
 use super::readers::{Few, told};
-use crate::{LineRead, LineReader, MAX_TURNS, is_blank};
+use request_reader::{LineRead, LineReader, MAX_TURNS, is_blank};
 use std::io::ErrorKind;
 use std::test::Fail;
 

@@ -1,6 +1,6 @@
 // Lines that a client may send to do harm, and the line after each, which is served.
-use crate::{LineRead, LineReader, MAX_REQUEST, read_request};
 use job_language::{Asked, Error, Request};
+use request_reader::{LineRead, LineReader, MAX_REQUEST, read_request};
 use std::alloc::{AllocError, Global};
 use std::test::Fail;
 

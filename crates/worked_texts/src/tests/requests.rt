@@ -1,6 +1,6 @@
 // Worked examples: the requests, and values that are none.
-use crate::request_of;
 use job_language::{Asked, Error, Request, TenantName};
+use request_reader::request_of;
 use serde_json::Value;
 use std::alloc::Global;
 use std::test::Fail;

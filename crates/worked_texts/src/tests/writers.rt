@@ -1,5 +1,5 @@
 // Writers over memory that take few bytes at a call, and then none.
-use crate::{WriteFault, write_all_of};
+use reply_writer::{WriteFault, write_all_of};
 use std::alloc::Global;
 use std::io;
 use std::io::{ErrorKind, Write};

@@ -1,5 +1,5 @@
 // Readers over memory that give few bytes at a call, or fail.
-use crate::{LineRead, LineReader};
+use request_reader::{LineRead, LineReader};
 use std::alloc::{AllocError, Global};
 use std::io;
 use std::io::{ErrorKind, Read};

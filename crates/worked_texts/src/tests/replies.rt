@@ -1,8 +1,8 @@
 // Worked examples: the line of each reply and of each answer to a step.
-use crate::{
+use job_language::{Answer, Came, Error, JobFault, Key, Level, Moved, Reply, Status, TenantName};
+use reply_writer::{
     MarketAnswer, SerialAnswer, answer_line, bad_step_line, market_line, reply_line, serial_line,
 };
-use job_language::{Answer, Came, Error, JobFault, Key, Level, Moved, Reply, Status, TenantName};
 use std::test::Fail;
 
 #[test]

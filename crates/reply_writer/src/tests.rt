@@ -1,3 +1,0 @@
-// Worked examples of each line, and writers that fail.
-mod examples;
-mod faults;
