@@ -1,5 +1,5 @@
-//! Makes each call of the readers and writers of texts, of the evaluator, of an arena, of a world, of a
-//! session and of a tenant's door that takes memory, and makes it again if an allocation failed, and prints the answers. What it prints is the same
+//! Makes each call of the readers and writers of texts, of scripts, of the evaluator, of an arena, of a
+//! world, of a session and of a tenant's door that takes memory, and makes it again if an allocation failed, and prints the answers. What it prints is the same
 //! whichever allocation was refused.
 #![tactic(auto)]
 
@@ -8,6 +8,7 @@ mod doors;
 mod evaluators;
 mod jobs;
 mod retries;
+mod scripts;
 mod sessions;
 mod texts;
 mod worlds;
@@ -40,6 +41,9 @@ fn print_texts<R: Print>(rt: &R, alloc: Global) -> io::Result<()> {
     }
     if let Some(argument) = texts::argument_of_request(alloc) {
         println!(rt; "request: a job with argument {argument}")?;
+    }
+    if scripts::are_answered(alloc) {
+        rt.println("scripts: answered")?;
     }
     Ok(())
 }

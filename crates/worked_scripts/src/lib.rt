@@ -1,7 +1,5 @@
-//! The worked rows: small scripts of one tenant, each with the lines that it has to print. They are
-//! tests alone; the expected lines were worked out by hand from the rules, not from a run.
+//! Scripts by devices that fail, and random serial jobs under random schedules. They are tests alone.
 #![tactic(auto)]
 
-pub mod scripts;
 #[cfg(test)]
 mod tests;

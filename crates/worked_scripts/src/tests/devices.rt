@@ -1,10 +1,37 @@
 // Readers and writers that fail.
-use super::{ANSWERS, STEPS, TENANT, joined};
 use arena_script::{ScriptEnd, script};
-use std::alloc::Global;
+use std::alloc::{AllocError, Global};
 use std::io;
 use std::io::{ErrorKind, Read, Write};
 use std::test::Fail;
+
+/// A tenant of one slot, which is a worker's.
+const TENANT: &str =
+    r#"{"tenant":{"name":"acme","priority":"normal","reserved":0,"rows":8,"slots":1,"steps":100}}
+"#;
+
+/// A job that returns its first argument, from its submission to its outcome.
+const STEPS: &str =
+    r#"{"request":{"job":{"args":[7,0],"fuel":10,"procs":[[["ret",0]]]},"op":"submit"},"step":"ask"}
+{"slot":0,"step":"arrive"}
+{"slot":0,"step":"advance"}
+{"request":{"job":1,"op":"poll"},"step":"ask"}
+"#;
+
+const ANSWERS: &str = r#"{"job":1}
+{"moved":"arrived","row":1}
+{"moved":"ran"}
+{"job":1,"status":"complete","value":7}
+"#;
+
+/// The texts, one after another.
+fn joined(alloc: Global, texts: &[&str]) -> Result<String, AllocError> {
+    let mut whole = String::new(alloc);
+    for text in texts {
+        whole.push_str(text)?;
+    }
+    Ok(whole)
+}
 
 /// A reader that gives one byte at a call, and then fails.
 #[derive(Drop)]
@@ -129,4 +156,29 @@ fn a_writer_that_fails_ends_the_script(rt: HostRuntime) -> Result<(), Fail> {
     assert_eq!(rt; end, ScriptEnd::Done);
     assert_eq!(rt; writer.taken.as_slice(), ANSWERS.as_bytes());
     Ok(())
+}
+
+#[test]
+fn a_writer_without_room_ends_a_check(rt: HostRuntime) {
+    let mut reader = TENANT.as_bytes();
+    let mut printed = [0; 3];
+    let mut room = printed.as_mut_slice();
+    let end = script(rt.alloc(), &["check"], &mut reader, &mut room);
+    assert_eq!(rt; end, ScriptEnd::Device);
+}
+
+#[test]
+fn each_end_has_its_status(rt: HostRuntime) {
+    let table = [
+        (ScriptEnd::Done, 0, None),
+        (ScriptEnd::BadLine, 2, None),
+        (ScriptEnd::Words, 2, Some("arena-script: words")),
+        (ScriptEnd::Config, 2, Some("arena-script: config")),
+        (ScriptEnd::Device, 3, Some("arena-script: device")),
+        (ScriptEnd::Memory, 3, Some("arena-script: memory")),
+    ];
+    for (end, status, fault) in table {
+        assert_eq!(rt; end.status(), status, "{end:?}");
+        assert!(rt; end.fault() == fault, "{end:?}");
+    }
 }
