@@ -1,4 +1,6 @@
 """Whole scripts with what they print, how they end, and what is said on standard error."""
+import json
+
 from script import *
 
 MAX_SCRIPT_LINE = 1_048_576
