@@ -78,17 +78,19 @@ fn run_alone(alloc: Global, job: &Job, before: &Job) -> Result<Option<Ran>, Allo
     let Some(config) = two_slots() else {
         return Ok(None);
     };
+    let (before, job) = (before.try_clone()?, job.try_clone()?);
     let mut arena = Arena::new(alloc, config)?;
-    if run(&mut arena, before.try_clone()?).is_none() {
-        return Ok(None);
+    Ok(run_both(&mut arena, before, job))
+}
+
+/// Runs a job after another, and collects its value.
+fn run_both(arena: &mut Arena, before: Job, job: Job) -> Option<Ran> {
+    let _before = run(arena, before)?;
+    let (number, ran) = run(arena, job)?;
+    match arena.ask(Request::Collect(number)) {
+        Reply::Job(_, Status::Complete(value)) => Some(Ran { value, ..ran }),
+        _ => None,
     }
-    let Some((number, ran)) = run(&mut arena, job.try_clone()?) else {
-        return Ok(None);
-    };
-    let Reply::Job(_, Status::Complete(value)) = arena.ask(Request::Collect(number)) else {
-        return Ok(None);
-    };
-    Ok(Some(Ran { value, ..ran }))
 }
 
 /// Runs a job on the reserved slot until the slot is free, and gives its number. Other rows of the job may

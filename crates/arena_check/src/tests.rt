@@ -30,9 +30,13 @@ fn one_slot() -> Result<TenantConfig, Fail> {
 
 /// The history of a job on that tenant, from its execution to its end: 86 entries.
 fn recorded(alloc: Global) -> Result<Vec<Entry>, Fail> {
+    let mut arena = Arena::new(alloc, one_slot()?)?;
+    record(alloc, &mut arena)
+}
+
+fn record(alloc: Global, arena: &mut Arena) -> Result<Vec<Entry>, Fail> {
     let value = Value::from_str(alloc, FIB)?;
     let request = Request::Execute(read_job(alloc, &value)?);
-    let mut arena = Arena::new(alloc, one_slot()?)?;
     let mut entries = Vec::new(alloc);
     let answer = Answer::Replied(arena.ask(request.try_clone()?));
     entries.push(Entry {

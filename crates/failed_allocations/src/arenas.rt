@@ -6,24 +6,32 @@ use job_language::{Came, Moved, Reply, Request, Status};
 use job_step::{Segment, View, segment_of};
 use std::alloc::Global;
 
-/// The outcome of the job, if it is submitted and a worker moves it.
+/// The outcome of the job, if it is submitted to a new arena and a worker moves it.
 pub(crate) fn submitted(alloc: Global) -> Option<Status> {
     let mut arena = again(|| new_arena(alloc))?;
+    submit(alloc, &mut arena)
+}
+
+fn submit(alloc: Global, arena: &mut Arena) -> Option<Status> {
     let Reply::Made(job) = arena.ask(Request::Submit(fibonacci(alloc)?)) else {
         return None;
     };
-    work(&mut arena)?;
+    work(arena)?;
     status_of(&arena.ask(Request::Collect(job)))
 }
 
-/// The outcome of the job, if it is executed by private runs that are committed.
+/// The outcome of the job, if a new arena executes it by private runs that are committed.
 pub(crate) fn executed(alloc: Global) -> Option<Status> {
     let mut arena = again(|| new_arena(alloc))?;
+    execute(alloc, &mut arena)
+}
+
+fn execute(alloc: Global, arena: &mut Arena) -> Option<Status> {
     let Reply::Placed(job, slot) = arena.ask(Request::Execute(fibonacci(alloc)?)) else {
         return None;
     };
-    commit_all(&mut arena, slot)?;
-    work(&mut arena)?;
+    commit_all(arena, slot)?;
+    work(arena)?;
     status_of(&arena.ask(Request::Collect(job)))
 }
 

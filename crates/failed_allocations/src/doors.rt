@@ -15,35 +15,43 @@ const CALL: Call = Call { tenant: 0, slot: 1 };
 /// The outcome of the job, if it is submitted and a worker moves it.
 pub(crate) fn submitted<R: Wait>(rt: &R, alloc: Global) -> Option<Status> {
     let (door, mut seats) = again(|| new_door(alloc))?;
+    let status = submit(rt, alloc, &door, seats.as_mut_slice());
+    door.close(seats).ok()?;
+    status
+}
+
+fn submit<R: Wait>(rt: &R, alloc: Global, door: &TenantDoor, seats: &mut [Seat]) -> Option<Status> {
     let seat = seats.first_mut()?;
-    let asked = ask_job(rt, &door, seat, || Some(Request::Submit(fibonacci(alloc)?)))?;
+    let asked = ask_job(rt, door, seat, || Some(Request::Submit(fibonacci(alloc)?)))?;
     let Reply::Made(job) = asked.reply else {
         return None;
     };
-    work(rt, &door)?;
-    let collected = ask(rt, &door, seat, Request::Collect(job))?;
-    door.close(seats).ok()?;
-    status_of(&collected.reply)
+    work(rt, door)?;
+    status_of(&ask(rt, door, seat, Request::Collect(job))?.reply)
 }
 
 /// The outcome of the job, if it is executed by private runs that are committed.
 pub(crate) fn executed<R: Wait>(rt: &R, alloc: Global) -> Option<Status> {
     let (door, mut seats) = again(|| new_door(alloc))?;
+    let status = execute(rt, alloc, &door, seats.as_mut_slice());
+    door.close(seats).ok()?;
+    status
+}
+
+fn execute<R: Wait>(
+    rt: &R,
+    alloc: Global,
+    door: &TenantDoor,
+    seats: &mut [Seat],
+) -> Option<Status> {
     let seat = seats.first_mut()?;
-    let asked = ask_job(
-        rt,
-        &door,
-        seat,
-        || Some(Request::Execute(fibonacci(alloc)?)),
-    )?;
+    let asked = ask_job(rt, door, seat, || Some(Request::Execute(fibonacci(alloc)?)))?;
     let Reply::Placed(job, _) = asked.reply else {
         return None;
     };
-    commit_all(rt, &door, asked.pass?)?;
-    work(rt, &door)?;
-    let collected = ask(rt, &door, seat, Request::Collect(job))?;
-    door.close(seats).ok()?;
-    status_of(&collected.reply)
+    commit_all(rt, door, asked.pass?)?;
+    work(rt, door)?;
+    status_of(&ask(rt, door, seat, Request::Collect(job))?.reply)
 }
 
 /// The tenant's door, with one seat.

@@ -12,21 +12,29 @@ const COLLECT: &str = r#"{"job":1,"op":"collect"}"#;
 /// The outcome of the job, if a line submits it and a worker moves it, by calls of `run`.
 pub(crate) fn run_whole(alloc: Global) -> Option<Status> {
     let mut world = again(|| new_world(alloc))?;
+    run_job(alloc, &mut world)
+}
+
+fn run_job(alloc: Global, world: &mut World<Arena>) -> Option<Status> {
     let line = again(|| job_line(alloc, "submit").ok())?;
-    let Reply::Made(1) = run_line(alloc, &mut world, line)? else {
+    let Reply::Made(1) = run_line(alloc, world, line)? else {
         return None;
     };
     let moves = again(|| worker_moves(alloc).ok())?;
-    run(alloc, &mut world, moves.as_slice())?;
+    run(alloc, world, moves.as_slice())?;
     let collect = again(|| plain_line(alloc, COLLECT).ok())?;
-    status_of(&run_line(alloc, &mut world, collect)?)
+    status_of(&run_line(alloc, world, collect)?)
 }
 
 /// The outcome of the job, if a line executes it and a master moves it, by calls of `apply`.
 pub(crate) fn applied(alloc: Global) -> Option<Status> {
     let mut world = again(|| new_world(alloc))?;
+    apply_job(alloc, &mut world)
+}
+
+fn apply_job(alloc: Global, world: &mut World<Arena>) -> Option<Status> {
     let line = again(|| job_line(alloc, "execute").ok())?;
-    let Reply::Placed(1, slot) = apply_line(alloc, &mut world, &line)? else {
+    let Reply::Placed(1, slot) = apply_line(alloc, world, &line)? else {
         return None;
     };
     for _ in 0..MOVES {
@@ -37,7 +45,7 @@ pub(crate) fn applied(alloc: Global) -> Option<Status> {
         world.apply(alloc, raw);
     }
     let collect = again(|| plain_line(alloc, COLLECT).ok())?;
-    status_of(&apply_line(alloc, &mut world, &collect)?)
+    status_of(&apply_line(alloc, world, &collect)?)
 }
 
 /// A world of the tenant and one worker.
