@@ -2,7 +2,7 @@
 use crate::attend_slot;
 use arena_core::Arena;
 use job_language::{
-    Came, Isolation, Level, Moved, Reply, Request, Status, Tenant, TenantConfig, TenantName,
+    Came, Error, Isolation, Level, Moved, Reply, Request, Status, Tenant, TenantConfig, TenantName,
     read_job,
 };
 use job_step::{View, segment_of};
@@ -31,44 +31,71 @@ fn executed(alloc: Global, text: &str, slots: u8, steps: usize) -> Result<Arena,
         steps,
     })
     .ok_or("each number is in its range")?;
-    let mut arena = Arena::new(alloc, config)?;
     let value = Value::from_str(alloc, text)?;
     let job = read_job(alloc, &value)?;
+    let mut arena = Arena::new(alloc, config)?;
     if arena.ask(Request::Execute(job)) != Reply::Placed(1, 0) {
         return Err("the job is placed")?;
     }
     Ok(arena)
 }
 
+/// How attending the slot of a job ends, how high the slot is then, and what is reported of the job.
+fn attended(arena: &mut Arena) -> (Attended, usize, Reply) {
+    let end = attend_slot(arena, 0, 1);
+    (end, arena.height(0), arena.ask(Request::Collect(1)))
+}
+
 #[test]
 fn fibonacci_is_below_after_85_advances(rt: HostRuntime) -> Result<(), Fail> {
-    let mut arena = executed(rt.alloc(), FIB, 1, 87)?;
-    assert_eq!(rt; attend_slot(&mut arena, 0, 1), Attended::Below);
-    assert_eq!(rt; arena.height(0), 0);
-    assert_eq!(rt;
-        arena.ask(Request::Collect(1)),
-        Reply::Job(1, Status::Complete(8))
-    );
-    let mut arena = executed(rt.alloc(), FIB, 1, 86)?;
-    assert_eq!(rt; attend_slot(&mut arena, 0, 1), Attended::Below);
-    let mut arena = executed(rt.alloc(), FIB, 1, 85)?;
-    assert_eq!(rt; attend_slot(&mut arena, 0, 1), Attended::Full);
+    let complete = Reply::Job(1, Status::Complete(8));
+    let full = Reply::Refused(Error::HistoryFull);
+    for (steps, wanted) in [
+        (87, (Attended::Below, 0, complete)),
+        (86, (Attended::Below, 0, full)),
+        (85, (Attended::Full, 1, full)),
+    ] {
+        let mut arena = executed(rt.alloc(), FIB, 1, steps)?;
+        assert_eq!(rt; attended(&mut arena), wanted);
+    }
     Ok(())
+}
+
+/// How a waiter is attended whose task is on the second slot, before and after that slot is: each end, with
+/// the height of the waiter's slot.
+fn attended_beside(arena: &mut Arena) -> Option<[(Attended, usize); 4]> {
+    for _ in 0..3 {
+        if arena.advance(0) != Moved::Ran {
+            return None;
+        }
+    }
+    if arena.arrive(1) != Came::At(3) {
+        return None;
+    }
+    let stopped = (attend_slot(arena, 0, 1), arena.height(0));
+    let beside = (attend_slot(arena, 1, 1), arena.height(1));
+    let above = (attend_slot(arena, 0, 2), arena.height(0));
+    Some([
+        stopped,
+        beside,
+        above,
+        (attend_slot(arena, 0, 1), arena.height(0)),
+    ])
 }
 
 #[test]
 fn a_waiter_whose_task_is_elsewhere_is_stopped(rt: HostRuntime) -> Result<(), Fail> {
     let mut arena = executed(rt.alloc(), ISOLATED, 2, 100)?;
-    assert_eq!(rt; arena.advance(0), Moved::Ran);
-    assert_eq!(rt; arena.advance(0), Moved::Ran);
-    assert_eq!(rt; arena.advance(0), Moved::Ran);
-    assert_eq!(rt; arena.arrive(1), Came::At(3));
-    assert_eq!(rt; attend_slot(&mut arena, 0, 1), Attended::Stopped);
-    assert_eq!(rt; arena.height(0), 2);
-    assert_eq!(rt; attend_slot(&mut arena, 1, 1), Attended::Below);
-    assert_eq!(rt; attend_slot(&mut arena, 0, 2), Attended::Below);
-    assert_eq!(rt; arena.height(0), 1);
-    assert_eq!(rt; attend_slot(&mut arena, 0, 1), Attended::Below);
+    let ends = attended_beside(&mut arena);
+    assert_eq!(rt;
+        ends,
+        Some([
+            (Attended::Stopped, 2),
+            (Attended::Below, 0),
+            (Attended::Below, 1),
+            (Attended::Below, 0),
+        ])
+    );
     assert_eq!(rt;
         arena.ask(Request::Collect(1)),
         Reply::Job(1, Status::Complete(5))
@@ -76,14 +103,21 @@ fn a_waiter_whose_task_is_elsewhere_is_stopped(rt: HostRuntime) -> Result<(), Fa
     Ok(())
 }
 
+/// What two commits of the topmost frame of the first slot come to.
+fn committed_twice(arena: &mut Arena) -> Option<(Moved, Moved)> {
+    let View::Top(top) = arena.view(0) else {
+        return None;
+    };
+    let segment = segment_of(top);
+    Some((arena.commit(0, &segment), arena.commit(0, &segment)))
+}
+
 #[test]
 fn a_frame_that_is_seen_is_committed_once(rt: HostRuntime) -> Result<(), Fail> {
     let mut arena = executed(rt.alloc(), FIB, 1, 100)?;
-    let View::Top(top) = arena.view(0) else {
-        return Err("the job is on the slot")?;
-    };
-    let segment = segment_of(top);
-    assert_eq!(rt; arena.commit(0, &segment), Moved::Ran);
-    assert_eq!(rt; arena.commit(0, &segment), Moved::Stale);
+    assert_eq!(rt;
+        committed_twice(&mut arena),
+        Some((Moved::Ran, Moved::Stale))
+    );
     Ok(())
 }
