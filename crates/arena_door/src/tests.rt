@@ -46,18 +46,22 @@ fn attended(arena: &mut Arena) -> (Attended, usize, Reply) {
     (end, arena.height(0), arena.ask(Request::Collect(1)))
 }
 
+/// The same of the Fibonacci number on an arena with room for that many entries.
+fn attended_within(alloc: Global, steps: usize) -> Result<(Attended, usize, Reply), Fail> {
+    let mut arena = executed(alloc, FIB, 1, steps)?;
+    Ok(attended(&mut arena))
+}
+
 #[test]
 fn fibonacci_is_below_after_85_advances(rt: HostRuntime) -> Result<(), Fail> {
     let complete = Reply::Job(1, Status::Complete(8));
     let full = Reply::Refused(Error::HistoryFull);
-    for (steps, wanted) in [
-        (87, (Attended::Below, 0, complete)),
-        (86, (Attended::Below, 0, full)),
-        (85, (Attended::Full, 1, full)),
-    ] {
-        let mut arena = executed(rt.alloc(), FIB, 1, steps)?;
-        assert_eq!(rt; attended(&mut arena), wanted);
-    }
+    let roomy = attended_within(rt.alloc(), 87)?;
+    assert_eq!(rt; roomy, (Attended::Below, 0, complete));
+    let tight = attended_within(rt.alloc(), 86)?;
+    assert_eq!(rt; tight, (Attended::Below, 0, full));
+    let short = attended_within(rt.alloc(), 85)?;
+    assert_eq!(rt; short, (Attended::Full, 1, full));
     Ok(())
 }
 
