@@ -54,14 +54,15 @@ fn attended_within(alloc: Global, steps: usize) -> Result<(Attended, usize, Repl
 
 #[test]
 fn fibonacci_is_below_after_85_advances(rt: HostRuntime) -> Result<(), Fail> {
-    let complete = Reply::Job(1, Status::Complete(8));
-    let full = Reply::Refused(Error::HistoryFull);
-    let roomy = attended_within(rt.alloc(), 87)?;
-    assert_eq!(rt; roomy, (Attended::Below, 0, complete));
-    let tight = attended_within(rt.alloc(), 86)?;
-    assert_eq!(rt; tight, (Attended::Below, 0, full));
-    let short = attended_within(rt.alloc(), 85)?;
-    assert_eq!(rt; short, (Attended::Full, 1, full));
+    let (end, height, reply) = attended_within(rt.alloc(), 87)?;
+    assert_eq!(rt; (end, height), (Attended::Below, 0));
+    assert_eq!(rt; reply, Reply::Job(1, Status::Complete(8)));
+    let (end, height, reply) = attended_within(rt.alloc(), 86)?;
+    assert_eq!(rt; (end, height), (Attended::Below, 0));
+    assert_eq!(rt; reply, Reply::Refused(Error::HistoryFull));
+    let (end, height, reply) = attended_within(rt.alloc(), 85)?;
+    assert_eq!(rt; (end, height), (Attended::Full, 1));
+    assert_eq!(rt; reply, Reply::Refused(Error::HistoryFull));
     Ok(())
 }
 
