@@ -1,7 +1,8 @@
 #!/bin/sh
 # What an advance of an arena's slot takes: the 23rd Fibonacci number as one job on one slot, with a task for
 # each smaller number, alone and beside 64 and 4,000 rows that wait; and jobs that make 60 tasks in each of 16
-# groups, cancel and wait for each group. Each is done three times, in turn, and the fastest counts. What it
+# groups, cancel and wait for each group; and the same number on a tenant's cell, which records each step in the
+# tenant's history and in the log of the slot's pass. Each is done three times, in turn, and the fastest counts. What it
 # takes to make the arenas and the rows that wait is measured by itself and taken off. The argument is how many
 # jobs there are, 1 if it is left out. It needs `rt` on the path.
 set -e
@@ -36,10 +37,13 @@ for _ in 1 2 3; do
         measure "fib.$waiting" fib 23 "$jobs" "$waiting"
         measure "none.$waiting" fib 1 "$jobs" "$waiting"
     done
+    measure recorded recorded 23 "$jobs"
+    measure none.recorded recorded 1 "$jobs"
     measure cancels cancels "$((jobs * 50))"
     measure none.cancels fib 1 "$((jobs * 50))" 0
 done
 grep -q 'value 28657$' "$work/fib.0.printed"
+grep -q 'value 28657$' "$work/recorded.printed"
 grep -q 'value 32$' "$work/cancels.printed"
 
 # The line of a measure: its name, the name of what is taken off, and its words.
@@ -55,4 +59,5 @@ printf 'what\ttasks\tsteps\ttasks a second\tnanoseconds a step\n'
 line fib.0 none.0 'fib, alone	'
 line fib.64 none.64 'fib, beside 64 rows	'
 line fib.4000 none.4000 'fib, beside 4000 rows	'
+line recorded none.recorded 'fib, recorded	'
 line cancels none.cancels 'cancels of 16 groups	'
