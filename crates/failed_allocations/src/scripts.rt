@@ -56,8 +56,11 @@ const SCRIPTS: [Script; 4] = [
 /// Room for what a script prints, in bytes.
 const ROOM: usize = 256;
 
+/// The reply to a request for which there was no memory.
+const NO_MEMORY: &[u8] = b"{\"code\":9,\"error\":\"no_memory\"}\n";
+
 /// Whether each script prints its answers. One that ended for lack of memory has printed a first part of
-/// them, and prints all when it is run again.
+/// them, and one whose first request was refused for it says so; both print all when they are run again.
 pub(crate) fn are_answered(alloc: Global) -> bool {
     SCRIPTS
         .iter()
@@ -69,10 +72,12 @@ fn is_answered_at_last(alloc: Global, of: &Script) -> bool {
     let mut room = [0; ROOM];
     let (end, count) = run(alloc, of, &mut room);
     let printed = room.get(..count).unwrap_or(&[]);
-    if end == ScriptEnd::Done {
-        return printed == answers;
+    match end {
+        ScriptEnd::Done if printed == answers => true,
+        ScriptEnd::Done => printed.starts_with(NO_MEMORY) && is_answered(alloc, of),
+        ScriptEnd::Memory => answers.starts_with(printed) && is_answered(alloc, of),
+        _ => false,
     }
-    end == ScriptEnd::Memory && answers.starts_with(printed) && is_answered(alloc, of)
 }
 
 /// Whether a script is done and has printed its answers.
