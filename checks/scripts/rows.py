@@ -2,13 +2,13 @@
 hand from the rules, and not taken from a run."""
 from script import *
 
-J = worked_jobs()
+JOBS = worked_jobs()
 FIRST, FIB, UNUSED, CANCEL_THEN_WAIT, CLASSIC, NINE = (
-    J[it] for it in ("FIRST", "FIB", "UNUSED", "CANCEL_THEN_WAIT", "CLASSIC", "NINE"))
-ISOLATED, PLAIN, POSTED, STOLEN, NESTED = (J[it] for it in ("ISOLATED", "PLAIN", "POSTED", "STOLEN", "NESTED"))
-UNWAITED, CHAIN, SPIN, NOT_VALID = (J[it] for it in ("UNWAITED", "CHAIN", "SPIN", "NOT_VALID"))
+    JOBS[it] for it in ("FIRST", "FIB", "UNUSED", "CANCEL_THEN_WAIT", "CLASSIC", "NINE"))
+ISOLATED, PLAIN, POSTED, STOLEN, NESTED = (JOBS[it] for it in ("ISOLATED", "PLAIN", "POSTED", "STOLEN", "NESTED"))
+UNWAITED, CHAIN, SPIN, NOT_VALID = (JOBS[it] for it in ("UNWAITED", "CHAIN", "SPIN", "NOT_VALID"))
 WRAP, LEAST_BY_MINUS_ONE, ZERO_DIVISOR, HALF = (
-    J[it] for it in ("WRAP", "LEAST_BY_MINUS_ONE", "ZERO_DIVISOR", "HALF"))
+    JOBS[it] for it in ("WRAP", "LEAST_BY_MINUS_ONE", "ZERO_DIVISOR", "HALF"))
 
 ISOLATED_WAITER = [
     (execute(ISOLATED), placed(1, 0)),

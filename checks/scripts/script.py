@@ -6,7 +6,7 @@ import subprocess
 
 ROOT = pathlib.Path(__file__).resolve().parents[2]
 PROGRAM = ROOT / "crates/script_program/out/script_program"
-JOBS = ROOT / "crates/worked_jobs/src/jobs.rt"
+SOURCE_OF_JOBS = ROOT / "crates/worked_jobs/src/jobs.rt"
 
 
 def build():
@@ -31,8 +31,11 @@ def line_of(value):
 def worked_jobs():
     """Returns the jobs by their names, as they stand in `worked_jobs`."""
     job = re.compile(
-        r"pub const (\w+): JobText = JobText \{\s*args: \[([^\]]*)\],\s*fuel: ([\d_]+),\s*procs: r#\"(.*?)\"#,\s*\};", re.S)
-    with open(JOBS) as it:
+        r"pub const (\w+): JobText = JobText \{\s*"
+        r"args: \[([^\]]*)\],\s*fuel: ([\d_]+),\s*procs: r#\"(.*?)\"#,\s*\};",
+        re.S,
+    )
+    with open(SOURCE_OF_JOBS) as it:
         found = job.findall(it.read())
     return {
         name: {"args": json.loads(f"[{args}]"), "fuel": int(fuel.replace("_", "")), "procs": json.loads(procs)}
