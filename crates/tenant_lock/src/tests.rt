@@ -66,49 +66,81 @@ fn advance<R: Wait>(rt: &R, door: &TenantDoor, pass: Option<Pass>) -> Option<Adv
     Some(door.advance(rt, pass))
 }
 
+/// Submits the job by the first seat.
+fn submit<R: Wait>(
+    rt: &R,
+    alloc: Global,
+    door: &TenantDoor,
+    seats: &mut [Seat],
+) -> Option<(Reply, Option<u8>)> {
+    let submit = Request::Submit(returning_seven(alloc)?);
+    let asked = ask(rt, door, seats.first_mut()?, submit)?;
+    Some((asked.reply, asked.due))
+}
+
+/// What the first seat is told of the first job.
+fn poll<R: Wait>(rt: &R, door: &TenantDoor, seats: &mut [Seat]) -> Option<Reply> {
+    let asked = ask(rt, door, seats.first_mut()?, Request::Poll(1))?;
+    Some(asked.reply)
+}
+
+/// Lets a worker arrive and advance twice, and another arrive between. It says what each comes to, and
+/// whether the pass goes home.
+fn work_and_leave<R: Wait>(rt: &R, door: &TenantDoor) -> Option<([Came; 2], [Moved; 2], bool)> {
+    let arrived = door.arrive(rt, CALL);
+    let ran = advance(rt, door, arrived.pass)?;
+    let other = door.arrive(rt, CALL);
+    let left = advance(rt, door, ran.pass)?;
+    Some((
+        [arrived.came, other.came],
+        [ran.moved, left.moved],
+        left.pass.is_none(),
+    ))
+}
+
 #[test]
 fn a_job_runs_through_the_door(rt: HostRuntime) -> Result<(), Fail> {
     let (door, mut seats) = TenantDoor::new(rt.alloc(), 0, two_slots()?, 1)?;
-    let mut seat = seats.pop().ok_or("a seat")?;
-    let submit = Request::Submit(returning_seven(rt.alloc()).ok_or("a job")?);
-    let asked = ask(&rt, &door, &mut seat, submit).ok_or("another door")?;
-    assert_eq!(rt; (asked.reply, asked.due), (Reply::Made(1), Some(1)));
-
-    let arrived = door.arrive(&rt, CALL);
-    assert_eq!(rt; arrived.came, Came::At(1));
-    let ran = advance(&rt, &door, arrived.pass).ok_or("no pass came")?;
-    assert_eq!(rt; ran.moved, Moved::Ran);
-    assert_eq!(rt; door.arrive(&rt, CALL).came, Came::Nothing);
-    let left = advance(&rt, &door, ran.pass).ok_or("no pass was left")?;
-    assert_eq!(rt; left.moved, Moved::Left);
-    assert!(rt; left.pass.is_none());
-
-    let polled = ask(&rt, &door, &mut seat, Request::Poll(1)).ok_or("another door")?;
-    assert_eq!(rt; polled.reply, Reply::Job(1, Status::Complete(7)));
-    seats.push(seat)?;
+    let made = submit(&rt, rt.alloc(), &door, seats.as_mut_slice());
+    let worked = work_and_leave(&rt, &door);
+    let polled = poll(&rt, &door, seats.as_mut_slice());
     let closed = door.close(seats)?;
+    assert_eq!(rt; made, Some((Reply::Made(1), Some(1))));
+    let (came, moved, is_home) = worked.ok_or("no pass came")?;
+    assert_eq!(rt; came, [Came::At(1), Came::Nothing]);
+    assert_eq!(rt; moved, [Moved::Ran, Moved::Left]);
+    assert!(rt; is_home);
+    assert_eq!(rt; polled, Some(Reply::Job(1, Status::Complete(7))));
     assert_eq!(rt; closed.history.len(), 4);
     Ok(())
+}
+
+/// Lets a second arrive while the job of the first has run and a second job waits, for the holder of the
+/// pass alone. It says what the second arrival comes to, whether it has a pass, and what the holder's next
+/// advance comes to.
+fn work_on<R: Wait>(
+    rt: &R,
+    alloc: Global,
+    door: &TenantDoor,
+    seats: &mut [Seat],
+) -> Option<(Came, bool, Moved)> {
+    let _first = submit(rt, alloc, door, seats)?;
+    let arrived = door.arrive(rt, CALL);
+    let ran = advance(rt, door, arrived.pass)?;
+    let _second = submit(rt, alloc, door, seats)?;
+    let other = door.arrive(rt, CALL);
+    let nested = advance(rt, door, ran.pass)?;
+    Some((other.came, other.pass.is_some(), nested.moved))
 }
 
 #[test]
 fn nobody_arrives_where_the_pass_is_out(rt: HostRuntime) -> Result<(), Fail> {
     let (door, mut seats) = TenantDoor::new(rt.alloc(), 0, two_slots()?, 1)?;
-    let mut seat = seats.pop().ok_or("a seat")?;
-    let submit = Request::Submit(returning_seven(rt.alloc()).ok_or("a job")?);
-    let _asked = ask(&rt, &door, &mut seat, submit).ok_or("another door")?;
-    let arrived = door.arrive(&rt, CALL);
-    let ran = advance(&rt, &door, arrived.pass).ok_or("no pass came")?;
-    assert_eq!(rt; ran.moved, Moved::Ran);
-    let submit = Request::Submit(returning_seven(rt.alloc()).ok_or("a job")?);
-    let _asked = ask(&rt, &door, &mut seat, submit).ok_or("another door")?;
-
-    // The second job's row waits, for the holder of the pass alone.
-    let arrived = door.arrive(&rt, CALL);
-    assert_eq!(rt; arrived.came, Came::Nothing);
-    assert!(rt; arrived.pass.is_none());
-    let nested = advance(&rt, &door, ran.pass).ok_or("no pass was left")?;
-    assert_eq!(rt; nested.moved, Moved::Nested(2));
+    let worked = work_on(&rt, rt.alloc(), &door, seats.as_mut_slice());
+    let (came, has_pass, moved) = worked.ok_or("no pass came")?;
+    assert_eq!(rt; came, Came::Nothing);
+    assert!(rt; !has_pass);
+    assert_eq!(rt; moved, Moved::Nested(2));
     Ok(())
 }
 
@@ -138,26 +170,32 @@ fn commit<R: Wait>(
     Some(door.commit(rt, pass, segment))
 }
 
+/// Commits two segments of one frame. It says what each comes to, after which the pass is home.
+fn commit_twice<R: Wait>(rt: &R, door: &TenantDoor) -> Option<(Moved, Moved)> {
+    let arrived = door.arrive(rt, CALL);
+    let first = segment(rt, door, &arrived.pass)?;
+    let second = segment(rt, door, &arrived.pass)?;
+    let ran = commit(rt, door, arrived.pass, first)?;
+    let stale = commit(rt, door, ran.pass, second)?;
+    give_home(rt, door, stale.pass?);
+    Some((ran.moved, stale.moved))
+}
+
+/// Gives a pass home, if it is one of the door's.
+fn give_home<R: Wait>(rt: &R, door: &TenantDoor, pass: Pass) {
+    if pass.tenant() == door.tenant() {
+        door.give_home(rt, pass);
+    }
+}
+
 #[test]
 fn a_private_run_is_committed_once(rt: HostRuntime) -> Result<(), Fail> {
     let (door, mut seats) = TenantDoor::new(rt.alloc(), 0, two_slots()?, 1)?;
-    let mut seat = seats.pop().ok_or("a seat")?;
-    let submit = Request::Submit(returning_seven(rt.alloc()).ok_or("a job")?);
-    let _asked = ask(&rt, &door, &mut seat, submit).ok_or("another door")?;
-    let arrived = door.arrive(&rt, CALL);
-    let first = segment(&rt, &door, &arrived.pass).ok_or("no frame")?;
-    let second = segment(&rt, &door, &arrived.pass).ok_or("no frame")?;
-    let ran = commit(&rt, &door, arrived.pass, first).ok_or("no pass came")?;
-    assert_eq!(rt; ran.moved, Moved::Ran);
-    let stale = commit(&rt, &door, ran.pass, second).ok_or("no pass was left")?;
-    assert_eq!(rt; stale.moved, Moved::Stale);
-    let pass = stale.pass.ok_or("a stale run takes no pass")?;
-    if pass.tenant() != door.tenant() {
-        return Err("another door")?;
-    }
-    door.give_home(&rt, pass);
-    seats.push(seat)?;
+    let _made = submit(&rt, rt.alloc(), &door, seats.as_mut_slice());
+    let committed = commit_twice(&rt, &door);
     let closed = door.close(seats)?;
+    let (first, second) = committed.ok_or("no frame")?;
+    assert_eq!(rt; (first, second), (Moved::Ran, Moved::Stale));
     assert_eq!(rt; closed.history.len(), 3);
     Ok(())
 }
@@ -224,11 +262,8 @@ fn a_door_without_its_seat_is_not_closed(rt: HostRuntime) -> Result<(), Fail> {
 #[test]
 fn a_pass_that_is_kept_is_missed(rt: HostRuntime) -> Result<(), Fail> {
     let (door, mut seats) = TenantDoor::new(rt.alloc(), 0, two_slots()?, 1)?;
-    let mut seat = seats.pop().ok_or("a seat")?;
-    let submit = Request::Submit(returning_seven(rt.alloc()).ok_or("a job")?);
-    let _asked = ask(&rt, &door, &mut seat, submit).ok_or("another door")?;
+    let _made = submit(&rt, rt.alloc(), &door, seats.as_mut_slice());
     let _arrived = door.arrive(&rt, CALL);
-    seats.push(seat)?;
     match door.close(seats) {
         Ok(_closed) => Err(Fail::from("it was closed")),
         Err(fault) => {
