@@ -108,7 +108,7 @@ fn a_waiter_whose_task_is_elsewhere_is_stopped(rt: HostRuntime) -> Result<(), Fa
     Ok(())
 }
 
-/// What two commits of the topmost frame of the first slot come to.
+/// The answers to two commits of the topmost frame of the first slot.
 fn committed_twice(arena: &mut Arena) -> Option<(Moved, Moved)> {
     let View::Top(top) = arena.view(0) else {
         return None;

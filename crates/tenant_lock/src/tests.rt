@@ -78,14 +78,14 @@ fn submit<R: Wait>(
     Some((asked.reply, asked.due))
 }
 
-/// What the first seat is told of the first job.
+/// Polls the first job by the first seat.
 fn poll<R: Wait>(rt: &R, door: &TenantDoor, seats: &mut [Seat]) -> Option<Reply> {
     let asked = ask(rt, door, seats.first_mut()?, Request::Poll(1))?;
     Some(asked.reply)
 }
 
-/// Lets a worker arrive and advance twice, and another arrive between. It says what each comes to, and
-/// whether the pass goes home.
+/// A worker arrives and advances twice, and another arrives between. Returns the answers, and whether the
+/// pass went home.
 fn work_and_leave<R: Wait>(rt: &R, door: &TenantDoor) -> Option<([Came; 2], [Moved; 2], bool)> {
     let arrived = door.arrive(rt, CALL);
     let ran = advance(rt, door, arrived.pass)?;
@@ -115,9 +115,9 @@ fn a_job_runs_through_the_door(rt: HostRuntime) -> Result<(), Fail> {
     Ok(())
 }
 
-/// Lets a second arrive while the job of the first has run and a second job waits, for the holder of the
-/// pass alone. It says what the second arrival comes to, whether it has a pass, and what the holder's next
-/// advance comes to.
+/// A worker runs the first job; then a second job waits, for the holder of the pass alone, and another
+/// worker arrives. Returns the answer to that arrival, whether it has a pass, and the answer to the holder's
+/// next advance.
 fn work_on<R: Wait>(
     rt: &R,
     alloc: Global,
@@ -170,7 +170,7 @@ fn commit<R: Wait>(
     Some(door.commit(rt, pass, segment))
 }
 
-/// Commits two segments of one frame. It says what each comes to, after which the pass is home.
+/// Commits two segments of one frame, gives the pass home, and returns both answers.
 fn commit_twice<R: Wait>(rt: &R, door: &TenantDoor) -> Option<(Moved, Moved)> {
     let arrived = door.arrive(rt, CALL);
     let first = segment(rt, door, &arrived.pass)?;
