@@ -1,8 +1,8 @@
 #!/bin/sh
 # What an advance of an arena's slot takes: the 23rd Fibonacci number as one job on one slot, with a task for
-# each smaller number, alone and beside 64 and 4,000 rows that wait; and jobs that make 60 tasks in each of 16
-# groups, cancel and wait for each group; and the same number on a tenant's cell, which records each step in the
-# tenant's history and in the log of the slot's pass. Each is done three times, in turn, and the fastest counts. What it
+# each smaller number, alone and beside 64 and 4,000 rows that wait; the same on a tenant's cell, which records
+# each step in the tenant's history and in the log of the slot's pass; and jobs that make 60 tasks in each of 16
+# groups, cancel and wait for each group. Each is done three times, in turn, and the fastest counts. What it
 # takes to make the arenas and the rows that wait is measured by itself and taken off. The argument is how many
 # jobs there are, 1 if it is left out. It needs `rt` on the path.
 set -e
