@@ -1,6 +1,6 @@
 // Jobs that run on one slot of a tenant's cell, which records each ask and each advance.
 use crate::runs::{Ran, job_of, two_slots};
-use job_language::{Job, MAX_STEPS, Moved, Reply, Request, Status};
+use job_language::{Job, MAX_STEPS, Reply, Request, Status};
 use std::alloc::{AllocError, Global};
 use tenant_record::{Advanced, Pass, Seat, TenantCell, first_seats};
 
@@ -51,20 +51,12 @@ fn run(cell: &mut TenantCell, seat: &mut Seat, job: Job) -> Option<Ran> {
 
 /// Advances the slot of a pass until it is free.
 fn run_on_slot(cell: &mut TenantCell, pass: Option<Pass>) -> Option<Ran> {
-    let mut ran = Ran {
-        jobs: 1,
-        tasks: 1,
-        ..Ran::default()
-    };
+    let mut ran = Ran::of_root();
     let mut pass = pass;
     for _ in 0..MAX_STEPS {
         let advanced = advance(cell, pass)?;
-        ran.steps = ran.steps.wrapping_add(1);
-        match advanced.moved {
-            Moved::Ran => {}
-            Moved::Nested(_) => ran.tasks = ran.tasks.wrapping_add(1),
-            Moved::Freed => return Some(ran),
-            _ => return None,
+        if ran.count(advanced.moved)? {
+            return Some(ran);
         }
         pass = advanced.pass;
     }

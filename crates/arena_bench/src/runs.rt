@@ -21,6 +21,30 @@ pub(crate) struct Ran {
 }
 
 impl Ran {
+    /// A job whose root has just been started.
+    pub(crate) fn of_root() -> Ran {
+        Ran {
+            jobs: 1,
+            tasks: 1,
+            ..Ran::default()
+        }
+    }
+
+    /// Counts an advance of the job's slot, and says whether the slot is free after it. It is `None` if the
+    /// slot could not go on.
+    pub(crate) fn count(&mut self, moved: Moved) -> Option<bool> {
+        self.steps = self.steps.wrapping_add(1);
+        match moved {
+            Moved::Ran => Some(false),
+            Moved::Nested(_) => {
+                self.tasks = self.tasks.wrapping_add(1);
+                Some(false)
+            }
+            Moved::Freed => Some(true),
+            _ => None,
+        }
+    }
+
     /// This and one more.
     pub(crate) fn and(self, more: Ran) -> Ran {
         Ran {
@@ -99,18 +123,10 @@ fn run(arena: &mut Arena, job: Job) -> Option<(u64, Ran)> {
     let Reply::Placed(number, slot) = arena.ask(Request::Execute(job)) else {
         return None;
     };
-    let mut ran = Ran {
-        jobs: 1,
-        tasks: 1,
-        ..Ran::default()
-    };
+    let mut ran = Ran::of_root();
     for _ in 0..MAX_STEPS {
-        ran.steps = ran.steps.wrapping_add(1);
-        match arena.advance(slot) {
-            Moved::Ran => {}
-            Moved::Nested(_) => ran.tasks = ran.tasks.wrapping_add(1),
-            Moved::Freed => return Some((number, ran)),
-            _ => return None,
+        if ran.count(arena.advance(slot))? {
+            return Some((number, ran));
         }
     }
     None
