@@ -2,9 +2,9 @@
 use Rattle.std.proofs.Common.{◌≡◌, ◌≢◌, ◌⊎◌, ◌+◌, ◌<◌, ◌≤◌, ℕ, suc, true, false, if◌then◌else◌, List, [], Option, Some, None, is_some, length, refl, sym, ◌∙◌, ap, subst, inl, inr, arith}
 use Rattle.std.specs.Option.{option_eq}
 use lib.Dec.{eqb}
-use Rattle.std.specs.Prelude.{Contains, nat_lt, slice_index_or, slice_set}
+use Rattle.std.specs.Prelude.{Contains, nat_lt, option_map, slice_index_or, slice_set}
 use Rattle.std.proofs.lemmas.Bool.Decides.{eqb_tells, leb_tells}
-use Rattle.std.proofs.lemmas.List.{get_or-set_same, get_or-set_other, get_or_past, length-set}
+use Rattle.std.proofs.lemmas.List.{get_or-set_same, get_or-set_other, get_or_default, get_or_past, length-set}
 use Rattle.cancel_context.specs.Forest.{Forest, binding, IsForest, IsHeld, is_cancelled, without}
 use Rattle.cancel_context.proofs.Noted.{unheld-fine}
 use Rattle.cancel_context.proofs.Released.{binding-without}
@@ -12,7 +12,7 @@ use Rattle.place_lists.specs.Filing.{Filing, filed_in, with_filed}
 use Rattle.place_lists.proofs.Filed.{filed-within}
 use Rattle.tenant_model.proofs.Within.{either_way}
 use Rattle.arena_rows.specs.declared.rows.OpenRow.{OpenRow}
-use Rattle.arena_rows.specs.OpenRows.{is_waiting, list_of_context, list_for, IsFiled, AreFiled}
+use Rattle.arena_rows.specs.OpenRows.{OpenRows, changed_at, is_waiting, list_of_context, list_for, IsFiled, AreFiled}
 
 lt_cases : (c n : ℕ) → ((nat_lt c n ≡ true) × (c < n)) ⊎ ((nat_lt c n ≡ false) × (n ≤ c))
 lt_cases c n = elim (leb_tells (suc c) n) [ inl h ↦ inl (h.0, omega (arith, h.1)) | inr h ↦ inr (h.0, omega (arith, h.1)) ]
@@ -94,7 +94,37 @@ doomed_by forest (Some x) e =
           ]
     ]
 
+-- a place has the row that a look at it finds
+pub found_at : (table : List (Option OpenRow)) (p : ℕ) (o : Option OpenRow) (e : OpenRow) → p < length table → o ≡ slice_index_or table p o → o ≡ Some e → slice_index_or table p None ≡ Some e
+found_at table p o e within found is = get_or_default table p None o within ∙ sym found ∙ is
+
+-- the open rows after the row at a place has changed
+pub changed_rows : (now : OpenRows) (table : List (Option OpenRow)) (forest : Forest) (p : ℕ) (f : OpenRow → OpenRow) (e : OpenRow) → (let old : OpenRows = record { table = table; contexts = forest } in old) ≡ now → slice_index_or table p None ≡ Some e
+    → (let new : OpenRows = record { table = slice_set table p (Some (f e)); contexts = forest } in new) ≡ record now { table = changed_at now.table p f }
+changed_rows now table forest p f e is there =
+    let with_it : Option OpenRow → OpenRows = λ o. record { table = slice_set table p (option_map f o); contexts = forest } in
+    let changed : OpenRows → OpenRows = λ r. record r { table = changed_at r.table p f } in
+    ap with_it (sym there) ∙ ap changed is
+
 module _ (table : List (Option OpenRow)) (forest : Forest) (filing : Filing) (doomed : ℕ) (turned : List ℕ) (k : AreFiled table forest filing doomed turned) where
+  -- the row at a place waits as it did, under the same context
+  pub same_filed : (p : ℕ) (e x : OpenRow) → p < length table → slice_index_or table p None ≡ Some e → x.stage ≡ e.stage → x.context ≡ e.context → AreFiled (slice_set table p (Some x)) forest filing doomed turned
+  same_filed p e x within here stage context = record {
+    places = k.places ∙ sym (length-set table p (Some x));
+    lists = k.lists;
+    doomed_last = k.doomed_last;
+    none_turned = k.none_turned;
+    sound = k.sound;
+    each = λ q y there waits. elim (eqb_tells q p) [
+      | inl s ↦
+          let is : x ≡ y = some_same x y (sym (get_or-set_same table p (Some x) None within) ∙ ap (λ n. slice_index_or (slice_set table p (Some x)) n None) (sym s.1) ∙ there) in
+          let waited : is_waiting e.stage ≡ true = ap is_waiting (sym stage) ∙ ap (λ (z : OpenRow). is_waiting z.stage) is ∙ waits in
+          let filed : IsFiled forest (filed_in filing p) e.context = k.each p e here waited in
+          subst (λ n. IsFiled forest (filed_in filing n) y.context) (sym s.1) (subst (IsFiled forest (filed_in filing p)) (sym context ∙ ap (λ (z : OpenRow). z.context) is) filed)
+      | inr ne ↦ k.each q y (sym (get_or-set_other table p q (Some x) None ne.1) ∙ there) waits
+    ];
+  }
+
   -- a row at a place, or nothing
   pub set_filed : (p : ℕ) (o : Option OpenRow) → p < length table → AreFiled (slice_set table p o) forest (with_filed filing p (list_for forest o)) doomed turned
   set_filed p o within = record {

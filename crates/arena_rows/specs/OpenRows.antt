@@ -1,5 +1,5 @@
 -- The open rows and their contexts, and how the rows that wait are filed.
-use Rattle.std.specs.Prelude.{◌≡◌, ◌⊎◌, ◌+◌, ◌≤◌, ℕ, nat_lt, Bool, true, false, if◌then◌else◌, List, [], Option, Some, None, length, slice_index_or}
+use Rattle.std.specs.Prelude.{◌≡◌, ◌⊎◌, ◌+◌, ◌≤◌, ℕ, nat_lt, Bool, true, false, if◌then◌else◌, List, [], Option, Some, None, length, option_map, slice_index_or, slice_set}
 use Rattle.cancel_context.specs.Forest.{Forest, IsForest, is_cancelled}
 use Rattle.place_lists.specs.Filing.{Filing, filed_in}
 use Rattle.arena_rows.specs.declared.rows.OpenRow.{OpenRow}
@@ -46,3 +46,7 @@ pub record AreFiled (table : List (Option OpenRow)) (forest : Forest) (filing : 
   pub none_turned : turned ≡ []
   pub sound : IsForest forest
   pub each : (p : ℕ) (e : OpenRow) → slice_index_or table p None ≡ Some e → is_waiting e.stage ≡ true → IsFiled forest (filed_in filing p) e.context
+
+-- The row at a place is changed.
+abbrev pub changed_at : List (Option OpenRow) → ℕ → (OpenRow → OpenRow) → List (Option OpenRow)
+changed_at table p f = slice_set table p (option_map f (slice_index_or table p None))

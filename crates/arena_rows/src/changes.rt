@@ -37,8 +37,7 @@ impl Parts {
         let Stage::Waiting(frame) = opened.stage else {
             return;
         };
-        let stage = Stage::Live(slot, height);
-        self.rows.set(row.place, Some(OpenRow { stage, ..opened }));
+        self.rows.start(row.place, slot, height);
         self.pool.remove(row, &self.regions);
         self.nests.push(on, frame, row, false);
     }
@@ -140,11 +139,12 @@ impl Parts {
         requires few { (e : OpenRow) → at_place self.old.table place ≡ Some e → (group e.groups number).pending < u32.MAX }
         ensures { (e : OpenRow) → at_place self.old.table place ≡ Some e → self.new ≡ with_entry self.old place (with_member number e) }
     {
-        let Some(mut maker) = self.rows.get(place) else {
+        let Some(maker) = self.rows.get(place) else {
             return;
         };
-        maker.groups.add(number.index());
-        self.rows.set(place, Some(maker));
+        let mut groups = maker.groups;
+        groups.add(number.index());
+        self.rows.set_groups(place, groups);
     }
 
     /// Lets a row wait to be started.

@@ -18,6 +18,15 @@ use job_language::{GROUPS, Group};
 use task_group::Groups;
 
 impl Parts {
+    /// The groups of the row at a place.
+    fn groups_at(&self, place: usize) -> Groups
+        requires within { place < length self.now.table }
+        requires there { IsSome (at_place self.now.table place) }
+        ensures { (e : OpenRow) → at_place self.now.table place ≡ Some e → result ≡ e.groups }
+    {
+        self.entry_at(place).groups
+    }
+
     /// Lets a group of the row at a place have one member more, which has ended without a value.
     fn join_ended(&mut self, place: usize, number: Group)
         requires within { place < length self.old.table }
@@ -25,9 +34,9 @@ impl Parts {
         requires few { (e : OpenRow) → at_place self.old.table place ≡ Some e → (group e.groups number).pending < u32.MAX }
         ensures { (e : OpenRow) → at_place self.old.table place ≡ Some e → self.new ≡ with_entry self.old place (with_ended_member number e) }
     {
-        let mut maker = self.entry_at(place);
-        add_ended(&mut maker.groups, number.index());
-        self.rows.set(place, Some(maker));
+        let mut groups = self.groups_at(place);
+        add_ended(&mut groups, number.index());
+        self.rows.set_groups(place, groups);
     }
 
     /// Counts a row as made that has no place.

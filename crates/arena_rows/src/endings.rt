@@ -63,11 +63,12 @@ impl Parts {
         requires pending { (e : OpenRow) → at_place self.old.table place ≡ Some e → 0 < (group e.groups number).pending }
         ensures { (e : OpenRow) → at_place self.old.table place ≡ Some e → self.new ≡ with_entry self.old place (member_left number value e) }
     {
-        let Some(mut maker) = self.rows.get(place) else {
+        let Some(maker) = self.rows.get(place) else {
             return;
         };
-        maker.groups.finish(number.index(), value);
-        self.rows.set(place, Some(maker));
+        let mut groups = maker.groups;
+        groups.finish(number.index(), value);
+        self.rows.set_groups(place, groups);
     }
 
     /// Lets what spawned a row have one pending member less, if it is open.
@@ -115,7 +116,7 @@ impl Parts {
         requires { CanEnd self.old row }
         ensures { (e : OpenRow) → at_place self.old.table row.place ≡ Some e → HasEnded self.old self.new row e value }
     {
-        let entry = self.entry_at(row.place);
+        let entry = *self.entry_at(row.place);
         release_all(&mut self.rows, &entry);
         self.leave_maker(entry.source, value);
         self.take_out(row);

@@ -39,11 +39,12 @@ impl Parts {
     {
         let maker = self.top_row(slot);
         let entry = self.top_entry(slot);
+        let (job, context) = (entry.job, entry.context);
         let height = self.height(slot) as u64 + 1;
         let stage = Stage::Live(slot, height);
         let source = Source::Region(maker);
-        let row = self.enter_row(source, entry.job, Some(slot), stage, entry.context);
-        self.count_row(entry.job);
+        let row = self.enter_row(source, job, Some(slot), stage, context);
+        self.count_row(job);
         self.push_region(slot, frame, row);
     }
 }

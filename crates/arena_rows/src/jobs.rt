@@ -15,10 +15,10 @@ use job_language::JobFault;
 
 impl Parts {
     /// The entry at a place.
-    pub(crate) fn entry_at(&self, place: usize) -> OpenRow
+    pub(crate) fn entry_at(&self, place: usize) -> &OpenRow
         requires within { place < length self.now.table }
         requires there { IsSome (at_place self.now.table place) }
-        ensures { at_place self.now.table place ≡ Some result }
+        ensures { at_place self.now.table place ≡ Some result.now }
     {
         let Some(entry) = self.rows.get(place) else {
             unreachable!();
@@ -27,12 +27,12 @@ impl Parts {
     }
 
     /// The entry of a slot's topmost row.
-    pub(crate) fn top_entry(&self, slot: u8) -> OpenRow
+    pub(crate) fn top_entry(&self, slot: u8) -> &OpenRow
         requires { HasTop self.now slot }
         ensures entry { (s : State) (n : ℕ) (is : Holds self.now s) → top s.rows slot ≡ Some n
-            → (at_place self.now.table (is.places n) ≡ Some result) × IsRow s.rows is.places n result }
-        ensures above { self.now.retired < result.job }
-        ensures below { result.job - self.now.retired ≤ length self.now.jobs }
+            → (at_place self.now.table (is.places n) ≡ Some result.now) × IsRow s.rows is.places n result.now }
+        ensures above { self.now.retired < result.now.job }
+        ensures below { result.now.job - self.now.retired ≤ length self.now.jobs }
     {
         let Some(top) = self.top(slot) else {
             unreachable!();

@@ -54,9 +54,9 @@ impl Parts {
         requires ended { (e : OpenRow) → at_place self.old.table place ≡ Some e → (group e.groups number).pending ≡ 0 }
         ensures { (e : OpenRow) → at_place self.old.table place ≡ Some e → self.new ≡ with_entry self.old place (with_group_emptied number e) }
     {
-        let mut entry = self.entry_at(place);
-        entry.groups.take_total(number.index());
-        self.rows.set(place, Some(entry));
+        let mut groups = self.entry_at(place).groups;
+        groups.take_total(number.index());
+        self.rows.set_groups(place, groups);
     }
 
     /// Lets a group of a slot's topmost row start afresh. Its context, if it has one, stays with it.

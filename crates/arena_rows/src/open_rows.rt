@@ -1,16 +1,20 @@
 // The open rows and their contexts, with the rows that wait filed by their contexts.
-ghost use Rattle.std.specs.Prelude.{◌≡◌, ◌⊎◌, ◌≢◌, ◌+◌, ◌*◌, ◌<◌, ◌≤◌, ℕ, None, Some, Contains, IfOk, IfSome, [], false, true, length, replicate, slice_index_or, slice_set, vec_capacity};
-ghost use Rattle.std.specs.Option.{ForSome};
+ghost use Rattle.std.specs.Prelude.{◌≡◌, ◌⊎◌, ◌≢◌, ◌+◌, ◌*◌, ◌<◌, ◌≤◌, ℕ, None, Some, Contains, IfOk, IfSome, IsSome, [], false, true, length, replicate, slice_index_or, slice_set, vec_capacity};
 ghost use Rattle.cancel_context.specs.Forest.{IsForest, IsHeld, binding, held_count, is_cancelled, parent, with_bound, with_request, without};
 ghost use Rattle.cancel_context.specs.declared.contexts.TheConstants.{BASE_CONTEXTS, CONTEXTS_PER_ROW, MAX_ROWS};
 ghost use Rattle.place_lists.specs.Filing.{filed_in};
-ghost use Rattle.arena_rows.specs.OpenRows.{AreFiled, AreFine, IsDoomed, list_for};
+ghost use Rattle.arena_rows.specs.OpenRows.{AreFiled, AreFine, IsDoomed, changed_at, list_for};
+ghost use Rattle.arena_rows.specs.HeldChanges.{with_group};
+ghost use Rattle.arena_rows.specs.declared.rows.Stage.TheVariants as stage;
+ghost use Rattle.std.specs.Option.{ForSome, option_copied};
 
 use crate::rows::{OpenRow, Stage};
 use cancel_context::{BASE_CONTEXTS, CONTEXTS_PER_ROW, ContextId, Contexts};
+use job_language::Group;
 use place_lists::Filing;
 use std::alloc::{AllocError, Global};
 use std::marker::Model;
+use task_group::Groups;
 
 /// The open rows by their places, and the contexts. A row that waits is filed by its context, so that a
 /// cancellation leads to the rows that are to be dropped, and no others are looked at.
@@ -66,10 +70,10 @@ impl OpenRows {
     }
 
     /// What stands at a place; nothing where it is free, or not there.
-    pub(crate) fn get(&self, place: usize) -> Option<OpenRow>
-        ensures { result ≡ slice_index_or self.now.table place None }
+    pub(crate) fn get(&self, place: usize) -> Option<&OpenRow>
+        ensures { option_copied result ≡ slice_index_or self.now.table place None }
     {
-        *self.table.get(place)?
+        self.table.get(place)?.as_ref()
     }
 
     /// Lets a row stand at a place, or nothing.
@@ -80,6 +84,43 @@ impl OpenRows {
         let list = list_for(&self.contexts, self.doomed, &entry);
         self.table[place] = entry;
         file(&mut self.filing, place, list);
+    }
+
+    /// Lets the row at a place go live on a slot, at a height.
+    pub(crate) fn start(&mut self, place: usize, slot: u8, height: u64)
+        requires place { place < length self.old.table }
+        requires there { IsSome (slice_index_or self.old.table place None) }
+        ensures { self.new ≡ record self.old { table = changed_at self.old.table place (λ e. record e { stage = stage.Live slot height }) } }
+    {
+        let Some(entry) = &mut self.table[place] else {
+            unreachable!();
+        };
+        entry.stage = Stage::Live(slot, height);
+        self.filing.unfile(place);
+    }
+
+    /// Gives the row at a place other groups.
+    pub(crate) fn set_groups(&mut self, place: usize, groups: Groups)
+        requires place { place < length self.old.table }
+        requires there { IsSome (slice_index_or self.old.table place None) }
+        ensures { self.new ≡ record self.old { table = changed_at self.old.table place (λ e. record e { groups = groups }) } }
+    {
+        let Some(entry) = &mut self.table[place] else {
+            unreachable!();
+        };
+        entry.groups = groups;
+    }
+
+    /// Gives a group of the row at a place a context.
+    pub(crate) fn set_group_context(&mut self, place: usize, group: Group, context: ContextId)
+        requires place { place < length self.old.table }
+        requires there { IsSome (slice_index_or self.old.table place None) }
+        ensures { self.new ≡ record self.old { table = changed_at self.old.table place (with_group group context) } }
+    {
+        let Some(entry) = &mut self.table[place] else {
+            unreachable!();
+        };
+        entry.group_contexts[group.index()] = Some(context);
     }
 
     /// The place of a row that waits and whose context is cancelled.

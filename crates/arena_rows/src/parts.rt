@@ -1,5 +1,6 @@
 // The parts of an arena, and what they answer.
 ghost use Rattle.std.specs.Prelude.{◌≡◌, ◌<◌, length, nat_le, option_and_then};
+ghost use Rattle.std.specs.Option.{option_copied};
 ghost use Rattle.nest_stack.specs.Nest.{stack, top};
 ghost use Rattle.region_tag.specs.Region.{region_of};
 
@@ -71,9 +72,9 @@ impl Parts {
     }
 
     /// The topmost row of a slot.
-    pub fn top(&self, slot: u8) -> Option<Nested>
+    pub fn top(&self, slot: u8) -> Option<&Nested>
         requires { slot < length self.now.nests }
-        ensures { result ≡ top (stack self.now.nests slot) }
+        ensures { option_copied result ≡ top (stack self.now.nests slot) }
     {
         self.nests.top(usize::from(slot))
     }

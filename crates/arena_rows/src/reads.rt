@@ -113,7 +113,7 @@ impl Parts {
         requires { HasTop self.now slot }
         ensures { (s : State) (n : ℕ) → Holds self.now s → top s.rows slot ≡ Some n → result ≡ has_used_group s n }
     {
-        let groups = self.top_entry(slot).groups;
+        let groups = &self.top_entry(slot).groups;
         groups.is_used(0) || groups.is_used(1) || groups.is_used(2) || groups.is_used(3)
     }
 

@@ -29,10 +29,9 @@ impl Parts {
         ensures count { held_count self.new.contexts ≡ held_count self.old.contexts + 1 }
         ensures given { (e : OpenRow) → at_place self.old.table place ≡ Some e → self.new ≡ group_given self.old place group result e }
     {
-        let mut entry = self.entry_at(place);
-        let context = self.rows.bind(Some(entry.context));
-        entry.group_contexts[group.index()] = Some(context);
-        self.rows.set(place, Some(entry));
+        let parent = self.entry_at(place).context;
+        let context = self.rows.bind(Some(parent));
+        self.rows.set_group_context(place, group, context);
         context
     }
 

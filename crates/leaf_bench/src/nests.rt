@@ -90,7 +90,7 @@ fn push(nests: &mut Nests, slot: usize, frame: Frame, row: RowId)
 fn top(nests: &Nests, slot: usize) -> Option<Nested>
     requires { slot < length nests.now }
 {
-    nests.top(slot)
+    nests.top(slot).copied()
 }
 
 #[inline(never)]

@@ -1,5 +1,6 @@
 // The stacks of all slots.
 ghost use Rattle.std.specs.Prelude.{◌≡◌, ◌<◌, ◌≤◌, ◌++◌, [], ◌∷◌, Some, IfOk, length, replicate};
+ghost use Rattle.std.specs.Option.{option_copied};
 ghost use Rattle.nest_stack.specs.Nest.{stack, with_stack, at_height, top, below, with_top_frame, task_height};
 
 use crate::stack::{MAX_HEIGHT, Nested, Stack};
@@ -50,9 +51,9 @@ impl Nests {
     }
 
     /// The topmost row of a slot.
-    pub fn top(&self, slot: usize) -> Option<Nested>
+    pub fn top(&self, slot: usize) -> Option<&Nested>
         requires { slot < length self.now }
-        ensures { result ≡ top (stack self.now slot) }
+        ensures { option_copied result ≡ top (stack self.now slot) }
     {
         self.stacks[slot].top()
     }

@@ -1,5 +1,6 @@
 // The stack of one slot.
 ghost use Rattle.std.specs.Prelude.{◌≡◌, ◌<◌, ◌≤◌, ◌++◌, [], ◌∷◌, Some, IfOk, length};
+ghost use Rattle.std.specs.Option.{option_copied};
 ghost use Rattle.nest_stack.specs.Nest.{at_height, top, below, with_top_frame, task_height};
 
 use job_step::Frame;
@@ -67,10 +68,10 @@ impl Stack {
     }
 
     /// The topmost row.
-    pub(crate) fn top(&self) -> Option<Nested>
-        ensures { result ≡ top self.now }
+    pub(crate) fn top(&self) -> Option<&Nested>
+        ensures { option_copied result ≡ top self.now }
     {
-        self.rows.last().copied()
+        self.rows.last()
     }
 
     /// The row at a height.
@@ -88,8 +89,7 @@ impl Stack {
         ensures { self.new ≡ with_top_frame self.old frame }
     {
         let top = self.rows.len() - 1;
-        let nested = self.rows[top];
-        self.rows[top] = Nested { frame, ..nested };
+        self.rows[top].frame = frame;
     }
 
     /// Takes the topmost row.

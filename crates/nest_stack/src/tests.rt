@@ -40,14 +40,14 @@ fn a_task_goes_with_its_regions(rt: HostRuntime) -> Result<(), Fail> {
     let task = nested(1, 2, false);
     let outer = nested(2, 3, true);
     let inner = nested(3, 4, true);
-    assert_eq!(rt; nests.top(1), None);
+    assert_eq!(rt; nests.top(1).copied(), None);
     nests.push(1, root.frame, root.row, false);
     nests.push(1, task.frame, task.row, false);
     nests.push(1, outer.frame, outer.row, true);
     nests.push(1, inner.frame, inner.row, true);
     assert_eq!(rt; nests.height(1), 4);
     assert_eq!(rt; nests.height(0), 0);
-    assert_eq!(rt; nests.top(1), Some(inner));
+    assert_eq!(rt; nests.top(1).copied(), Some(inner));
     assert_eq!(rt; nests.at_height(1, 1), root);
     assert_eq!(rt; nests.at_height(1, 3), outer);
     assert_eq!(rt; nests.task_height(1), 2);
@@ -57,9 +57,9 @@ fn a_task_goes_with_its_regions(rt: HostRuntime) -> Result<(), Fail> {
         frame: root.frame,
         ..outer
     };
-    assert_eq!(rt; nests.top(1), Some(moved));
+    assert_eq!(rt; nests.top(1).copied(), Some(moved));
     nests.pop_task(1);
-    assert_eq!(rt; nests.top(1), Some(root));
+    assert_eq!(rt; nests.top(1).copied(), Some(root));
     assert_eq!(rt; nests.task_height(1), 1);
     nests.pop_task(1);
     assert_eq!(rt; nests.height(1), 0);

@@ -14,13 +14,13 @@ or_true false = refl
 
 pub ask_job-requires-clause-held : goal.ask_job-requires-clause-held
 ask_job-requires-clause-held c = λ d.
-    let e = c.top_entry-job.ensures in
-    job_held c.args.self.now c.requires.0 c.requires.2 c.top_entry-job.result.job e.above e.below d
+    let e = c.top_entry.ensures in
+    job_held c.args.self.now c.requires.0 c.requires.2 c.top_entry.result.now.job e.above e.below d
 
 pub returns-clause-holds : goal.returns-clause-holds
 returns-clause-holds c = λ s n is on_top.
     let a = c.args.self.now in
-    let e = c.top_entry-job.ensures in
+    let e = c.top_entry.ensures in
     let its_job = (e.entry s n is on_top).1.job in
     let above : a.retired < (row s.rows n).job = rw its_job at e.above in
     let below : (row s.rows n).job - a.retired ≤ length a.jobs = rw its_job at e.below in
@@ -33,10 +33,10 @@ returns-clause-holds c = λ s n is on_top.
     rw new (asked_holds a s is (row s.rows n).job above below f no_job count cancelled refl refl refl (λ some. some_fault w.fault c.args.fault))
 
 pub note_fault-requires-clause-above : goal.note_fault-requires-clause-above
-note_fault-requires-clause-above c = let asked = c.ask_job.ensures.asked no_job in rw asked c.top_entry-job.ensures.above
+note_fault-requires-clause-above c = let asked = c.ask_job.ensures.asked no_job in rw asked c.top_entry.ensures.above
 
 pub note_fault-requires-clause-below : goal.note_fault-requires-clause-below
-note_fault-requires-clause-below c = let asked = c.ask_job.ensures.asked no_job in rw asked c.top_entry-job.ensures.below
+note_fault-requires-clause-below c = let asked = c.ask_job.ensures.asked no_job in rw asked c.top_entry.ensures.below
 
 pub returns-clause-forest : goal.returns-clause-forest
 returns-clause-forest c = rw (c.note_fault.ensures no_job) c.ask_job.ensures.forest

@@ -22,8 +22,8 @@ returns-in-Some-clause-given c = λ s n is on_top.
     let it = c.top_entry-entry.ensures.entry s n is on_top in
     let value = c.index.ensures.value in
     let few : c.args.group < GROUPS = rw value at c.index.ensures.in_range in
-    let some : slice_index_or c.top_entry-entry.result.group_contexts c.index.result None ≡ Some c.in-Some.context = get_or_default c.top_entry-entry.result.group_contexts c.index.result None _ (omega (arith, c.index.ensures.in_range, it.1.all_contexts)) ∙ c.in-Some.is in
-    let there = (is.contexts.in_table (is.places n) c.top_entry-entry.result it.0).1 c.args.group few in
+    let some : slice_index_or c.top_entry-entry.result.now.group_contexts c.index.result None ≡ Some c.in-Some.context = get_or_default c.top_entry-entry.result.now.group_contexts c.index.result None _ (omega (arith, c.index.ensures.in_range, it.1.all_contexts)) ∙ c.in-Some.is in
+    let there = (is.contexts.in_table (is.places n) c.top_entry-entry.result.now it.0).1 c.args.group few in
     record { holds = is; places = λ m. refl; given = ap (λ k. is.assigned.of_group k c.args.group) (sym it.1.number) ∙ sym there ∙ rw value at some }
 
 pub bind_group-requires-clause-within : goal.bind_group-requires-clause-within
@@ -44,8 +44,8 @@ bind_group-requires-clause-room c =
     let h = c.requires in
     let it = c.top_entry-entry.ensures.entry h.0 h.1 h.2 h.3 in
     let few = c.index.ensures.in_range in
-    let none : slice_index_or c.top_entry-entry.result.group_contexts c.index.result None ≡ None = get_or_default c.top_entry-entry.result.group_contexts c.index.result None _ (omega (arith, few, it.1.all_contexts)) ∙ c.in_default.is in
-    group_room c.args.self.now h.0 h.2 (h.2.places h.1) c.index.result c.top_entry-entry.result (top_stands c.args.self.now h.0 h.2 c.args.slot h.1 h.3).within it.0 it.1.all_contexts few none
+    let none : slice_index_or c.top_entry-entry.result.now.group_contexts c.index.result None ≡ None = get_or_default c.top_entry-entry.result.now.group_contexts c.index.result None _ (omega (arith, few, it.1.all_contexts)) ∙ c.in_default.is in
+    group_room c.args.self.now h.0 h.2 (h.2.places h.1) c.index.result c.top_entry-entry.result.now (top_stands c.args.self.now h.0 h.2 c.args.slot h.1 h.3).within it.0 it.1.all_contexts few none
 
 pub bind_group-requires-clause-parent : goal.bind_group-requires-clause-parent
 bind_group-requires-clause-parent c = λ e here.
@@ -60,7 +60,7 @@ bind_group-requires-clause-parent c = λ e here.
 pub returns-clause-given : goal.returns-clause-given
 returns-clause-given c = λ s n is on_top.
     let a = c.args.self.now in
-    let e = c.top_entry-entry.result in
+    let e = c.top_entry-entry.result.now in
     let it = c.top_entry-entry.ensures.entry s n is on_top in
     let row_is = c.top_row-row.ensures s n is on_top in
     let value = c.index.ensures.value in
@@ -82,7 +82,7 @@ returns-clause-free c =
     let h = c.requires in
     let row = c.top_row-row.ensures h.0 h.1 h.2 h.3 in
     let there = (c.top_entry-entry.ensures.entry h.0 h.1 h.2 h.3).0 in
-    let new = c.bind_group.ensures.given c.top_entry-entry.result (rw row there) in
+    let new = c.bind_group.ensures.given c.top_entry-entry.result.now (rw row there) in
     rw new refl
 
 pub returns-clause-made : goal.returns-clause-made
@@ -90,5 +90,5 @@ returns-clause-made c =
     let h = c.requires in
     let row = c.top_row-row.ensures h.0 h.1 h.2 h.3 in
     let there = (c.top_entry-entry.ensures.entry h.0 h.1 h.2 h.3).0 in
-    let new = c.bind_group.ensures.given c.top_entry-entry.result (rw row there) in
+    let new = c.bind_group.ensures.given c.top_entry-entry.result.now (rw row there) in
     rw new refl

@@ -6,8 +6,8 @@ use Rattle.arena_rows.proofs.parts.Parts.has_used_group.Goals.{then-is_used, els
 
 pub returns-then-is_used-3 : goal.returns-then-is_used-3
 returns-then-is_used-3 c = λ s n is on_top.
-    let groups = c.top_entry-groups.result.groups in
-    let told = used_told c.args.self.now s is n c.top_entry-groups.result (c.top_entry-groups.ensures.entry s n is on_top).1 in
+    let groups = c.top_entry.result.now.groups in
+    let told = used_told c.args.self.now s is n c.top_entry.result.now (c.top_entry.ensures.entry s n is on_top).1 in
     let two : c.if-is_used.value ≡ ((group groups 0).is_used || (group groups 1).is_used) = elim c.if-is_used.branch [
       | then-is_used w ↦ grind (arith, w.value-is, w.if-is_used.true, c.is_used.ensures)
       | else-is_used w ↦ grind (arith, w.value-is, w.if-is_used.false, c.is_used.ensures, w.is_used-else-is_used.ensures)
@@ -20,8 +20,8 @@ returns-then-is_used-3 c = λ s n is on_top.
 
 pub returns-else-is_used-3 : goal.returns-else-is_used-3
 returns-else-is_used-3 c = λ s n is on_top.
-    let groups = c.top_entry-groups.result.groups in
-    let told = used_told c.args.self.now s is n c.top_entry-groups.result (c.top_entry-groups.ensures.entry s n is on_top).1 in
+    let groups = c.top_entry.result.now.groups in
+    let told = used_told c.args.self.now s is n c.top_entry.result.now (c.top_entry.ensures.entry s n is on_top).1 in
     let two : c.if-is_used.value ≡ ((group groups 0).is_used || (group groups 1).is_used) = elim c.if-is_used.branch [
       | then-is_used w ↦ grind (arith, w.value-is, w.if-is_used.true, c.is_used.ensures)
       | else-is_used w ↦ grind (arith, w.value-is, w.if-is_used.false, c.is_used.ensures, w.is_used-else-is_used.ensures)

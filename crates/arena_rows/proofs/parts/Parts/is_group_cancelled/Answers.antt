@@ -11,13 +11,13 @@ pub is_context_cancelled-requires : goal.is_context_cancelled-requires
 is_context_cancelled-requires c =
     let h = c.requires in
     let a = c.args.self.now in
-    let e = c.top_entry-entry.result in
+    let e = c.top_entry-entry.result.now in
     entry_held a h.0 h.2 h.1 e (is_entry a h.0 h.2 h.1 e (top_open a h.0 h.2 c.args.slot h.1 h.3) (c.top_entry-entry.ensures.entry h.0 h.1 h.2 h.3).0)
 
 pub returns-in_default : goal.returns-in_default
 returns-in_default c = λ s n is on_top.
     let a = c.args.self.now in
-    let e = c.top_entry-entry.result in
+    let e = c.top_entry-entry.result.now in
     let it = c.top_entry-entry.ensures.entry s n is on_top in
     let value = c.index.ensures.value in
     let few : c.args.group < GROUPS = rw value at c.index.ensures.in_range in
@@ -28,7 +28,7 @@ pub is_context_cancelled-requires-2 : goal.is_context_cancelled-requires-2
 is_context_cancelled-requires-2 c =
     let h = c.requires in
     let a = c.args.self.now in
-    let e = c.top_entry-entry.result in
+    let e = c.top_entry-entry.result.now in
     let it = c.top_entry-entry.ensures.entry h.0 h.1 h.2 h.3 in
     let value = c.index.ensures.value in
     let few : c.args.group < GROUPS = rw value at c.index.ensures.in_range in
@@ -38,7 +38,7 @@ is_context_cancelled-requires-2 c =
 pub returns : goal.returns
 returns c = λ s n is on_top.
     let a = c.args.self.now in
-    let e = c.top_entry-entry.result in
+    let e = c.top_entry-entry.result.now in
     let it = c.top_entry-entry.ensures.entry s n is on_top in
     let value = c.index.ensures.value in
     let few : c.args.group < GROUPS = rw value at c.index.ensures.in_range in

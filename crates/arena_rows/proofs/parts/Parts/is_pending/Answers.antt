@@ -6,7 +6,7 @@ use Rattle.arena_rows.proofs.parts.Parts.is_pending.Goals as goal
 
 pub returns : goal.returns
 returns c = λ s n is on_top.
-    let e = c.top_entry.result in
+    let e = c.top_entry.result.now in
     let value = c.index.ensures.value in
     let few : c.args.group < GROUPS = rw value at c.index.ensures.in_range in
     let counted : c.pending.result ≡ (group e.groups c.args.group).pending = rw value at c.pending.ensures in

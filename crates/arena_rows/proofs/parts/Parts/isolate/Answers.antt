@@ -29,9 +29,9 @@ count_row-requires-clause-few c = λ d.
     let h = c.requires.top in
     let e = c.top_entry-entry.ensures in
     let new = c.enter_row-row.ensures.entered in
-    let long = length-set a.table (next_place a) (Some (region_entry a c.top_row-maker.result c.top_entry-entry.result.job c.top_entry-entry.result.context c.args.slot)) in
+    let long = length-set a.table (next_place a) (Some (region_entry a c.top_row-maker.result c.top_entry-entry.result.now.job c.top_entry-entry.result.now.context c.args.slot)) in
     let high = c.height.ensures in
-    rw (new, high) (omega (arith, long, few_open a h.0 h.2 c.top_entry-entry.result.job e.above e.below c.requires.free d))
+    rw (new, high) (omega (arith, long, few_open a h.0 h.2 c.top_entry-entry.result.now.job e.above e.below c.requires.free d))
 
 pub push_region-requires-clause-slot : goal.push_region-requires-clause-slot
 push_region-requires-clause-slot c =
@@ -56,11 +56,11 @@ returns c = λ s n is on_top steady.
     let there = top_there a s is c.args.slot n on_top in
     let to_id : ℕ → RowId = λ p. record { number = n; place = p } in
     let maker : c.top_row-maker.result ≡ id_of next.holds.places n = c.top_row-maker.ensures s n is on_top ∙ ap to_id (sym (next.old n there.1)) in
-    let ctx = c.top_entry-entry.result.context in
-    let told : ctx ≡ next.holds.assigned.of_row n = (is.contexts.in_table (is.places n) c.top_entry-entry.result entry.0).0 ∙ ap is.assigned.of_row entry.1.number ∙ ap (λ x. x.of_row n) (sym next.assigned) in
+    let ctx = c.top_entry-entry.result.now.context in
+    let told : ctx ≡ next.holds.assigned.of_row n = (is.contexts.in_table (is.places n) c.top_entry-entry.result.now entry.0).0 ∙ ap is.assigned.of_row entry.1.number ∙ ap (λ x. x.of_row n) (sym next.assigned) in
     let high = c.height.ensures in
-    let e : OpenRow = region_entry a c.top_row-maker.result c.top_entry-entry.result.job ctx c.args.slot in
-    let b : Held = job_counted (entered a e) c.top_entry-entry.result.job no_job in
+    let e : OpenRow = region_entry a c.top_row-maker.result c.top_entry-entry.result.now.job ctx c.args.slot in
+    let b : Held = job_counted (entered a e) c.top_entry-entry.result.now.job no_job in
     let id = c.enter_row-row.ensures.row in
     let entered_is : c.enter_row-row.new.self ≡ entered a e = rw high at c.enter_row-row.ensures.entered in
     let counted : c.count_row.new.self ≡ b = rw entered_is at (c.count_row.ensures no_job) in

@@ -16,25 +16,25 @@ use Rattle.arena_rows.proofs.parts.Parts.post.Goals as goal
 pub count_row-requires-clause-few : goal.count_row-requires-clause-few
 count_row-requires-clause-few c = λ d.
     let a = c.args.self.now in
-    let e = c.top_entry-job.ensures in
+    let e = c.top_entry.ensures in
     let new = c.enter_row-row.ensures.entered in
-    let long = length-set a.table (next_place a) (Some (posted_entry a c.top_entry-job.result.job c.context_of-context.result c.args.frame)) in
-    rw new (omega (arith, long, few_open a c.requires.rests.0 c.requires.rests.1.holds c.top_entry-job.result.job e.above e.below c.requires.free d))
+    let long = length-set a.table (next_place a) (Some (posted_entry a c.top_entry.result.now.job c.context_of-context.result c.args.frame)) in
+    rw new (omega (arith, long, few_open a c.requires.rests.0 c.requires.rests.1.holds c.top_entry.result.now.job e.above e.below c.requires.free d))
 
 pub wait-requires : goal.wait-requires
 wait-requires c =
     let a = c.args.self.now in
     let rests = c.requires.rests in
-    let e : OpenRow = posted_entry a c.top_entry-job.result.job c.context_of-context.result c.args.frame in
+    let e : OpenRow = posted_entry a c.top_entry.result.now.job c.context_of-context.result c.args.frame in
     let id = c.enter_row-row.ensures.row in
     let entered_is = c.enter_row-row.ensures.entered in
     let counted = rw entered_is at (c.count_row.ensures no_job) in
-    rw (counted, id) (can_wait a rests.0 rests.1 (job_counted (entered a e) c.top_entry-job.result.job no_job) e None c.requires.free refl refl (λ x none. absurd (some_none x (sym none))) refl (λ x none. absurd (some_none x (sym none))))
+    rw (counted, id) (can_wait a rests.0 rests.1 (job_counted (entered a e) c.top_entry.result.now.job no_job) e None c.requires.free refl refl (λ x none. absurd (some_none x (sym none))) refl (λ x none. absurd (some_none x (sym none))))
 
 pub returns : goal.returns
 returns c = λ s n rests on_top steady.
     let a = c.args.self.now in
-    let t = c.top_entry-job.ensures in
+    let t = c.top_entry.ensures in
     let its_job = (t.entry s n rests.holds on_top).1.job in
     let j = (row s.rows n).job in
     let above : a.retired < j = rw its_job at t.above in
@@ -42,8 +42,8 @@ returns c = λ s n rests on_top steady.
     let next = next_placed a s rests.holds (next_place a) in
     let ctx = c.context_of-context.result in
     let told : ctx ≡ next.holds.assigned.of_job j = rw its_job at (c.context_of-context.ensures no_job) ∙ context_told a s rests.holds j above below no_job ∙ ap (λ x. x.of_job j) (sym next.assigned) in
-    let e : OpenRow = posted_entry a c.top_entry-job.result.job ctx c.args.frame in
-    let b : Held = job_counted (entered a e) c.top_entry-job.result.job no_job in
+    let e : OpenRow = posted_entry a c.top_entry.result.now.job ctx c.args.frame in
+    let b : Held = job_counted (entered a e) c.top_entry.result.now.job no_job in
     let at : HasNext a = has_next a s rests.holds c.requires.free in
     let tag : region_of b.regions (next_id a) ≡ None = new_tag a e (omega (arith, at.within, at.regions)) in
     let id = c.enter_row-row.ensures.row in

@@ -6,6 +6,6 @@ use Rattle.arena_rows.proofs.parts.Parts.program.Goals as goal
 
 pub returns : goal.returns
 returns c = λ s n is on_top.
-    let its_job = (c.top_entry-job.ensures.entry s n is on_top).1.job in
+    let its_job = (c.top_entry.ensures.entry s n is on_top).1.job in
     let told = rw its_job at (c.work_of.ensures no_job) in
     ap (λ (w : Work). w.program) (told ∙ work_told c.args.self.now s is c.args.slot n on_top no_job)

@@ -40,7 +40,7 @@ pub take_back-requires : goal.take_back-requires
 take_back-requires c =
     let h = c.requires in
     let a = c.args.self.now in
-    let e = c.top_entry.result in
+    let e = c.top_entry.result.now in
     let it = c.top_entry.ensures.entry h.0 h.1 h.2 h.3 in
     let row = c.top_row-place.ensures h.0 h.1 h.2 h.3 in
     let value = c.index.ensures.value in
@@ -55,7 +55,7 @@ returns-in-Some-clause-restarted c = λ s n rests on_top ended.
     let is = rests.holds in
     let g = c.args.group in
     let context = c.in-Some.context in
-    let e = c.top_entry.result in
+    let e = c.top_entry.result.now in
     let it = c.top_entry.ensures.entry s n is on_top in
     let row = c.top_row-place.ensures s n is on_top in
     let value = c.index.ensures.value in
@@ -76,7 +76,7 @@ returns-in-Some-clause-nests c =
     let h = c.requires in
     let row = c.top_row-place.ensures h.0 h.1 h.2 h.3 in
     let there = (c.top_entry.ensures.entry h.0 h.1 h.2 h.3).0 in
-    let emptied = c.empty_group.ensures c.top_entry.result (rw row there) in
+    let emptied = c.empty_group.ensures c.top_entry.result.now (rw row there) in
     let taken = c.take_back.ensures.taken_back in
     ap (λ (x : Held). x.nests) taken ∙ ap (λ (x : Held). x.nests) emptied
 
@@ -85,7 +85,7 @@ returns-in_default-clause-restarted c = λ s n rests on_top ended.
     let a = c.args.self.now in
     let is = rests.holds in
     let g = c.args.group in
-    let e = c.top_entry.result in
+    let e = c.top_entry.result.now in
     let it = c.top_entry.ensures.entry s n is on_top in
     let row = c.top_row-place.ensures s n is on_top in
     let value = c.index.ensures.value in
@@ -102,5 +102,5 @@ returns-in_default-clause-nests c =
     let h = c.requires in
     let row = c.top_row-place.ensures h.0 h.1 h.2 h.3 in
     let there = (c.top_entry.ensures.entry h.0 h.1 h.2 h.3).0 in
-    let emptied = c.empty_group.ensures c.top_entry.result (rw row there) in
+    let emptied = c.empty_group.ensures c.top_entry.result.now (rw row there) in
     ap (λ (x : Held). x.nests) emptied

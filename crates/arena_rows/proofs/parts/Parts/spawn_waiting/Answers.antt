@@ -30,8 +30,8 @@ use Rattle.arena_rows.proofs.parts.Parts.spawn_waiting.Goals as goal
 pub top_row-maker-requires : goal.top_row-maker-requires
 top_row-maker-requires c = let h = c.requires.given in (h.0, h.1, h.2, h.4)
 
-pub top_entry-job-requires : goal.top_entry-job-requires
-top_entry-job-requires c = let h = c.requires.given in (h.0, h.1, h.2, h.4)
+pub top_entry-requires : goal.top_entry-requires
+top_entry-requires c = let h = c.requires.given in (h.0, h.1, h.2, h.4)
 
 pub bind_row-own-requires-clause-room : goal.bind_row-own-requires-clause-room
 bind_row-own-requires-clause-room c = let h = c.requires.given in row_room c.args.self.now h.0 h.2 c.requires.free
@@ -68,9 +68,9 @@ pub enter_row-row-requires-clause-free : goal.enter_row-row-requires-clause-free
 enter_row-row-requires-clause-free c =
     let h = c.requires.given in
     let a = c.args.self.now in
-    let me = c.top_entry-job.result in
+    let me = c.top_entry.result.now in
     let maker = c.top_row-maker.result in
-    let at_maker : at_place a.table maker.place ≡ Some me = ap (λ (r : RowId). at_place a.table r.place) (c.top_row-maker.ensures h.0 h.1 h.2 h.4) ∙ (c.top_entry-job.ensures.entry h.0 h.1 h.2 h.4).0 in
+    let at_maker : at_place a.table maker.place ≡ Some me = ap (λ (r : RowId). at_place a.table r.place) (c.top_row-maker.ensures h.0 h.1 h.2 h.4) ∙ (c.top_entry.ensures.entry h.0 h.1 h.2 h.4).0 in
     let joins = joined_is a c.bind_row-own.new.self c.join.new.self c.bind_row-own.result c.args.context maker.place c.args.group me at_maker c.bind_row-own.ensures.bound c.join.ensures in
     rw joins c.requires.free
 
@@ -78,9 +78,9 @@ pub enter_row-row-requires-clause-few : goal.enter_row-row-requires-clause-few
 enter_row-row-requires-clause-few c =
     let h = c.requires.given in
     let a = c.args.self.now in
-    let me = c.top_entry-job.result in
+    let me = c.top_entry.result.now in
     let maker = c.top_row-maker.result in
-    let at_maker : at_place a.table maker.place ≡ Some me = ap (λ (r : RowId). at_place a.table r.place) (c.top_row-maker.ensures h.0 h.1 h.2 h.4) ∙ (c.top_entry-job.ensures.entry h.0 h.1 h.2 h.4).0 in
+    let at_maker : at_place a.table maker.place ≡ Some me = ap (λ (r : RowId). at_place a.table r.place) (c.top_row-maker.ensures h.0 h.1 h.2 h.4) ∙ (c.top_entry.ensures.entry h.0 h.1 h.2 h.4).0 in
     let joins = joined_is a c.bind_row-own.new.self c.join.new.self c.bind_row-own.result c.args.context maker.place c.args.group me at_maker c.bind_row-own.ensures.bound c.join.ensures in
     rw joins (omega (arith, c.requires.few))
 
@@ -88,9 +88,9 @@ pub enter_row-row-requires-clause-place : goal.enter_row-row-requires-clause-pla
 enter_row-row-requires-clause-place c =
     let h = c.requires.given in
     let a = c.args.self.now in
-    let me = c.top_entry-job.result in
+    let me = c.top_entry.result.now in
     let maker = c.top_row-maker.result in
-    let at_maker : at_place a.table maker.place ≡ Some me = ap (λ (r : RowId). at_place a.table r.place) (c.top_row-maker.ensures h.0 h.1 h.2 h.4) ∙ (c.top_entry-job.ensures.entry h.0 h.1 h.2 h.4).0 in
+    let at_maker : at_place a.table maker.place ≡ Some me = ap (λ (r : RowId). at_place a.table r.place) (c.top_row-maker.ensures h.0 h.1 h.2 h.4) ∙ (c.top_entry.ensures.entry h.0 h.1 h.2 h.4).0 in
     let joins = joined_is a c.bind_row-own.new.self c.join.new.self c.bind_row-own.result c.args.context maker.place c.args.group me at_maker c.bind_row-own.ensures.bound c.join.ensures in
     let next = has_next a h.0 h.2 c.requires.free in
     rw joins (omega (arith, next.within, length-set a.table maker.place (Some (with_member c.args.group me))))
@@ -99,9 +99,9 @@ pub enter_row-row-requires-clause-regions : goal.enter_row-row-requires-clause-r
 enter_row-row-requires-clause-regions c =
     let h = c.requires.given in
     let a = c.args.self.now in
-    let me = c.top_entry-job.result in
+    let me = c.top_entry.result.now in
     let maker = c.top_row-maker.result in
-    let at_maker : at_place a.table maker.place ≡ Some me = ap (λ (r : RowId). at_place a.table r.place) (c.top_row-maker.ensures h.0 h.1 h.2 h.4) ∙ (c.top_entry-job.ensures.entry h.0 h.1 h.2 h.4).0 in
+    let at_maker : at_place a.table maker.place ≡ Some me = ap (λ (r : RowId). at_place a.table r.place) (c.top_row-maker.ensures h.0 h.1 h.2 h.4) ∙ (c.top_entry.ensures.entry h.0 h.1 h.2 h.4).0 in
     let joins = joined_is a c.bind_row-own.new.self c.join.new.self c.bind_row-own.result c.args.context maker.place c.args.group me at_maker c.bind_row-own.ensures.bound c.join.ensures in
     let next = has_next a h.0 h.2 c.requires.free in
     rw joins (omega (arith, next.within, next.regions))
@@ -110,9 +110,9 @@ pub enter_row-row-requires-clause-vacant : goal.enter_row-row-requires-clause-va
 enter_row-row-requires-clause-vacant c =
     let h = c.requires.given in
     let a = c.args.self.now in
-    let me = c.top_entry-job.result in
+    let me = c.top_entry.result.now in
     let maker = c.top_row-maker.result in
-    let at_maker : at_place a.table maker.place ≡ Some me = ap (λ (r : RowId). at_place a.table r.place) (c.top_row-maker.ensures h.0 h.1 h.2 h.4) ∙ (c.top_entry-job.ensures.entry h.0 h.1 h.2 h.4).0 in
+    let at_maker : at_place a.table maker.place ≡ Some me = ap (λ (r : RowId). at_place a.table r.place) (c.top_row-maker.ensures h.0 h.1 h.2 h.4) ∙ (c.top_entry.ensures.entry h.0 h.1 h.2 h.4).0 in
     let joins = joined_is a c.bind_row-own.new.self c.join.new.self c.bind_row-own.result c.args.context maker.place c.args.group me at_maker c.bind_row-own.ensures.bound c.join.ensures in
     rw joins (has_next a h.0 h.2 c.requires.free).untagged
 
@@ -120,9 +120,9 @@ pub enter_row-row-requires-clause-earlier : goal.enter_row-row-requires-clause-e
 enter_row-row-requires-clause-earlier c =
     let h = c.requires.given in
     let a = c.args.self.now in
-    let me = c.top_entry-job.result in
+    let me = c.top_entry.result.now in
     let maker = c.top_row-maker.result in
-    let at_maker : at_place a.table maker.place ≡ Some me = ap (λ (r : RowId). at_place a.table r.place) (c.top_row-maker.ensures h.0 h.1 h.2 h.4) ∙ (c.top_entry-job.ensures.entry h.0 h.1 h.2 h.4).0 in
+    let at_maker : at_place a.table maker.place ≡ Some me = ap (λ (r : RowId). at_place a.table r.place) (c.top_row-maker.ensures h.0 h.1 h.2 h.4) ∙ (c.top_entry.ensures.entry h.0 h.1 h.2 h.4).0 in
     let joins = joined_is a c.bind_row-own.new.self c.join.new.self c.bind_row-own.result c.args.context maker.place c.args.group me at_maker c.bind_row-own.ensures.bound c.join.ensures in
     let maker_is = c.top_row-maker.ensures h.0 h.1 h.2 h.4 in
     let earlier : ForSome (region_of a.regions maker) (λ r. r.number < a.made + 1) = rw maker_is (tag_earlier a h.0 h.2 h.1 (top_open a h.0 h.2 c.args.slot h.1 h.4)) in
@@ -132,46 +132,46 @@ pub count_row-requires-clause-above : goal.count_row-requires-clause-above
 count_row-requires-clause-above c =
     let h = c.requires.given in
     let a = c.args.self.now in
-    let me = c.top_entry-job.result in
+    let me = c.top_entry.result.now in
     let maker = c.top_row-maker.result in
-    let at_maker : at_place a.table maker.place ≡ Some me = ap (λ (r : RowId). at_place a.table r.place) (c.top_row-maker.ensures h.0 h.1 h.2 h.4) ∙ (c.top_entry-job.ensures.entry h.0 h.1 h.2 h.4).0 in
+    let at_maker : at_place a.table maker.place ≡ Some me = ap (λ (r : RowId). at_place a.table r.place) (c.top_row-maker.ensures h.0 h.1 h.2 h.4) ∙ (c.top_entry.ensures.entry h.0 h.1 h.2 h.4).0 in
     let joins = joined_is a c.bind_row-own.new.self c.join.new.self c.bind_row-own.result c.args.context maker.place c.args.group me at_maker c.bind_row-own.ensures.bound c.join.ensures in
     let enters = entered_is a c.join.new.self c.enter_row-row.new.self c.bind_row-own.result c.args.context maker.place c.args.group me maker me.job c.args.slot c.args.frame joins c.enter_row-row.ensures.entered in
-    rw enters c.top_entry-job.ensures.above
+    rw enters c.top_entry.ensures.above
 
 pub count_row-requires-clause-below : goal.count_row-requires-clause-below
 count_row-requires-clause-below c =
     let h = c.requires.given in
     let a = c.args.self.now in
-    let me = c.top_entry-job.result in
+    let me = c.top_entry.result.now in
     let maker = c.top_row-maker.result in
-    let at_maker : at_place a.table maker.place ≡ Some me = ap (λ (r : RowId). at_place a.table r.place) (c.top_row-maker.ensures h.0 h.1 h.2 h.4) ∙ (c.top_entry-job.ensures.entry h.0 h.1 h.2 h.4).0 in
+    let at_maker : at_place a.table maker.place ≡ Some me = ap (λ (r : RowId). at_place a.table r.place) (c.top_row-maker.ensures h.0 h.1 h.2 h.4) ∙ (c.top_entry.ensures.entry h.0 h.1 h.2 h.4).0 in
     let joins = joined_is a c.bind_row-own.new.self c.join.new.self c.bind_row-own.result c.args.context maker.place c.args.group me at_maker c.bind_row-own.ensures.bound c.join.ensures in
     let enters = entered_is a c.join.new.self c.enter_row-row.new.self c.bind_row-own.result c.args.context maker.place c.args.group me maker me.job c.args.slot c.args.frame joins c.enter_row-row.ensures.entered in
-    rw enters c.top_entry-job.ensures.below
+    rw enters c.top_entry.ensures.below
 
 pub count_row-requires-clause-few : goal.count_row-requires-clause-few
 count_row-requires-clause-few c = λ d.
     let h = c.requires.given in
     let a = c.args.self.now in
-    let me = c.top_entry-job.result in
+    let me = c.top_entry.result.now in
     let maker = c.top_row-maker.result in
-    let at_maker : at_place a.table maker.place ≡ Some me = ap (λ (r : RowId). at_place a.table r.place) (c.top_row-maker.ensures h.0 h.1 h.2 h.4) ∙ (c.top_entry-job.ensures.entry h.0 h.1 h.2 h.4).0 in
+    let at_maker : at_place a.table maker.place ≡ Some me = ap (λ (r : RowId). at_place a.table r.place) (c.top_row-maker.ensures h.0 h.1 h.2 h.4) ∙ (c.top_entry.ensures.entry h.0 h.1 h.2 h.4).0 in
     let joins = joined_is a c.bind_row-own.new.self c.join.new.self c.bind_row-own.result c.args.context maker.place c.args.group me at_maker c.bind_row-own.ensures.bound c.join.ensures in
     let enters = entered_is a c.join.new.self c.enter_row-row.new.self c.bind_row-own.result c.args.context maker.place c.args.group me maker me.job c.args.slot c.args.frame joins c.enter_row-row.ensures.entered in
     let e : OpenRow = spawned_entry a maker c.args.group me.job c.bind_row-own.result c.args.slot c.args.frame in
     let table = slice_set a.table maker.place (Some (with_member c.args.group me)) in
     let long = length-set a.table maker.place (Some (with_member c.args.group me)) in
     let longer = length-set table (next_place a) (Some e) in
-    rw enters (omega (arith, long, longer, few_open a h.0 h.2 me.job c.top_entry-job.ensures.above c.top_entry-job.ensures.below c.requires.free d))
+    rw enters (omega (arith, long, longer, few_open a h.0 h.2 me.job c.top_entry.ensures.above c.top_entry.ensures.below c.requires.free d))
 
 pub wait-requires : goal.wait-requires
 wait-requires c =
     let h = c.requires.given in
     let a = c.args.self.now in
-    let me = c.top_entry-job.result in
+    let me = c.top_entry.result.now in
     let maker = c.top_row-maker.result in
-    let at_maker : at_place a.table maker.place ≡ Some me = ap (λ (r : RowId). at_place a.table r.place) (c.top_row-maker.ensures h.0 h.1 h.2 h.4) ∙ (c.top_entry-job.ensures.entry h.0 h.1 h.2 h.4).0 in
+    let at_maker : at_place a.table maker.place ≡ Some me = ap (λ (r : RowId). at_place a.table r.place) (c.top_row-maker.ensures h.0 h.1 h.2 h.4) ∙ (c.top_entry.ensures.entry h.0 h.1 h.2 h.4).0 in
     let joins = joined_is a c.bind_row-own.new.self c.join.new.self c.bind_row-own.result c.args.context maker.place c.args.group me at_maker c.bind_row-own.ensures.bound c.join.ensures in
     let enters = entered_is a c.join.new.self c.enter_row-row.new.self c.bind_row-own.result c.args.context maker.place c.args.group me maker me.job c.args.slot c.args.frame joins c.enter_row-row.ensures.entered in
     let counts = counted_is a c.enter_row-row.new.self c.count_row.new.self c.bind_row-own.result c.args.context maker.place c.args.group me maker me.job c.args.slot c.args.frame enters c.count_row.ensures in
@@ -191,9 +191,9 @@ pub returns : goal.returns
 returns c = λ s n is settled on_top given fine steady.
     let h = c.requires.given in
     let a = c.args.self.now in
-    let me = c.top_entry-job.result in
+    let me = c.top_entry.result.now in
     let maker = c.top_row-maker.result in
-    let at_maker : at_place a.table maker.place ≡ Some me = ap (λ (r : RowId). at_place a.table r.place) (c.top_row-maker.ensures h.0 h.1 h.2 h.4) ∙ (c.top_entry-job.ensures.entry h.0 h.1 h.2 h.4).0 in
+    let at_maker : at_place a.table maker.place ≡ Some me = ap (λ (r : RowId). at_place a.table r.place) (c.top_row-maker.ensures h.0 h.1 h.2 h.4) ∙ (c.top_entry.ensures.entry h.0 h.1 h.2 h.4).0 in
     let joins = joined_is a c.bind_row-own.new.self c.join.new.self c.bind_row-own.result c.args.context maker.place c.args.group me at_maker c.bind_row-own.ensures.bound c.join.ensures in
     let enters = entered_is a c.join.new.self c.enter_row-row.new.self c.bind_row-own.result c.args.context maker.place c.args.group me maker me.job c.args.slot c.args.frame joins c.enter_row-row.ensures.entered in
     let own = c.bind_row-own.result in
@@ -208,7 +208,7 @@ returns c = λ s n is settled on_top given fine steady.
     let below = IsHeld-within (with_bound a.contexts own (Some gc)) own held in
     let room : own < length a.contexts = omega (arith, below, length-set a.contexts own (Some (record { parent = Some gc; is_asked = false; is_orphan = false }))) in
     let next = next_placed a s is (next_place a) in
-    let its = c.top_entry-job.ensures.entry s n next.holds on_top in
+    let its = c.top_entry.ensures.entry s n next.holds on_top in
     let maker_is : maker ≡ id_of next.holds.places n = c.top_row-maker.ensures s n next.holds on_top in
     let opened = top_open a s next.holds slot n on_top in
     let entry = is_entry a s next.holds n me opened its.0 in
