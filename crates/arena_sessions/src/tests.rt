@@ -17,8 +17,8 @@ const BOUND: &str = "{\"tenant\":\"acme\"}\n";
 const RETURNS: &str =
     "{\"job\":{\"args\":[7,0],\"fuel\":10,\"procs\":[[[\"ret\",0]]]},\"op\":\"execute\"}\n";
 
-/// An arena of one slot, which is for masters.
-fn arena(alloc: Global, name: &str, steps: usize) -> Result<Arena, Fail> {
+/// A tenant of one slot, which is for masters.
+fn one_slot(name: &str, steps: usize) -> Result<TenantConfig, Fail> {
     let config = TenantConfig::new(Tenant {
         name: TenantName::new(name).ok_or("a name")?,
         priority: Level::Normal,
@@ -27,17 +27,21 @@ fn arena(alloc: Global, name: &str, steps: usize) -> Result<Arena, Fail> {
         reserved: 1,
         rows: 200,
         steps,
-    })
-    .ok_or("each number is in its range")?;
-    Ok(Arena::new(alloc, config)?)
+    });
+    Ok(config.ok_or("each number is in its range")?)
 }
 
-/// The doors of `beta` and `acme`.
-fn two_doors(alloc: Global, steps: usize) -> Result<ArenaDoors, Fail> {
-    let mut arenas = Vec::with_capacity(alloc, 2)?;
-    arenas.push(arena(alloc, "beta", steps)?)?;
-    arenas.push(arena(alloc, "acme", steps)?)?;
-    Ok(ArenaDoors::new(arenas))
+/// Adds the arena of a tenant, with room for so many entries.
+fn add_arena(alloc: Global, name: &str, steps: usize, doors: &mut ArenaDoors) -> Result<(), Fail> {
+    let arena = Arena::new(alloc, one_slot(name, steps)?)?;
+    doors.arenas.push(arena)?;
+    Ok(())
+}
+
+/// Adds the arenas of `beta` and `acme`.
+fn add_both(alloc: Global, steps: usize, doors: &mut ArenaDoors) -> Result<(), Fail> {
+    add_arena(alloc, "beta", steps, doors)?;
+    add_arena(alloc, "acme", steps, doors)
 }
 
 /// What is written for some lines, and how the session ends.

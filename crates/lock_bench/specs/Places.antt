@@ -14,15 +14,6 @@ pub record PostSeen : Type 0 where
 abbrev pub IsPost : PostSeen → Type 0
 IsPost p = p.pass.queues ≡ p.shared.queues.queues
 
--- a caller's post, and its seat
-pub record CallerSeen : Type 0 where
-  pub post : PostSeen
-  pub seat : SeatData
-
--- The seat is of the post's tenant.
-abbrev pub IsCaller : CallerSeen → Type 0
-IsCaller c = c.seat.tenant ≡ c.post.shared.door.tenant
-
 -- a seat at a tenant's door
 pub record DeskSeen : Type 0 where
   pub door : DoorData

@@ -1,6 +1,6 @@
 // The threads at one tenant: a caller and two workers.
 ghost use Rattle.std.specs.Prelude.{◌≡◌, length};
-ghost use Rattle.lock_bench.specs.Shared.{ArePassesOf};
+ghost use Rattle.lock_bench.specs.Shared.{AreThreeOf};
 
 use crate::shared::SharedTenant;
 use call_queues::QueuePass;
@@ -17,7 +17,7 @@ use worker_main::{Gate, NoGate, Ringer, SlotDoor, worker};
 /// One thread's pass of the queues of a shared tenant.
 #[derive(Drop)]
 pub(crate) struct Post<'t> {
-    pub(crate) shared: &'t SharedTenant,
+    pub(crate) shared: &'t SharedTenant<'t>,
     pub(crate) pass: QueuePass,
 }
 
@@ -31,54 +31,26 @@ impl<'t> Model for Post<'t> {
     ghost invariant = { λ p. IsPost (record { shared = p.shared.now; pass = p.pass }) };
 }
 
-/// A caller's post, and its seat.
-#[derive(Drop)]
-pub(crate) struct Caller<'t> {
-    pub(crate) post: Post<'t>,
-    pub(crate) seat: Seat,
-}
-
-impl<'t> Model for Caller<'t> {
-    ghost use Rattle.lock_bench.specs.Places.{CallerSeen, IsCaller};
-
-    ghost Value = { CallerSeen };
-
-    ghost view = { λ c. record { post = c.post; seat = c.seat } };
-
-    ghost invariant = { λ c. IsCaller (record { post = c.post; seat = c.seat }) };
-}
-
-/// A caller and two workers.
+/// The posts of a caller and two workers.
 #[derive(Drop)]
 pub(crate) struct Crew<'t> {
-    pub(crate) caller: Caller<'t>,
+    pub(crate) caller: Post<'t>,
     pub(crate) first: Post<'t>,
     pub(crate) second: Post<'t>,
 }
 
 impl<'t> Crew<'t> {
-    /// The crew at a tenant, of whose queues the passes are. None if a pass or the seat is missing.
-    pub(crate) fn new(
-        shared: &'t SharedTenant,
-        mut seats: Vec<Seat>,
-        mut passes: Vec<QueuePass>,
-    ) -> Option<Self>
-        requires { ArePassesOf shared.now.queues.queues passes.items }
+    /// The crew at a tenant, of whose queues the passes are.
+    pub(crate) fn new(shared: &'t SharedTenant<'t>, mut passes: Vec<QueuePass>) -> Self
+        requires { AreThreeOf shared.now.queues.queues passes.items }
     {
-        let seat = seats.pop()?;
-        let first = passes.pop()?;
-        let second = passes.pop()?;
-        let third = passes.pop()?;
-        if seat.tenant() != shared.door.tenant() {
-            return None;
-        }
-        Some(Crew {
-            caller: Caller {
-                post: Post {
-                    shared,
-                    pass: third,
-                },
-                seat,
+        let first = passes.remove(2);
+        let second = passes.remove(1);
+        let caller = passes.remove(0);
+        Crew {
+            caller: Post {
+                shared,
+                pass: caller,
             },
             first: Post {
                 shared,
@@ -88,52 +60,46 @@ impl<'t> Crew<'t> {
                 shared,
                 pass: second,
             },
-        })
+        }
     }
 }
 
-impl Caller<'_> {
-    /// Executes a job, attends the slot where it was placed until that is free, and gives the seat back.
-    pub(crate) fn execute<R: Wait>(self, rt: &R, job: Job) -> Seat
-        ensures { result.tenant ≡ self.entry.seat.tenant }
+impl Post<'_> {
+    /// Executes a job by a seat, and attends the slot where it was placed until that is free.
+    pub(crate) fn execute<R: Wait>(self, rt: &R, seat: &mut Seat, job: Job)
+        requires { seat.old.tenant ≡ 0 }
+        ensures { seat.new.tenant ≡ 0 }
     {
-        let Caller {
-            post: Post { shared, pass },
-            mut seat,
-        } = self;
-        let mut slots = TenantSlots::new(rt, slice::from_ref(&shared.door));
-        let (_reply, due) = slots.ask(&mut seat, Request::Execute(job));
+        let Post { shared, pass } = self;
+        let mut slots = TenantSlots::new(rt, slice::from_ref(shared.door));
+        let (_reply, due) = slots.ask(seat, Request::Execute(job));
         let mut ringer = Ringer::new(rt, &shared.bell, &shared.queues, pass);
         ringer.call_due(due);
         let mut slot = SlotDoor::new(ringer, &NoGate, slots);
         let _attended = attend(&mut slot, 1);
         slot.give_home();
-        seat
     }
 
-    /// Submits two jobs, each of which calls a worker, and gives the seat back.
-    pub(crate) fn submit_both<R: Wait>(self, rt: &R, jobs: (Job, Job)) -> Seat
-        ensures { result.tenant ≡ self.entry.seat.tenant }
+    /// Submits two jobs by a seat, each of which calls a worker.
+    pub(crate) fn submit_both<R: Wait>(self, rt: &R, seat: &mut Seat, jobs: (Job, Job))
+        requires { seat.old.tenant ≡ 0 }
+        ensures { seat.new.tenant ≡ 0 }
     {
-        let Caller {
-            post: Post { shared, pass },
-            mut seat,
-        } = self;
+        let Post { shared, pass } = self;
         let (first, second) = jobs;
-        let mut slots = TenantSlots::new(rt, slice::from_ref(&shared.door));
+        let mut slots = TenantSlots::new(rt, slice::from_ref(shared.door));
         let mut ringer = Ringer::new(rt, &shared.bell, &shared.queues, pass);
-        let (_reply, due) = slots.ask(&mut seat, Request::Submit(first));
+        let (_reply, due) = slots.ask(seat, Request::Submit(first));
         ringer.call_due(due);
-        let (_reply, due) = slots.ask(&mut seat, Request::Submit(second));
+        let (_reply, due) = slots.ask(seat, Request::Submit(second));
         ringer.call_due(due);
-        seat
     }
 }
 
 /// Serves calls until the bell tells to stop.
 fn serve<R: Wait, G: Gate>(rt: &R, post: Post<'_>, gate: &G) {
     let Post { shared, pass } = post;
-    let slots = TenantSlots::new(rt, slice::from_ref(&shared.door));
+    let slots = TenantSlots::new(rt, slice::from_ref(shared.door));
     let _served = worker(rt, &shared.queues, pass, slots, &shared.bell, gate);
 }
 

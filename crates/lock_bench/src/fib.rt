@@ -1,14 +1,17 @@
 // The sixth Fibonacci number, executed by a caller beside two workers.
+ghost use Rattle.std.specs.Prelude.{◌≡◌};
+
 use crate::closing::close_checked;
-use crate::crew::{Caller, Crew, serve_both};
+use crate::crew::{Crew, Post, serve_both};
 use crate::jobs::{job_of, tenant};
-use crate::shared::{Opened, SharedTenant};
+use crate::shared::SharedTenant;
 use crate::stops::Stop;
-use job_language::{Job, Reply, Request, Status};
+use job_language::{Job, Reply, Request, Status, TenantConfig};
 use std::alloc::Global;
 use std::sync::Wait;
 use std::thread;
 use std::thread::Threads;
+use tenant_lock::TenantDoor;
 use tenant_record::Seat;
 use worked_jobs::FIB;
 use worker_main::NoGate;
@@ -20,40 +23,66 @@ const STEPS: usize = 10_000;
 /// Then the door is closed, and its history taken again. The job's value.
 pub(crate) fn execute<R: Threads + Wait + Sync>(rt: &R, alloc: Global) -> Result<i64, Stop> {
     let config = tenant(3, 1, STEPS).ok_or(Stop::Invalid)?;
-    let job = job_of(alloc, FIB)?;
-    let Opened {
-        shared,
-        seats,
-        passes,
-    } = SharedTenant::open(alloc, config, 3)?;
-    let crew = Crew::new(&shared, seats, passes).ok_or(Stop::Place)?;
-    let (seat, outcome) = in_three_threads(rt, crew, job);
-    close_checked(alloc, config, shared.door, seat)?;
+    let (door, mut seats) = TenantDoor::new(alloc, 0, config, 1)?;
+    let outcome = execute_at(rt, alloc, config, &door, seats.as_mut_slice());
+    let closed = close_checked(alloc, config, door, seats);
+    let outcome = outcome?;
+    closed?;
     value_of(outcome).ok_or(Stop::Outcome)
 }
 
-fn in_three_threads<R: Threads + Wait + Sync>(rt: &R, crew: Crew<'_>, job: Job) -> (Seat, Reply) {
+/// Executes the job at a door by the first seat, and collects its outcome.
+fn execute_at<R: Threads + Wait + Sync>(
+    rt: &R,
+    alloc: Global,
+    config: TenantConfig,
+    door: &TenantDoor,
+    seats: &mut [Seat],
+) -> Result<Reply, Stop>
+    requires { door.now.tenant ≡ 0 }
+{
+    let seat = seats.first_mut().ok_or(Stop::Place)?;
+    if seat.tenant() != 0 {
+        return Err(Stop::Place);
+    }
+    let job = job_of(alloc, FIB)?;
+    let (shared, passes) = SharedTenant::open(alloc, config, door)?;
+    Ok(in_three_threads(rt, Crew::new(&shared, passes), seat, job))
+}
+
+fn in_three_threads<R: Threads + Wait + Sync>(
+    rt: &R,
+    crew: Crew<'_>,
+    seat: &mut Seat,
+    job: Job,
+) -> Reply
+    requires { seat.old.tenant ≡ 0 }
+{
     let Crew {
         caller,
         first,
         second,
     } = crew;
-    let (done, _served) = thread::join(
+    let (outcome, _served) = thread::join(
         rt,
-        move || execute_and_stop(rt, caller, job),
+        move ||
+            requires { seat.now.tenant ≡ 0 }
+        { execute_and_stop(rt, caller, seat, job) },
         move || serve_both(rt, first, second, &NoGate),
     );
-    done
+    outcome
 }
 
 /// Executes the job, collects its outcome, and tells the workers to stop.
-fn execute_and_stop<R: Wait>(rt: &R, caller: Caller<'_>, job: Job) -> (Seat, Reply) {
-    let shared = caller.post.shared;
-    let mut seat = caller.execute(rt, job);
-    let _stops = shared.door.pause_for(rt, &seat, 1);
-    let outcome = shared.door.ask(rt, &mut seat, Request::Collect(1)).reply;
+fn execute_and_stop<R: Wait>(rt: &R, caller: Post<'_>, seat: &mut Seat, job: Job) -> Reply
+    requires { seat.old.tenant ≡ 0 }
+{
+    let shared = caller.shared;
+    caller.execute(rt, seat, job);
+    let _stops = shared.door.pause_for(rt, seat, 1);
+    let outcome = shared.door.ask(rt, seat, Request::Collect(1)).reply;
     shared.stop(rt);
-    (seat, outcome)
+    outcome
 }
 
 fn value_of(outcome: Reply) -> Option<i64> {

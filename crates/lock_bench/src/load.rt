@@ -2,7 +2,7 @@
 ghost use Rattle.std.specs.Prelude.{◌≡◌, ◌*◌, IfSome};
 
 /// The most threads that share the tenants.
-const MAX_THREADS: usize = 16;
+pub(crate) const MAX_THREADS: usize = 16;
 
 /// Events that threads make over tenants. Each thread has a seat of its own, and each tenant as many seats
 /// as the others.

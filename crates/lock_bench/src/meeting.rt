@@ -1,14 +1,17 @@
 // Two private runs on one tenant that are under way at once.
+ghost use Rattle.std.specs.Prelude.{◌≡◌};
+
 use crate::closing::close_checked;
-use crate::crew::{Caller, Crew, serve_both};
+use crate::crew::{Crew, Post, serve_both};
 use crate::jobs::{job_of, tenant};
-use crate::shared::{Opened, SharedTenant};
+use crate::shared::SharedTenant;
 use crate::stops::Stop;
-use job_language::Job;
+use job_language::{Job, TenantConfig};
 use std::alloc::Global;
 use std::sync::{Mutex, Wait};
 use std::thread;
 use std::thread::{Threads, yield_now};
+use tenant_lock::TenantDoor;
 use tenant_record::Seat;
 use worked_jobs::FIRST;
 use worker_main::Gate;
@@ -73,23 +76,42 @@ pub(crate) struct Met {
 /// closed, and its history taken again.
 pub(crate) fn meet<R: Threads + Wait + Sync>(rt: &R, alloc: Global) -> Result<Met, Stop> {
     let config = tenant(2, 0, STEPS).ok_or(Stop::Invalid)?;
+    let (door, mut seats) = TenantDoor::new(alloc, 0, config, 1)?;
+    let saw_two = meet_at(rt, alloc, config, &door, seats.as_mut_slice());
+    let entries = close_checked(alloc, config, door, seats);
+    Ok(Met {
+        saw_two: saw_two?,
+        entries: entries?,
+    })
+}
+
+/// Submits both jobs at a door by the first seat. How many private runs saw two in the gate.
+fn meet_at<R: Threads + Wait + Sync>(
+    rt: &R,
+    alloc: Global,
+    config: TenantConfig,
+    door: &TenantDoor,
+    seats: &mut [Seat],
+) -> Result<u32, Stop>
+    requires { door.now.tenant ≡ 0 }
+{
+    let seat = seats.first_mut().ok_or(Stop::Place)?;
+    if seat.tenant() != 0 {
+        return Err(Stop::Place);
+    }
     let jobs = (job_of(alloc, FIRST)?, job_of(alloc, FIRST)?);
-    let Opened {
-        shared,
-        seats,
-        passes,
-    } = SharedTenant::open(alloc, config, 3)?;
-    let crew = Crew::new(&shared, seats, passes).ok_or(Stop::Place)?;
-    let (seat, saw_two) = in_three_threads(rt, crew, jobs);
-    let entries = close_checked(alloc, config, shared.door, seat)?;
-    Ok(Met { saw_two, entries })
+    let (shared, passes) = SharedTenant::open(alloc, config, door)?;
+    Ok(in_three_threads(rt, Crew::new(&shared, passes), seat, jobs))
 }
 
 fn in_three_threads<R: Threads + Wait + Sync>(
     rt: &R,
     crew: Crew<'_>,
+    seat: &mut Seat,
     jobs: (Job, Job),
-) -> (Seat, u32) {
+) -> u32
+    requires { seat.old.tenant ≡ 0 }
+{
     let Crew {
         caller,
         first,
@@ -104,20 +126,23 @@ fn in_three_threads<R: Threads + Wait + Sync>(
         inside: &inside,
     };
     let shared = &gate;
-    let (seat, _served) = thread::join(
+    let _done = thread::join(
         rt,
-        move || submit_and_stop(rt, caller, jobs),
+        move ||
+            requires { seat.now.tenant ≡ 0 }
+        { submit_and_stop(rt, caller, seat, jobs) },
         move || serve_both(rt, first, second, shared),
     );
-    (seat, inside.into_inner().saw_two)
+    inside.into_inner().saw_two
 }
 
 /// Submits both jobs, waits for their outcomes, and tells the workers to stop.
-fn submit_and_stop<R: Wait>(rt: &R, caller: Caller<'_>, jobs: (Job, Job)) -> Seat {
-    let shared = caller.post.shared;
-    let seat = caller.submit_both(rt, jobs);
-    let _stops = shared.door.pause_for(rt, &seat, 1);
-    let _stops = shared.door.pause_for(rt, &seat, 2);
+fn submit_and_stop<R: Wait>(rt: &R, caller: Post<'_>, seat: &mut Seat, jobs: (Job, Job))
+    requires { seat.old.tenant ≡ 0 }
+{
+    let shared = caller.shared;
+    caller.submit_both(rt, seat, jobs);
+    let _stops = shared.door.pause_for(rt, seat, 1);
+    let _stops = shared.door.pause_for(rt, seat, 2);
     shared.stop(rt);
-    seat
 }

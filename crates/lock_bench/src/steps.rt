@@ -1,6 +1,8 @@
 // Events at the locked doors of tenants.
+ghost use Rattle.std.specs.Prelude.{◌≡◌, IfSome};
+
 use crate::jobs::{job_of, tenant};
-use crate::load::Load;
+use crate::load::{Load, MAX_THREADS};
 use crate::stops::Stop;
 use job_language::{Job, Request};
 use std::alloc::{AllocError, Global};
@@ -12,11 +14,12 @@ use tenant_lock::TenantDoor;
 use tenant_record::Seat;
 use worked_jobs::FIRST;
 
-/// A seat at a tenant's door.
+/// A seat at a tenant's door, with a job to submit there.
 #[derive(Drop)]
 struct Desk<'d> {
     door: &'d TenantDoor,
     seat: Seat,
+    job: Job,
 }
 
 impl<'d> Model for Desk<'d> {
@@ -35,75 +38,116 @@ pub(crate) fn run<R: Threads + Wait + Sync>(
     alloc: Global,
     load: Load,
 ) -> Result<usize, Stop> {
-    let (doors, seats) = open(alloc, load)?;
-    let back = in_threads(rt, alloc, doors.as_slice(), seats, load.events)?;
-    close_all(alloc, doors, back)
-}
-
-/// The doors of the tenants, and all their seats.
-fn open(alloc: Global, load: Load) -> Result<(Vec<TenantDoor>, Vec<Seat>), Stop> {
-    let config = tenant(1, 0, load.steps).ok_or(Stop::Invalid)?;
+    let back = Mutex::new(Vec::with_capacity(alloc, MAX_THREADS)?);
     let mut doors = Vec::new(alloc);
-    let mut seats = Vec::new(alloc);
-    for number in 0..load.tenants {
-        let (door, own) = TenantDoor::new(alloc, number, config, load.seats)?;
-        doors.push(door)?;
-        add_all(&mut seats, own)?;
-    }
-    Ok((doors, seats))
+    let made = make_events(rt, alloc, load, &mut doors, &back);
+    let closed = close_all(alloc, doors, back.into_inner());
+    made?;
+    closed
 }
 
-fn add_all(seats: &mut Vec<Seat>, own: Vec<Seat>) -> Result<(), AllocError> {
-    for seat in own {
-        seats.push(seat)?;
+/// Opens the tenants, and makes the events at their doors. All seats come back.
+fn make_events<R: Threads + Wait + Sync>(
+    rt: &R,
+    alloc: Global,
+    load: Load,
+    doors: &mut Vec<TenantDoor>,
+    back: &Mutex<Vec<Seat>>,
+) -> Result<(), Stop> {
+    let mut seats = Vec::new(alloc);
+    open(alloc, load, doors, &mut seats)?;
+    if in_threads(rt, alloc, doors.as_slice(), seats, load.events, back) {
+        Ok(())
+    } else {
+        Err(Stop::Place)
+    }
+}
+
+/// Adds the doors of the tenants, and all their seats.
+fn open(
+    alloc: Global,
+    load: Load,
+    doors: &mut Vec<TenantDoor>,
+    seats: &mut Vec<Seat>,
+) -> Result<(), Stop> {
+    let config = tenant(1, 0, load.steps).ok_or(Stop::Invalid)?;
+    for number in 0..load.tenants {
+        add(
+            TenantDoor::new(alloc, number, config, load.seats)?,
+            doors,
+            seats,
+        )?;
     }
     Ok(())
 }
 
-/// Lets a thread for each seat make so many events. The seats that came back.
+fn add(
+    opened: (TenantDoor, Vec<Seat>),
+    doors: &mut Vec<TenantDoor>,
+    seats: &mut Vec<Seat>,
+) -> Result<(), Stop> {
+    let (door, mut own) = opened;
+    let has_door = doors.push(door).is_ok();
+    let has_seats = seats.append(&mut own).is_ok();
+    if has_door && has_seats {
+        Ok(())
+    } else {
+        Err(Stop::Memory)
+    }
+}
+
+/// Lets a thread for each seat make so many events, and says whether each did. The seats come back.
 fn in_threads<R: Threads + Wait + Sync>(
     rt: &R,
     alloc: Global,
     doors: &[TenantDoor],
     seats: Vec<Seat>,
     events: usize,
-) -> Result<Vec<Seat>, Stop> {
-    let back = Mutex::new(Vec::with_capacity(alloc, seats.len())?);
-    let returned = &back;
-    let is_whole = thread::scope(thread::scope_env(), rt, move |scope| {
+    back: &Mutex<Vec<Seat>>,
+) -> bool {
+    thread::scope(thread::scope_env(), rt, move |scope| {
+        let mut is_whole = true;
         for seat in seats {
-            let (Some(desk), Ok(job)) = (desk_of(doors, seat), job_of(alloc, FIRST)) else {
-                return false;
+            let Some(desk) = desk_of(alloc, doors, seat) else {
+                is_whole = false;
+                continue;
             };
             let asking = move || {
-                let seat = submit_and_poll(rt, desk, job, events);
-                let _ = returned.lock(rt).push(seat);
+                let seat = submit_and_poll(rt, desk, events);
+                let _ = back.lock(rt).push(seat);
             };
-            if scope.spawn(asking).is_err() {
-                return false;
-            }
+            is_whole = scope.spawn(asking).is_ok() && is_whole;
         }
-        true
-    });
-    if is_whole {
-        Ok(back.into_inner())
-    } else {
-        Err(Stop::Place)
-    }
+        is_whole
+    })
 }
 
 /// The desk of a seat, at the door of its tenant.
-fn desk_of(doors: &[TenantDoor], seat: Seat) -> Option<Desk<'_>> {
-    let door = doors.get(seat.tenant())?;
-    if seat.tenant() != door.tenant() {
-        return None;
+fn desk_of(alloc: Global, doors: &[TenantDoor], seat: Seat) -> Option<Desk<'_>> {
+    match (door_of(doors, &seat), job_of(alloc, FIRST)) {
+        (Some(door), Ok(job)) => Some(Desk { door, seat, job }),
+        _ => None,
     }
-    Some(Desk { door, seat })
+}
+
+fn door_of<'d>(doors: &'d [TenantDoor], seat: &Seat) -> Option<&'d TenantDoor>
+    ensures { IfSome result (λ door. seat.now.tenant ≡ door.now.tenant) }
+{
+    let door = doors.get(seat.tenant())?;
+    if seat.tenant() == door.tenant() {
+        Some(door)
+    } else {
+        None
+    }
 }
 
 /// Submits a job, and polls the tenant's first job, so that so many events are made. The seat comes back.
-fn submit_and_poll<R: Wait>(rt: &R, desk: Desk<'_>, job: Job, events: usize) -> Seat {
-    let Desk { door, mut seat } = desk;
+fn submit_and_poll<R: Wait>(rt: &R, desk: Desk<'_>, events: usize) -> Seat {
+    let Desk {
+        door,
+        mut seat,
+        job,
+    } = desk;
     let _made = door.ask(rt, &mut seat, Request::Submit(job));
     for _poll in 1..events {
         let _polled = door.ask(rt, &mut seat, Request::Poll(1));
@@ -114,22 +158,33 @@ fn submit_and_poll<R: Wait>(rt: &R, desk: Desk<'_>, job: Job, events: usize) -> 
 /// Closes all doors. How many entries their histories have.
 fn close_all(alloc: Global, doors: Vec<TenantDoor>, seats: Vec<Seat>) -> Result<usize, Stop> {
     let mut left = seats;
-    let mut entries = 0usize;
+    let mut entries = Ok(0usize);
     for door in doors {
-        let own = seats_of(alloc, door.tenant(), &mut left)?;
-        entries = entries.saturating_add(door.close(own)?.history.len());
+        entries = sum(entries, close(alloc, door, &mut left));
     }
-    Ok(entries)
+    entries
 }
 
-/// The seats of a tenant, taken from those that are left.
-fn seats_of(alloc: Global, tenant: usize, left: &mut Vec<Seat>) -> Result<Vec<Seat>, AllocError> {
-    let mut own = Vec::with_capacity(alloc, left.len())?;
-    for _seat in 0..left.len() {
-        let Some(place) = left.iter().position(|seat| seat.tenant() == tenant) else {
+fn sum(entries: Result<usize, Stop>, more: Result<usize, Stop>) -> Result<usize, Stop> {
+    Ok(entries?.saturating_add(more?))
+}
+
+/// Closes a door, to which its seats come back of those that are left. How many entries its history has.
+fn close(alloc: Global, door: TenantDoor, left: &mut Vec<Seat>) -> Result<usize, Stop> {
+    let mut own = Vec::new(alloc);
+    let moved = move_seats(door.tenant(), left, &mut own);
+    let entries = door.close(own).map(|closed| closed.history.len());
+    moved?;
+    Ok(entries?)
+}
+
+/// Moves the seats of a tenant.
+fn move_seats(tenant: usize, from: &mut Vec<Seat>, to: &mut Vec<Seat>) -> Result<(), AllocError> {
+    for _seat in 0..from.len() {
+        let Some(place) = from.iter().position(|seat| seat.tenant() == tenant) else {
             break;
         };
-        own.push(left.swap_remove(place))?;
+        to.push(from.swap_remove(place))?;
     }
-    Ok(own)
+    Ok(())
 }

@@ -1,11 +1,12 @@
-// A job that a caller and two workers run.
-ghost use Rattle.std.specs.Prelude.{◌≡◌, IfOk, length};
+// A job that a caller and a worker run.
+ghost use Rattle.std.specs.Prelude.{◌≡◌, ◌<◌, ℕ, IfOk, length, slice_index_or};
+ghost use Rattle.call_queues.specs.Queues.{PassSeen, fresh};
 ghost use Rattle.tenant_slots.specs.Seen.{AreNumbered};
 
 use crate::TenantSlots;
 use call_queues::{CallQueues, MarketConfig, MarketTenant, QueuePass};
 use job_language::{
-    Isolation, Level, Reply, Request, Status, Tenant, TenantConfig, TenantName, read_job,
+    Isolation, Job, Level, Reply, Request, Status, Tenant, TenantConfig, TenantName, read_job,
 };
 use nested_wait::{Attended, attend};
 use serde_json::Value;
@@ -37,6 +38,11 @@ fn three_slots() -> Result<TenantConfig, Fail> {
     Ok(config)
 }
 
+fn fib(alloc: Global) -> Result<Job, Fail> {
+    let value = Value::from_str(alloc, FIB)?;
+    Ok(read_job(alloc, &value)?)
+}
+
 fn one_tenant(alloc: Global) -> Result<MarketConfig, AllocError>
     ensures { IfOk result (λ c. length c ≡ 1) }
 {
@@ -64,29 +70,29 @@ fn collect<R: Wait>(rt: &R, door: &TenantDoor, seat: &mut Seat) -> Reply
     door.ask(rt, seat, Request::Collect(1)).reply
 }
 
+/// What the job's execution is answered, how its slot is attended, and what is collected.
+type Executed = (Reply, Attended, Reply);
+
 /// Executes the job, attends its slot until it is free, and waits for its outcome.
 fn execute<R: Wait>(
     rt: &R,
-    alloc: Global,
+    job: Job,
     door: &TenantDoor,
     seat: &mut Seat,
     ringer: Ringer<'_, R, Bell>,
-) -> Result<(Reply, Attended, Reply), Fail>
+) -> Executed
     requires door { door.now.tenant ≡ 0 }
     requires seat { seat.old.tenant ≡ 0 }
     requires tenant { length ringer.queues.config ≡ 1 }
 {
-    let job = read_job(alloc, &Value::from_str(alloc, FIB)?)?;
     let mut slots = at_door(rt, door);
     let mut ringer = ringer;
     let (reply, due) = slots.ask(seat, Request::Execute(job));
     ringer.call_due(due);
     let mut slot = SlotDoor::new(ringer, &NoGate, slots);
     let attended = attend(&mut slot, 1);
-    Ok((reply, attended, collect(rt, door, seat)))
+    (reply, attended, collect(rt, door, seat))
 }
-
-type Executed = Result<(Reply, Attended, Reply), Fail>;
 
 /// Serves calls until the bell tells to stop.
 fn serve<R: Wait>(rt: &R, door: &TenantDoor, queues: &CallQueues, pass: QueuePass, bell: &Bell)
@@ -100,7 +106,7 @@ fn serve<R: Wait>(rt: &R, door: &TenantDoor, queues: &CallQueues, pass: QueuePas
 /// The calls of a caller, beside one worker.
 fn execute_and_stop<R: Wait>(
     rt: &R,
-    alloc: Global,
+    job: Job,
     door: &TenantDoor,
     seat: &mut Seat,
     queues: &CallQueues,
@@ -112,7 +118,7 @@ fn execute_and_stop<R: Wait>(
     requires pass { pass.queues ≡ queues.now.queues }
     requires tenant { length queues.now.config ≡ 1 }
 {
-    let executed = execute(rt, alloc, door, seat, Ringer::new(rt, bell, queues, pass));
+    let executed = execute(rt, job, door, seat, Ringer::new(rt, bell, queues, pass));
     door.stop(rt);
     bell.stop(rt);
     executed
@@ -120,52 +126,61 @@ fn execute_and_stop<R: Wait>(
 
 fn beside_a_worker<R: Threads + Wait + Sync>(
     rt: &R,
-    alloc: Global,
+    job: Job,
     door: &TenantDoor,
     seat: &mut Seat,
     queues: &CallQueues,
-    passes: (QueuePass, QueuePass),
-    bell: &Bell,
+    passes: Vec<QueuePass>,
 ) -> Executed
     requires door { door.now.tenant ≡ 0 }
     requires seat { seat.old.tenant ≡ 0 }
-    requires passes { (passes.0.queues ≡ queues.now.queues) × (passes.1.queues ≡ queues.now.queues) }
+    requires passes { length passes.items ≡ 2 }
+    requires fresh { (k : ℕ) (d : PassSeen) → k < 2 → slice_index_or passes.items k d ≡ fresh queues.now.queues k }
     requires tenant { length queues.now.config ≡ 1 }
 {
-    let (first, second) = passes;
+    let mut passes = passes;
+    let second = passes.remove(1);
+    let first = passes.remove(0);
+    let bell = Bell::new();
+    let rung = &bell;
     let (_, executed) = thread::join(
         rt,
         move ||
             requires { (first.queues ≡ queues.now.queues) × (length queues.now.config ≡ 1) × (door.now.tenant ≡ 0) }
-        { serve(rt, door, queues, first, bell) },
+        { serve(rt, door, queues, first, rung) },
         move ||
             requires { (second.queues ≡ queues.now.queues) × (length queues.now.config ≡ 1) × (door.now.tenant ≡ 0) × (seat.now.tenant ≡ 0) }
-        { execute_and_stop(rt, alloc, door, seat, queues, second, bell) },
+        { execute_and_stop(rt, job, door, seat, queues, second, rung) },
     );
     executed
 }
 
-#[test]
-fn a_caller_and_a_worker_share_a_job(rt: HostRuntime) -> Result<(), Fail> {
-    let alloc = rt.alloc();
-    let (door, mut seats) = TenantDoor::new(alloc, 0, three_slots()?, 1)?;
-    let mut seat = seats.pop().ok_or("a seat")?;
+/// Shares a job at the door by the first seat.
+fn share<R: Threads + Wait + Sync>(
+    rt: &R,
+    alloc: Global,
+    door: &TenantDoor,
+    seats: &mut [Seat],
+) -> Result<Executed, Fail>
+    requires { door.now.tenant ≡ 0 }
+{
+    let seat = seats.first_mut().ok_or("a seat")?;
     if seat.tenant() != 0 {
         return Err("a seat of the tenant")?;
     }
-    let (queues, mut passes) = CallQueues::new(alloc, one_tenant(alloc)?, 2)?;
-    let second = passes.remove(1);
-    let first = passes.remove(0);
-    let bell = Bell::new();
-    let (reply, attended, outcome) = beside_a_worker(
-        &rt,
-        alloc,
-        &door,
-        &mut seat,
-        &queues,
-        (first, second),
-        &bell,
-    )?;
+    let job = fib(alloc)?;
+    let (queues, passes) = CallQueues::new(alloc, one_tenant(alloc)?, 2)?;
+    Ok(beside_a_worker(rt, job, door, seat, &queues, passes))
+}
+
+fn shared_job<R: Threads + Wait + Sync>(rt: &R, alloc: Global) -> Result<Executed, Fail> {
+    let (door, mut seats) = TenantDoor::new(alloc, 0, three_slots()?, 1)?;
+    share(rt, alloc, &door, seats.as_mut_slice())
+}
+
+#[test]
+fn a_caller_and_a_worker_share_a_job(rt: HostRuntime) -> Result<(), Fail> {
+    let (reply, attended, outcome) = shared_job(&rt, rt.alloc())?;
     assert_eq!(rt; reply, Reply::Placed(1, 0));
     assert_eq!(rt; attended, Attended::Below);
     assert_eq!(rt; outcome, Reply::Job(1, Status::Complete(8)));

@@ -1,6 +1,6 @@
 // Sessions whose reader or writer fails, at each of its calls in turn.
-use super::{BOUND, HELLO, RETURNS, served, two_doors};
-use crate::serve_arenas;
+use super::{BOUND, HELLO, RETURNS, add_both, served};
+use crate::{ArenaDoors, serve_arenas};
 use session_core::SessionEnd;
 use std::alloc::Global;
 use std::io;
@@ -57,18 +57,34 @@ impl Write for Narrow {
     }
 }
 
+/// What is written where the reader gives these bytes and then fails, and how the session ends.
+fn served_until(
+    alloc: Global,
+    bytes: &[u8],
+    failure: ErrorKind,
+) -> Result<(Vec<u8>, SessionEnd), Fail> {
+    let mut doors = ArenaDoors::new(Vec::new(alloc));
+    add_and_serve(alloc, Bytewise { bytes, failure }, &mut doors)
+}
+
+fn add_and_serve(
+    alloc: Global,
+    mut reader: Bytewise<'_>,
+    doors: &mut ArenaDoors,
+) -> Result<(Vec<u8>, SessionEnd), Fail> {
+    add_both(alloc, 100, doors)?;
+    let mut written = Vec::new(alloc);
+    let end = serve_arenas(alloc, &mut reader, &mut written, doors)?;
+    Ok((written, end))
+}
+
 #[test]
 fn a_reader_that_fails_ends_the_session(rt: HostRuntime) -> Result<(), Fail> {
     let text = [HELLO, RETURNS].concat(rt.alloc())?;
     let wanted = [BOUND, SEVEN].concat(rt.alloc())?;
     for given in 0..=text.len() {
-        let mut reader = Bytewise {
-            bytes: text.as_bytes().get(..given).ok_or("fewer bytes")?,
-            failure: ErrorKind::TimedOut,
-        };
-        let mut written = Vec::new(rt.alloc());
-        let mut doors = two_doors(rt.alloc(), 100)?;
-        let end = serve_arenas(rt.alloc(), &mut reader, &mut written, &mut doors)?;
+        let bytes = text.as_bytes().get(..given).ok_or("fewer bytes")?;
+        let (written, end) = served_until(rt.alloc(), bytes, ErrorKind::TimedOut)?;
         assert_eq!(rt; end, SessionEnd::ReadFault, "{given} bytes");
         let answered = if given < HELLO.len() {
             0
@@ -86,13 +102,7 @@ fn a_reader_that_fails_ends_the_session(rt: HostRuntime) -> Result<(), Fail> {
 #[test]
 fn a_reader_that_is_always_interrupted_is_left(rt: HostRuntime) -> Result<(), Fail> {
     for (text, wanted) in [("", ""), (HELLO, BOUND)] {
-        let mut reader = Bytewise {
-            bytes: text.as_bytes(),
-            failure: ErrorKind::Interrupted,
-        };
-        let mut written = Vec::new(rt.alloc());
-        let mut doors = two_doors(rt.alloc(), 100)?;
-        let end = serve_arenas(rt.alloc(), &mut reader, &mut written, &mut doors)?;
+        let (written, end) = served_until(rt.alloc(), text.as_bytes(), ErrorKind::Interrupted)?;
         assert_eq!(rt; end, SessionEnd::TurnLimit);
         assert_eq!(rt; written.as_slice(), wanted.as_bytes());
     }
@@ -107,17 +117,26 @@ fn cut_off(
     room: usize,
     fails: bool,
 ) -> Result<(SessionEnd, Vec<u8>, String), Fail> {
-    let text = [HELLO, RETURNS].concat(alloc)?;
-    let mut reader = text.as_bytes();
-    let mut writer = Narrow {
+    let writer = Narrow {
         taken: Vec::new(alloc),
         at_a_call,
         room,
         fails,
     };
-    let mut doors = two_doors(alloc, 100)?;
-    let end = serve_arenas(alloc, &mut reader, &mut writer, &mut doors)?;
-    let (polled, _end) = served(alloc, &[HELLO, "{\"job\":1,\"op\":\"poll\"}"], &mut doors)?;
+    let mut doors = ArenaDoors::new(Vec::new(alloc));
+    execute_and_poll(alloc, writer, &mut doors)
+}
+
+fn execute_and_poll(
+    alloc: Global,
+    mut writer: Narrow,
+    doors: &mut ArenaDoors,
+) -> Result<(SessionEnd, Vec<u8>, String), Fail> {
+    add_both(alloc, 100, doors)?;
+    let text = [HELLO, RETURNS].concat(alloc)?;
+    let mut reader = text.as_bytes();
+    let end = serve_arenas(alloc, &mut reader, &mut writer, doors)?;
+    let (polled, _end) = served(alloc, &[HELLO, "{\"job\":1,\"op\":\"poll\"}"], doors)?;
     Ok((end, writer.taken, polled))
 }
 

@@ -1,5 +1,6 @@
 // Two workers at one queue.
-ghost use Rattle.std.specs.Prelude.{◌≡◌, ◌<◌, ◌≤◌, IfSome, length};
+ghost use Rattle.std.specs.Prelude.{◌≡◌, ◌<◌, ◌≤◌, ℕ, IfSome, length, slice_index_or};
+ghost use Rattle.call_queues.specs.Queues.{PassSeen, fresh};
 
 use super::tours::{due_of, frame_of, one_tenant, returns_its_slot};
 use crate::{Bell, CallDoors, DueDoor, Gate, NoGate, worker};
@@ -52,21 +53,16 @@ struct Relay<'t, R> {
 }
 
 impl<'t, R> Relay<'t, R> {
-    fn new(
-        alloc: Global,
-        rt: &'t R,
-        bell: &'t Bell,
-        chain: &'t Mutex<Chain>,
-    ) -> Result<Self, Fail> {
-        Ok(Relay {
+    fn new(program: Program, rt: &'t R, bell: &'t Bell, chain: &'t Mutex<Chain>) -> Self {
+        Relay {
             rt,
             bell,
             chain,
-            program: returns_its_slot(alloc)?,
+            program,
             at: None,
             has_row: false,
             visits: 0,
-        })
+        }
     }
 }
 
@@ -186,7 +182,28 @@ fn visits_of<R: Threads + Wait + Sync, G: Gate + Sync>(
     gate: &G,
     all: u32,
 ) -> Result<(u32, u32, Option<Call>), Fail> {
-    let (queues, mut passes) = CallQueues::new(alloc, one_tenant(alloc)?, 2)?;
+    let programs = two_programs(alloc)?;
+    let (queues, passes) = CallQueues::new(alloc, one_tenant(alloc)?, 2)?;
+    Ok(serve_chain(rt, &queues, passes, gate, all, programs))
+}
+
+fn two_programs(alloc: Global) -> Result<(Program, Program), Fail> {
+    let one = returns_its_slot(alloc)?;
+    Ok((one, returns_its_slot(alloc)?))
+}
+
+fn serve_chain<R: Threads + Wait + Sync, G: Gate + Sync>(
+    rt: &R,
+    queues: &CallQueues,
+    mut passes: Vec<QueuePass>,
+    gate: &G,
+    all: u32,
+    programs: (Program, Program),
+) -> (u32, u32, Option<Call>)
+    requires passes { length passes.items ≡ 2 }
+    requires fresh { (k : ℕ) (d : PassSeen) → k < 2 → slice_index_or passes.items k d ≡ fresh queues.now.queues k }
+    requires tenant { length queues.now.config ≡ 1 }
+{
     let second = passes.remove(1);
     let mut first = passes.remove(0);
     let _ = queues.push_call(rt, &mut first, Call { tenant: 0, slot: 3 });
@@ -197,18 +214,15 @@ fn visits_of<R: Threads + Wait + Sync, G: Gate + Sync>(
         left: 0,
         all,
     });
-    let one = Relay::new(alloc, rt, &bell, &chain)?;
-    let two = Relay::new(alloc, rt, &bell, &chain)?;
-    let ((mut pass, one), (_, two)) = in_two_threads(
-        rt,
-        &queues,
-        &bell,
-        gate,
-        first,
-        second,
-        (one, two),
+    let (one, two) = programs;
+    let relays = (
+        Relay::new(one, rt, &bell, &chain),
+        Relay::new(two, rt, &bell, &chain),
     );
-    Ok((one.visits, two.visits, queues.pop_call(rt, &mut pass)))
+    let ((mut pass, one), (_, two)) = in_two_threads(
+        rt, queues, &bell, gate, first, second, relays,
+    );
+    (one.visits, two.visits, queues.pop_call(rt, &mut pass))
 }
 
 #[test]

@@ -35,16 +35,16 @@ pub(super) struct Tour<'t, R> {
 
 impl<'t, R> Tour<'t, R> {
     pub(super) fn new(
-        alloc: Global,
+        program: Program,
         rt: &'t R,
         bell: &'t Bell,
         rows: &'t [Row],
         arrivals: u32,
-    ) -> Result<Self, Fail> {
-        Ok(Tour {
+    ) -> Self {
+        Tour {
             rt,
             bell,
-            program: returns_its_slot(alloc)?,
+            program,
             rows,
             place: 0,
             at: None,
@@ -53,7 +53,7 @@ impl<'t, R> Tour<'t, R> {
             advances: 0,
             pauses: 0,
             homes: 0,
-        })
+        }
     }
 
     fn answer(&mut self) -> (Moved, Option<Call>)

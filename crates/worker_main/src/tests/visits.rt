@@ -1,8 +1,10 @@
 // What one worker does, by the tables of its slots.
-use super::tours::{Row, Tour, one_tenant};
+ghost use Rattle.std.specs.Prelude.{◌≡◌, length};
+
+use super::tours::{Row, Tour, one_tenant, returns_its_slot};
 use crate::{Bell, NoGate, Ringer, Signal, SlotDoor, worker};
-use call_queues::CallQueues;
-use job_language::{Came, Moved};
+use call_queues::{CallQueues, QueuePass};
+use job_language::{Came, Moved, Program};
 use nested_wait::Door;
 use std::alloc::Global;
 use std::sync::Wait;
@@ -29,14 +31,27 @@ struct Counts {
 
 /// A worker is called twice, and told to stop with the second arrival.
 fn counts_of<R: Wait>(rt: &R, alloc: Global, rows: &[Row]) -> Result<Counts, Fail> {
+    let program = returns_its_slot(alloc)?;
     let (queues, mut passes) = CallQueues::new(alloc, one_tenant(alloc)?, 1)?;
-    let mut pass = passes.remove(0);
+    Ok(served(rt, &queues, passes.remove(0), program, rows))
+}
+
+fn served<R: Wait>(
+    rt: &R,
+    queues: &CallQueues,
+    mut pass: QueuePass,
+    program: Program,
+    rows: &[Row],
+) -> Counts
+    requires pass { pass.queues ≡ queues.now.queues }
+    requires tenant { length queues.now.config ≡ 1 }
+{
     let _ = queues.push_call(rt, &mut pass, FIRST);
     let _ = queues.push_call(rt, &mut pass, SECOND);
     let bell = Bell::new();
-    let tour = Tour::new(alloc, rt, &bell, rows, 2)?;
-    let (mut pass, tour) = worker(rt, &queues, pass, tour, &bell, &NoGate);
-    Ok(Counts {
+    let tour = Tour::new(program, rt, &bell, rows, 2);
+    let (mut pass, tour) = worker(rt, queues, pass, tour, &bell, &NoGate);
+    Counts {
         place: tour.place,
         commits: tour.commits,
         advances: tour.advances,
@@ -44,7 +59,7 @@ fn counts_of<R: Wait>(rt: &R, alloc: Global, rows: &[Row]) -> Result<Counts, Fai
         homes: tour.homes,
         is_out: tour.at.is_some(),
         left: queues.pop_call(rt, &mut pass),
-    })
+    }
 }
 
 #[test]
@@ -97,21 +112,56 @@ fn calls_are_served_in_order_until_the_bell_tells_to_stop(rt: HostRuntime) -> Re
     Ok(())
 }
 
-#[test]
-fn the_bell_rings_for_a_slot_that_becomes_due(rt: HostRuntime) -> Result<(), Fail> {
-    let alloc = rt.alloc();
+/// What a slot's door is answered where a second slot becomes due, what the bell says of each, and the call
+/// that is left.
+#[derive(Clone, Copy, Debug, PartialEq, Eq)]
+struct Rung {
+    came: Came,
+    moved: Moved,
+    /// Before the advance, after it, and once the bell tells to stop.
+    heard: [Option<u64>; 3],
+    left: Option<Call>,
+}
+
+/// A slot is arrived at, and its advance makes a second one due.
+fn ring_for_due<R: Wait>(rt: &R, alloc: Global) -> Result<Rung, Fail> {
+    let program = returns_its_slot(alloc)?;
     let (queues, mut passes) = CallQueues::new(alloc, one_tenant(alloc)?, 1)?;
+    Ok(arrive_and_advance(rt, &queues, passes.remove(0), program))
+}
+
+fn arrive_and_advance<R: Wait>(
+    rt: &R,
+    queues: &CallQueues,
+    pass: QueuePass,
+    program: Program,
+) -> Rung
+    requires pass { pass.queues ≡ queues.now.queues }
+    requires tenant { length queues.now.config ≡ 1 }
+{
     let bell = Bell::new();
     let rows = [(1, Moved::Ran, Some(9)), (0, Moved::Left, None)];
-    let tour = Tour::new(alloc, &rt, &bell, &rows, 2)?;
-    let ringer = Ringer::new(&rt, &bell, &queues, passes.remove(0));
-    let mut door = SlotDoor::new(ringer, &NoGate, tour);
-    assert_eq!(rt; door.arrive(FIRST), Came::At(1));
-    assert_eq!(rt; bell.listen(&rt), Some(0));
-    assert_eq!(rt; door.advance(), Moved::Ran);
-    assert_eq!(rt; bell.listen(&rt), Some(1));
-    assert_eq!(rt; door.pop(), Some(DUE));
-    bell.stop(&rt);
-    assert_eq!(rt; bell.listen(&rt), None);
+    let tour = Tour::new(program, rt, &bell, &rows, 2);
+    let mut door = SlotDoor::new(Ringer::new(rt, &bell, queues, pass), &NoGate, tour);
+    let came = door.arrive(FIRST);
+    let before = bell.listen(rt);
+    let moved = door.advance();
+    let after = bell.listen(rt);
+    let left = door.pop();
+    bell.stop(rt);
+    Rung {
+        came,
+        moved,
+        heard: [before, after, bell.listen(rt)],
+        left,
+    }
+}
+
+#[test]
+fn the_bell_rings_for_a_slot_that_becomes_due(rt: HostRuntime) -> Result<(), Fail> {
+    let rung = ring_for_due(&rt, rt.alloc())?;
+    assert_eq!(rt; (rung.came, rung.moved), (Came::At(1), Moved::Ran));
+    assert_eq!(rt; rung.heard, [Some(0), Some(1), None]);
+    assert_eq!(rt; rung.left, Some(DUE));
     Ok(())
 }
