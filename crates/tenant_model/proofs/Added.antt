@@ -7,7 +7,7 @@ use Rattle.tenant_model.specs.Advance.{is_poor, with_fuel_paid}
 use Rattle.tenant_model.specs.Changes.{add_row, with_frame}
 use Rattle.tenant_model.proofs.Changed.{row-push_old, with_at_number-append}
 
-module _ (s : State) (n cost : ℕ) (r : Row) (from : 1 ≤ n) (to : n ≤ length s.rows) where
+module _ (s : State) (n cost : ℕ) (r : Row) (to : n ≤ length s.rows) where
   -- The fuel is the same.
   pub is_poor-add_row : is_poor (add_row s r) n cost ≡ is_poor s n cost
   is_poor-add_row = rw (row-push_old s.rows n r to) refl

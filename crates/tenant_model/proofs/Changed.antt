@@ -2,7 +2,7 @@
 use Rattle.std.proofs.Common.{◌≡◌, ◌≢◌, ℕ, zero, suc, ◌+◌, ◌-◌, ◌<◌, ◌≤◌, List, [], ◌∷◌, ◌++◌, length, get_or, refl, sym, ap, ◌∙◌, arith, unwrap_or, map, length-set}
 use Rattle.std.specs.Prelude.{slice_set}
 use Rattle.std.proofs.lemmas.Option.{unwrap_or-slice_get, slice_get_past}
-use Rattle.std.proofs.lemmas.List.{get_or-set_same, get_or-set_other, set-append_left, get_or_append_left, get_or_push, get_or_default, get_or-map}
+use Rattle.std.proofs.lemmas.List.{get_or-set_same, get_or-set_other, set-append_left, set-set, get_or_append_left, get_or_push, get_or_default, get_or-map}
 use Rattle.tenant_model.specs.declared.rows.Row.{Row}
 use Rattle.tenant_model.specs.State.{at_number, with_at_number, row}
 
@@ -18,6 +18,11 @@ module _ {A : Type 0} (xs : List A) where
   pub length-with : (n : ℕ) (x : A) → length (with_at_number xs n x) ≡ length xs
   length-with zero x = refl
   length-with (suc n) x = length-set xs n x
+
+  -- The second item stays.
+  pub with_at_number-twice : (n : ℕ) (x y : A) → with_at_number (with_at_number xs n x) n y ≡ with_at_number xs n y
+  with_at_number-twice zero x y = refl
+  with_at_number-twice (suc n) x y = set-set xs n x y
 
   pub with_at_number-append : (ys : List A) (n : ℕ) (x : A) → n ≤ length xs → with_at_number (xs ++ ys) n x ≡ with_at_number xs n x ++ ys
   with_at_number-append ys zero x to = refl
