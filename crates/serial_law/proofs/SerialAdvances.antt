@@ -1,5 +1,5 @@
 -- Each advance and arrival keeps what is known of a serial job.
-use Rattle.std.proofs.Common.{◌≡◌, ◌≢◌, ℕ, ◌+◌, ◌-◌, ◌==◌, ◌<◌, ◌≤◌, length, Option, Some, None, Bool, true, false, ◌&&◌, nat_lt, refl, sym, ap, ◌∙◌, arith, inl, inr, length-set, pos}
+use Rattle.std.proofs.Common.{◌≡◌, ◌≢◌, ℕ, ◌+◌, ◌-◌, ◌==◌, ◌<◌, ◌≤◌, length, Option, Some, None, Bool, true, false, ◌&&◌, nat_lt, refl, sym, ap, ◌∙◌, arith, inl, inr, pos}
 use Rattle.std.specs.Prelude.{if◌then◌else◌, IfSome}
 use Rattle.std.proofs.lemmas.Bool.{cases_eq, cond_both}
 use Rattle.job_language.specs.Program.{group_of}
@@ -26,7 +26,7 @@ use Rattle.tenant_model.specs.Changes.{is_row_limit_met, is_full, with_frame, ne
 use Rattle.tenant_model.specs.Shared.{execute, has_used_group}
 use Rattle.tenant_model.specs.Advance.{begin, nest_pick, work_of, is_poor, with_fuel, with_fuel_paid, pay, move_on, is_blocked, after_run, is_idle_wait, run_on, advance_run, advance_top, would_be_recorded, advance, arrive_at, is_open_to_workers, arrive}
 use Rattle.tenant_model.specs.WellFormed.{IsWellFormed}
-use Rattle.tenant_model.proofs.Changed.{at_number-with_same, row-with_same, row-with_other}
+use Rattle.tenant_model.proofs.Changed.{at_number-with_same, row-with_same, row-with_other, length-with}
 use Rattle.tenant_model.proofs.Linked.{SameSources-set, IsLinked-set, IsLinked-more_jobs}
 use Rattle.tenant_model.proofs.Picks.{top_is, pick_is}
 use Rattle.tenant_model.proofs.Unstuck.{program_of}
@@ -92,7 +92,7 @@ module _ (o : Origin) (s : State) (n fuel : ℕ) (from : 1 ≤ n) (to : n ≤ le
   work = record (job s.jobs (row s.rows n).job) { fuel = fuel }
 
   fuel_linked : length (with_fuel s n fuel).jobs ≡ length s.jobs
-  fuel_linked = length-set s.jobs ((row s.rows n).job - 1) work
+  fuel_linked = length-with s.jobs (row s.rows n).job work
 
   fuel_other : (row s.rows n).job ≢ o.number → Good o (with_fuel s n fuel) 0
   fuel_other other = record {

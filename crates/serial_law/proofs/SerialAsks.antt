@@ -1,5 +1,5 @@
 -- Each ask keeps what is known of a serial job, and a new job is known.
-use Rattle.std.proofs.Common.{◌≡◌, ◌≢◌, ℕ, zero, suc, ◌+◌, ◌-◌, ◌==◌, ◌≤◌, List, [], length, Option, Some, None, Bool, true, false, ◌&&◌, ◌||◌, refl, sym, ap, ◌∙◌, arith, inl, inr, map, length-set, pos, unwrap_or}
+use Rattle.std.proofs.Common.{◌≡◌, ◌≢◌, ℕ, zero, suc, ◌+◌, ◌==◌, ◌≤◌, List, [], length, Option, Some, None, Bool, true, false, ◌&&◌, ◌||◌, refl, sym, ap, ◌∙◌, arith, inl, inr, map, pos, unwrap_or}
 use Rattle.std.specs.Prelude.{if◌then◌else◌, nat_le, not, slice_index_or, slice_get, is_some}
 use Rattle.std.specs.List.{list_any}
 use Rattle.std.specs.Option.{option_map_or, option_map}
@@ -28,7 +28,7 @@ use Rattle.tenant_model.specs.Walks.{is_open, is_job_cancelled}
 use Rattle.tenant_model.specs.Changes.{new_row, on_job, is_full, is_row_limit_met}
 use Rattle.tenant_model.specs.Linked.{IsLinked}
 use Rattle.tenant_model.specs.Asks.{add_job, new_job, free_slot, unless_limit, submit, submit_placed, collect, cancel_by_request, retire, retired_work, reply_to, ask, is_hello, known_job, has_outcome, current_jobs, status}
-use Rattle.tenant_model.proofs.Changed.{at_number-push_old, at_number-push_new, at_number-with_same, row-push_old, row-push_new}
+use Rattle.tenant_model.proofs.Changed.{at_number-push_old, at_number-push_new, at_number-with_same, row-push_old, row-push_new, length-with}
 use Rattle.tenant_model.proofs.Linked.{IsLinked-job, IsLinked-more_jobs}
 use Rattle.tenant_model.proofs.UnstuckSteps.{known_there}
 use Rattle.serial_law.proofs.SerialNow.{fold_to, fold_to-rest, is_made_by, now, cost_of, cost_for, Leads}
@@ -190,7 +190,7 @@ module _ (o : Origin) (s : State) (is : Good o s 0) where
   cancel_good i from to =
       let w = record (job s.jobs i) { cancelled = true } in
       let jobs = with_at_number s.jobs i w in
-      let long = length-set s.jobs (i - 1) w in
+      let long = length-with s.jobs i w in
       let here : job jobs i ≡ w = at_number-with_same s.jobs _ i w from to in
       let same : SameWork (job s.jobs o.number) (job jobs o.number) = elim (cases_eq o.number i) [
         | inl own ↦

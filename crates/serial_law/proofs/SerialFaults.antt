@@ -1,5 +1,5 @@
 -- A fault reaches rows of one job alone.
-use Rattle.std.proofs.Common.{◌≡◌, ◌≢◌, ℕ, zero, suc, ◌+◌, ◌-◌, ◌==◌, ◌≤◌, List, [], ◌∷◌, length, Option, Some, None, max, Bool, true, false, ◌&&◌, refl, sym, ap, ◌∙◌, arith, inl, inr, map, length-set}
+use Rattle.std.proofs.Common.{◌≡◌, ◌≢◌, ℕ, zero, suc, ◌+◌, ◌-◌, ◌==◌, ◌≤◌, List, [], ◌∷◌, length, Option, Some, None, max, Bool, true, false, ◌&&◌, refl, sym, ap, ◌∙◌, arith, inl, inr, map}
 use Rattle.std.specs.Prelude.{count_by, fold, nat_le, is_some, ◌||◌}
 use Rattle.std.proofs.lemmas.Bool.{cases_eq}
 use Rattle.job_language.specs.declared.errors.JobFault.{JobFault}
@@ -15,7 +15,7 @@ use Rattle.tenant_model.specs.Changes.{on_job, task_height_of, task_height, faul
 use Rattle.tenant_model.specs.Sound.{ShareJobs}
 use Rattle.tenant_model.specs.WellFormed.{AreStacked, StandOnMakers}
 use Rattle.tenant_model.proofs.Within.{either_way}
-use Rattle.tenant_model.proofs.Changed.{at_number-with_same, at_number-with_other, row-with_other, row-map}
+use Rattle.tenant_model.proofs.Changed.{at_number-with_same, at_number-with_other, row-with_other, row-map, length-with}
 use Rattle.tenant_model.proofs.Linked.{SameSources-map, IsLinked-same, IsLinked-more_jobs}
 use Rattle.tenant_model.proofs.Stacking.{one_if, count-cons, count-with}
 use Rattle.tenant_model.proofs.Insides.{live_there, live_low}
@@ -95,7 +95,7 @@ faults_good o s slot n debt f from to top stacked on_makers is =
     let change : Work → Work = λ w. record w { fault = first_fault w.fault f } in
     let w = change (job s.jobs i) in
     let jobs = with_at_number s.jobs i w in
-    let long = length-set s.jobs (i - 1) w in
+    let long = length-with s.jobs i w in
     let t = record s { rows = rows } in
     let linked = IsLinked-more_jobs t jobs (omega (arith, long)) (IsLinked-same s t same refl is.linked.epoch is.linked) in
     let one = OneJob-same s.rows rows same is.linked.makers is.one in

@@ -1,5 +1,5 @@
 -- What is kept of a serial job by every step of its tenant.
-use Rattle.std.proofs.Common.{◌≡◌, ◌≢◌, ℕ, zero, suc, ◌+◌, ◌-◌, ◌<◌, ◌≤◌, List, [], ◌∷◌, ◌++◌, length, Option, Some, None, Bool, true, false, refl, sym, ap, ◌∙◌, arith, inl, inr, ℤ, length-set}
+use Rattle.std.proofs.Common.{◌≡◌, ◌≢◌, ℕ, zero, suc, ◌+◌, ◌<◌, ◌≤◌, List, [], ◌∷◌, ◌++◌, length, Option, Some, None, Bool, true, false, refl, sym, ap, ◌∙◌, arith, inl, inr, ℤ}
 use Rattle.std.specs.Prelude.{slice_index_or, IfSome}
 use Rattle.std.specs.List.{list_any}
 use Rattle.std.proofs.lemmas.Bool.{cases_eq, cases_lt}
@@ -17,7 +17,7 @@ use Rattle.tenant_model.specs.Walks.{maker_of, with_makers, chain_for, is_open, 
 use Rattle.tenant_model.specs.Changes.{entry}
 use Rattle.tenant_model.specs.Linked.{MakersPrecede, IsLinked}
 use Rattle.tenant_model.specs.Sound.{ShareJobs}
-use Rattle.tenant_model.proofs.Changed.{row-with_same, row-with_other, row-push_old, row-push_new}
+use Rattle.tenant_model.proofs.Changed.{row-with_same, row-with_other, row-push_old, row-push_new, length-with}
 use Rattle.tenant_model.proofs.Linked.{SameSources, IsLinked-same}
 use Rattle.tenant_model.proofs.Parts.{row-settle, SameSources-settle}
 use Rattle.tenant_model.proofs.Tending.{made_there}
@@ -204,7 +204,7 @@ entry_good o s debt is = settle_good o (record s { entries = s.entries + 1 }) de
 -- a row changed that is of another job, with the same maker
 pub other_row : (j : ℕ) (rows : List Row) (n : ℕ) (r : Row) → 1 ≤ n → n ≤ length rows → r.kind ≡ (row rows n).kind → r.job ≡ (row rows n).job → (row rows n).job ≢ j → SameJob j rows (with_at_number rows n r)
 other_row j rows n r from to kind job other =
-    let long = length-set rows (n - 1) r in
+    let long = length-with rows n r in
     let same : (k : ℕ) → (row rows k).job ≡ j → row (with_at_number rows n r) k ≡ row rows k = λ k own. elim (cases_eq k n) [
       | inl here ↦ let is : (row rows n).job ≡ j = rw here at own in absurd (other is)
       | inr apart ↦ row-with_other rows n k r from apart

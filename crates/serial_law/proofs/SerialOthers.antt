@@ -1,5 +1,5 @@
 -- What rows of other jobs do keeps what is known of a serial job.
-use Rattle.std.proofs.Common.{◌≡◌, ◌≢◌, ℕ, ◌+◌, ◌-◌, ◌==◌, ◌<◌, ◌≤◌, List, length, Option, Some, None, Bool, true, false, refl, sym, ap, ◌∙◌, arith, length-set, ℤ}
+use Rattle.std.proofs.Common.{◌≡◌, ◌≢◌, ℕ, ◌+◌, ◌==◌, ◌<◌, ◌≤◌, List, length, Option, Some, None, Bool, true, false, refl, sym, ap, ◌∙◌, arith, ℤ}
 use Rattle.std.specs.Prelude.{if◌then◌else◌, slice_set, IfSome}
 use Rattle.std.proofs.lemmas.Bool.{cond_both}
 use Rattle.std.proofs.lemmas.Option.{IfSome_then}
@@ -22,7 +22,7 @@ use Rattle.tenant_model.specs.Changes.{on_row, new_row, add_row, is_row_limit_me
 use Rattle.tenant_model.specs.Cells.{Table}
 use Rattle.tenant_model.specs.Shared.{next_place, called_frame, group_status, execute, has_used_group, handed_frame, hand_back}
 use Rattle.tenant_model.specs.WellFormed.{AreStacked, StandOnMakers, AreMarked}
-use Rattle.tenant_model.proofs.Changed.{row-with_same}
+use Rattle.tenant_model.proofs.Changed.{row-with_same, length-with}
 use Rattle.tenant_model.proofs.Linked.{SameSources-set, IsLinked-set, IsLinked-push}
 use Rattle.serial_law.proofs.SerialFollows.{Origin, Good, OneJob-same, OneJob-push, Follows-same, same_work, entry_good, other_row, other_push}
 use Rattle.serial_law.proofs.SerialFaults.{faults_good}
@@ -81,7 +81,7 @@ module _ (o : Origin) (s : State) (slot n : ℕ) (top : OnTop s.rows slot n) (is
         let r = record (row s.rows n) { frame = f } in
         let here : row (with_frame s n f).rows n ≡ r = row-with_same s.rows n r top.from top.to in
         push_other o (with_frame s n f) (new_row k (row s.rows n).job made_on g p) 0
-        (IfSome_then (maker_of k) maker (λ m same. (omega (arith, same, top.from), omega (arith, same, top.to, length-set s.rows (n - 1) r), ap (λ i. (row (with_frame s n f).rows i).job) same ∙ ap (λ (q : Row). q.job) here)))
+        (IfSome_then (maker_of k) maker (λ m same. (omega (arith, same, top.from), omega (arith, same, top.to, length-with s.rows n r), ap (λ i. (row (with_frame s n f).rows i).job) same ∙ ap (λ (q : Row). q.job) here)))
         (is.linked.jobs n top.from top.to) other (moved_other f)
 
     done_other : (f : Frame) (v : ℤ) (k : Kind) → (row s.rows n).kind ≡ k → Good o (hand_back (on_row s n (λ r. record r { frame = f; phase = Done v })) k v) 0
@@ -93,7 +93,7 @@ module _ (o : Origin) (s : State) (slot n : ℕ) (top : OnTop s.rows slot n) (is
         let t = on_row s n (λ r. record r { frame = f; phase = Done v }) in
         let r = record (row s.rows n) { frame = f; phase = Done v } in
         let here : row t.rows n ≡ r = row-with_same s.rows n r top.from top.to in
-        let long = length-set s.rows (n - 1) r in
+        let long = length-with s.rows n r in
         let its : (row t.rows n).kind ≡ Region m = ap (λ (q : Row). q.kind) here ∙ kind in
         let maker : (1 ≤ m) × (m < n) = rw kind at (is.linked.makers n top.from top.to) in
         let same : (row t.rows m).job ≡ (row t.rows n).job = rw its at (ended.one n top.from (omega (arith, top.to, long))) in

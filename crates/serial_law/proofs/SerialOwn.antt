@@ -19,7 +19,7 @@ use Rattle.tenant_model.specs.Changes.{on_row, new_row, add_row, with_frame}
 use Rattle.tenant_model.specs.Linked.{IsLinked}
 use Rattle.tenant_model.specs.Shared.{next_place, called_frame, group_status, has_used_group, handed_frame, hand_back}
 use Rattle.tenant_model.proofs.Within.{either_way}
-use Rattle.tenant_model.proofs.Changed.{row-with_same, row-with_other, row-push_old, row-push_new}
+use Rattle.tenant_model.proofs.Changed.{row-with_same, row-with_other, row-push_old, row-push_new, length-with}
 use Rattle.tenant_model.proofs.Linked.{SameSources-set, IsLinked-set, IsLinked-push}
 use Rattle.tenant_model.proofs.Insides.{live_low}
 use Rattle.tenant_model.proofs.Marked.{mark_in}
@@ -104,7 +104,7 @@ module _ (rows : List Row) (n : ℕ) (r : Row) (from : 1 ≤ n) (to : n ≤ leng
   moved_set : IsMoved n rows (with_at_number rows n r)
   moved_set =
       let here = row-with_same rows n r from to in
-      let long = length-set rows (n - 1) r in
+      let long = length-with rows n r in
       record {
         from = from;
         to = to;
@@ -118,7 +118,7 @@ module _ (rows : List Row) (n : ℕ) (r : Row) (from : 1 ≤ n) (to : n ≤ leng
 
   moved_push : (q : Row) → ((p : ℕ) → p ≢ n → is_made_by p q.kind ≡ false) → IsMoved n rows (with_at_number rows n r ++ q ∷ [])
   moved_push q none =
-      let long = length-set rows (n - 1) r in
+      let long = length-with rows n r in
       let more = length_push (with_at_number rows n r) q in
       let here : row (with_at_number rows n r ++ q ∷ []) n ≡ r = row-push_old (with_at_number rows n r) n q (omega (arith, to, long)) ∙ row-with_same rows n r from to in
       record {
@@ -190,7 +190,7 @@ module _ (o : Origin) (s : State) (slot n count debt : ℕ) (f : Frame) (run : H
 
     set_clear : IsFollowed o s.rows left debt → AreClear r.marks → (k : ℕ) → 1 ≤ k → k ≤ length (with_at_number s.rows n r) → (row (with_at_number s.rows n r) k).job ≡ o.number → AreClear (row (with_at_number s.rows n r) k).marks
     set_clear its here k from to owned =
-        let long = length-set s.rows (n - 1) r in
+        let long = length-with s.rows n r in
         elim (cases_eq k n) [
           | inl same ↦ rw (same, row-with_same s.rows n r run.top.from run.top.to) here
           | inr apart ↦
@@ -204,7 +204,7 @@ module _ (o : Origin) (s : State) (slot n count debt : ℕ) (f : Frame) (run : H
       let r = record (row s.rows n) { frame = f } in
       let moved = moved_set s.rows n r run.top.from run.top.to refl refl refl in
       let here = row-with_same s.rows n r run.top.from run.top.to in
-      let long = length-set s.rows (n - 1) r in
+      let long = length-with s.rows n r in
       followed_next (with_frame s n f) refl (set_linked r refl refl) (set_one r refl refl) (λ clear its.
       next_is _ count le (omega (arith, long)) (λ k from to. (SameSources-set s.rows n r run.top.from run.top.to refl refl).jobs k) its (set_clear r refl refl its (clear_before its n run.top.from run.top.to run.own))
       (Leads-private o.program (root_task o.args) o.number o.root n s.rows _ moved run.own opened (free_on_top o.number s.rows slot n run.top) its.spent count its.from its.to long
@@ -222,7 +222,7 @@ module _ (o : Origin) (s : State) (slot n count debt : ℕ) (f : Frame) (run : H
       } in
       let moved = moved_set s.rows n r run.top.from run.top.to refl refl refl in
       let here = row-with_same s.rows n r run.top.from run.top.to in
-      let long = length-set s.rows (n - 1) r in
+      let long = length-with s.rows n r in
       followed_next (record s { rows = with_at_number s.rows n r }) refl (set_linked r refl refl) (set_one r refl refl) (λ clear its.
       let own_marks = clear_before its n run.top.from run.top.to run.own in
       let not_cancelled = context_clear o s left debt is.linked.makers is.one its clear n run.top.from run.top.to run.own in
@@ -245,18 +245,18 @@ module _ (o : Origin) (s : State) (slot n count debt : ℕ) (f : Frame) (run : H
 
     grown_linked : IsLinked grown
     grown_linked =
-        let long = length-set s.rows (n - 1) mover in
+        let long = length-with s.rows n mover in
         IsLinked-push (with_frame s n next) child (set_linked mover refl refl) (rw made (run.top.from, omega (arith, run.top.to, long))) (is.linked.jobs n run.top.from run.top.to)
 
     grown_one : OneJob grown.rows
     grown_one =
-        let long = length-set s.rows (n - 1) mover in
+        let long = length-with s.rows n mover in
         OneJob-push (with_frame s n next).rows child (set_linked mover refl refl).makers (set_one mover refl refl)
         (rw made (omega (arith, run.top.to, long), ap (λ (q : Row). q.job) (row-with_same s.rows n mover run.top.from run.top.to)))
 
     grown_made : IsFollowed o s.rows left debt → HasMade o.number n s.rows grown.rows child
     grown_made its =
-        let long = length-set s.rows (n - 1) mover in
+        let long = length-with s.rows n mover in
         let here : row grown.rows n ≡ mover = row-push_old (with_at_number s.rows n mover) n child (omega (arith, run.top.to, long)) ∙ row-with_same s.rows n mover run.top.from run.top.to in
         record {
           moved = moved_push s.rows n mover run.top.from run.top.to refl refl refl child none;
@@ -274,12 +274,12 @@ module _ (o : Origin) (s : State) (slot n count debt : ℕ) (f : Frame) (run : H
 
     grown_frame : (row grown.rows n).frame ≡ next
     grown_frame =
-        let long = length-set s.rows (n - 1) mover in
+        let long = length-with s.rows n mover in
         ap (λ (q : Row). q.frame) (row-push_old (with_at_number s.rows n mover) n child (omega (arith, run.top.to, long)) ∙ row-with_same s.rows n mover run.top.from run.top.to)
 
     grown_clear : IsFollowed o s.rows left debt → (i : ℕ) → 1 ≤ i → i ≤ length grown.rows → (row grown.rows i).job ≡ o.number → AreClear (row grown.rows i).marks
     grown_clear its i from to owned =
-        let long = length-set s.rows (n - 1) mover in
+        let long = length-with s.rows n mover in
         let more = length_push (with_at_number s.rows n mover) child in
         elim (cases_lt (length (with_at_number s.rows n mover)) i) [
           | inl after ↦
@@ -292,7 +292,7 @@ module _ (o : Origin) (s : State) (slot n count debt : ℕ) (f : Frame) (run : H
 
     grown_good : count + 1 ≤ debt → ((its : IsFollowed o s.rows left debt) → Leads o.program (root_task o.args) o.number o.root grown.rows (its.spent + (count + 1))) → Good o grown 0
     grown_good le leads =
-        let long = length-set s.rows (n - 1) mover in
+        let long = length-with s.rows n mover in
         let more = length_push (with_at_number s.rows n mover) child in
         followed_next grown refl grown_linked grown_one (λ clear its.
         next_is grown.rows (count + 1) le (omega (arith, long, more))
@@ -360,7 +360,7 @@ module _ (o : Origin) (s : State) (slot n count debt : ℕ) (f : Frame) (run : H
       let v = register f x in
       let r = done v in
       let t = record s { rows = with_at_number s.rows n r } in
-      let long = length-set s.rows (n - 1) r in
+      let long = length-with s.rows n r in
       let maker : (1 ≤ m) × (m < n) = rw kind at (is.linked.makers n run.top.from run.top.to) in
       let m_from = maker.0 in
       let m_to : m ≤ length s.rows = omega (arith, maker, run.top.to) in

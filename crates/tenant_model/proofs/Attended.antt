@@ -1,5 +1,5 @@
 -- Makers stay while what they made is open, unless their job has a fault.
-use Rattle.std.proofs.Common.{◌≡◌, ◌≢◌, ℕ, zero, suc, ◌+◌, ◌-◌, ◌==◌, ◌<◌, ◌≤◌, List, [], ◌∷◌, ◌++◌, length, get_or, Option, Some, None, IsSome, Bool, true, false, ◌&&◌, ◌||◌, refl, sym, ap, ◌∙◌, arith, inl, inr, ◌⊎◌, length-set, map, nat_lt, ℤ, max}
+use Rattle.std.proofs.Common.{◌≡◌, ◌≢◌, ℕ, zero, suc, ◌+◌, ◌-◌, ◌==◌, ◌<◌, ◌≤◌, List, [], ◌∷◌, ◌++◌, length, get_or, Option, Some, None, IsSome, Bool, true, false, ◌&&◌, ◌||◌, refl, sym, ap, ◌∙◌, arith, inl, inr, ◌⊎◌, map, nat_lt, ℤ, max}
 use Rattle.std.specs.Prelude.{nat_le, slice_set, filter, is_some, unwrap_or, slice_get}
 use Rattle.std.specs.List.{enumerate_from}
 use Rattle.std.specs.Option.{option_map}
@@ -29,7 +29,7 @@ use Rattle.tenant_model.specs.Naming.{IsUnstuck}
 use Rattle.tenant_model.specs.WellFormed.{IsWellFormed}
 use Rattle.tenant_model.specs.Sound.{IsTended, MakersStay}
 use Rattle.tenant_model.proofs.Within.{either_way}
-use Rattle.tenant_model.proofs.Changed.{row-with_same, row-with_other, row-push_old, row-push_new, row-past, row-get_or, row-map, at_number-with_same, at_number-with_other, at_number-push_old}
+use Rattle.tenant_model.proofs.Changed.{row-with_same, row-with_other, row-push_old, row-push_new, row-past, row-get_or, row-map, at_number-with_same, at_number-with_other, at_number-push_old, length-with}
 use Rattle.tenant_model.proofs.Insides.{live_there, live_low}
 use Rattle.tenant_model.proofs.Picks.{pick_is}
 use Rattle.tenant_model.proofs.Invariance.{IsAt, KeepsAdvances, KeepsAsks, program_of, faulted_at, waited_at, cancelled_at, done_at}
@@ -200,7 +200,7 @@ module _ (s : State) (slot n : ℕ) (at : IsAt s slot n) (is : Both s) where
   pub made_kept : (f : Frame) (r : Row) → IsWellFormed (with_frame s n f) → ((m : ℕ) → maker_of r.kind ≡ Some m → m ≡ n) → ((m g : ℕ) → r.kind ≡ Spawned m g → g < GROUPS) → MakersStay (add_row (with_frame s n f) r)
   made_kept f r well maker group = MakersStay-push (with_frame s n f) r well (λ m made.
       let e = maker m made in
-      (omega (arith, e, at.to, length-set s.rows (n - 1) (record (row s.rows n) { frame = f })), rw e (top_open f))) group (framed_kept f)
+      (omega (arith, e, at.to, length-with s.rows n (record (row s.rows n) { frame = f })), rw e (top_open f))) group (framed_kept f)
 
   -- the topmost row ends, and has waited for all that it spawned
   pub over_kept : (f : Frame) (v : ℤ) → has_used_group s n ≡ false → MakersStay (on_row s n (λ r. record r { frame = f; phase = Done v }))
@@ -251,7 +251,7 @@ done_kept_by s slot n at f v (Region m) kind is =
     let apart : m ≢ n = omega (arith, there) in
     let below : (row s.rows m).phase ≡ Live slot (height s.rows slot - 1) = at.well.on_makers.below n m slot (height s.rows slot) kind at.live in
     let opened : is_open (row t.rows m).phase ≡ true = rw (row-with_other s.rows n m r at.from apart) (rw below refl) in
-    same_row t m (λ q. record q { frame = handed_frame (instr_at (job t.jobs q.job).program q.frame) v q.frame }) there.2 (omega (arith, there, length-set s.rows (n - 1) r)) refl refl refl is opened
+    same_row t m (λ q. record q { frame = handed_frame (instr_at (job t.jobs q.job).program q.frame) v q.frame }) there.2 (omega (arith, there, length-with s.rows n r)) refl refl refl is opened
 
 -- rows of other jobs are not faulted
 pub faulted_of : (s : State) (slot n : ℕ) → IsAt s slot n → IsTended s → (m : ℕ) → is_open (row s.rows m).phase ≡ true → is_open (row (map (faulted_row slot (task_height s.rows slot)) s.rows) m).phase ≡ false → (row s.rows m).job ≡ (row s.rows n).job

@@ -1,13 +1,32 @@
 -- Rows and jobs by their numbers, in lists that change.
-use Rattle.std.proofs.Common.{◌≡◌, ◌≢◌, ℕ, zero, suc, ◌+◌, ◌-◌, ◌<◌, ◌≤◌, List, [], ◌∷◌, ◌++◌, length, get_or, refl, sym, ap, ◌∙◌, arith, unwrap_or, map}
+use Rattle.std.proofs.Common.{◌≡◌, ◌≢◌, ℕ, zero, suc, ◌+◌, ◌-◌, ◌<◌, ◌≤◌, List, [], ◌∷◌, ◌++◌, length, get_or, refl, sym, ap, ◌∙◌, arith, unwrap_or, map, length-set}
 use Rattle.std.specs.Prelude.{slice_set}
 use Rattle.std.proofs.lemmas.Option.{unwrap_or-slice_get, slice_get_past}
-use Rattle.std.proofs.lemmas.List.{get_or-set_same, get_or-set_other, get_or_append_left, get_or_push, get_or_default, get_or-map}
+use Rattle.std.proofs.lemmas.List.{get_or-set_same, get_or-set_other, set-append_left, set-set, get_or_append_left, get_or_push, get_or_default, get_or-map}
 use Rattle.tenant_model.specs.declared.rows.Row.{Row}
 use Rattle.tenant_model.specs.State.{at_number, with_at_number, row}
 
 pred_suc : (n : ℕ) → suc n - 1 ≡ n
 pred_suc n = omega arith
+
+module _ {A : Type 0} (xs : List A) where
+  -- Number n stands at place n - 1.
+  pub with_at_number-from : (n : ℕ) (x : A) → 1 ≤ n → with_at_number xs n x ≡ slice_set xs (n - 1) x
+  with_at_number-from zero x from = absurd (omega arith)
+  with_at_number-from (suc n) x from = rw (pred_suc n) refl
+
+  pub length-with : (n : ℕ) (x : A) → length (with_at_number xs n x) ≡ length xs
+  length-with zero x = refl
+  length-with (suc n) x = length-set xs n x
+
+  -- The second item stays.
+  pub with_at_number-twice : (n : ℕ) (x y : A) → with_at_number (with_at_number xs n x) n y ≡ with_at_number xs n y
+  with_at_number-twice zero x y = refl
+  with_at_number-twice (suc n) x y = set-set xs n x y
+
+  pub with_at_number-append : (ys : List A) (n : ℕ) (x : A) → n ≤ length xs → with_at_number (xs ++ ys) n x ≡ with_at_number xs n x ++ ys
+  with_at_number-append ys zero x to = refl
+  with_at_number-append ys (suc n) x to = set-append_left xs ys n x (omega arith)
 
 module _ {A : Type 0} (xs : List A) (d : A) where
   -- the item of a number, with a default
@@ -17,14 +36,14 @@ module _ {A : Type 0} (xs : List A) (d : A) where
 
   pub at_number-with_same : (n : ℕ) (x : A) → 1 ≤ n → n ≤ length xs → unwrap_or (at_number (with_at_number xs n x) n) d ≡ x
   at_number-with_same zero x from to = absurd (omega arith)
-  at_number-with_same (suc n) x from to = rw pred_suc (unwrap_or-slice_get (slice_set xs n x) n d ∙ get_or-set_same xs n x d (omega arith))
+  at_number-with_same (suc n) x from to = unwrap_or-slice_get (slice_set xs n x) n d ∙ get_or-set_same xs n x d (omega arith)
 
   pub at_number-with_other : (n m : ℕ) (x : A) → 1 ≤ n → m ≢ n → unwrap_or (at_number (with_at_number xs n x) m) d ≡ unwrap_or (at_number xs m) d
   at_number-with_other zero m x from other = absurd (omega arith)
   at_number-with_other (suc n) zero x from other = refl
   at_number-with_other (suc n) (suc m) x from other =
       let apart : m ≢ n = omega arith in
-      rw pred_suc (unwrap_or-slice_get (slice_set xs n x) m d ∙ get_or-set_other xs n m x d apart ∙ sym (unwrap_or-slice_get xs m d))
+      unwrap_or-slice_get (slice_set xs n x) m d ∙ get_or-set_other xs n m x d apart ∙ sym (unwrap_or-slice_get xs m d)
 
   pub at_number-push_old : (m : ℕ) (x : A) → m ≤ length xs → unwrap_or (at_number (xs ++ x ∷ []) m) d ≡ unwrap_or (at_number xs m) d
   at_number-push_old zero x old = refl

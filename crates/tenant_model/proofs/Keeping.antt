@@ -1,5 +1,5 @@
 -- Changes that keep a state well formed.
-use Rattle.std.proofs.Common.{◌≡◌, ℕ, ◌+◌, ◌-◌, ◌==◌, ◌<◌, ◌≤◌, List, [], ◌∷◌, length, Some, Bool, true, false, ◌&&◌, refl, sym, ap, ◌∙◌, arith, inl, inr, map, length-set}
+use Rattle.std.proofs.Common.{◌≡◌, ℕ, ◌+◌, ◌-◌, ◌==◌, ◌<◌, ◌≤◌, List, [], ◌∷◌, length, Some, Bool, true, false, ◌&&◌, refl, sym, ap, ◌∙◌, arith, inl, inr, map}
 use Rattle.std.specs.Prelude.{IfSome, nat_le}
 use Rattle.tenant_model.specs.declared.rows.Kind.{Kind}
 use Rattle.tenant_model.specs.declared.rows.Kind.TheVariants.{Region}
@@ -13,7 +13,7 @@ use Rattle.tenant_model.specs.Walks.{maker_of, is_region, is_within, is_unstarte
 use Rattle.tenant_model.specs.Changes.{open_rows, on_row, on_job, add_row, entry, task_height, faulted_row, faulted_phase}
 use Rattle.tenant_model.specs.WellFormed.{IsWellFormed}
 use Rattle.tenant_model.proofs.Within.{either_way}
-use Rattle.tenant_model.proofs.Changed.{row-map}
+use Rattle.tenant_model.proofs.Changed.{row-map, length-with}
 use Rattle.tenant_model.proofs.Linked.{IsLinked-same, IsLinked-set, IsLinked-push, IsLinked-more_jobs, SameSources-map}
 use Rattle.tenant_model.proofs.Stacking.{one_if, count-cons, count-push, AreStacked-same, AreStacked-pushed, AreStacked-cut}
 use Rattle.tenant_model.proofs.Stacked.{IsOff, AreSame-set, IsPushed-set, IsCut-set, AreSame-push, IsPushed-push}
@@ -76,7 +76,7 @@ entry_kept s is = settle_kept (record s { entries = s.entries + 1 }) (record {
 -- a job changed
 pub on_job_kept : (s : State) (j : ℕ) (f : Work → Work) → IsWellFormed s → IsWellFormed (on_job s j f)
 on_job_kept s j f is = record {
-  linked = IsLinked-more_jobs s (with_at_number s.jobs j (f (job s.jobs j))) (omega (arith, length-set s.jobs (j - 1) (f (job s.jobs j)))) is.linked;
+  linked = IsLinked-more_jobs s (with_at_number s.jobs j (f (job s.jobs j))) (omega (arith, length-with s.jobs j (f (job s.jobs j)))) is.linked;
   stacked = is.stacked;
   inside = is.inside;
   on_makers = is.on_makers;

@@ -1,5 +1,5 @@
 -- Each advance and arrival keeps a state well formed.
-use Rattle.std.proofs.Common.{◌≡◌, ℕ, ◌+◌, ◌==◌, ◌<◌, ◌≤◌, List, [], ◌∷◌, length, Option, Some, None, Bool, true, false, ◌&&◌, nat_lt, refl, arith, length-set, ℤ, map, ◌-◌}
+use Rattle.std.proofs.Common.{◌≡◌, ℕ, ◌+◌, ◌==◌, ◌<◌, ◌≤◌, List, [], ◌∷◌, length, Option, Some, None, Bool, true, false, ◌&&◌, nat_lt, refl, arith, ℤ, map}
 use Rattle.std.specs.Prelude.{if◌then◌else◌, slice_set, IfSome}
 use Rattle.std.proofs.lemmas.Bool.{cond_both}
 use Rattle.std.proofs.lemmas.Option.{IfSome_then}
@@ -31,7 +31,7 @@ use Rattle.tenant_model.specs.Shared.{next_place, called_frame, group_status, ex
 use Rattle.tenant_model.specs.Advance.{begin, nest_pick, is_poor, with_fuel, pay, move_on, is_blocked, after_run, is_idle_wait, run_on, advance_run, advance_top, would_be_recorded, advance, arrive_at, is_open_to_workers, arrive}
 use Rattle.tenant_model.specs.Solo.{step, after}
 use Rattle.tenant_model.specs.WellFormed.{IsWellFormed}
-use Rattle.tenant_model.proofs.Changed.{row-with_same}
+use Rattle.tenant_model.proofs.Changed.{row-with_same, length-with}
 use Rattle.tenant_model.proofs.Stacked.{AreSame-set}
 use Rattle.tenant_model.proofs.Parts.{open-set}
 use Rattle.tenant_model.proofs.Insides.{live_low, live_there}
@@ -72,7 +72,7 @@ module _ (s : State) (slot n : ℕ) (is : IsWellFormed s) (top : IsTop s slot n)
   moved_kept f = set_kept (λ r. record r { frame = f }) refl refl refl (is.marked n)
 
   moved_long : (f : Frame) → length (with_frame s n f).rows ≡ length s.rows
-  moved_long f = length-set s.rows (n - 1) (record (row s.rows n) { frame = f })
+  moved_long f = length-with s.rows n (record (row s.rows n) { frame = f })
 
   moved_room : (f : Frame) → open_rows s.rows < s.config.rows → open_rows (with_frame s n f).rows < s.config.rows
   moved_room f room = omega (arith, room, open-set s.rows n (record (row s.rows n) { frame = f }) top.from top.to refl (omega arith))
@@ -110,7 +110,7 @@ module _ (s : State) (slot n : ℕ) (is : IsWellFormed s) (top : IsTop s slot n)
   handed_kept f v (Region m) kind =
       let t = on_row s n (λ r. record r { frame = f; phase = Done v }) in
       let maker : (1 ≤ m) × (m < n) = rw kind at (is.linked.makers n top.from top.to) in
-      on_row_kept t m (λ r. record r { frame = handed_frame (instr_at (job t.jobs r.job).program r.frame) v r.frame }) maker.0 (omega (arith, maker, top.to, length-set s.rows (n - 1) (record (row s.rows n) { frame = f; phase = Done v }))) refl refl ((ended_kept f v).marked m) refl (ended_kept f v)
+      on_row_kept t m (λ r. record r { frame = handed_frame (instr_at (job t.jobs r.job).program r.frame) v r.frame }) maker.0 (omega (arith, maker, top.to, length-with s.rows n (record (row s.rows n) { frame = f; phase = Done v }))) refl refl ((ended_kept f v).marked m) refl (ended_kept f v)
 
   limited_kept : (r : Moved × State) → (open_rows s.rows < s.config.rows → Keeps r) → Keeps (if is_row_limit_met s then faults slot (row s.rows n).job fault.TaskLimit s else r)
   limited_kept r made = either (is_row_limit_met s) _ r (λ _. faults_kept slot (row s.rows n).job fault.TaskLimit s is) (λ unmet. made (grind (arith, unmet)))

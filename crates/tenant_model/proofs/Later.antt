@@ -1,5 +1,5 @@
 -- Changes that undo nothing.
-use Rattle.std.proofs.Common.{◌≡◌, ◌≢◌, ℕ, zero, suc, ◌+◌, ◌-◌, ◌<◌, ◌≤◌, List, [], ◌∷◌, ◌++◌, length, Option, Some, None, Bool, true, false, refl, sym, ap, ◌∙◌, arith, inl, inr, length-set, map}
+use Rattle.std.proofs.Common.{◌≡◌, ◌≢◌, ℕ, zero, suc, ◌+◌, ◌<◌, ◌≤◌, List, [], ◌∷◌, ◌++◌, length, Option, Some, None, Bool, true, false, refl, sym, ap, ◌∙◌, arith, inl, inr, map}
 use Rattle.std.specs.Prelude.{slice_get, unwrap_or}
 use Rattle.std.specs.Option.{option_map}
 use Rattle.std.proofs.lemmas.Bool.{cases_eq, cases_lt}
@@ -12,7 +12,7 @@ use Rattle.tenant_model.specs.Cells.{Table}
 use Rattle.tenant_model.specs.Walks.{is_open}
 use Rattle.tenant_model.specs.Asks.{retired_work}
 use Rattle.tenant_model.specs.Later.{IsRowLater, IsWorkLater, HasEnded, StaysEnded, IsLater}
-use Rattle.tenant_model.proofs.Changed.{row-with_same, row-with_other, row-push_old, row-push_new, row-past, at_number-with_same, at_number-with_other, at_number-push_old}
+use Rattle.tenant_model.proofs.Changed.{row-with_same, row-with_other, row-push_old, row-push_new, row-past, at_number-with_same, at_number-with_other, at_number-push_old, length-with}
 
 pub row_later-same : (r : Row) → IsRowLater r r
 row_later-same r = record { kind = refl; job = refl; made_on = refl; closed = λ closed. refl }
@@ -80,7 +80,7 @@ later-rows s rows long each = record {
 -- a row that was open changes
 pub later-set : (s : State) (n : ℕ) (r : Row) → 1 ≤ n → n ≤ length s.rows → is_open (row s.rows n).phase ≡ true → r.kind ≡ (row s.rows n).kind → r.job ≡ (row s.rows n).job → r.made_on ≡ (row s.rows n).made_on → IsLater s (record s { rows = with_at_number s.rows n r })
 later-set s n r from to opened kind job_same made_on =
-    later-rows s (with_at_number s.rows n r) (length-set s.rows (n - 1) r) (λ m. elim (cases_eq m n) [
+    later-rows s (with_at_number s.rows n r) (length-with s.rows n r) (λ m. elim (cases_eq m n) [
       | inl same ↦
           let is : row (with_at_number s.rows n r) m ≡ r = ap (row (with_at_number s.rows n r)) same ∙ row-with_same s.rows n r from to in
           rw (is, same) (record { kind = kind; job = job_same; made_on = made_on; closed = λ closed. absurd (grind (arith, closed, opened)) })
@@ -128,7 +128,7 @@ pub later-set_job : (s : State) (j : ℕ) (w : Work) → 1 ≤ j → j ≤ lengt
 later-set_job s j w from to later over =
     let jobs = with_at_number s.jobs j w in
     let own : (k : ℕ) → k ≡ j → job jobs k ≡ w = λ k same. ap (job jobs) same ∙ at_number-with_same s.jobs _ j w from to in
-    later-jobs s jobs (length-set s.jobs (j - 1) w) (λ k. elim (cases_eq k j) [
+    later-jobs s jobs (length-with s.jobs j w) (λ k. elim (cases_eq k j) [
       | inl same ↦ rw (own k same, same) later
       | inr other ↦ rw (at_number-with_other s.jobs (job [] 0) j k w from other) (work_later-same (job s.jobs k))
     ]) (λ k ended. elim (cases_eq k j) [

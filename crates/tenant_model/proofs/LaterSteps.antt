@@ -1,5 +1,5 @@
 -- No step undoes anything.
-use Rattle.std.proofs.Common.{◌≡◌, ◌≢◌, ℕ, zero, suc, ◌+◌, ◌-◌, ◌==◌, ◌<◌, ◌≤◌, List, [], ◌∷◌, ◌++◌, length, Option, Some, None, Bool, true, false, ◌&&◌, ◌||◌, refl, sym, ap, ◌∙◌, arith, inl, inr, map, length-set, ℤ, pos}
+use Rattle.std.proofs.Common.{◌≡◌, ◌≢◌, ℕ, zero, suc, ◌+◌, ◌-◌, ◌==◌, ◌<◌, ◌≤◌, List, [], ◌∷◌, ◌++◌, length, Option, Some, None, Bool, true, false, ◌&&◌, ◌||◌, refl, sym, ap, ◌∙◌, arith, inl, inr, map, ℤ, pos}
 use Rattle.std.specs.Prelude.{slice_set, slice_index_or, not}
 use Rattle.std.specs.List.{list_any}
 use Rattle.std.proofs.lemmas.Bool.{cases_eq, cases_lt}
@@ -27,7 +27,7 @@ use Rattle.tenant_model.specs.Solo.{step}
 use Rattle.tenant_model.specs.WellFormed.{IsWellFormed}
 use Rattle.tenant_model.specs.Later.{IsRowLater, IsWorkLater, HasEnded, IsLater}
 use Rattle.tenant_model.proofs.Within.{either_way}
-use Rattle.tenant_model.proofs.Changed.{row-map, row-past, row-with_same, row-with_other, at_number-with_same}
+use Rattle.tenant_model.proofs.Changed.{row-map, row-past, row-with_same, row-with_other, at_number-with_same, length-with}
 use Rattle.tenant_model.proofs.Parts.{SameSources-settle, row-settle}
 use Rattle.tenant_model.proofs.Linked.{SameSources-map}
 use Rattle.tenant_model.proofs.Picks.{pick_is}
@@ -166,7 +166,7 @@ module _ (s : State) (slot n : ℕ) (at : IsAt s slot n) where
       let below : (row s.rows m).phase ≡ Live slot (height s.rows slot - 1) = at.well.on_makers.below n m slot (height s.rows slot) kind at.live in
       let its : is_open (row t.rows m).phase ≡ true = rw (row-with_other s.rows n m r at.from (omega (arith, there))) (rw below refl) in
       let q = record (row t.rows m) { frame = handed_frame (instr_at (job t.jobs (row t.rows m).job).program (row t.rows m).frame) v (row t.rows m).frame } in
-      later-then s t (hand_back t (Region m) v) (later-top r refl refl refl) (later-set t m q there.2 (omega (arith, there, length-set s.rows (n - 1) r)) its refl refl refl)
+      later-then s t (hand_back t (Region m) v) (later-top r refl refl refl) (later-set t m q there.2 (omega (arith, there, length-with s.rows n r)) its refl refl refl)
 
 later-added : (s : State) (j : Job) (phase : Phase) → IsLater s (add_job s j phase)
 later-added s j phase =

@@ -1,5 +1,5 @@
 -- Changes that leave a state linked.
-use Rattle.std.proofs.Common.{◌≡◌, ℕ, ◌+◌, ◌-◌, ◌≤◌, List, [], ◌∷◌, ◌++◌, length, refl, sym, ap, ◌∙◌, arith, inl, inr, length-set, map}
+use Rattle.std.proofs.Common.{◌≡◌, ℕ, ◌+◌, ◌≤◌, List, [], ◌∷◌, ◌++◌, length, refl, sym, ap, ◌∙◌, arith, inl, inr, map}
 use Rattle.std.specs.Prelude.{IfSome}
 use Rattle.std.proofs.lemmas.Bool.{cases_eq, cases_lt}
 use Rattle.std.proofs.lemmas.Option.{IfSome_then}
@@ -10,7 +10,7 @@ use Rattle.tenant_model.specs.declared.rows.Row.{Row}
 use Rattle.tenant_model.specs.State.{State, row, with_at_number}
 use Rattle.tenant_model.specs.Walks.{maker_of}
 use Rattle.tenant_model.specs.Linked.{IsLinked}
-use Rattle.tenant_model.proofs.Changed.{row-with_same, row-with_other, row-push_old, row-push_new, row-past, row-map}
+use Rattle.tenant_model.proofs.Changed.{row-with_same, row-with_other, row-push_old, row-push_new, row-past, row-map, length-with}
 
 -- the rows of two lists have the same makers and jobs
 pub record SameSources (a b : List Row) : Type 0 where
@@ -28,7 +28,7 @@ IsLinked-same s t same jobs epoch linked = record {
 -- a row changed, with the same maker and job
 pub SameSources-set : (rows : List Row) (n : ℕ) (r : Row) → 1 ≤ n → n ≤ length rows → r.kind ≡ (row rows n).kind → r.job ≡ (row rows n).job → SameSources rows (with_at_number rows n r)
 SameSources-set rows n r from to kind job = record {
-  long = length-set rows (n - 1) r;
+  long = length-with rows n r;
   kinds = λ m. elim (cases_eq m n) [
     | inl same ↦ rw same (ap (λ (q : Row). q.kind) (row-with_same rows n r from to) ∙ kind)
     | inr other ↦ ap (λ (q : Row). q.kind) (row-with_other rows n m r from other)

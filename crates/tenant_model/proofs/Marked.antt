@@ -1,5 +1,5 @@
 -- Marks, after a change of rows.
-use Rattle.std.proofs.Common.{◌≡◌, ℕ, zero, suc, ◌-◌, ◌≤◌, List, [], ◌∷◌, ◌++◌, length, false, refl, ap, ◌∙◌, arith, inl, inr, length-set, map}
+use Rattle.std.proofs.Common.{◌≡◌, ℕ, zero, suc, ◌≤◌, List, [], ◌∷◌, ◌++◌, length, false, refl, ap, ◌∙◌, arith, inl, inr, map}
 use Rattle.std.specs.Prelude.{slice_index_or, slice_set}
 use Rattle.std.specs.List.{enumerate_from}
 use Rattle.std.proofs.lemmas.Bool.{cases_eq, cases_lt}
@@ -10,7 +10,7 @@ use Rattle.tenant_model.specs.declared.rows.Row.{Row}
 use Rattle.tenant_model.specs.State.{State, no_marks, row, with_at_number}
 use Rattle.tenant_model.specs.Walks.{mark, settle}
 use Rattle.tenant_model.specs.WellFormed.{AreMarked}
-use Rattle.tenant_model.proofs.Changed.{row-past, row-with_same, row-with_other, row-push_old, row-push_new, row-map}
+use Rattle.tenant_model.proofs.Changed.{row-past, row-with_same, row-with_other, row-push_old, row-push_new, row-map, length-with}
 use Rattle.tenant_model.proofs.Parts.{row-settle}
 
 -- the mark of a group among a row's
@@ -50,7 +50,7 @@ AreMarked-settle s is = marked_there (settle s).rows (λ n g from to.
 -- a row changed
 pub AreMarked-set : (rows : List Row) (n : ℕ) (r : Row) → 1 ≤ n → n ≤ length rows → ((g : ℕ) → (mark_in r.marks g).rows ≤ length rows) → AreMarked rows → AreMarked (with_at_number rows n r)
 AreMarked-set rows n r from to fits is m g =
-    let long = length-set rows (n - 1) r in
+    let long = length-with rows n r in
     elim (cases_eq m n) [
       | inl same ↦
           let new : (mark (with_at_number rows n r) m g).rows ≡ (mark_in r.marks g).rows = ap (λ (x : Row). (mark_in x.marks g).rows) (ap (row (with_at_number rows n r)) same ∙ row-with_same rows n r from to) in

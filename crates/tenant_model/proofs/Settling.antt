@@ -1,5 +1,5 @@
 -- Settling, a row at a time.
-use Rattle.std.proofs.Common.{◌≡◌, ℕ, ◌+◌, ◌-◌, ◌<◌, ◌≤◌, length, refl, sym, ap, ◌∙◌, arith, inl, inr, get_or, length-set}
+use Rattle.std.proofs.Common.{◌≡◌, ℕ, ◌+◌, ◌<◌, ◌≤◌, length, refl, sym, ap, ◌∙◌, arith, inl, inr, get_or}
 use Rattle.std.specs.List.{enumerate_from}
 use Rattle.std.proofs.lemmas.Bool.{cases_eq, cases_lt}
 use Rattle.std.proofs.lemmas.List.{length-map, get_or-map, same_lists}
@@ -7,7 +7,7 @@ use Rattle.std.proofs.lemmas.List.FromFn.{length-enumerate_from, get_or-enumerat
 use Rattle.tenant_model.specs.declared.rows.Row.{Row}
 use Rattle.tenant_model.specs.State.{State, row, with_at_number}
 use Rattle.tenant_model.specs.Walks.{NumberedRow, is_context_cancelled, settled_row, settle}
-use Rattle.tenant_model.proofs.Changed.{row-get_or, row-with_same, row-with_other}
+use Rattle.tenant_model.proofs.Changed.{row-get_or, row-with_same, row-with_other, length-with}
 use Rattle.tenant_model.proofs.Contexts.{SameContexts, is_context_cancelled-same}
 
 -- the row of a number as it settles
@@ -59,7 +59,7 @@ settled-next s t k so_far =
 pub SettledUpTo-more : (s t : State) (k : ℕ) → SettledUpTo s t k → k < length s.rows → SettledUpTo s (record t { rows = with_at_number t.rows (k + 1) (settled_at t (k + 1)) }) (k + 1)
 SettledUpTo-more s t k so_far within = record {
   rest = ap (λ (u : State). record u { rows = with_at_number t.rows (k + 1) (settled_at t (k + 1)) }) so_far.rest;
-  long = length-set t.rows (k + 1 - 1) (settled_at t (k + 1)) ∙ so_far.long;
+  long = length-with t.rows (k + 1) (settled_at t (k + 1)) ∙ so_far.long;
   before = λ n below. elim (cases_eq n (k + 1)) [
     | inl same ↦ rw same (row-with_same t.rows (k + 1) (settled_at t (k + 1)) (omega arith) (omega (arith, so_far.long)) ∙ settled-next s t k so_far)
     | inr other ↦ row-with_other t.rows (k + 1) n (settled_at t (k + 1)) (omega arith) other ∙ so_far.before n (omega arith)

@@ -1,5 +1,5 @@
 -- Every step keeps a state sound.
-use Rattle.std.proofs.Common.{◌≡◌, ◌≢◌, ℕ, zero, suc, ◌+◌, ◌-◌, ◌<◌, ◌≤◌, List, [], ◌∷◌, ◌++◌, length, Option, Some, None, Bool, true, false, ◌&&◌, ◌||◌, refl, sym, ap, ◌∙◌, arith, inl, inr, map, length-set, ℤ, pos}
+use Rattle.std.proofs.Common.{◌≡◌, ◌≢◌, ℕ, zero, suc, ◌+◌, ◌<◌, ◌≤◌, List, [], ◌∷◌, ◌++◌, length, Option, Some, None, Bool, true, false, ◌&&◌, ◌||◌, refl, sym, ap, ◌∙◌, arith, inl, inr, map, ℤ, pos}
 use Rattle.std.proofs.lemmas.Bool.{cases_eq, cases_lt}
 use Rattle.std.proofs.lemmas.List.{length_push, length-map}
 use Rattle.std.specs.Prelude.{is_some, if◌then◌else◌, slice_index_or}
@@ -30,7 +30,7 @@ use Rattle.tenant_model.specs.WellFormed.{IsWellFormed}
 use Rattle.tenant_model.specs.Sound.{IsTended, IsCounted, IsSettled, IsSound, MakersStay}
 use Rattle.tenant_model.specs.Later.{HasEnded, IsLater, OutcomesStay}
 use Rattle.tenant_model.proofs.Within.{either_way}
-use Rattle.tenant_model.proofs.Changed.{row-past, at_number-with_same, at_number-with_other}
+use Rattle.tenant_model.proofs.Changed.{row-past, at_number-with_same, at_number-with_other, length-with}
 use Rattle.tenant_model.proofs.Contexts.{SameContexts, is_context_cancelled-same}
 use Rattle.tenant_model.proofs.Parts.{row-settle}
 use Rattle.tenant_model.proofs.KeptAdvances.{step_kept, empty_kept}
@@ -56,7 +56,7 @@ counted_more : (s t : State) → length t.rows ≡ length s.rows + 1 → length 
 counted_more s t rows jobs entries is = record { rows = omega (arith, rows, entries, is.rows); jobs = omega (arith, jobs, entries, is.jobs) }
 
 made_more : (s : State) (n : ℕ) (f : Frame) (r : Row) → IsCounted s → IsCountedNext (add_row (with_frame s n f) r)
-made_more s n f r is = counted_more s (add_row (with_frame s n f) r) (length_push (with_frame s n f).rows r ∙ ap (λ k. k + 1) (length-set s.rows (n - 1) (record (row s.rows n) { frame = f }))) (omega arith) refl is
+made_more s n f r is = counted_more s (add_row (with_frame s n f) r) (length_push (with_frame s n f).rows r ∙ ap (λ k. k + 1) (length-with s.rows n (record (row s.rows n) { frame = f }))) (omega arith) refl is
 
 added_more : (s : State) (j : Job) (phase : Phase) → IsCounted s → IsCountedNext (add_job s j phase)
 added_more s j phase is =
@@ -67,25 +67,25 @@ counted_entry : (s : State) → IsCountedNext s → IsCounted (entry s)
 counted_entry s is = record { rows = omega (arith, is.rows, (EndsSome-settle (record s { entries = s.entries + 1 })).long); jobs = is.jobs }
 
 counted_done : (s : State) (n : ℕ) (f : Frame) (v : ℤ) (k : Kind) → IsCounted s → IsCountedNext (hand_back (on_row s n (λ r. record r { frame = f; phase = Done v })) k v)
-counted_done s n f v Root is = counted_beside s _ (length-set s.rows (n - 1) _) refl refl is
-counted_done s n f v Posted is = counted_beside s _ (length-set s.rows (n - 1) _) refl refl is
-counted_done s n f v (Spawned m g) is = counted_beside s _ (length-set s.rows (n - 1) _) refl refl is
-counted_done s n f v (Region m) is = counted_beside s (hand_back (on_row s n (λ r. record r { frame = f; phase = Done v })) (Region m) v) (length-set (on_row s n (λ r. record r { frame = f; phase = Done v })).rows (m - 1) _ ∙ length-set s.rows (n - 1) _) refl refl is
+counted_done s n f v Root is = counted_beside s _ (length-with s.rows n _) refl refl is
+counted_done s n f v Posted is = counted_beside s _ (length-with s.rows n _) refl refl is
+counted_done s n f v (Spawned m g) is = counted_beside s _ (length-with s.rows n _) refl refl is
+counted_done s n f v (Region m) is = counted_beside s (hand_back (on_row s n (λ r. record r { frame = f; phase = Done v })) (Region m) v) (length-with (on_row s n (λ r. record r { frame = f; phase = Done v })).rows m _ ∙ length-with s.rows n _) refl refl is
 
 counted_advances : (slot : ℕ) → KeepsAdvances Nothing IsCounted IsCountedNext slot
 counted_advances slot = record {
   fueled = λ s n f at p. tt;
-  fuel = λ s n f at p is. record { rows = is.rows; jobs = omega (arith, is.jobs, length-set s.jobs ((row s.rows n).job - 1) (record (job s.jobs (row s.rows n).job) { fuel = f })) };
-  fault = λ s n e at p is. counted_beside s _ (length-map s.rows (faulted_row slot (task_height s.rows slot))) (length-set s.jobs ((row s.rows n).job - 1) _) refl is;
-  frame = λ s n f at p same is. counted_beside s _ (length-set s.rows (n - 1) _) refl refl is;
+  fuel = λ s n f at p is. record { rows = is.rows; jobs = omega (arith, is.jobs, length-with s.jobs (row s.rows n).job (record (job s.jobs (row s.rows n).job) { fuel = f })) };
+  fault = λ s n e at p is. counted_beside s _ (length-map s.rows (faulted_row slot (task_height s.rows slot))) (length-with s.jobs (row s.rows n).job _) refl is;
+  frame = λ s n f at p same is. counted_beside s _ (length-with s.rows n _) refl refl is;
   cells = λ s t table is. record { rows = is.rows; jobs = is.jobs };
   spawn = λ s n f g q a b at p same here room is. made_more s n _ _ is;
   post = λ s n f q a b at p same room is. made_more s n _ _ is;
   isolate = λ s n f d q a b at p same here room low is. made_more s n f _ is;
-  wait = λ s n f g at p same none is. counted_beside s _ (length-set s.rows (n - 1) _) refl refl is;
-  cancel = λ s n f g at p same is. counted_beside s _ (length-set s.rows (n - 1) _) refl refl is;
+  wait = λ s n f g at p same none is. counted_beside s _ (length-with s.rows n _) refl refl is;
+  cancel = λ s n f g at p same is. counted_beside s _ (length-with s.rows n _) refl refl is;
   done = λ s n f a at p same unused is. counted_done s n f (register f a) (row s.rows n).kind is;
-  nest = λ s m well low p picked high is. counted_beside s (nest s slot m) (length-set s.rows (m - 1) _) refl refl is;
+  nest = λ s m well low p picked high is. counted_beside s (nest s slot m) (length-with s.rows m _) refl refl is;
   enter = counted_entry;
 }
 
@@ -94,7 +94,7 @@ counted_asks = record {
   none = counted_next;
   add = λ s j well p room is. added_more s j Unstarted is;
   place = λ s j slot well p room low empty is. added_more s j (Live slot 1) is;
-  cancel = λ s j w well p known first is. counted_beside s _ refl (length-set s.jobs (j - 1) _) refl is;
+  cancel = λ s j w well p known first is. counted_beside s _ refl (length-with s.jobs j _) refl is;
   retire = λ s well p closed is. counted_beside s _ refl (length-map s.jobs retired_work) refl is;
   enter = counted_entry;
 }

@@ -1,6 +1,6 @@
 -- How stacks of slots change.
 use Rattle.std.proofs.Common.{◌≡◌, ◌≢◌, ℕ, ◌+◌, ◌-◌, ◌<◌, ◌≤◌, List, [], ◌∷◌, ◌++◌, length, Bool, refl, sym, ap, ◌∙◌, arith, inl, inr, get_or, map}
-use Rattle.std.specs.Prelude.{count_by, if◌then◌else◌}
+use Rattle.std.specs.Prelude.{count_by, if◌then◌else◌, slice_set}
 use Rattle.std.specs.List.{enumerate_from}
 use Rattle.std.proofs.lemmas.Bool.{cases_eq, cases_lt}
 use Rattle.std.proofs.lemmas.List.Sums.{sum_by-set, sum_by-append}
@@ -9,7 +9,7 @@ use Rattle.tenant_model.specs.declared.rows.TheConstants.{MAX_HEIGHT}
 use Rattle.tenant_model.specs.State.{row, with_at_number}
 use Rattle.tenant_model.specs.Walks.{height}
 use Rattle.tenant_model.specs.WellFormed.{rows_at, AreStacked}
-use Rattle.tenant_model.proofs.Changed.{row-get_or}
+use Rattle.tenant_model.proofs.Changed.{row-get_or, with_at_number-from}
 
 -- one if the test holds
 abbrev pub one_if : Bool → ℕ
@@ -23,7 +23,7 @@ module _ (p : Row → Bool) (rows : List Row) where
       let place : n - 1 + 1 ≡ n = omega arith in
       let found : get_or rows (n - 1) r ≡ row rows n = row-get_or rows (n - 1) r here ∙ ap (row rows) place in
       let set = sum_by-set (λ x. one_if (p x)) rows (n - 1) r r here in
-      ap (λ x. count_by p (with_at_number rows n r) + one_if (p x)) (sym found) ∙ set
+      rw (with_at_number-from rows n r from) (ap (λ x. count_by p (slice_set rows (n - 1) r) + one_if (p x)) (sym found) ∙ set)
 
   -- A new row adds itself.
   pub count-push : (r : Row) → count_by p (rows ++ r ∷ []) ≡ count_by p rows + one_if (p r)

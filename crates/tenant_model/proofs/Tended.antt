@@ -32,7 +32,7 @@ use Rattle.tenant_model.specs.Linked.{IsLinked}
 use Rattle.tenant_model.specs.WellFormed.{IsWellFormed}
 use Rattle.tenant_model.specs.Sound.{IsTended, IsShaped, IsIsolate, IsRoot}
 use Rattle.tenant_model.proofs.Within.{either_way}
-use Rattle.tenant_model.proofs.Changed.{row-with_same, row-map, row-past, row-get_or, row-with_other, row-push_old, row-push_new, at_number-with_same, at_number-with_other, at_number-push_old, at_number-push_new}
+use Rattle.tenant_model.proofs.Changed.{row-with_same, row-map, row-past, row-get_or, row-with_other, row-push_old, row-push_new, at_number-with_same, at_number-with_other, at_number-push_old, at_number-push_new, length-with}
 use Rattle.tenant_model.proofs.Stacking.{IsCut}
 use Rattle.tenant_model.proofs.Stacked.{IsOff, IsCut-set}
 use Rattle.tenant_model.proofs.Parts.{same_place, row-settle, SameSources-settle, settle-lives}
@@ -52,7 +52,7 @@ pub SameJobs-set : (jobs : List Work) (j : ℕ) (w : Work) → 1 ≤ j → j ≤
 SameJobs-set jobs j w from to program root =
     let same : (k : ℕ) → k ≡ j → job (with_at_number jobs j w) k ≡ w = λ k is. ap (job (with_at_number jobs j w)) is ∙ at_number-with_same jobs _ j w from to in
     record {
-      long = length-set jobs (j - 1) w;
+      long = length-with jobs j w;
       programs = λ k. elim (cases_eq k j) [
         | inl is ↦ ap (λ (v : Work). v.program) (same k is) ∙ program ∙ ap (λ i. (job jobs i).program) (sym is)
         | inr other ↦ ap (λ (v : Work). v.program) (at_number-with_other jobs _ j k w from other)
@@ -254,7 +254,7 @@ module _ (s : State) (slot n : ℕ) (at : IsAt s slot n) (is : IsTended s) where
       IsTended-push t (new_row k (row s.rows n).job made_on g phase) (record {
         shared = λ m made.
             let e = maker m made in
-            (omega (arith, e, at.to, length-set s.rows (n - 1) (record (row s.rows n) { frame = f })), rw e (ap (λ (r : Row). r.job) (sym (here_framed f))), rw e (top_started f));
+            (omega (arith, e, at.to, length-with s.rows n (record (row s.rows n) { frame = f })), rw e (ap (λ (r : Row). r.job) (sym (here_framed f))), rw e (top_started f));
         shape = shape;
         marks = refl;
         slots = λ u h live. let e = on u h live in omega (arith, e, at.slots);
@@ -348,7 +348,7 @@ module _ (s : State) (slot n : ℕ) (at : IsAt s slot n) (is : IsTended s) where
         let top : (row over.rows m).phase ≡ Live slot (height over.rows slot) = ap (λ (r : Row). r.phase) maker ∙ below ∙ ap (λ h. Live slot h) (sym cut.on) in
         let before = (row over.rows m).frame in
         let frame = handed_frame (instr_at (job over.jobs (row over.rows m).job).program before) v before in
-        let to : m ≤ length over.rows = omega (arith, there, length-set s.rows (n - 1) (record (row s.rows n) { frame = f; phase = Done v })) in
+        let to : m ≤ length over.rows = omega (arith, there, length-with s.rows n (record (row s.rows n) { frame = f; phase = Done v })) in
         let shape = over_tended.shapes m in
         IsTended-set over m (record (row over.rows m) { frame = frame }) (record {
           from = there.2;

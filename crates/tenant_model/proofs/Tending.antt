@@ -1,5 +1,5 @@
 -- Changes of a state's rows and jobs that keep it tended.
-use Rattle.std.proofs.Common.{◌≡◌, ℕ, zero, suc, ◌+◌, ◌-◌, ◌<◌, ◌≤◌, List, [], ◌∷◌, ◌++◌, length, Some, None, Bool, true, false, refl, sym, ap, ◌∙◌, arith, inl, inr, length-set, map}
+use Rattle.std.proofs.Common.{◌≡◌, ℕ, zero, suc, ◌+◌, ◌<◌, ◌≤◌, List, [], ◌∷◌, ◌++◌, length, Some, None, Bool, true, false, refl, sym, ap, ◌∙◌, arith, inl, inr, map}
 use Rattle.std.proofs.lemmas.Bool.{cases_eq, cases_lt}
 use Rattle.std.proofs.lemmas.List.{length_push}
 use Rattle.job_language.specs.declared.instructions.TheConstants.{GROUPS, REGISTERS}
@@ -15,7 +15,7 @@ use Rattle.tenant_model.specs.Walks.{maker_of, is_unstarted, is_open, mark}
 use Rattle.tenant_model.specs.Linked.{IsLinked}
 use Rattle.tenant_model.specs.WellFormed.{AreMarked}
 use Rattle.tenant_model.specs.Sound.{ShareJobs, MakersStarted, PastHasEnded, IsShaped, AreOnSlots, StandAtIsolates, IsIsolate, IsRoot, IsTended}
-use Rattle.tenant_model.proofs.Changed.{row-past, row-with_same, row-with_other, row-push_old, row-push_new}
+use Rattle.tenant_model.proofs.Changed.{row-past, row-with_same, row-with_other, row-push_old, row-push_new, length-with}
 use Rattle.tenant_model.proofs.Marked.{mark_in}
 use Rattle.tenant_model.proofs.Insides.{live_there}
 
@@ -180,7 +180,7 @@ module _ (s : State) (n : ℕ) (r : Row) (change : IsChangeOf s n r) (linked : I
         ];
     roots = λ j from to.
         let root = is.roots j from to in
-        record { from = root.from; to = omega (arith, root.to, length-set s.rows (n - 1) r); kind = kinds_set _ ∙ root.kind; job = jobs_set _ ∙ root.job };
+        record { from = root.from; to = omega (arith, root.to, length-with s.rows n r); kind = kinds_set _ ∙ root.kind; job = jobs_set _ ∙ root.job };
     reserved = is.reserved;
   }
 

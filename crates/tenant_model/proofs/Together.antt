@@ -1,5 +1,5 @@
 -- A fault ends rows of one job: regions stand on their makers, down to the first row that is no region.
-use Rattle.std.proofs.Common.{◌≡◌, ℕ, zero, suc, ◌+◌, ◌-◌, ◌==◌, ◌≤◌, List, [], ◌∷◌, length, max, Bool, true, false, refl, sym, ap, ◌∙◌, arith, inl, inr, length-set}
+use Rattle.std.proofs.Common.{◌≡◌, ℕ, zero, suc, ◌+◌, ◌-◌, ◌==◌, ◌≤◌, List, [], ◌∷◌, length, max, Bool, true, false, refl, sym, ap, ◌∙◌, arith, inl, inr}
 use Rattle.std.specs.Prelude.{count_by, fold}
 use Rattle.std.proofs.lemmas.Bool.{cases_eq}
 use Rattle.tenant_model.specs.declared.rows.Kind.{Kind}
@@ -12,7 +12,7 @@ use Rattle.tenant_model.specs.Changes.{task_height_of, task_height}
 use Rattle.tenant_model.specs.WellFormed.{rows_at, AreStacked, StandOnMakers}
 use Rattle.tenant_model.specs.Sound.{ShareJobs}
 use Rattle.tenant_model.proofs.Within.{either_way}
-use Rattle.tenant_model.proofs.Changed.{row-with_other}
+use Rattle.tenant_model.proofs.Changed.{row-with_other, length-with}
 use Rattle.tenant_model.proofs.Stacking.{one_if, count-cons, count-with}
 use Rattle.tenant_model.proofs.Insides.{live_there, live_low}
 use Rattle.tenant_model.proofs.Picks.{live_is}
@@ -43,7 +43,7 @@ one_there rows stacked x y slot h x_live y_live = elim (cases_eq x y) [
       let low = live_low rows stacked x slot h x_live in
       let rest = with_at_number rows x (row [] 0) in
       let first = count-with p rows x (row [] 0) x_there.0 x_there.1 in
-      let second = count-with p rest y (row [] 0) y_there.0 (omega (arith, y_there, length-set rows (x - 1) (row [] 0))) in
+      let second = count-with p rest y (row [] 0) y_there.0 (omega (arith, y_there, length-with rows x (row [] 0))) in
       let same : row rest y ≡ row rows y = row-with_other rows x y (row [] 0) x_there.0 (λ e. apart (sym e)) in
       let x_counts : one_if (p (row rows x)) ≡ 1 = rw x_live (grind arith) in
       let y_counts : one_if (p (row rest y)) ≡ 1 = rw (same, y_live) (grind arith) in

@@ -1,5 +1,5 @@
 -- Changes that leave no row stuck.
-use Rattle.std.proofs.Common.{◌≡◌, ℕ, zero, suc, ◌+◌, ◌-◌, ◌≤◌, List, [], ◌∷◌, ◌++◌, length, Option, Some, None, refl, ap, ◌∙◌, arith, inl, inr, map, length-set, pos}
+use Rattle.std.proofs.Common.{◌≡◌, ℕ, zero, suc, ◌+◌, ◌≤◌, List, [], ◌∷◌, ◌++◌, length, Option, Some, None, refl, ap, ◌∙◌, arith, inl, inr, map, pos}
 use Rattle.std.specs.Prelude.{slice_index_or, slice_get, unwrap_or}
 use Rattle.std.specs.Option.{option_map}
 use Rattle.std.proofs.lemmas.Option.{slice_get-map}
@@ -19,7 +19,7 @@ use Rattle.tenant_model.specs.Changes.{on_row, on_job, add_row, entry, new_row, 
 use Rattle.tenant_model.specs.Asks.{add_job, new_job, retired_work}
 use Rattle.tenant_model.specs.Linked.{IsLinked}
 use Rattle.tenant_model.specs.Naming.{Stands, IsUnstuck}
-use Rattle.tenant_model.proofs.Changed.{row-with_same, row-with_other, row-push_old, row-push_new, row-map, at_number-with_same, at_number-with_other, at_number-push_old, at_number-push_new}
+use Rattle.tenant_model.proofs.Changed.{row-with_same, row-with_other, row-push_old, row-push_new, row-map, at_number-with_same, at_number-with_other, at_number-push_old, at_number-push_new, length-with}
 use Rattle.tenant_model.proofs.Parts.{SameSources-settle, row-settle}
 use Rattle.tenant_model.proofs.Standing.{stands_new}
 
@@ -47,7 +47,7 @@ on_job_unstuck s j f from to same is =
       | inr other ↦ ap (λ (w : Work). w.program) (at_number-with_other s.jobs _ j k (f (job s.jobs j)) from other)
     ] in
     record {
-      programs = λ k least most. rw (programs k) (is.programs k least (omega (arith, most, length-set s.jobs (j - 1) (f (job s.jobs j)))));
+      programs = λ k least most. rw (programs k) (is.programs k least (omega (arith, most, length-with s.jobs j (f (job s.jobs j)))));
       frames = λ n least most. rw (programs (row s.rows n).job) (is.frames n least most);
     }
 
@@ -59,7 +59,7 @@ on_row_unstuck s n f from to same stands is =
       programs = is.programs;
       frames = λ m least most. elim (cases_eq m n) [
         | inl here ↦ rw (here, row-with_same s.rows n r from to, same) stands
-        | inr other ↦ rw (row-with_other s.rows n m r from other) (is.frames m least (omega (arith, most, length-set s.rows (n - 1) r)))
+        | inr other ↦ rw (row-with_other s.rows n m r from other) (is.frames m least (omega (arith, most, length-with s.rows n r)))
       ];
     }
 

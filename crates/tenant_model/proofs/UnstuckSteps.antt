@@ -1,5 +1,5 @@
 -- No step leaves a row stuck.
-use Rattle.std.proofs.Common.{◌≡◌, ℕ, zero, suc, ◌+◌, ◌-◌, ◌==◌, ◌<◌, ◌≤◌, List, [], ◌∷◌, length, Option, Some, None, Bool, true, false, ◌&&◌, ◌||◌, nat_lt, refl, ap, arith, length-set, ℤ, map}
+use Rattle.std.proofs.Common.{◌≡◌, ℕ, zero, suc, ◌+◌, ◌==◌, ◌<◌, ◌≤◌, List, [], ◌∷◌, length, Option, Some, None, Bool, true, false, ◌&&◌, ◌||◌, nat_lt, refl, ap, arith, ℤ, map}
 use Rattle.std.specs.Prelude.{if◌then◌else◌, nat_le, not, slice_set, All, is_some, option_and_then}
 use Rattle.std.proofs.lemmas.Option.{slice_get_within}
 use Rattle.std.specs.List.{list_any}
@@ -45,7 +45,7 @@ use Rattle.tenant_model.specs.Solo.{step, after}
 use Rattle.tenant_model.specs.Linked.{IsLinked}
 use Rattle.tenant_model.specs.WellFormed.{IsWellFormed}
 use Rattle.tenant_model.specs.Naming.{Stands, IsUnstuck, StepBringsValid}
-use Rattle.tenant_model.proofs.Changed.{at_number-with_same}
+use Rattle.tenant_model.proofs.Changed.{at_number-with_same, length-with}
 use Rattle.tenant_model.proofs.Linked.{IsLinked-set, IsLinked-more_jobs}
 use Rattle.tenant_model.proofs.Picks.{top_is, pick_is}
 use Rattle.tenant_model.proofs.Standing.{standing, in_range, stands_at, stands_next, stands_new, run_ends, EndsWell}
@@ -137,7 +137,7 @@ module _ (s : State) (n : ℕ) (there : IsThere s n) (is : IsUnstuck s) where
       let maker : (1 ≤ m) × (m < n) = rw kind at (there.linked.makers n there.from there.to) in
       handed_to (on_row s n (λ r. record r { frame = f; phase = Done v })) m v (record {
         from = maker.0;
-        to = omega (arith, maker, there.to, length-set s.rows (n - 1) r);
+        to = omega (arith, maker, there.to, length-with s.rows n r);
         linked = IsLinked-set s n r there.from there.to refl refl there.linked;
       }) (ended f v stands)
 
@@ -197,7 +197,7 @@ module _ (s : State) (n : ℕ) (there : IsThere s n) (is : IsUnstuck s) where
       on_job_unstuck s (row s.rows n).job (λ w. record w { fuel = fuel }) job.0 job.1 refl is
 
   fueled_there : (fuel : ℕ) → IsThere (with_fuel s n fuel) n
-  fueled_there fuel = record { from = there.from; to = there.to; linked = IsLinked-more_jobs s (with_at_number s.jobs (row s.rows n).job (record (job s.jobs (row s.rows n).job) { fuel = fuel })) (omega (arith, length-set s.jobs ((row s.rows n).job - 1) (record (job s.jobs (row s.rows n).job) { fuel = fuel }))) there.linked }
+  fueled_there fuel = record { from = there.from; to = there.to; linked = IsLinked-more_jobs s (with_at_number s.jobs (row s.rows n).job (record (job s.jobs (row s.rows n).job) { fuel = fuel })) (omega (arith, length-with s.jobs (row s.rows n).job (record (job s.jobs (row s.rows n).job) { fuel = fuel }))) there.linked }
 
   same_program : (fuel : ℕ) → program_of (with_fuel s n fuel) n ≡ program_of s n
   same_program fuel =

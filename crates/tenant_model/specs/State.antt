@@ -1,5 +1,5 @@
 -- The state of one tenant: all rows that it ever made, its jobs and its cells.
-use Rattle.std.specs.Prelude.{ℕ, ◌-◌, zero, suc, pos, false, List, [], replicate, Option, None, slice_get, slice_set, unwrap_or}
+use Rattle.std.specs.Prelude.{ℕ, zero, suc, pos, false, List, [], replicate, Option, None, slice_get, slice_set, unwrap_or}
 use Rattle.job_language.specs.declared.instructions.TheConstants.{GROUPS}
 use Rattle.job_language.specs.declared.tenants.Tenant.{Tenant}
 use Rattle.job_step.specs.Frame.{new_frame}
@@ -33,7 +33,8 @@ at_number xs (suc n) = slice_get xs n
 
 -- the list with another item at a number
 abbrev pub with_at_number : {A : Type 0} → List A → ℕ → A → List A
-with_at_number xs n x = slice_set xs (n - 1) x
+with_at_number xs zero x = xs
+with_at_number xs (suc n) x = slice_set xs n x
 
 -- the row of a number; if there is none, a row that does nothing
 abbrev pub row : List Row → ℕ → Row

@@ -1,3 +1,4 @@
+use Rattle.tenant_model.proofs.Changed.{with_at_number-from}
 use Rattle.tenant_model.proofs.Linked.{IsLinked-set}
 use Rattle.solo_eval.specs.TenantState.{shown}
 use Rattle.solo_eval.proofs.state.TenantState.set_row.Goals as goal
@@ -5,4 +6,6 @@ use Rattle.solo_eval.proofs.state.TenantState.set_row.Goals as goal
 pub invariant_of-self : goal.invariant_of-self
 invariant_of-self c =
     let r = c.requires in
-    IsLinked-set (shown c.self.inside) c.args.number c.args.changed r.from (rw (← c.self.view_is) at r.to) (rw (← c.self.view_is) at r.kind) (rw (← c.self.view_is) at r.job) c.self.invariant
+    let s = shown c.self.inside in
+    let set = with_at_number-from s.rows c.args.number c.args.changed r.from in
+    rw set at (IsLinked-set s c.args.number c.args.changed r.from (rw (← c.self.view_is) at r.to) (rw (← c.self.view_is) at r.kind) (rw (← c.self.view_is) at r.job) c.self.invariant)
