@@ -1,94 +1,183 @@
 #!/usr/bin/env python3
-"""Prints, for each promise of docs/PROOFS.md, which files of definitions its contracts rest on, and how many lines these
-have that are neither blank, nor a comment, nor a `use`.
+"""Prints, for each promise of docs/PROOFS.md, how many definitions of this repository its contracts rest on, in how many
+lines and in which crates.
 
-usage: checks/reading/run.py, at the top of the repository. A promise begins with the files that its contracts cite;
-each file brings those of this repository that it uses. Definitions of `std` and of other crates are not counted.
+usage: checks/reading/run.py, at the top of the repository. A promise is a list of functions, types and traits, where a type
+or trait stands for its functions. Their contracts cite definitions of `specs/`, and so do the models of the types in their
+signatures; each definition brings those that it cites. A line counts if it is neither blank, nor a comment, nor a `use`.
+Definitions of `std` and of other crates are not counted.
 """
 import re
 import sys
+from functools import cache
 from pathlib import Path
 
+CRATES = Path("crates")
 PROMISES = [
-    ("the plain evaluator", ["tenant_model.Solo", "tenant_model.Asks"]),
-    ("what every state keeps, what no step undoes", ["tenant_model.Sound", "tenant_model.Naming", "tenant_model.Later", "tenant_model.Told"]),
-    ("regions protect cells", ["tenant_model.Regions"]),
-    ("serial values", ["serial_law.SerialValues"]),
-    ("the check of a history", ["history_check.Checked"]),
-    ("lines in", ["request_reader.LineReads", "request_reader.LineAsks", "request_reader.Exact"]),
-    ("lines out", ["reply_writer.ReplyText", "reply_writer.AnswerText"]),
-    ("the program's scripts of one tenant", ["arena_script.ScriptLines", "arena_script.ScriptAnswers", "arena_script.DumpData", "arena_script.DumpText"]),
-    ("the program's scripts of a world", ["arena_script.ScriptLines", "arena_script.RunAnswers"]),
-    ("dumps that are written", ["dump_lines.Dumps", "dump_lines.Parts", "dump_lines.Lines"]),
-    ("many tenants", ["world_model.Laws"]),
-    ("the fast arena", ["arena_core.Stands", "arena_core.Views"]),
-    ("waiting, over any door", ["nested_wait.Runs", "nested_wait.Turns"]),
-    ("sessions over any doors", ["session_core.Sessions"]),
-    ("sessions on one thread", ["arena_sessions.Sessions"]),
-    ("what a tenant's lock holds", ["tenant_record.Cell", "tenant_record.Locked"]),
-    ("a tenant's lock, and how it is closed", ["tenant_lock.Doors", "tenant_lock.Closing"]),
-    ("threads at the slots of locked tenants", ["tenant_slots.Ways"]),
-    ("sessions at locked tenants", ["locked_doors.Ways", "session_core.Sessions"]),
-    ("workers, over any doors", ["worker_main.Works"]),
-    ("queues that threads share", ["call_queues.Queues"]),
-    ("the market's lists", ["market.Waiting", "market.First"]),
-    ("the words of the server", ["server_words.Reading"]),
-    ("a server's tenants, from its start to its end", ["socket_server.Houses"]),
+    ("the plain evaluator", ["solo_eval::Solo"]),
+    ("what every state keeps, what no step undoes", ["tenant_model::never_stuck", "tenant_model::states_are_sound", "tenant_model::nothing_is_undone", "tenant_model::answers_tell"]),
+    ("regions protect cells", ["tenant_model::regions_protect_cells"]),
+    ("serial values", ["serial_law::serial_values"]),
+    ("the check of a history", ["history_check::check"]),
+    ("lines in", ["request_reader::LineReader", "request_reader::read_request"]),
+    ("lines out", ["reply_writer::reply_line", "reply_writer::answer_line"]),
+    ("the program's scripts", ["arena_script::script"]),
+    ("dumps that are written", ["dump_lines::write_dump", "dump_lines::dumps_have_these_lines"]),
+    ("many tenants", ["world_model::tenants_are_isolated"]),
+    ("many tenants on one thread", ["world_core::World"]),
+    ("the fast arena", ["arena_core::Arena"]),
+    ("waiting, over any door", ["nested_wait::Door", "nested_wait::attend"]),
+    ("sessions over any doors", ["session_core::Doors", "session_core::serve"]),
+    ("sessions on one thread", ["arena_sessions::serve_arenas"]),
+    ("what a tenant's lock holds", ["tenant_record::TenantCell"]),
+    ("a tenant's lock, and how it is closed", ["tenant_lock::TenantDoor"]),
+    ("threads at the slots of locked tenants", ["tenant_slots::TenantSlots"]),
+    ("sessions at locked tenants", ["locked_doors::LockedDoors", "session_core::Doors", "session_core::serve"]),
+    ("workers, over any doors", ["worker_main::CallDoors", "worker_main::worker"]),
+    ("queues that threads share", ["call_queues::CallQueues"]),
+    ("the market's lists", ["market::MarketState"]),
+    ("the words of the server", ["server_words::read_words"]),
+    ("a server's tenants, from its start to its end", ["socket_server::House"]),
 ]
+# A definition begins in the first column with one of these words, or with the name alone.
+HEAD = re.compile(r"^((?:(?:abbrev|unfoldable|pub|private|record|data) )*)([^\s:(]+)")
+USE = re.compile(r"use Rattle\.(\w+)\.specs\.([\w.]+?)(?:\.\{([^}]*)\}|\s+as\s+(\w+)|(?=;|\s*$))", re.M)
+WORD = re.compile(r"[\w']+")
 
 
-def path_of(module):
-    """Returns the file of a module such as `tenant_model.Solo`."""
-    crate, _, name = module.partition(".")
-    return Path("crates", crate, "specs", *name.split(".")).with_suffix(".antt")
+class Module:
+    """A file of definitions: its definitions by their names, and what it uses of other files."""
+
+    def __init__(self, path):
+        text = path.read_text()
+        self.crate = path.parts[1]
+        self.named, self.called = uses_of(text)
+        self.definitions = {}
+        lines = None
+        for line in text.splitlines():
+            if not line.strip() or line.lstrip().startswith("--") or re.match(r"(use|pub mod|mod) ", line):
+                continue
+            if not line[0].isspace():
+                words, name = HEAD.match(line).groups()
+                if words or name in self.definitions:
+                    lines = self.definitions.setdefault(name, [])
+            if lines is not None:
+                lines.append(line)
+
+    def cited(self, text):
+        """Yields the definitions, here and in other files, that a text cites."""
+        for word in WORD.findall(text):
+            if word in self.definitions:
+                yield self, word
+        yield from cited(text, self.named, self.called)
 
 
-def used_by(text):
-    """Yields the modules of this repository whose definitions a file uses."""
-    for crate, name in re.findall(r"^use Rattle\.(\w+)\.specs\.([A-Z]\w*(?:\.[A-Z]\w*)*)", text, re.M):
-        # `A.B.{..}` and `A.B as b` name a module; the longest beginning that is a file is meant.
-        parts = name.split(".")
-        while parts:
-            module = f"{crate}.{'.'.join(parts)}"
-            if path_of(module).exists():
-                yield module
-                break
-            parts.pop()
+def uses_of(text):
+    """Returns which module each name that a text uses is of, and which module each name for a module means."""
+    named, called = {}, {}
+    for crate, path, names, other in USE.findall(text):
+        module = module_at(crate, path)
+        if module:
+            named.update((name.strip(), module) for name in names.split(","))
+            if other:
+                called[other] = module
+    return named, called
 
 
-def closure(modules):
-    """Returns the modules and all that they use, in the order in which they are met."""
-    found, waiting = [], list(modules)
-    while waiting:
-        module = waiting.pop(0)
-        if module not in found:
-            found.append(module)
-            waiting.extend(used_by(path_of(module).read_text()))
+def cited(text, named, called):
+    """Yields the definitions of other files that a text cites, by name or as `module.name`."""
+    for word in WORD.findall(text):
+        if word in named and word in named[word].definitions:
+            yield named[word], word
+    for name, word in re.findall(r"(\w+)\.([\w']+)", text):
+        if name in called and word in called[name].definitions:
+            yield called[name], word
+
+
+@cache
+def module_of(path):
+    return Module(path)
+
+
+def module_at(crate, name):
+    """Returns the module that a name such as `A.B` means: the longest beginning that is a file."""
+    parts = name.split(".")
+    while parts:
+        path = CRATES.joinpath(crate, "specs", *parts).with_suffix(".antt")
+        if path.exists():
+            return module_of(path)
+        parts.pop()
+    return None
+
+
+def sources(crate):
+    return [path.read_text() for path in sorted((CRATES / crate / "src").rglob("*.rt"))]
+
+
+def contracts_of(name):
+    """Yields the signature and contract of a function, or those of all functions of a type or trait, each with the text of
+    the file that they stand in."""
+    crate, *_, last = name.split("::")
+    for text in sources(crate):
+        blocks = re.findall(rf"^(?:pub )?(?:impl|trait)\b[^{{]*?\b{last}\b.*?^\}}", text, re.M | re.S) if last[0].isupper() else [text]
+        function = r"pub fn \w+|^    fn \w+" if last[0].isupper() else rf"\bfn {last}\b"
+        for block in blocks:
+            for found in re.finditer(rf"(?:{function}).*?(?=\n\s*\{{|\{{\}}|\{{\n|;\n)", block, re.M | re.S):
+                yield found.group(), text
+
+
+@cache
+def models():
+    """Returns the text of the model of each type, and of the file that it stands in."""
+    found = {}
+    for crate in sorted(path.name for path in CRATES.iterdir()):
+        for text in sources(crate) if (CRATES / crate / "src").is_dir() else []:
+            for block in re.finditer(r"^impl(?:<.*?>)? Model for (\w+).*?^\}", text, re.M | re.S):
+                found[block.group(1)] = (re.sub(r"ghost (invariant|use) .*", "", block.group()), text)
     return found
 
 
-def lines_of(module):
-    lines = (line.strip() for line in path_of(module).read_text().splitlines())
-    return sum(1 for line in lines if line and not line.startswith(("use ", "--")))
+def roots_of(name):
+    """Yields the definitions that contracts cite, and those of the models of their types."""
+    contracts = list(contracts_of(name))
+    if not contracts:
+        sys.exit(f"no such function, type or trait: {name}")
+    types = set(name.split("::"))
+    for contract, text in contracts:
+        yield from cited(contract, *uses_of(text))
+        types.update(WORD.findall(contract))
+    for model, text in (models()[each] for each in sorted(types & set(models()))):
+        yield from cited(model, *uses_of(text))
+
+
+def reached(names):
+    """Returns the definitions that contracts rest on."""
+    found, waiting = set(), [root for name in names for root in roots_of(name)]
+    while waiting:
+        module, name = definition = waiting.pop()
+        if definition not in found:
+            found.add(definition)
+            waiting.extend(module.cited("\n".join(module.definitions[name])))
+    return found
+
+
+def row(promise, definitions):
+    crates = {}
+    for module, name in definitions:
+        crates[module.crate] = crates.get(module.crate, 0) + len(module.definitions[name])
+    shares = ", ".join(f"`{crate}` {lines}" for crate, lines in sorted(crates.items(), key=lambda share: -share[1]))
+    return f"| {promise} | {len(definitions)} | {sum(crates.values())} | {shares} |"
 
 
 def main():
-    missing = [module for _, modules in PROMISES for module in modules if not path_of(module).exists()]
-    if missing:
-        sys.exit(f"no such files of definitions: {', '.join(missing)}")
-    everything = []
-    print("| Promise | Files | Lines | Crates, from the most lines down |")
+    print("| Promise | Definitions | Lines | Crates, from the most lines down |")
     print("|---|---|---|---|")
-    for promise, modules in PROMISES:
-        found = closure(modules)
-        everything += [module for module in found if module not in everything]
-        crates = {}
-        for module in found:
-            crate = module.partition(".")[0]
-            crates[crate] = crates.get(crate, 0) + lines_of(module)
-        shares = ", ".join(f"`{crate}` {lines}" for crate, lines in sorted(crates.items(), key=lambda it: -it[1]))
-        print(f"| {promise} | {len(found)} | {sum(map(lines_of, found))} | {shares} |")
-    print(f"| all of them | {len(everything)} | {sum(map(lines_of, everything))} | |")
+    everything = set()
+    for promise, names in PROMISES:
+        definitions = reached(names)
+        everything |= definitions
+        print(row(promise, definitions))
+    print(row("all of them", everything))
 
 
 main()
