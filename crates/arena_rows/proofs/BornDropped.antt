@@ -18,7 +18,7 @@ use Rattle.tenant_model.specs.Changes.{new_row, add_row, on_row}
 use Rattle.tenant_model.specs.Linked.{MakersPrecede}
 use Rattle.tenant_model.specs.Sound.{IsSteady, IsSettled}
 use Rattle.tenant_model.proofs.Chains.{chain_goes_on, chain_ends}
-use Rattle.tenant_model.proofs.Changed.{row-push_old, row-push_new, row-past}
+use Rattle.tenant_model.proofs.Changed.{row-push_old, row-push_new, row-past, with_at_number-from}
 use Rattle.tenant_model.proofs.Settling.{settled_at, settle-from}
 use Rattle.tenant_model.proofs.Steady.{steady_dropped}
 use Rattle.tenant_model.proofs.Within.{either_way, maker_cases, maker_before}
@@ -190,7 +190,7 @@ module _ (s : State) (k : Kind) (j : ℕ) (made_on : Option ℕ) (f : Frame) whe
         let at : ℕ → Row → State = λ i q. record s { rows = with_at_number t.rows i q } in
         let place : N - 1 ≡ length s.rows = omega arith in
         let same : on_row t N (λ r. record r { phase = Dropped }) ≡ with_born Dropped =
-        ap (λ (q : Row). at N (record q { phase = Dropped })) (new_is Unstarted) ∙ ap (λ rows. let u : State = record s { rows = rows } in u) (set_at s.rows (born Unstarted) [] (born Dropped) (N - 1) (sym place)) in
+        ap (λ (q : Row). at N (record q { phase = Dropped })) (new_is Unstarted) ∙ ap (λ rows. let u : State = record s { rows = rows } in u) (with_at_number-from t.rows N (born Dropped) (omega arith) ∙ set_at s.rows (born Unstarted) [] (born Dropped) (N - 1) (sym place)) in
         subst IsSteady same (steady_dropped t kept N (omega arith) (last Unstarted) waits)
 
 -- a row whose context is not cancelled is of a job without a fault

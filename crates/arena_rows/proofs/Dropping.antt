@@ -1,12 +1,12 @@
 -- Settling by dropping rows one at a time, in any order.
-use Rattle.std.proofs.Common.{◌≡◌, ◌≢◌, ℕ, ◌+◌, ◌-◌, ◌<◌, ◌≤◌, length, Bool, true, false, ◌⊎◌, refl, sym, ap, ◌∙◌, arith, inl, inr, length-set}
+use Rattle.std.proofs.Common.{◌≡◌, ◌≢◌, ℕ, ◌+◌, ◌<◌, ◌≤◌, length, Bool, true, false, ◌⊎◌, refl, sym, ap, ◌∙◌, arith, inl, inr}
 use Rattle.std.proofs.lemmas.Bool.{cases_eq, cases_lt}
 use Rattle.tenant_model.specs.declared.rows.Phase.TheVariants.{Dropped}
 use Rattle.tenant_model.specs.declared.rows.Row.{Row}
 use Rattle.tenant_model.specs.State.{State, row, with_at_number}
 use Rattle.tenant_model.specs.Walks.{is_unstarted, is_context_cancelled, settled_row, settle}
 use Rattle.tenant_model.specs.Changes.{on_row}
-use Rattle.tenant_model.proofs.Changed.{row-with_same, row-with_other, row-past}
+use Rattle.tenant_model.proofs.Changed.{row-with_same, row-with_other, row-past, length-with}
 use Rattle.tenant_model.proofs.Within.{either_way}
 use Rattle.tenant_model.proofs.Settling.{SettledUpTo, settled_at, settle-from}
 
@@ -28,7 +28,7 @@ Drops-more s t n from to waits same cancelled drops =
     let r : Row = record (row t.rows n) { phase = Dropped } in
     record {
       rest = ap (λ (u : State). record u { rows = with_at_number t.rows n r }) drops.rest;
-      long = length-set t.rows (n - 1) r ∙ drops.long;
+      long = length-with t.rows n r ∙ drops.long;
       each = λ m. elim (cases_eq m n) [
         | inl here ↦
             let waits_s : is_unstarted (row s.rows n).phase ≡ true = rw same at waits in

@@ -32,6 +32,7 @@ use Rattle.arena_rows.proofs.Parting.{PartedAs, parted_as}
 use Rattle.arena_rows.proofs.Started.{at_same, at_other, some_is, some_none}
 use Rattle.arena_rows.proofs.TableClosed.{AreRows-closed, AreFree-closed, AreTagged-closed, AreJobs-closed}
 use Rattle.arena_rows.proofs.TopRows.{job_count}
+use Rattle.tenant_model.proofs.Changed.{length-with}
 
 pub spawned_is : (k : Kind) (places : ℕ → ℕ) → is_spawned (source_of places k) ≡ true → IsSpawned k
 spawned_is Root places is = absurd (grind (arith, is))
@@ -173,7 +174,7 @@ module _ (a b : Held) (s : State) (is : Holds a s) (n : ℕ) (e : OpenRow) (entr
         config = is.config;
         places = is.places;
         assigned = at;
-        made = is.made ∙ sym (length-set s.rows (n - 1) r);
+        made = is.made ∙ sym (length-with s.rows n r);
         table = AreRows-closed s.rows is.places n r there.0 there.1 kind same_job marks entry.opened closed a.table table1 e entry.within part.parted;
         free = AreFree-closed s.rows is.places n r there.0 there.1 kind same_job marks entry.opened closed a.table table1 e entry.within part.parted a.config.rows a.free taken is.free;
         nests = are_nests;

@@ -12,7 +12,7 @@ use Rattle.tenant_model.specs.State.{row, with_at_number}
 use Rattle.tenant_model.specs.Walks.{is_region, is_live_on, height, top}
 use Rattle.tenant_model.specs.WellFormed.{AreStacked}
 use Rattle.tenant_model.specs.Changes.{height_of, task_height_of, task_height, faulted_phase, faulted_row}
-use Rattle.tenant_model.proofs.Changed.{row-get_or}
+use Rattle.tenant_model.proofs.Changed.{row-get_or, with_at_number-from}
 use Rattle.tenant_model.proofs.Insides.{live_low}
 use Rattle.tenant_model.proofs.Picks.{top_is, top_none}
 use Rattle.tenant_model.proofs.Stacking.{one_if, count-with}
@@ -87,7 +87,7 @@ module _ (slot : ℕ) where
     pub task_below : is_region (row rows n).kind ≡ true → task_height (with_at_number rows n r) slot ≡ task_height rows slot
     task_below region =
         let none : task_height_of slot (get_or rows (n - 1) r) ≡ 0 = ap (task_height_of slot) (here r) ∙ rw (its.2, region) (elim (either_way (slot == slot)) [ inl is ↦ rw is refl | inr not_so ↦ rw not_so refl ]) in
-        most_same rows 0 (n - 1) r r (sym none)
+        rw (with_at_number-from rows n r its.0) (most_same rows 0 (n - 1) r r (sym none))
 
     abbrev faulted : ℕ → Row → Row
     faulted k q = faulted_row slot k q
@@ -111,15 +111,15 @@ module _ (slot : ℕ) where
 
     -- From its own height on, it alone faults.
     pub faults_top : map (faulted (height rows slot)) rows ≡ with_at_number rows n r
-    faults_top = ext_get_or r (map (faulted (height rows slot)) rows) (with_at_number rows n r) (length-map rows (faulted (height rows slot)) ∙ sym (length-set rows (n - 1) r)) (λ i below.
+    faults_top = ext_get_or r (map (faulted (height rows slot)) rows) (slice_set rows (n - 1) r) (length-map rows (faulted (height rows slot)) ∙ sym (length-set rows (n - 1) r)) (λ i below.
         let low : i < length rows = omega (arith, below, length-map rows (faulted (height rows slot))) in
         get_or-map (faulted (height rows slot)) rows i r r low ∙ elim (cases_eq i (n - 1)) [
           | inl same ↦
-              let now : get_or (with_at_number rows n r) i r ≡ r = ap (λ k. get_or (with_at_number rows n r) k r) same ∙ get_or-set_same rows (n - 1) r r within in
+              let now : get_or (slice_set rows (n - 1) r) i r ≡ r = ap (λ k. get_or (slice_set rows (n - 1) r) k r) same ∙ get_or-set_same rows (n - 1) r r within in
               let was : get_or rows i r ≡ row rows n = ap (λ k. get_or rows k r) same ∙ here r in
               ap (faulted (height rows slot)) was ∙ ap (λ p. let q : Row = record (row rows n) { phase = p } in q) (ap (faulted_phase slot (height rows slot)) its.2 ∙ goes_at (height rows slot) (height rows slot) (omega arith)) ∙ sym now
           | inr other ↦
-              let now : get_or (with_at_number rows n r) i r ≡ get_or rows i r = get_or-set_other rows (n - 1) i r r other in
+              let now : get_or (slice_set rows (n - 1) r) i r ≡ get_or rows i r = get_or-set_other rows (n - 1) i r r other in
               let x = get_or rows i r in
               let number : row rows (i + 1) ≡ x = sym (row-get_or rows i r low) in
               ap (λ p. let q : Row = record x { phase = p } in q) (stays_at x.phase (λ h live.
@@ -127,13 +127,13 @@ module _ (slot : ℕ) where
               let most_h = live_low rows stacked (i + 1) slot h live_x in
               let apart : h ≢ height rows slot = λ top_height. other (omega (arith, one_there rows stacked (i + 1) n slot h live_x (its.2 ∙ ap (Live slot) (sym top_height)))) in
               omega (arith, most_h.1, apart))) ∙ sym now
-        ])
+        ]) ∙ sym (with_at_number-from rows n r its.0)
 
     -- From a lower one on, it does not count whether it has faulted.
     pub faults_below : (k : ℕ) → k ≤ height rows slot → map (faulted k) (with_at_number rows n r) ≡ map (faulted k) rows
     faults_below k low =
         let same : faulted k r ≡ faulted k (row rows n) = ap (λ p. let q : Row = record (row rows n) { phase = p } in q) (sym (ap (faulted_phase slot k) its.2 ∙ goes_at k (height rows slot) low)) in
-        map-set (faulted k) rows (n - 1) r ∙ ap (slice_set (map (faulted k) rows) (n - 1)) (same ∙ ap (faulted k) (sym (here r)) ∙ sym (get_or-map (faulted k) rows (n - 1) r r within)) ∙ set-get_or (map (faulted k) rows) (n - 1) r
+        ap (map (faulted k)) (with_at_number-from rows n r its.0) ∙ map-set (faulted k) rows (n - 1) r ∙ ap (slice_set (map (faulted k) rows) (n - 1)) (same ∙ ap (faulted k) (sym (here r)) ∙ sym (get_or-map (faulted k) rows (n - 1) r r within)) ∙ set-get_or (map (faulted k) rows) (n - 1) r
 
     pub lower_by_one : height (with_at_number rows n r) slot + 1 ≡ height rows slot
     lower_by_one =

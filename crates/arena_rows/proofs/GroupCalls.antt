@@ -1,8 +1,8 @@
 -- A group cancelled, and a wait that passed.
-use Rattle.std.proofs.Common.{◌≡◌, ℕ, ◌-◌, ◌<◌, ◌≤◌, List, length, length-set, Some, None, Bool, true, false, refl, sym, ap, ◌∙◌, arith, inl, inr, subst}
+use Rattle.std.proofs.Common.{◌≡◌, ℕ, ◌<◌, ◌≤◌, List, length, length-set, Some, None, Bool, true, false, refl, sym, ap, ◌∙◌, arith, inl, inr, subst}
 use Rattle.std.specs.Prelude.{slice_set}
 use Rattle.std.proofs.lemmas.Bool.{cases_eq}
-use Rattle.std.proofs.lemmas.List.{set-get_or, set-set, get_or-set_same, get_or-set_other}
+use Rattle.std.proofs.lemmas.List.{set-get_or, get_or-set_same, get_or-set_other}
 use Rattle.job_language.specs.declared.instructions.TheConstants.{GROUPS}
 use Rattle.job_step.specs.declared.frames.Frame.{Frame}
 use Rattle.cancel_context.specs.Forest.{Forest, binding, held_count, with_request, asking}
@@ -14,7 +14,7 @@ use Rattle.tenant_model.specs.State.{State, row, with_at_number}
 use Rattle.tenant_model.specs.Walks.{is_open, is_unstarted, is_pending, mark, top}
 use Rattle.tenant_model.specs.Changes.{with_frame, on_row}
 use Rattle.tenant_model.specs.Sound.{IsSteady, IsSettled}
-use Rattle.tenant_model.proofs.Changed.{row-with_same}
+use Rattle.tenant_model.proofs.Changed.{row-with_same, with_at_number-twice}
 use Rattle.tenant_model.proofs.Steady.{steady_cancelled, steady_waited}
 use Rattle.arena_rows.specs.declared.rows.OpenRow.{OpenRow}
 use Rattle.arena_rows.specs.Held.{Held}
@@ -80,7 +80,7 @@ module _ (a : Held) (s : State) (is : Holds a s) (slot n : ℕ) (on_top : top s.
     after_is =
         let r : Row = record (row s.rows n) { marks = slice_set (row s.rows n).marks g m } in
         let at : List Row → Row → State = λ rows q. record s { rows = with_at_number rows n (record q { frame = f }) } in
-        ap (at (with_at_number s.rows n r)) (row-with_same s.rows n r from to) ∙ ap (λ rows. let t : State = record s { rows = rows } in t) (set-set s.rows (n - 1) r (record r { frame = f }))
+        ap (at (with_at_number s.rows n r)) (row-with_same s.rows n r from to) ∙ ap (λ rows. let t : State = record s { rows = rows } in t) (with_at_number-twice s.rows n r (record r { frame = f }))
 
     pub moved_on : (b : Held) → b.nests ≡ a.nests → Holds b (marked s n g m) → IsSteady after → Holds (framed b slot f) after
     moved_on b nests now kept =

@@ -12,7 +12,7 @@ use Rattle.tenant_model.specs.State.{State, row, job}
 use Rattle.tenant_model.specs.Walks.{is_open, is_unstarted, is_job_cancelled, value_in}
 use Rattle.tenant_model.specs.Changes.{on_job}
 use Rattle.tenant_model.specs.Sound.{IsSteady}
-use Rattle.tenant_model.proofs.Changed.{numbered_or, at_number-with_same, at_number-with_other}
+use Rattle.tenant_model.proofs.Changed.{numbered_or, at_number-with_same, at_number-with_other, length-with, with_at_number-from}
 use Rattle.arena_rows.specs.declared.rows.OpenRow.{OpenRow}
 use Rattle.arena_rows.specs.declared.rows.CurrentJob.{CurrentJob}
 use Rattle.arena_rows.specs.Held.{Held}
@@ -60,7 +60,7 @@ module _ (s : State) (at : Assigned) (retired : ℕ) (j : ℕ) (f : Work → Wor
   job_there m other = at_number-with_other s.jobs _ j m (f (job s.jobs j)) (omega (arith, above)) other
 
   as_many : length t.jobs ≡ length s.jobs
-  as_many = length-set s.jobs (j - 1) (f (job s.jobs j))
+  as_many = length-with s.jobs j (f (job s.jobs j))
 
   module _ (current : ℕ) (table : List (Option OpenRow)) (forest forest' : Forest) (are : AreContexts s retired current table forest at) (asked : IsAsked forest forest' (at.of_job j) (f (job s.jobs j))) where
     owner_here : at.owner (at.of_job j) ≡ OfJob j
@@ -127,7 +127,7 @@ module _ (s : State) (at : Assigned) (retired : ℕ) (j : ℕ) (f : Work → Wor
     works =
         let place : j - 1 ≡ retired + i = omega (arith, number) in
         let rest : retired + i - retired ≡ i = omega arith in
-        ap (λ ws. slice_set ws (j - 1) (f (job s.jobs j))) are.all ∙ ap (λ k. slice_set (are.past ++ map work_of jobs) k (f (job s.jobs j))) place ∙ set-append_right are.past (map work_of jobs) retired (retired + i) (f (job s.jobs j)) are.many (omega arith) ∙
+        with_at_number-from s.jobs j (f (job s.jobs j)) (omega (arith, above)) ∙ ap (λ ws. slice_set ws (j - 1) (f (job s.jobs j))) are.all ∙ ap (λ k. slice_set (are.past ++ map work_of jobs) k (f (job s.jobs j))) place ∙ set-append_right are.past (map work_of jobs) retired (retired + i) (f (job s.jobs j)) are.many (omega arith) ∙
         ap (λ k. are.past ++ slice_set (map work_of jobs) k (f (job s.jobs j))) rest ∙ ap (λ w. are.past ++ slice_set (map work_of jobs) i (f w)) work_here ∙ ap (λ ws. are.past ++ ws) (sym (map-set work_of jobs i (with_work f it)))
 
     job_at : (k : ℕ) (c : CurrentJob) → k < length jobs → IsJob s.rows at (retired + k + 1) (get_or (slice_set jobs i (with_work f it)) k c)

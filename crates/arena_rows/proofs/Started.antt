@@ -21,7 +21,7 @@ use Rattle.tenant_model.specs.declared.rows.Row.{Row}
 use Rattle.tenant_model.specs.State.{State, row, with_at_number}
 use Rattle.tenant_model.specs.Walks.{NumberedRow, numbered_rows, is_open, is_unstarted, is_region, value_in, height}
 use Rattle.tenant_model.specs.Changes.{open_rows}
-use Rattle.tenant_model.proofs.Changed.{row-with_same, row-with_other}
+use Rattle.tenant_model.proofs.Changed.{row-with_same, row-with_other, with_at_number-from}
 use Rattle.tenant_model.proofs.Within.{either_way}
 use Rattle.arena_rows.specs.declared.rows.OpenRow.{OpenRow}
 use Rattle.arena_rows.specs.declared.rows.Stage.TheVariants as stage
@@ -163,7 +163,7 @@ waiting-set n k (suc i) r (x ∷ xs) is started within =
     ]
 
 pub waiting-with : (rows : List Row) (n : ℕ) (r : Row) → 1 ≤ n → n ≤ length rows → is_unstarted r.phase ≡ false → waiting (with_at_number rows n r) ≡ filter (is_other n) (waiting rows)
-waiting-with rows n r from to started = waiting-set n 1 (n - 1) r rows (omega arith) started (omega arith)
+waiting-with rows n r from to started = rw (with_at_number-from rows n r from) (waiting-set n 1 (n - 1) r rows (omega arith) started (omega arith))
 
 pub map-same : {A B : Type 0} (f g : A → B) (xs : List A) → ((x : A) → f x ≡ g x) → map f xs ≡ map g xs
 map-same f g [] same = refl

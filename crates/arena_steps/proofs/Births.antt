@@ -1,5 +1,5 @@
 -- Steps by which a slot's topmost row moves on and makes a row.
-use Rattle.std.proofs.Common.{◌≡◌, ◌≢◌, ℕ, ◌+◌, ◌-◌, ◌==◌, ◌&&◌, ◌<◌, ◌≤◌, nat_le, nat_lt, length, length-set, Option, Some, true, false, refl, sym, ap, ◌∙◌, arith, inl, inr, subst}
+use Rattle.std.proofs.Common.{◌≡◌, ◌≢◌, ℕ, ◌+◌, ◌==◌, ◌&&◌, ◌<◌, ◌≤◌, nat_le, nat_lt, length, Option, Some, true, false, refl, sym, ap, ◌∙◌, arith, inl, inr, subst}
 use Rattle.std.specs.Prelude.{if◌then◌else◌}
 use Rattle.std.proofs.lemmas.Bool.{cases_eq, cases_lt}
 use Rattle.job_language.specs.declared.answers.Moved.{Moved}
@@ -17,7 +17,7 @@ use Rattle.tenant_model.specs.Walks.{height, top, settle}
 use Rattle.tenant_model.specs.Changes.{new_row, add_row, with_frame, finish_step, open_rows, is_row_limit_met}
 use Rattle.tenant_model.specs.Shared.{next_place}
 use Rattle.tenant_model.specs.Sound.{IsSteady}
-use Rattle.tenant_model.proofs.Changed.{row-with_same}
+use Rattle.tenant_model.proofs.Changed.{row-with_same, length-with}
 use Rattle.tenant_model.proofs.Faulting.{AreSame-settle}
 use Rattle.tenant_model.proofs.Parts.{open-set}
 use Rattle.tenant_model.proofs.Picks.{top_is}
@@ -80,7 +80,7 @@ module _ (a b : Held) (s : State) (slot n : ℕ) (f : Frame) (is : Holds a s) (o
   still_rests = (t, n, now, still_top)
 
   pub same_made : b.made ≡ a.made
-  same_made = now.holds.made ∙ length-set s.rows (n - 1) r ∙ sym is.made
+  same_made = now.holds.made ∙ length-with s.rows n r ∙ sym is.made
 
   pub same_stack : length (stack b.nests slot) ≡ length (stack a.nests slot)
   same_stack =
