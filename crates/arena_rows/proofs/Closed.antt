@@ -16,7 +16,7 @@ use Rattle.tenant_model.specs.declared.rows.Row.{Row}
 use Rattle.tenant_model.specs.State.{row, with_at_number}
 use Rattle.tenant_model.specs.Walks.{NumberedRow, numbered_rows, is_open, is_region, is_spawned_by, members, mark, total, is_used, region_of, value_in, chain}
 use Rattle.tenant_model.specs.Changes.{open_rows}
-use Rattle.tenant_model.proofs.Changed.{row-with_same, row-with_other, row-get_or}
+use Rattle.tenant_model.proofs.Changed.{row-with_same, row-with_other, row-get_or, with_at_number-from}
 use Rattle.tenant_model.proofs.Contexts.{SameContexts, chain-same}
 use Rattle.tenant_model.proofs.Linked.{SameSources-set}
 use Rattle.tenant_model.proofs.Stacking.{one_if, count-with}
@@ -62,6 +62,9 @@ long-set f g since k (suc i) r d (x ∷ xs) within kind =
 module _ (rows : List Row) (n : ℕ) (r : Row) (from : 1 ≤ n) (to : n ≤ length rows) (kind : r.kind ≡ (row rows n).kind) (job : r.job ≡ (row rows n).job) (marks : r.marks ≡ (row rows n).marks) where
   abbrev pub rows' : List Row
   rows' = with_at_number rows n r
+
+  set_is : rows' ≡ slice_set rows (n - 1) r
+  set_is = with_at_number-from rows n r from
 
   pub row_new : row rows' n ≡ r
   row_new = row-with_same rows n r from to
@@ -118,12 +121,12 @@ module _ (rows : List Row) (n : ℕ) (r : Row) (from : 1 ≤ n) (to : n ≤ leng
   around_same places m = rw (kinds_same m) (around_by_kind places (row rows m).kind)
 
   pub used_same : (f g : ℕ) → is_used rows' f g ≡ is_used rows f g
-  used_same f g = rw (mark_same f g) (ap (λ k. nat_lt 0 k) (long-set f g (mark rows f g).rows 1 (n - 1) r r rows within kind_before))
+  used_same f g = rw (mark_same f g, set_is) (ap (λ k. nat_lt 0 k) (long-set f g (mark rows f g).rows 1 (n - 1) r r rows within kind_before))
 
   -- A group that it is no member of has the same counters.
   pub IsGroup-other : (f g : ℕ) (it : Group) → is_spawned_by f g (row rows n).kind ≡ false → IsGroup rows f g it → IsGroup rows' f g it
   IsGroup-other f g it apart is =
-      let same : members rows' f g ≡ members rows f g = rw (mark_same f g) (members-other f g (mark rows f g).rows 1 (n - 1) r r rows within kind_before (ap (is_spawned_by f g) kind ∙ apart)) in
+      let same : members rows' f g ≡ members rows f g = rw (mark_same f g, set_is) (members-other f g (mark rows f g).rows 1 (n - 1) r r rows within kind_before (ap (is_spawned_by f g) kind ∙ apart)) in
       record {
         pending = is.pending ∙ ap (count_by (λ (p : NumberedRow). is_open p.1.phase)) (sym same);
         total = is.total ∙ ap (fold (λ sum (p : NumberedRow). int_wrapping_add w64 sum (value_in p.1.phase)) (pos 0)) (sym same);
@@ -171,7 +174,7 @@ module _ (rows : List Row) (n : ℕ) (r : Row) (from : 1 ≤ n) (to : n ≤ leng
         let fewer = pending-done f g (mark rows f g).rows n 1 (n - 1) r r rows (omega (arith, from)) within kind_before opened_before closed joined in
         let more = total-done f g (mark rows f g).rows n 1 (n - 1) (pos 0) r r rows (omega (arith, from)) within kind_before none joined in
         record {
-          pending = rw (mark_same f g) (omega (arith, fewer, is.pending));
-          total = ap (λ t. int_wrapping_add w64 t (value_in r.phase)) is.total ∙ rw (mark_same f g) (sym more);
+          pending = rw (mark_same f g, set_is) (omega (arith, fewer, is.pending));
+          total = ap (λ t. int_wrapping_add w64 t (value_in r.phase)) is.total ∙ rw (mark_same f g, set_is) (sym more);
           used = is.used ∙ sym (used_same f g);
         }

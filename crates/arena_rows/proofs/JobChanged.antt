@@ -12,7 +12,7 @@ use Rattle.tenant_model.specs.State.{State, row, job}
 use Rattle.tenant_model.specs.Walks.{is_open, is_unstarted, is_job_cancelled, value_in}
 use Rattle.tenant_model.specs.Changes.{on_job}
 use Rattle.tenant_model.specs.Sound.{IsSteady}
-use Rattle.tenant_model.proofs.Changed.{numbered_or, at_number-with_same, at_number-with_other}
+use Rattle.tenant_model.proofs.Changed.{numbered_or, at_number-with_same, at_number-with_other, length-with, with_at_number-from}
 use Rattle.arena_rows.specs.declared.rows.OpenRow.{OpenRow}
 use Rattle.arena_rows.specs.declared.rows.CurrentJob.{CurrentJob}
 use Rattle.arena_rows.specs.Held.{Held}

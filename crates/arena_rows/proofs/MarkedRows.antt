@@ -16,7 +16,7 @@ use Rattle.tenant_model.specs.declared.rows.Row.{Row}
 use Rattle.tenant_model.specs.State.{row, with_at_number}
 use Rattle.tenant_model.specs.Walks.{NumberedRow, is_open, is_unstarted, is_region, value_in, mark, members, is_used, region_of, chain}
 use Rattle.tenant_model.specs.Changes.{open_rows}
-use Rattle.tenant_model.proofs.Changed.{row-with_same, row-with_other, row-get_or}
+use Rattle.tenant_model.proofs.Changed.{row-with_same, row-with_other, row-get_or, with_at_number-from}
 use Rattle.tenant_model.proofs.Linked.{SameSources, SameSources-set}
 use Rattle.tenant_model.proofs.Within.{either_way, chain_for-kinds}
 use Rattle.arena_rows.specs.declared.rows.OpenRow.{OpenRow}
@@ -150,7 +150,7 @@ module _ (rows : List Row) (n g : ℕ) (m : Mark) (from : 1 ≤ n) (to : n ≤ l
   waiting-marked places started =
       let place : n - 1 + 1 ≡ n = omega (arith, from) in
       let at : is_unstarted (get_or rows (n - 1) marked_row).phase ≡ false = ap (λ (x : Row). is_unstarted x.phase) (row-get_or rows (n - 1) marked_row (omega (arith, from, to)) ∙ ap (row rows) place) ∙ started in
-      let same : waiting marked_rows ≡ waiting rows = waiting-same 1 (n - 1) marked_row marked_row rows (omega (arith, from, to)) started at in
+      let same : waiting marked_rows ≡ waiting rows = ap waiting (with_at_number-from rows n marked_row from) ∙ waiting-same 1 (n - 1) marked_row marked_row rows (omega (arith, from, to)) started at in
       map-same (waiting_of rows places) (waiting_of marked_rows places) (waiting rows) (λ p. rw (tag_of-marked places p.0) refl) ∙ ap (map (waiting_of marked_rows places)) (sym same)
 
   -- The entry of a row whose groups are as they were.

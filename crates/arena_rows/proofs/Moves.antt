@@ -19,7 +19,7 @@ use Rattle.tenant_model.specs.Walks.{NumberedRow, numbered_rows, is_open, is_uns
 use Rattle.tenant_model.specs.Changes.{with_frame, finish_step, entry}
 use Rattle.tenant_model.specs.Shared.{write_register}
 use Rattle.tenant_model.specs.Sound.{IsSteady, IsSettled}
-use Rattle.tenant_model.proofs.Changed.{row-with_same, row-with_other, row-get_or}
+use Rattle.tenant_model.proofs.Changed.{row-with_same, row-with_other, row-get_or, with_at_number-from}
 use Rattle.tenant_model.proofs.Within.{either_way}
 use Rattle.tenant_model.proofs.Picks.{top_is}
 use Rattle.tenant_model.proofs.Insides.{live_low}
@@ -92,7 +92,7 @@ module _ (a : Held) (s : State) (is : Holds a s) (slot n : ℕ) (f : Frame) (wit
   same_waiting =
       let place : n - 1 + 1 ≡ n = omega (arith, its_top) in
       let at : is_unstarted (get_or s.rows (n - 1) r).phase ≡ false = ap (λ (x : Row). is_unstarted x.phase) (row-get_or s.rows (n - 1) r (omega (arith, its_top)) ∙ ap (row s.rows) place) ∙ started in
-      waiting-same 1 (n - 1) r r s.rows (omega (arith, its_top)) started at
+      ap waiting (with_at_number-from s.rows n r its_top.0) ∙ waiting-same 1 (n - 1) r r s.rows (omega (arith, its_top)) started at
 
   -- The frame of the topmost row, moved on.
   pub framed_holds : Holds (framed a slot f) (with_frame s n f)

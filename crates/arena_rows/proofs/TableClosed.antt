@@ -12,7 +12,7 @@ use Rattle.tenant_model.specs.declared.rows.Row.{Row}
 use Rattle.tenant_model.specs.declared.works.Work.{Work}
 use Rattle.tenant_model.specs.State.{State, row, job, with_at_number}
 use Rattle.tenant_model.specs.Walks.{NumberedRow, numbered_rows, is_open, is_unstarted, is_spawned_by, value_in}
-use Rattle.tenant_model.proofs.Changed.{row-get_or}
+use Rattle.tenant_model.proofs.Changed.{row-get_or, with_at_number-from}
 use Rattle.tenant_model.proofs.Tended.{unstarted_open}
 use Rattle.tenant_model.proofs.Within.{either_way}
 use Rattle.arena_rows.specs.declared.rows.OpenRow.{OpenRow}
@@ -136,7 +136,7 @@ module _ (rows : List Row) (places : Places) (n : ℕ) (r : Row) (from : 1 ≤ n
   pool_live live =
       let place : n - 1 + 1 ≡ n = omega (arith, from) in
       let here : is_unstarted (get_or rows (n - 1) r).phase ≡ false = ap (λ (q : Row). is_unstarted q.phase) (row-get_or rows (n - 1) r (omega (arith, from, to)) ∙ ap (row rows) place) ∙ live in
-      sym (ap (map (waiting_of rows' places)) (waiting-not 1 (n - 1) r r rows (omega (arith, from, to)) here never_waits) ∙ map-same (waiting_of rows' places) (waiting_of rows places) (waiting rows) waiting_same)
+      sym (ap (map (waiting_of rows' places)) (ap waiting (with_at_number-from rows n r from) ∙ waiting-not 1 (n - 1) r r rows (omega (arith, from, to)) here never_waits) ∙ map-same (waiting_of rows' places) (waiting_of rows places) (waiting rows) waiting_same)
 
   -- and is without it where it waited.
   pub pool_dropped : filter (λ w. not (ready.is_of (id_of places n) w)) (map (waiting_of rows places) (waiting rows)) ≡ map (waiting_of rows' places) (waiting rows')
