@@ -1,10 +1,11 @@
 #!/bin/sh
 # What an advance of an arena's slot takes: the 23rd Fibonacci number as one job on one slot, with a task for
-# each smaller number, alone and beside 64 and 4,000 rows that wait; the same on a tenant's cell, which records
+# each smaller number, alone and beside 64 and 4,000 rows that wait; the same in a plain Rust arena of the same
+# parts, built by `rustc -O`, of which nothing is proved (`plain.rs`); the same on a tenant's cell, which records
 # each step in the tenant's history and in the log of the slot's pass; and jobs that make 60 tasks in each of 16
-# groups, cancel and wait for each group. Each is done three times, in turn, and the fastest counts. What it
+# groups, cancel and wait for each group. Each is done ten times, in turn, and the fastest counts. What it
 # takes to make the arenas and the rows that wait is measured by itself and taken off. The argument is how many
-# jobs there are, 1 if it is left out. It needs `rt` on the path.
+# jobs there are, 1 if it is left out. It needs `rt` and `rustc` on the path.
 set -e
 cd "$(dirname "$0")"
 jobs="${1:-1}"
@@ -12,13 +13,14 @@ built=../../crates/arena_bench/out/arena_bench
 (cd ../../crates/arena_bench && rt run > /dev/null 2>&1)
 work=$(mktemp -d)
 trap 'rm -rf "$work"' EXIT
+rustc --edition 2021 -O -o "$work/plain" plain.rs
 
-# The microseconds of a run, added to a file of its own; its last line stays in another.
+# The microseconds of a run of a program, added to a file of its own; its last line stays in another.
 measure() {
     name="$1"
     shift
     begun=$(date +%s%N)
-    "$built" "$@" > "$work/$name.printed"
+    "$@" > "$work/$name.printed"
     ended=$(date +%s%N)
     echo $(((ended - begun) / 1000)) >> "$work/$name"
 }
@@ -32,17 +34,20 @@ printed() {
     sed -n "s/.* \([0-9]*\) $2.*/\1/p" "$work/$1.printed"
 }
 
-for _ in 1 2 3; do
+for _ in 1 2 3 4 5 6 7 8 9 10; do
     for waiting in 0 64 4000; do
-        measure "fib.$waiting" fib 23 "$jobs" "$waiting"
-        measure "none.$waiting" fib 1 "$jobs" "$waiting"
+        measure "fib.$waiting" "$built" fib 23 "$jobs" "$waiting"
+        measure "none.$waiting" "$built" fib 1 "$jobs" "$waiting"
     done
-    measure recorded recorded 23 "$jobs"
-    measure none.recorded recorded 1 "$jobs"
-    measure cancels cancels "$((jobs * 50))"
-    measure none.cancels fib 1 "$((jobs * 50))" 0
+    measure plain "$work/plain" 23 "$jobs"
+    measure none.plain "$work/plain" 1 "$jobs"
+    measure recorded "$built" recorded 23 "$jobs"
+    measure none.recorded "$built" recorded 1 "$jobs"
+    measure cancels "$built" cancels "$((jobs * 50))"
+    measure none.cancels "$built" fib 1 "$((jobs * 50))" 0
 done
 grep -q 'value 28657$' "$work/fib.0.printed"
+grep -q 'value 28657$' "$work/plain.printed"
 grep -q 'value 28657$' "$work/recorded.printed"
 grep -q 'value 32$' "$work/cancels.printed"
 
@@ -59,5 +64,6 @@ printf 'what\ttasks\tsteps\ttasks a second\tnanoseconds a step\n'
 line fib.0 none.0 'fib, alone	'
 line fib.64 none.64 'fib, beside 64 rows	'
 line fib.4000 none.4000 'fib, beside 4000 rows	'
+line plain none.plain 'fib, plain Rust	'
 line recorded none.recorded 'fib, recorded	'
 line cancels none.cancels 'cancels of 16 groups	'
