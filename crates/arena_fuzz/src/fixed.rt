@@ -34,15 +34,19 @@ pub(crate) fn run_fixed(alloc: Global, tally: &mut Tally) -> Result<(), Stop> {
     let Some(config) = four_slots() else {
         return Err(Stop::Invalid);
     };
-    let pair = Pair::new(alloc, config)?;
-    let mut round = Round::new(alloc, pair, Pcg32::new(42, 54));
+    let mut round = Round::new(alloc, Pair::new(alloc, config)?, Pcg32::new(42, 54));
+    take_all(&mut round, jobs.as_slice(), tally)
+}
+
+/// Takes `FIXED_STEPS` steps.
+fn take_all(round: &mut Round, jobs: &[Job], tally: &mut Tally) -> Result<(), Stop> {
     let before = tally.steps();
     for _ in 0..u64::MAX {
         let taken = tally.steps().wrapping_sub(before);
         if taken >= FIXED_STEPS {
             break;
         }
-        take_one(&mut round, taken % TURN, jobs.as_slice(), tally)?;
+        take_one(round, taken % TURN, jobs, tally)?;
     }
     Ok(())
 }

@@ -111,6 +111,17 @@ impl Round {
         self.retire(tally)
     }
 
+    /// All its turns. In a flood the tenant meets its limit of jobs.
+    fn take_turns(&mut self, jobs: &[Job], is_flood: bool, tally: &mut Tally) -> Result<(), Stop> {
+        for _ in 0..TURNS {
+            if let (true, Some(job)) = (is_flood, jobs.first()) {
+                self.submit_all(job, FLOOD, tally)?;
+            }
+            self.turn(jobs, tally)?;
+        }
+        Ok(())
+    }
+
     /// Submits a job `count` times.
     fn submit_all(&mut self, job: &Job, count: u64, tally: &mut Tally) -> Result<(), Stop> {
         for _ in 0..count {
@@ -130,11 +141,5 @@ pub(crate) fn run_round(alloc: Global, seed: u64, tally: &mut Tally) -> Result<(
     let jobs = draw_jobs(alloc, &mut draws, 4)?;
     let is_flood = draws.random_range(0u8..16) == 0;
     let mut round = Round::new(alloc, Pair::new(alloc, config)?, draws);
-    for _ in 0..TURNS {
-        if let (true, Some(job)) = (is_flood, jobs.first()) {
-            round.submit_all(job, FLOOD, tally)?;
-        }
-        round.turn(jobs.as_slice(), tally)?;
-    }
-    Ok(())
+    round.take_turns(jobs.as_slice(), is_flood, tally)
 }

@@ -23,13 +23,12 @@ pub(crate) struct Beside {
 impl Beside {
     /// A world that has taken no step yet.
     pub(crate) fn new(alloc: Global, config: Config) -> Result<Beside, Stop> {
-        let mut tenants = Vec::new(alloc);
-        for tenant in config.tenants() {
-            tenants.push(Alone::new(alloc, *tenant, config.workers())?)?;
-        }
+        let market = PlainMarket::new(alloc, &config)?;
+        let mut tenants = Vec::with_capacity(alloc, config.tenants().len())?;
+        add_all(alloc, &config, &mut tenants)?;
         Ok(Beside {
             alloc,
-            market: PlainMarket::new(alloc, &config)?,
+            market,
             tenants,
             world: World::new(alloc, config)?,
         })
@@ -184,4 +183,12 @@ impl Beside {
         }
         Ok(Outcome::Own(answer))
     }
+}
+
+/// Adds each tenant by itself.
+fn add_all(alloc: Global, config: &Config, tenants: &mut Vec<Alone>) -> Result<(), Stop> {
+    for tenant in config.tenants() {
+        tenants.push(Alone::new(alloc, *tenant, config.workers())?)?;
+    }
+    Ok(())
 }

@@ -125,6 +125,17 @@ impl Round {
         Ok(())
     }
 
+    /// All its turns, after a flood if there is one.
+    fn take_turns(&mut self, is_flood: bool, tally: &mut Tally) -> Result<(), Stop> {
+        if is_flood {
+            self.flood(tally)?;
+        }
+        for _ in 0..TURNS {
+            self.turn(tally)?;
+        }
+        Ok(())
+    }
+
     /// Moves until nothing is left to do, `MOVES` times at most.
     fn work_off(&mut self, tally: &mut Tally) -> Result<(), Stop> {
         for _ in 0..MOVES {
@@ -207,11 +218,5 @@ pub(crate) fn run_world_round(alloc: Global, seed: u64, tally: &mut Tally) -> Re
         draws,
         steps: 0,
     };
-    if is_flood {
-        round.flood(tally)?;
-    }
-    for _ in 0..TURNS {
-        round.turn(tally)?;
-    }
-    Ok(())
+    round.take_turns(is_flood, tally)
 }
