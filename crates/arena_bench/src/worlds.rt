@@ -3,8 +3,7 @@ use crate::jobs::fibonacci;
 use crate::runs::Ran;
 use arena_core::Arena;
 use job_language::{
-    Answer, Config, Isolation, Level, MAX_STEPS, Moved, Reply, Status, Tenant, TenantConfig,
-    TenantName,
+    Answer, Config, Isolation, Level, MAX_STEPS, Reply, Status, Tenant, TenantConfig, TenantName,
 };
 use std::alloc::{AllocError, Global};
 use world_core::{Raw, World};
@@ -143,14 +142,14 @@ impl Bench {
     fn advance_each(&mut self, ran: &mut Ran) -> Option<u64> {
         let mut freed = 0u64;
         for tenant in 0..self.executes.len() {
-            ran.steps = ran.steps.wrapping_add(1);
-            match self.world.apply(self.alloc, &Raw::Master(tenant, SLOT)) {
-                Outcome::Own(Answer::Moved(Moved::Ran)) => {}
-                Outcome::Own(Answer::Moved(Moved::Nested(_))) => {
-                    ran.tasks = ran.tasks.wrapping_add(1);
-                }
-                Outcome::Own(Answer::Moved(Moved::Freed)) => freed = freed.wrapping_add(1),
-                _ => return None,
+            let Outcome::Own(Answer::Moved(moved)) = self
+                .world
+                .apply(self.alloc, &Raw::Master(tenant, SLOT))
+            else {
+                return None;
+            };
+            if ran.count(moved)? {
+                freed = freed.wrapping_add(1);
             }
         }
         Some(freed)
