@@ -12,7 +12,7 @@ use Rattle.job_language.specs.declared.jobs.Job.{Job}
 use Rattle.tenant_model.specs.declared.rows.Row.{Row}
 use Rattle.tenant_model.specs.declared.works.TheConstants.{MAX_JOBS}
 use Rattle.tenant_model.specs.declared.works.Work.{Work}
-use Rattle.tenant_model.specs.Cells.{no_cells}
+use Rattle.thread_cells.specs.Cells.{no_cells}
 use Rattle.tenant_model.specs.Changes.{on_job, is_row_limit_met, is_full, entry}
 use Rattle.tenant_model.specs.Walks.{is_open, is_job_cancelled}
 use Rattle.tenant_model.specs.State.{State}

@@ -1,7 +1,7 @@
 -- What is held stands for the state with other cells.
 use Rattle.std.proofs.Common.{◌≡◌, ℕ, ℤ, refl, sym, ap}
 use Rattle.tenant_model.specs.State.{State}
-use Rattle.tenant_model.specs.Cells.{Table, with_cell}
+use Rattle.thread_cells.specs.Cells.{Table, with_cell}
 use Rattle.tenant_model.specs.Changes.{with_cells}
 use Rattle.tenant_model.specs.WellFormed.{IsTable}
 use Rattle.tenant_model.proofs.KeptSteps.{with_cell_kept}

@@ -11,7 +11,7 @@ use Rattle.cancel_context.proofs.Released.{binding-without}
 use Rattle.tenant_model.specs.declared.rows.Row.{Row}
 use Rattle.tenant_model.specs.declared.works.Work.{Work}
 use Rattle.tenant_model.specs.State.{State, row}
-use Rattle.tenant_model.specs.Cells.{no_cells}
+use Rattle.thread_cells.specs.Cells.{no_cells}
 use Rattle.tenant_model.specs.Walks.{is_open}
 use Rattle.tenant_model.specs.Changes.{open_rows, entry}
 use Rattle.tenant_model.specs.Asks.{retired_work}

@@ -12,7 +12,7 @@ use Rattle.tenant_model.specs.State.{State}
 use Rattle.nest_stack.specs.Nest.{stack}
 use Rattle.tenant_model.specs.Walks.{NumberedRow, height, is_open, is_unstarted, has_unstarted}
 use Rattle.tenant_model.specs.Changes.{open_rows, is_row_limit_met}
-use Rattle.tenant_model.specs.Cells.{Table, cell_sum, cell_count}
+use Rattle.thread_cells.specs.Cells.{Table, cell_sum, cell_count}
 use Rattle.tenant_model.specs.Asks.{free_slot}
 use Rattle.tenant_model.proofs.Within.{either_way}
 use Rattle.tenant_model.proofs.Stacking.{one_if}

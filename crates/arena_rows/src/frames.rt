@@ -2,7 +2,7 @@
 ghost use Rattle.std.specs.Prelude.{◌≡◌, ◌<◌, ℕ, pos, length, unwrap_or, Some};
 ghost use Rattle.job_language.specs.declared.tenants.TheConstants.{MAX_SLOTS};
 ghost use Rattle.tenant_model.specs.State.{State, row};
-ghost use Rattle.tenant_model.specs.Cells.{cell, with_cell};
+ghost use Rattle.thread_cells.specs.Cells.{cell, with_cell};
 ghost use Rattle.tenant_model.specs.Changes.{with_frame, with_cells};
 ghost use Rattle.tenant_model.specs.Walks.{top};
 ghost use Rattle.arena_rows.specs.Represents.{Rests, HasTop};

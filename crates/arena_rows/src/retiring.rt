@@ -2,7 +2,7 @@
 ghost use Rattle.std.specs.Prelude.{◌≡◌, ◌<◌, ◌+◌, length, map};
 ghost use Rattle.cancel_context.specs.Forest.{held_count};
 ghost use Rattle.tenant_model.specs.State.{State};
-ghost use Rattle.tenant_model.specs.Cells.{no_cells};
+ghost use Rattle.thread_cells.specs.Cells.{no_cells};
 ghost use Rattle.tenant_model.specs.Changes.{entry};
 ghost use Rattle.tenant_model.specs.Asks.{retired_work};
 ghost use Rattle.arena_rows.specs.Represents.{Rests};

@@ -8,7 +8,7 @@ ghost use Rattle.tenant_model.specs.declared.works.TheConstants.{MAX_JOBS};
 ghost use Rattle.tenant_model.specs.State.{State};
 ghost use Rattle.tenant_model.specs.Walks.{is_open, has_unstarted};
 ghost use Rattle.tenant_model.specs.Changes.{is_row_limit_met};
-ghost use Rattle.tenant_model.specs.Cells.{cell_sum, cell_count};
+ghost use Rattle.thread_cells.specs.Cells.{cell_sum, cell_count};
 ghost use Rattle.tenant_model.specs.Asks.{current_jobs, free_slot, known_job, status};
 ghost use Rattle.arena_rows.specs.Represents.{Holds, HoldsSomehow};
 ghost use Rattle.arena_rows.specs.HeldReads.{held_status, known_current, known_status, is_first_cancel, known_cancels};

@@ -4,7 +4,7 @@ use Rattle.std.specs.Prelude.{slice_set}
 use Rattle.job_language.specs.declared.tenants.Tenant.{Tenant}
 use Rattle.job_step.specs.declared.frames.Frame.{Frame}
 use Rattle.job_step.specs.Frame.{at_place, write_and_step}
-use Rattle.tenant_model.specs.Cells.{Table}
+use Rattle.thread_cells.specs.Cells.{Table}
 use Rattle.tenant_model.specs.Changes.{with_cells}
 use Rattle.tenant_model.specs.State.{State, row}
 use Rattle.tenant_model.specs.Walks.{top}

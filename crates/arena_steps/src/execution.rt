@@ -3,7 +3,7 @@ ghost use Rattle.std.specs.Prelude.{◌≡◌, ◌<◌, ◌+◌, ◌^◌, ℕ, p
 ghost use Rattle.job_language.specs.Program.{is_last};
 ghost use Rattle.job_step.specs.declared.frames.TheConstants.{LAST_PLACE};
 ghost use Rattle.tenant_model.specs.State.{State};
-ghost use Rattle.tenant_model.specs.Cells.{cell_sum, cell_count};
+ghost use Rattle.thread_cells.specs.Cells.{cell_sum, cell_count};
 ghost use Rattle.tenant_model.specs.Walks.{is_context_cancelled};
 ghost use Rattle.tenant_model.specs.Shared.{execute, write_register};
 ghost use Rattle.arena_rows.specs.Represents.{Gives};

@@ -20,7 +20,7 @@ use Rattle.tenant_model.specs.declared.rows.Phase.TheVariants.{Unstarted, Live}
 use Rattle.tenant_model.specs.declared.rows.Row.{Row}
 use Rattle.tenant_model.specs.declared.works.Work.{Work}
 use Rattle.tenant_model.specs.declared.works.TheConstants.{MAX_JOBS}
-use Rattle.tenant_model.specs.Cells.{no_cells}
+use Rattle.thread_cells.specs.Cells.{no_cells}
 use Rattle.tenant_model.specs.Serial.{root_task, new_task}
 use Rattle.serial_law.specs.SerialValues.{number_made}
 use Rattle.tenant_model.specs.State.{State, row, job, at_number, with_at_number}

@@ -19,7 +19,7 @@ use Rattle.tenant_model.specs.declared.rows.TheConstants.{MAX_HEIGHT}
 use Rattle.tenant_model.specs.State.{State, row, job}
 use Rattle.tenant_model.specs.Walks.{maker_of, mark, total, height}
 use Rattle.tenant_model.specs.Changes.{on_row, new_row, add_row, is_row_limit_met, with_frame, with_cells, faults}
-use Rattle.tenant_model.specs.Cells.{Table}
+use Rattle.thread_cells.specs.Cells.{Table}
 use Rattle.tenant_model.specs.Shared.{next_place, called_frame, group_status, execute, has_used_group, handed_frame, hand_back}
 use Rattle.tenant_model.specs.WellFormed.{AreStacked, StandOnMakers, AreMarked}
 use Rattle.tenant_model.proofs.Changed.{row-with_same, length-with}

@@ -168,10 +168,10 @@ impl TenantState {
         requires { is_full self.old ≡ false }
         ensures { reply_to self.old (Request.Cells key) ≡ (result, self.new) }
     {
-        let count = self.cells().count(key);
-        let sum = self.cells().sum(key);
+        let count = self.cells().count(key.index());
+        let sum = self.cells().sum(key.index());
         self.enter();
-        Reply::Cells(key, count, sum)
+        Reply::Cells(key, count as u64, sum)
     }
 
     fn arena(&mut self) -> Reply

@@ -3,7 +3,6 @@
 
 mod advances;
 mod asks;
-mod cells;
 mod chains;
 mod execution;
 mod groups;

@@ -135,9 +135,8 @@ impl TenantState {
         requires slot { slot < MAX_SLOTS }
         ensures { shared.load self.old slot number frame to key ≡ (result, self.new) }
     {
-        let value = self.cells().get(key, slot).unwrap_or(0);
+        let value = self.local_cell(key, slot);
         self.set_frame(number, frame.write_and_step(to, value));
-        self.set_cell(key, slot, value);
         self.finish_step(slot)
     }
 
@@ -150,7 +149,7 @@ impl TenantState {
         ensures { shared.store self.old slot number frame key from ≡ (result, self.new) }
     {
         self.set_frame(number, frame.next());
-        self.set_cell(key, slot, frame.registers[from.index()]);
+        self.store_cell(key, slot, frame.registers[from.index()]);
         self.finish_step(slot)
     }
 
@@ -224,11 +223,11 @@ impl TenantState {
             Instr::Load(to, key) => self.load(slot, number, frame, to, key),
             Instr::Store(key, from) => self.store(slot, number, frame, key, from),
             Instr::Sum(to, key) => {
-                let sum = self.cells().sum(key);
+                let sum = self.cells().sum(key.index());
                 self.write_register(slot, number, frame, to, sum)
             }
             Instr::Count(to, key) => {
-                let count = self.cells().count(key);
+                let count = self.cells().count(key.index());
                 self.write_register(slot, number, frame, to, count as i64)
             }
             Instr::Ret(from) => self.ret(slot, number, frame, from),

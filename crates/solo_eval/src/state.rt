@@ -1,16 +1,16 @@
 // The state of a tenant as the evaluator holds it, and how a step ends.
-ghost use Rattle.std.specs.Prelude.{◌≡◌, ◌<◌, ◌≤◌, length};
+ghost use Rattle.std.specs.Prelude.{◌≡◌, ◌<◌, ◌≤◌, length, unwrap_or, pos};
 ghost use Rattle.job_language.specs.declared.tenants.TheConstants.{MAX_SLOTS};
 
 mod jobs;
 mod rows;
 
-use crate::cells::Cells;
 use crate::stacks::{height, task_height};
 use job_language::{JobFault, Key, Moved, Tenant, TenantConfig};
 use std::alloc::Global;
 use std::marker::Model;
 use tenant_model::{Row, Work};
+use thread_cells::Cells;
 
 /// All rows that a tenant ever made, its jobs, and its cells by key and by slot.
 #[derive(Drop)]
@@ -39,7 +39,7 @@ impl Model for TenantState {
 impl TenantState {
     ghost use Rattle.std.specs.Prelude.{false};
     ghost use Rattle.tenant_model.specs.State.{empty};
-    ghost use Rattle.tenant_model.specs.Cells.{with_cell};
+    ghost use Rattle.thread_cells.specs.Cells.{cell, with_cell};
     ghost use Rattle.job_language.specs.Tenant.{IsValidTenant};
     ghost use Rattle.tenant_model.specs.Changes.{finish_step, faults, with_cells, entry, is_full};
 
@@ -98,19 +98,28 @@ impl TenantState {
         self.finish_step(slot)
     }
 
-    /// A copy of all cells.
-    pub(crate) fn cells(&self) -> Cells
-        ensures { result ≡ self.now.cells }
+    /// The cells, by key and by slot.
+    pub(crate) fn cells(&self) -> &Cells
+        ensures { result.now ≡ self.now.cells }
     {
-        self.cells
+        &self.cells
     }
 
-    /// Sets the cell of a key on a slot.
-    pub(crate) fn set_cell(&mut self, key: Key, slot: u8, value: i64)
+    /// The value of the cell of a key on a slot; the cell is made with 0 if there is none.
+    pub(crate) fn local_cell(&mut self, key: Key, slot: u8) -> i64
+        requires { slot < MAX_SLOTS }
+        ensures value { result ≡ unwrap_or (cell self.old.cells key slot) (pos 0) }
+        ensures made { self.new ≡ with_cells self.old (with_cell self.old.cells key slot result) }
+    {
+        self.cells.local(key.index(), usize::from(slot))
+    }
+
+    /// Sets the cell of a key on a slot, and makes it if there is none.
+    pub(crate) fn store_cell(&mut self, key: Key, slot: u8, value: i64)
         requires { slot < MAX_SLOTS }
         ensures { self.new ≡ with_cells self.old (with_cell self.old.cells key slot value) }
     {
-        self.cells.set(key, slot, value);
+        self.cells.store(key.index(), usize::from(slot), value);
     }
 
     /// Whether the history has no room for another entry.

@@ -19,7 +19,7 @@ use Rattle.tenant_model.specs.declared.rows.Phase.TheVariants.{Unstarted, Live, 
 use Rattle.tenant_model.specs.declared.rows.Row.{Row}
 use Rattle.tenant_model.specs.declared.works.Work.{Work}
 use Rattle.tenant_model.specs.State.{State, empty, row, job, at_number, with_at_number}
-use Rattle.tenant_model.specs.Cells.{Table, no_cells}
+use Rattle.thread_cells.specs.Cells.{Table, no_cells}
 use Rattle.tenant_model.specs.Walks.{NumberedRow, maker_of, is_unstarted, is_open, is_spawned_by, is_used, is_live_at, mark, members, height, pick, settled_row, settle}
 use Rattle.tenant_model.specs.Changes.{on_row, on_job, new_row, add_row, entry, with_frame, with_cells, nest, task_height, faulted_row, faulted_phase, first_fault}
 use Rattle.tenant_model.specs.Shared.{called_frame, handed_frame, hand_back, has_used_group, next_place}

@@ -29,7 +29,7 @@ use Rattle.tenant_model.specs.declared.rows.TheConstants.{MAX_HEIGHT}
 use Rattle.tenant_model.specs.declared.works.Work.{Work}
 use Rattle.tenant_model.specs.declared.works.TheConstants.{MAX_JOBS}
 use Rattle.tenant_model.specs.State.{State, row, job}
-use Rattle.tenant_model.specs.Cells.{Table, with_cell, no_cells}
+use Rattle.thread_cells.specs.Cells.{Table, with_cell, no_cells}
 use Rattle.tenant_model.specs.Walks.{is_open, is_pending, is_job_cancelled, mark, total, height, top, pick}
 use Rattle.tenant_model.specs.Changes.{on_row, on_job, new_row, add_row, is_row_limit_met, is_full, entry, open_rows, with_frame, with_cells, nest, finish_step, faults, task_height, faulted_row, first_fault}
 use Rattle.tenant_model.specs.Shared.{next_place, called_frame, group_status, execute, has_used_group, hand_back}

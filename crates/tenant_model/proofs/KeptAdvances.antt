@@ -26,7 +26,7 @@ use Rattle.tenant_model.specs.declared.rows.TheConstants.{MAX_HEIGHT}
 use Rattle.tenant_model.specs.State.{State, row, job, empty}
 use Rattle.tenant_model.specs.Walks.{maker_of, is_region, mark, total, height, top, pick}
 use Rattle.tenant_model.specs.Changes.{on_row, new_row, add_row, is_row_limit_met, is_full, open_rows, with_frame, with_cells, finish_step, faults, task_height, faulted_row, first_fault}
-use Rattle.tenant_model.specs.Cells.{with_cell}
+use Rattle.thread_cells.specs.Cells.{with_cell}
 use Rattle.tenant_model.specs.Shared.{next_place, called_frame, group_status, execute, has_used_group, handed_frame, hand_back}
 use Rattle.tenant_model.specs.Advance.{begin, nest_pick, is_poor, with_fuel, pay, move_on, is_blocked, after_run, is_idle_wait, run_on, advance_run, advance_top, would_be_recorded, advance, arrive_at, is_open_to_workers, arrive}
 use Rattle.tenant_model.specs.Solo.{step, after}

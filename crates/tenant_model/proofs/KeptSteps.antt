@@ -24,7 +24,7 @@ use Rattle.std.specs.Option.{option_map_or}
 use Rattle.tenant_model.specs.State.{State}
 use Rattle.tenant_model.specs.Walks.{height, is_open}
 use Rattle.tenant_model.specs.Changes.{open_rows, is_row_limit_met, new_row, on_job, is_full}
-use Rattle.tenant_model.specs.Cells.{Table, with_cell, no_cells}
+use Rattle.thread_cells.specs.Cells.{Table, with_cell, no_cells}
 use Rattle.tenant_model.specs.WellFormed.{IsTable, IsWellFormed}
 use Rattle.tenant_model.specs.Asks.{add_job, new_job, free_slot, unless_limit, submit, submit_placed, collect, cancel_by_request, retire, retired_work, reply_to, ask, is_hello, known_job, has_outcome, current_jobs, status}
 use Rattle.tenant_model.specs.Walks.{is_job_cancelled}

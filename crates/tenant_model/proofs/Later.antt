@@ -8,7 +8,7 @@ use Rattle.std.proofs.lemmas.Option.{slice_get-map}
 use Rattle.tenant_model.specs.declared.rows.Row.{Row}
 use Rattle.tenant_model.specs.declared.works.Work.{Work}
 use Rattle.tenant_model.specs.State.{State, row, job, with_at_number}
-use Rattle.tenant_model.specs.Cells.{Table}
+use Rattle.thread_cells.specs.Cells.{Table}
 use Rattle.tenant_model.specs.Walks.{is_open}
 use Rattle.tenant_model.specs.Asks.{retired_work}
 use Rattle.tenant_model.specs.Later.{IsRowLater, IsWorkLater, HasEnded, StaysEnded, IsLater}

@@ -17,7 +17,7 @@ use Rattle.tenant_model.specs.declared.rows.Phase.TheVariants.{Unstarted, Live, 
 use Rattle.tenant_model.specs.declared.rows.Row.{Row}
 use Rattle.tenant_model.specs.declared.works.Work.{Work}
 use Rattle.tenant_model.specs.State.{State, row, job, at_number, with_at_number}
-use Rattle.tenant_model.specs.Cells.{no_cells}
+use Rattle.thread_cells.specs.Cells.{no_cells}
 use Rattle.tenant_model.specs.Walks.{maker_of, is_open, is_unstarted, is_job_cancelled, is_context_cancelled, mark, height, pick, settled_row, settle}
 use Rattle.tenant_model.specs.Changes.{on_row, on_job, new_row, add_row, entry, with_frame, nest, task_height, faulted_row, faulted_phase, first_fault}
 use Rattle.tenant_model.specs.Shared.{called_frame, handed_frame, hand_back, next_place}

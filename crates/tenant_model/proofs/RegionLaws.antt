@@ -27,7 +27,7 @@ use Rattle.tenant_model.specs.declared.works.TheConstants.{MAX_JOBS}
 use Rattle.tenant_model.specs.State.{State, empty, row}
 use Rattle.tenant_model.specs.Walks.{maker_of, with_makers, chain_for, is_within, is_region, is_live_on, is_open, is_job_cancelled, height, top, pick}
 use Rattle.tenant_model.specs.Changes.{is_full, is_row_limit_met}
-use Rattle.tenant_model.specs.Cells.{Table, with_cell}
+use Rattle.thread_cells.specs.Cells.{Table, with_cell}
 use Rattle.tenant_model.specs.Asks.{free_slot, unless_limit, submit_placed, collect, reply_to, ask, is_hello, known_job, has_outcome, current_jobs, status}
 use Rattle.tenant_model.specs.Advance.{run_on, arrive, arrive_at, is_open_to_workers}
 use Rattle.tenant_model.specs.Solo.{step, after}

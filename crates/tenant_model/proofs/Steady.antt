@@ -18,7 +18,7 @@ use Rattle.tenant_model.specs.declared.rows.Row.{Row}
 use Rattle.tenant_model.specs.declared.rows.TheConstants.{MAX_HEIGHT}
 use Rattle.tenant_model.specs.declared.works.Work.{Work}
 use Rattle.tenant_model.specs.State.{State, empty, row, job, with_at_number}
-use Rattle.tenant_model.specs.Cells.{Table, no_cells}
+use Rattle.thread_cells.specs.Cells.{Table, no_cells}
 use Rattle.tenant_model.specs.Walks.{is_open, is_unstarted, is_live_on, is_live_at, is_region, maker_of, is_pending, mark, height, top, pick}
 use Rattle.tenant_model.specs.Changes.{on_row, on_job, new_row, add_row, entry, open_rows, with_frame, with_cells, nest}
 use Rattle.tenant_model.specs.Shared.{called_frame, hand_back, has_used_group, next_place}

@@ -21,7 +21,7 @@ use Rattle.tenant_model.specs.declared.rows.Phase.TheVariants.{Unstarted, Live, 
 use Rattle.tenant_model.specs.declared.rows.Row.{Row}
 use Rattle.tenant_model.specs.declared.works.Work.{Work}
 use Rattle.tenant_model.specs.State.{State, empty, row, job, with_at_number, at_number}
-use Rattle.tenant_model.specs.Cells.{Table, no_cells}
+use Rattle.thread_cells.specs.Cells.{Table, no_cells}
 use Rattle.tenant_model.specs.Walks.{NumberedRow, numbered_rows, pick, maker_of, is_unstarted, is_open, is_live_at, is_spawned_by, is_pending, is_context_cancelled, mark, height, settled_row, settle}
 use Rattle.tenant_model.specs.Changes.{on_row, on_job, new_row, add_row, entry, with_frame, with_cells, nest, task_height, faulted_row, faulted_phase, first_fault}
 use Rattle.tenant_model.specs.Shared.{called_frame, handed_frame, hand_back, next_place}

@@ -19,7 +19,7 @@ use Rattle.tenant_model.specs.declared.rows.TheConstants.{MAX_HEIGHT}
 use Rattle.tenant_model.specs.State.{State, row}
 use Rattle.tenant_model.specs.Walks.{height, top, pick}
 use Rattle.tenant_model.specs.Changes.{is_full, is_row_limit_met, faults}
-use Rattle.tenant_model.specs.Cells.{Table, cell, with_cell}
+use Rattle.thread_cells.specs.Cells.{Table, cell, with_cell}
 use Rattle.tenant_model.specs.Shared.{execute, has_used_group, hand_back}
 use Rattle.tenant_model.specs.Advance.{begin, nest_pick, is_poor, with_fuel_paid, move_on, is_blocked, after_run, is_idle_wait, run_on, advance_run, advance_top, would_be_recorded, unless_full, advance}
 use Rattle.tenant_model.specs.Regions.{Change, Touch, change_of, change_after, touch_by, touch}

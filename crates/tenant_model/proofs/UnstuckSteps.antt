@@ -37,7 +37,7 @@ use Rattle.tenant_model.specs.declared.works.TheConstants.{MAX_JOBS}
 use Rattle.tenant_model.specs.State.{State, row, job, at_number, with_at_number, empty}
 use Rattle.tenant_model.specs.Walks.{mark, total, is_open, is_job_cancelled, height, top, pick}
 use Rattle.tenant_model.specs.Changes.{on_row, new_row, add_row, is_row_limit_met, is_full, with_frame, nest, with_cells, finish_step, faults, task_height, faulted_row, first_fault}
-use Rattle.tenant_model.specs.Cells.{Table, no_cells}
+use Rattle.thread_cells.specs.Cells.{Table, no_cells}
 use Rattle.tenant_model.specs.Shared.{next_place, called_frame, group_status, execute, has_used_group, handed_frame, hand_to, hand_back}
 use Rattle.tenant_model.specs.Advance.{begin, nest_pick, is_poor, with_fuel, pay, move_on, is_blocked, after_run, is_idle_wait, run_on, advance_run, advance_top, would_be_recorded, advance, arrive_at, is_open_to_workers, arrive}
 use Rattle.tenant_model.specs.Asks.{ask, free_slot, unless_limit, submit_placed, collect, cancel_by_request, retire, retired_work, reply_to, is_hello, known_job, has_outcome, current_jobs}

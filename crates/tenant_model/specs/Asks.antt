@@ -20,7 +20,7 @@ use Rattle.tenant_model.specs.declared.works.Work.{Work}
 use Rattle.tenant_model.specs.State.{State, at_number, row}
 use Rattle.tenant_model.specs.Walks.{is_open, is_job_cancelled, value_in, height}
 use Rattle.tenant_model.specs.Changes.{on_job, new_row, add_row, is_row_limit_met, is_full, entry}
-use Rattle.tenant_model.specs.Cells.{no_cells, cell_sum, cell_count}
+use Rattle.thread_cells.specs.Cells.{no_cells, cell_sum, cell_count}
 
 -- A job has an outcome if none of its rows is open.
 abbrev pub has_outcome : List Row → ℕ → Bool

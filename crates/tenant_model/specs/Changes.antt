@@ -10,7 +10,7 @@ use Rattle.tenant_model.specs.declared.rows.Phase.TheVariants.{Live, Faulted}
 use Rattle.tenant_model.specs.declared.rows.Row.{Row}
 use Rattle.tenant_model.specs.declared.works.Work.{Work}
 use Rattle.tenant_model.specs.State.{State, no_marks, with_at_number, row, job}
-use Rattle.tenant_model.specs.Cells.{Table}
+use Rattle.thread_cells.specs.Cells.{Table}
 use Rattle.tenant_model.specs.Walks.{is_region, is_open, is_live_on, height, settle}
 
 -- a row changed

@@ -1,6 +1,5 @@
 pub mod State
 pub mod Walks
-pub mod Cells
 pub mod Changes
 pub mod Linked
 pub mod WellFormed

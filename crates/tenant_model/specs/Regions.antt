@@ -15,7 +15,7 @@ use Rattle.tenant_model.specs.declared.rows.Phase.TheVariants.{Live}
 use Rattle.tenant_model.specs.State.{State, empty, row}
 use Rattle.tenant_model.specs.Walks.{is_region, is_within, is_live_on, top}
 use Rattle.tenant_model.specs.Changes.{is_full}
-use Rattle.tenant_model.specs.Cells.{Table, cell}
+use Rattle.thread_cells.specs.Cells.{Table, cell}
 use Rattle.tenant_model.specs.Advance.{is_poor, is_blocked, run_on}
 use Rattle.tenant_model.specs.Solo.{step, after}
 

@@ -13,7 +13,7 @@ use Rattle.tenant_model.specs.declared.rows.TheConstants.{MAX_HEIGHT}
 use Rattle.tenant_model.specs.State.{State, row, job}
 use Rattle.tenant_model.specs.Walks.{mark, total, is_used, is_context_cancelled, height}
 use Rattle.tenant_model.specs.Changes.{on_row, with_frame, new_row, add_row, is_row_limit_met, with_cells, finish_step, faults}
-use Rattle.tenant_model.specs.Cells.{cell, with_cell, cell_sum, cell_count}
+use Rattle.thread_cells.specs.Cells.{cell, with_cell, cell_sum, cell_count}
 
 -- the frame at the next place
 abbrev pub next_place : Frame → Frame

@@ -3,7 +3,7 @@ use Rattle.std.specs.Prelude.{ℕ, zero, suc, pos, false, List, [], replicate, O
 use Rattle.job_language.specs.declared.instructions.TheConstants.{GROUPS}
 use Rattle.job_language.specs.declared.tenants.Tenant.{Tenant}
 use Rattle.job_step.specs.Frame.{new_frame}
-use Rattle.tenant_model.specs.Cells.{Table, no_cells}
+use Rattle.thread_cells.specs.Cells.{Table, no_cells}
 use Rattle.tenant_model.specs.declared.rows.Kind.TheVariants.{Root}
 use Rattle.tenant_model.specs.declared.rows.Phase.TheVariants.{Dropped}
 use Rattle.tenant_model.specs.declared.rows.Mark.{Mark}

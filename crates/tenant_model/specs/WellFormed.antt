@@ -9,7 +9,7 @@ use Rattle.tenant_model.specs.declared.rows.TheConstants.{MAX_HEIGHT}
 use Rattle.tenant_model.specs.State.{State, row}
 use Rattle.tenant_model.specs.Walks.{is_region, is_within, is_unstarted, is_live_at, mark, height}
 use Rattle.tenant_model.specs.Changes.{open_rows}
-use Rattle.tenant_model.specs.Cells.{Table}
+use Rattle.thread_cells.specs.Cells.{Table}
 use Rattle.tenant_model.specs.Linked.{IsLinked}
 
 -- how many rows are on a slot at a height

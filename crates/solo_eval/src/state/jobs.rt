@@ -4,7 +4,6 @@ ghost use Rattle.tenant_model.specs.State.{row};
 ghost use Rattle.tenant_model.specs.Walks.{value_in};
 ghost use Rattle.tenant_model.specs.Asks.{retired_work};
 
-use crate::cells::Cells;
 use crate::chains::row;
 use crate::state::TenantState;
 use job_language::{GROUPS, Job, JobFault, Status};
@@ -14,7 +13,7 @@ use tenant_model::{Kind, Mark, Phase, Row, Work};
 
 impl TenantState {
     ghost use Rattle.std.specs.Prelude.{true, false};
-    ghost use Rattle.tenant_model.specs.Cells.{no_cells};
+    ghost use Rattle.thread_cells.specs.Cells.{no_cells};
     ghost use Rattle.tenant_model.specs.Asks.{add_job, known_job, outcome};
     ghost use Rattle.tenant_model.specs.Advance.{work_of};
     ghost use Rattle.tenant_model.specs.Changes.{entry, first_fault, on_job, is_full};
@@ -136,7 +135,7 @@ impl TenantState {
         ensures state { self.new ≡ entry (record self.old { jobs = map retired_work self.old.jobs; cells = no_cells; epoch = self.old.epoch + 1 }) }
     {
         retire_jobs(self.jobs.as_mut_slice());
-        self.cells = Cells::new();
+        self.cells.clear();
         self.epoch += 1;
         self.entries += 1;
         let epoch = self.epoch;

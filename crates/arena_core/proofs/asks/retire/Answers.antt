@@ -3,7 +3,7 @@ use Rattle.std.specs.List.{list_any}
 use Rattle.job_language.specs.declared.answers.Reply.TheVariants.{Epoch}
 use Rattle.tenant_model.specs.declared.rows.Row.{Row}
 use Rattle.tenant_model.specs.Walks.{is_open}
-use Rattle.tenant_model.specs.Cells.{no_cells}
+use Rattle.thread_cells.specs.Cells.{no_cells}
 use Rattle.tenant_model.specs.Changes.{entry}
 use Rattle.tenant_model.specs.Asks.{retired_work}
 use Rattle.arena_core.proofs.asks.retire.Goals as goal

@@ -3,7 +3,7 @@ use Rattle.std.proofs.lemmas.Int.{to_z-of_z}
 use Rattle.job_step.specs.declared.frames.Frame.{Frame}
 use Rattle.job_step.specs.Frame.{write_and_step}
 use Rattle.tenant_model.specs.State.{State}
-use Rattle.tenant_model.specs.Cells.{with_cell}
+use Rattle.thread_cells.specs.Cells.{with_cell}
 use Rattle.tenant_model.specs.Changes.{finish_step, with_frame, with_cells}
 use Rattle.arena_rows.specs.Represents.{Gives}
 use Rattle.arena_steps.specs.Frames.{FrameFits, CanMove}

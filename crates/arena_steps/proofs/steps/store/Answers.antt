@@ -4,7 +4,7 @@ use Rattle.arena_rows.specs.Represents.{Rests, Gives}
 use Rattle.job_step.specs.declared.frames.Frame.{Frame}
 use Rattle.job_step.specs.Frame.{at_place, register}
 use Rattle.tenant_model.specs.State.{State}
-use Rattle.tenant_model.specs.Cells.{with_cell}
+use Rattle.thread_cells.specs.Cells.{with_cell}
 use Rattle.tenant_model.specs.Changes.{finish_step, with_frame, with_cells}
 use Rattle.arena_steps.specs.Frames.{FrameFits, CanMove}
 use Rattle.arena_steps.proofs.Moving.{same_room, low_slot, fits_next, fits_cells}
