@@ -1,3 +1,4 @@
+pub mod Present
 pub mod Execution
 pub mod Limits
 pub mod TenantState

@@ -1,13 +1,13 @@
 // Advances of a slot, and arrivals at one.
-ghost use Rattle.std.specs.Prelude.{◌≡◌, ◌+◌, ◌<◌, ◌≤◌, ◌==◌, ◌&&◌, length, false, OnErr, IfOk, IfSome, Some};
+ghost use Rattle.std.specs.Prelude.{◌≡◌, ◌+◌, ◌<◌, ◌==◌, ◌&&◌, false, OnErr, IfOk, IfSome, Some};
 ghost use Rattle.job_language.specs.declared.instructions.Instr.{Instr};
 ghost use Rattle.job_language.specs.Program.{is_last};
 ghost use Rattle.job_language.specs.declared.tenants.TheConstants.{MAX_SLOTS};
 ghost use Rattle.job_step.specs.declared.frames.TheConstants.{LAST_PLACE};
 ghost use Rattle.solo_eval.specs.Execution.{MakesRow, StopsToMake};
+ghost use Rattle.solo_eval.specs.Present.{IsNumberIn, HasRoom};
 ghost use Rattle.tenant_model.specs.State.{row};
 ghost use Rattle.tenant_model.specs.Walks.{top, pick};
-ghost use Rattle.tenant_model.specs.Changes.{is_full};
 ghost use Rattle.tenant_model.specs.Advance.{advance, arrive, after_run, advance_run, nest_pick, begin, is_blocked, is_idle_wait, move_on, is_open_to_workers, run_on, unless_full};
 
 use crate::groups::is_pending;
@@ -22,15 +22,14 @@ impl TenantState {
     /// The row that a slot takes next.
     fn pick(&self, slot: u8) -> Option<u64>
         ensures value { result ≡ pick self.now slot }
-        ensures there { IfSome result (λ n. (1 ≤ n) × (n ≤ length self.now.rows)) }
+        ensures there { IfSome result (IsNumberIn self.now.rows) }
     {
         pick(&self.config().isolation, self.rows(), slot)
     }
 
     /// Whether a row is at a wait for pending members.
     fn is_blocked(&self, number: u64, instr: &Instr) -> bool
-        requires from { 1 ≤ number }
-        requires to { number ≤ length self.now.rows }
+        requires row { IsNumberIn self.now.rows number }
         ensures { result ≡ is_blocked self.now number instr.now }
     {
         match *instr {
@@ -41,9 +40,8 @@ impl TenantState {
 
     /// Records what the topmost row of a slot did in a run.
     fn record(&mut self, slot: u8, number: u64, run: &Run) -> Result<Moved, AllocError>
-        requires room { is_full self.old ≡ false }
-        requires from { 1 ≤ number }
-        requires to { number ≤ length self.old.rows }
+        requires room { HasRoom self.old }
+        requires row { IsNumberIn self.old.rows number }
         requires slot { slot < MAX_SLOTS }
         requires next { (i : Instr) → run.now.stop ≡ Stop.Shared i → is_last i ≡ false
             → run.now.end.place < LAST_PLACE }
@@ -75,9 +73,8 @@ impl TenantState {
 
     /// Pays for a run of the topmost row, which continues from the run's last frame.
     fn move_on(&mut self, slot: u8, number: u64, run: &Run) -> Moved
-        requires room { is_full self.old ≡ false }
-        requires from { 1 ≤ number }
-        requires to { number ≤ length self.old.rows }
+        requires room { HasRoom self.old }
+        requires row { IsNumberIn self.old.rows number }
         ensures { move_on self.old slot number run.now.count run.now.end ≡ (result, self.new) }
     {
         let cost = u64::from(run.count);
@@ -91,8 +88,7 @@ impl TenantState {
 
     /// Whether a row is at a wait for pending members and ran nothing before it.
     fn is_idle_wait(&self, number: u64, run: &Run) -> bool
-        requires from { 1 ≤ number }
-        requires to { number ≤ length self.now.rows }
+        requires row { IsNumberIn self.now.rows number }
         ensures { result ≡ is_idle_wait self.now number run.now.count run.now.stop }
     {
         match run.stop {
@@ -104,8 +100,7 @@ impl TenantState {
 
     /// Takes the pick onto a slot whose topmost row waits.
     fn nest_pick(&mut self, slot: u8, number: u64) -> Moved
-        requires from { 1 ≤ number }
-        requires to { number ≤ length self.old.rows }
+        requires row { IsNumberIn self.old.rows number }
         ensures { unless_full self.old (nest_pick self.old slot number (pick self.old slot)) ≡ (result, self.new) }
     {
         let Some(picked) = self.pick(slot) else {
@@ -148,8 +143,7 @@ impl TenantState {
 
     /// Runs the topmost row of a slot.
     fn advance_row(&mut self, slot: u8, number: u64) -> Result<Moved, AllocError>
-        requires from { 1 ≤ number }
-        requires to { number ≤ length self.old.rows }
+        requires row { IsNumberIn self.old.rows number }
         requires slot { slot < MAX_SLOTS }
         ensures ok { IfOk result (λ moved. unless_full self.old
             (advance_run self.old slot number (run_on self.old slot number)) ≡ (moved, self.new)) }

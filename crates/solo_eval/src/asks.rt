@@ -1,10 +1,10 @@
 // What a tenant asks, and what it is answered.
 ghost use Rattle.std.specs.Prelude.{◌≡◌, ◌+◌, ◌<◌, ◌==◌, false, OnErr, IfOk, IsSome, count_by, not};
 ghost use Rattle.job_language.specs.Brought.{job_of};
-ghost use Rattle.tenant_model.specs.Changes.{is_full};
 ghost use Rattle.std.specs.Option.{option_map};
 ghost use Rattle.solo_eval.specs.Limits.{limit_of};
-ghost use Rattle.tenant_model.specs.Asks.{ask, cancel_by_request, collect, current_jobs, submit_placed, free_slot, has_outcome, known_job, outcome, reply_to, retire, status, submit, unless_limit};
+ghost use Rattle.solo_eval.specs.Present.{HasRoom};
+ghost use Rattle.tenant_model.specs.Asks.{ask, cancel_by_request, collect, current_jobs, submit_placed, free_slot, has_outcome, known_job, reply_to, retire, status, submit, unless_limit};
 
 use crate::stacks::{any_open, has_outcome, height};
 use crate::state::TenantState;
@@ -39,7 +39,7 @@ impl TenantState {
     }
 
     fn submit(&mut self, job: Job) -> Result<Reply, AllocError>
-        requires { is_full self.old ≡ false }
+        requires { HasRoom self.old }
         ensures ok { IfOk result (λ reply. unless_limit self.old (submit self.old job) ≡ (reply, self.new)) }
         ensures err { OnErr result (self.new ≡ self.old) }
     {
@@ -55,7 +55,7 @@ impl TenantState {
 
     /// Makes a job, and places its root on a free reserved slot if there is one.
     fn submit_placed(&mut self, job: Job) -> Result<Reply, AllocError>
-        requires { is_full self.old ≡ false }
+        requires { HasRoom self.old }
         ensures ok { IfOk result (λ reply. unless_limit self.old (submit_placed self.old job (free_slot self.old))
             ≡ (reply, self.new)) }
         ensures err { OnErr result (self.new ≡ self.old) }
@@ -119,7 +119,7 @@ impl TenantState {
     }
 
     fn poll(&mut self, number: u64) -> Reply
-        requires { is_full self.old ≡ false }
+        requires { HasRoom self.old }
         ensures { reply_to self.old (Request.Poll number) ≡ (result, self.new) }
     {
         let status = self.known_status(number);
@@ -131,7 +131,7 @@ impl TenantState {
     }
 
     fn collect(&mut self, number: u64) -> Reply
-        requires { is_full self.old ≡ false }
+        requires { HasRoom self.old }
         ensures { reply_to self.old (Request.Collect number) ≡ (result, self.new) }
     {
         match self.known_status(number) {
@@ -148,7 +148,7 @@ impl TenantState {
     }
 
     fn cancel_by_request(&mut self, number: u64) -> Reply
-        requires { is_full self.old ≡ false }
+        requires { HasRoom self.old }
         ensures { reply_to self.old (Request.Cancel number) ≡ (result, self.new) }
     {
         let Some(work) = self.known_job(number) else {
@@ -165,7 +165,7 @@ impl TenantState {
     }
 
     fn cells_of(&mut self, key: Key) -> Reply
-        requires { is_full self.old ≡ false }
+        requires { HasRoom self.old }
         ensures { reply_to self.old (Request.Cells key) ≡ (result, self.new) }
     {
         let count = self.cells().count(key.index());
@@ -175,7 +175,7 @@ impl TenantState {
     }
 
     fn arena(&mut self) -> Reply
-        requires { is_full self.old ≡ false }
+        requires { HasRoom self.old }
         ensures { reply_to self.old Request.Arena ≡ (result, self.new) }
     {
         let config = self.config();
@@ -185,7 +185,7 @@ impl TenantState {
     }
 
     fn retire(&mut self) -> Reply
-        requires { is_full self.old ≡ false }
+        requires { HasRoom self.old }
         ensures { reply_to self.old Request.Retire ≡ (result, self.new) }
     {
         if any_open(self.rows()) {

@@ -1,17 +1,17 @@
 // Rows by their numbers, and their chains of makers.
-ghost use Rattle.std.specs.Prelude.{◌≡◌, ◌<◌, ◌≤◌, length, find, Some, IfSome};
+ghost use Rattle.std.specs.Prelude.{◌≡◌, ◌<◌, Some, IfSome};
 ghost use Rattle.std.specs.List.{list_any};
 ghost use Rattle.job_language.specs.declared.instructions.TheConstants.{GROUPS};
 ghost use Rattle.tenant_model.specs.State.{row};
-ghost use Rattle.tenant_model.specs.Walks.{maker_of, is_region, is_within, region_of, is_group_cancelled, mark, chain};
+ghost use Rattle.tenant_model.specs.Walks.{maker_of, is_within, region_of, is_group_cancelled, mark, chain};
 ghost use Rattle.tenant_model.specs.Linked.{MakersPrecede};
+ghost use Rattle.solo_eval.specs.Present.{IsNumberIn};
 
 use tenant_model::{Kind, Mark, Row};
 
 /// The row of a number.
 pub(crate) fn row(rows: &[Row], number: u64) -> &Row
-    requires from { 1 ≤ number }
-    requires to { number ≤ length rows.now }
+    requires row { IsNumberIn rows.now number }
     ensures { result.now ≡ row rows.now number }
 {
     &rows[number as usize - 1]
@@ -21,8 +21,7 @@ pub(crate) fn row(rows: &[Row], number: u64) -> &Row
 #[tactic(auto, using(tenant_model::proofs::Chains::chain_goes_on, tenant_model::proofs::Chains::chain_ends))]
 pub(crate) fn region_of(rows: &[Row], number: u64) -> Option<u64>
     requires precede { MakersPrecede rows.now }
-    requires from { 1 ≤ number }
-    requires to { number ≤ length rows.now }
+    requires row { IsNumberIn rows.now number }
     ensures { result ≡ region_of rows.now number }
 {
     let mut at = number;
@@ -42,8 +41,7 @@ pub(crate) fn region_of(rows: &[Row], number: u64) -> Option<u64>
 #[tactic(auto, using(tenant_model::proofs::Chains::chain_goes_on, tenant_model::proofs::Chains::chain_ends))]
 pub(crate) fn is_within(rows: &[Row], number: u64, region: u64) -> bool
     requires precede { MakersPrecede rows.now }
-    requires from { 1 ≤ number }
-    requires to { number ≤ length rows.now }
+    requires row { IsNumberIn rows.now number }
     ensures { result ≡ is_within rows.now number region }
 {
     let mut at = number;
@@ -60,8 +58,7 @@ pub(crate) fn is_within(rows: &[Row], number: u64, region: u64) -> bool
 
 /// The mark that a row keeps of one of its groups.
 pub(crate) fn mark(rows: &[Row], number: u64, group: usize) -> Mark
-    requires from { 1 ≤ number }
-    requires to { number ≤ length rows.now }
+    requires row { IsNumberIn rows.now number }
     requires group { group < GROUPS }
     ensures { result ≡ mark rows.now number group }
 {
@@ -70,7 +67,7 @@ pub(crate) fn mark(rows: &[Row], number: u64, group: usize) -> Mark
 
 /// Whether a row was spawned into a group that was cancelled since its last passed wait.
 fn is_group_cancelled(rows: &[Row], kind: &Kind) -> bool
-    requires { IfSome (maker_of kind.now) (λ m. (1 ≤ m) × (m ≤ length rows.now)) }
+    requires { IfSome (maker_of kind.now) (IsNumberIn rows.now) }
     ensures { result ≡ is_group_cancelled rows.now kind.now }
 {
     match *kind {
@@ -83,8 +80,7 @@ fn is_group_cancelled(rows: &[Row], kind: &Kind) -> bool
 #[tactic(auto, using(tenant_model::proofs::Chains::chain_goes_on, tenant_model::proofs::Chains::chain_ends))]
 pub(crate) fn has_cancelled_group(rows: &[Row], number: u64) -> bool
     requires precede { MakersPrecede rows.now }
-    requires from { 1 ≤ number }
-    requires to { number ≤ length rows.now }
+    requires row { IsNumberIn rows.now number }
     ensures { result
         ≡ list_any (λ m. is_group_cancelled rows.now (row rows.now m).kind) (chain rows.now number) }
 {

@@ -1,13 +1,14 @@
 // The shared instruction that a private run of a slot's topmost row stops at.
-ghost use Rattle.std.specs.Prelude.{◌≡◌, ◌+◌, ◌<◌, ◌≤◌, length, false, true, OnErr, IfOk, IfSome, Some, if◌then◌else◌};
+ghost use Rattle.std.specs.Prelude.{◌≡◌, ◌+◌, ◌<◌, false, true, OnErr, IfOk, IfSome, Some, if◌then◌else◌};
 ghost use Rattle.job_language.specs.Program.{is_last};
 ghost use Rattle.job_language.specs.declared.tenants.TheConstants.{MAX_SLOTS};
 ghost use Rattle.job_step.specs.declared.frames.TheConstants.{LAST_PLACE};
 ghost use Rattle.solo_eval.specs.Execution.{makes_row};
+ghost use Rattle.solo_eval.specs.Present.{IsNumberIn, HasRoom};
 ghost use Rattle.tenant_model.specs.State.{row};
 ghost use Rattle.tenant_model.specs.Walks.{maker_of};
-ghost use Rattle.tenant_model.specs.Advance.{pay, is_poor};
-ghost use Rattle.tenant_model.specs.Changes.{is_full, is_row_limit_met, finish_step, faults, add_row, new_row, with_frame};
+ghost use Rattle.tenant_model.specs.Advance.{pay};
+ghost use Rattle.tenant_model.specs.Changes.{is_row_limit_met, finish_step, faults, add_row, new_row, with_frame};
 ghost use Rattle.tenant_model.specs.Shared.{execute, isolate_at, called_frame};
 
 use crate::stacks::height;
@@ -36,10 +37,9 @@ impl TenantState {
         cost: u64,
         made: NewRow,
     ) -> Result<Moved, AllocError>
-        requires room { is_full self.old ≡ false }
-        requires from { 1 ≤ number }
-        requires to { number ≤ length self.old.rows }
-        requires maker { IfSome (maker_of made.kind) (λ m. (1 ≤ m) × (m ≤ length self.old.rows)) }
+        requires room { HasRoom self.old }
+        requires row { IsNumberIn self.old.rows number }
+        requires maker { IfSome (maker_of made.kind) (IsNumberIn self.old.rows) }
         ensures ok { IfOk result (λ moved. pay self.old slot number cost (λ t.
             if is_row_limit_met t then faults slot (row t.rows number).job JobFault.TaskLimit t
             else finish_step slot (add_row (with_frame t number frame) (new_row made.kind (row t.rows number).job made.made_on made.frame made.phase))) ≡ (moved, self.new)) }
@@ -68,9 +68,8 @@ impl TenantState {
         instr: &Instr,
         cost: u64,
     ) -> Result<Moved, AllocError>
-        requires room { is_full self.old ≡ false }
-        requires from { 1 ≤ number }
-        requires to { number ≤ length self.old.rows }
+        requires room { HasRoom self.old }
+        requires row { IsNumberIn self.old.rows number }
         requires slot { slot < MAX_SLOTS }
         requires place { is_last instr.now ≡ false → frame.place < LAST_PLACE }
         ensures ok { IfOk result (λ moved. pay self.old slot number cost (λ t. execute t slot number frame instr.now) ≡ (moved, self.new)) }
@@ -119,9 +118,8 @@ impl TenantState {
         cost: u64,
         called_frame: Frame,
     ) -> Result<Moved, AllocError>
-        requires room { is_full self.old ≡ false }
-        requires from { 1 ≤ number }
-        requires to { number ≤ length self.old.rows }
+        requires room { HasRoom self.old }
+        requires row { IsNumberIn self.old.rows number }
         ensures ok { IfOk result (λ moved. pay self.old slot number cost (λ t. isolate_at t slot number frame called_frame) ≡ (moved, self.new)) }
         ensures err { OnErr result (self.new ≡ self.old) }
     {

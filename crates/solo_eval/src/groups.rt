@@ -1,15 +1,15 @@
 // Task groups: the members of a group of a row.
-ghost use Rattle.std.specs.Prelude.{◌≡◌, ◌<◌, ◌≤◌, ◌&&◌, nat_lt, length};
+ghost use Rattle.std.specs.Prelude.{◌≡◌, ◌<◌, ◌&&◌, nat_lt};
 ghost use Rattle.job_language.specs.declared.instructions.TheConstants.{GROUPS};
 ghost use Rattle.tenant_model.specs.Walks.{is_spawned_by, is_pending, total, is_used};
+ghost use Rattle.solo_eval.specs.Present.{IsNumberIn};
 
 use crate::chains::mark;
 use tenant_model::{Kind, Row};
 
 /// Whether a member of the group is open.
 pub(crate) fn is_pending(rows: &[Row], maker: u64, group: usize) -> bool
-    requires from { 1 ≤ maker }
-    requires to { maker ≤ length rows.now }
+    requires row { IsNumberIn rows.now maker }
     requires group { group < GROUPS }
     ensures { result ≡ is_pending rows.now maker group }
 {
@@ -24,8 +24,7 @@ pub(crate) fn is_pending(rows: &[Row], maker: u64, group: usize) -> bool
 
 /// The wrapping sum of the values of the members that are done.
 pub(crate) fn total(rows: &[Row], maker: u64, group: usize) -> i64
-    requires from { 1 ≤ maker }
-    requires to { maker ≤ length rows.now }
+    requires row { IsNumberIn rows.now maker }
     requires group { group < GROUPS }
     ensures { result ≡ total rows.now maker group }
 {
@@ -41,8 +40,7 @@ pub(crate) fn total(rows: &[Row], maker: u64, group: usize) -> i64
 
 /// Whether the group has a member.
 pub(crate) fn is_used(rows: &[Row], maker: u64, group: usize) -> bool
-    requires from { 1 ≤ maker }
-    requires to { maker ≤ length rows.now }
+    requires row { IsNumberIn rows.now maker }
     requires group { group < GROUPS }
     ensures { result ≡ is_used rows.now maker group }
 {

@@ -1,13 +1,14 @@
 // Shared instructions of the topmost row of a slot.
-ghost use Rattle.std.specs.Prelude.{◌≡◌, ◌<◌, ◌≤◌, length, false, true, IfSome, Some};
+ghost use Rattle.std.specs.Prelude.{◌≡◌, ◌<◌, false, true, IfSome, Some};
 ghost use Rattle.job_language.specs.Program.{is_last};
 ghost use Rattle.job_language.specs.declared.tenants.TheConstants.{MAX_SLOTS};
 ghost use Rattle.job_step.specs.declared.frames.TheConstants.{LAST_PLACE};
 ghost use Rattle.solo_eval.specs.Execution.{makes_row};
+ghost use Rattle.solo_eval.specs.Present.{IsNumberIn, HasRoom};
 ghost use Rattle.tenant_model.specs.State.{row};
-ghost use Rattle.tenant_model.specs.Walks.{is_context_cancelled, maker_of};
+ghost use Rattle.tenant_model.specs.Walks.{maker_of};
 ghost use Rattle.tenant_model.specs.Advance.{is_poor, with_fuel_paid, with_fuel, pay};
-ghost use Rattle.tenant_model.specs.Changes.{is_full, finish_step, faults};
+ghost use Rattle.tenant_model.specs.Changes.{faults};
 ghost use Rattle.tenant_model.specs.Shared as shared;
 ghost use Rattle.tenant_model.specs.Shared.{group_status, hand_back, handed_frame, has_used_group};
 
@@ -20,8 +21,7 @@ use tenant_model::{Kind, Mark};
 impl TenantState {
     /// Whether a row's job lacks the fuel for a cost.
     pub(crate) fn is_poor(&self, number: u64, cost: u64) -> bool
-        requires from { 1 ≤ number }
-        requires to { number ≤ length self.now.rows }
+        requires row { IsNumberIn self.now.rows number }
         ensures { result ≡ is_poor self.now number cost }
     {
         self.job_of(number).fuel < cost
@@ -29,8 +29,7 @@ impl TenantState {
 
     /// Takes fuel from a row's job.
     pub(crate) fn pay(&mut self, number: u64, cost: u64)
-        requires from { 1 ≤ number }
-        requires to { number ≤ length self.old.rows }
+        requires row { IsNumberIn self.old.rows number }
         requires fuel { is_poor self.old number cost ≡ false }
         ensures { self.new ≡ with_fuel_paid self.old number cost }
     {
@@ -41,9 +40,8 @@ impl TenantState {
 
     /// Ends the slot's task with the fault `Fuel`, and leaves the row's job no fuel.
     pub(crate) fn fault_out_of_fuel(&mut self, slot: u8, number: u64) -> Moved
-        requires room { is_full self.old ≡ false }
-        requires from { 1 ≤ number }
-        requires to { number ≤ length self.old.rows }
+        requires room { HasRoom self.old }
+        requires row { IsNumberIn self.old.rows number }
         ensures { faults slot (row self.old.rows number).job JobFault.Fuel (with_fuel self.old number 0) ≡ (result, self.new) }
     {
         let job = self.row(number).job;
@@ -53,8 +51,7 @@ impl TenantState {
 
     /// The status that a wait stores: 2 if the group was cancelled, directly or from above; else 1.
     fn group_status(&self, number: u64, group: Group) -> i64
-        requires from { 1 ≤ number }
-        requires to { number ≤ length self.now.rows }
+        requires row { IsNumberIn self.now.rows number }
         ensures { result ≡ group_status self.now number group }
     {
         if self.row(number).marks[group.index()].cancelled || self.is_context_cancelled(number) {
@@ -73,9 +70,8 @@ impl TenantState {
         status_to: Register,
         group: Group,
     ) -> Moved
-        requires room { is_full self.old ≡ false }
-        requires from { 1 ≤ number }
-        requires to { number ≤ length self.old.rows }
+        requires room { HasRoom self.old }
+        requires row { IsNumberIn self.old.rows number }
         requires place { frame.place < LAST_PLACE }
         ensures { shared.wait self.old slot number frame total_to status_to group ≡ (result, self.new) }
     {
@@ -93,9 +89,8 @@ impl TenantState {
 
 impl TenantState {
     fn cancel(&mut self, slot: u8, number: u64, frame: Frame, group: Group) -> Moved
-        requires room { is_full self.old ≡ false }
-        requires from { 1 ≤ number }
-        requires to { number ≤ length self.old.rows }
+        requires room { HasRoom self.old }
+        requires row { IsNumberIn self.old.rows number }
         requires place { frame.place < LAST_PLACE }
         ensures { shared.cancel self.old slot number frame group ≡ (result, self.new) }
     {
@@ -117,9 +112,8 @@ impl TenantState {
         to: Register,
         value: i64,
     ) -> Moved
-        requires room { is_full self.old ≡ false }
-        requires from { 1 ≤ number }
-        requires to { number ≤ length self.old.rows }
+        requires room { HasRoom self.old }
+        requires row { IsNumberIn self.old.rows number }
         requires place { frame.place < LAST_PLACE }
         ensures { shared.write_register self.old slot number frame to value ≡ (result, self.new) }
     {
@@ -128,9 +122,8 @@ impl TenantState {
     }
 
     fn load(&mut self, slot: u8, number: u64, frame: Frame, to: Register, key: Key) -> Moved
-        requires room { is_full self.old ≡ false }
-        requires from { 1 ≤ number }
-        requires to { number ≤ length self.old.rows }
+        requires room { HasRoom self.old }
+        requires row { IsNumberIn self.old.rows number }
         requires place { frame.place < LAST_PLACE }
         requires slot { slot < MAX_SLOTS }
         ensures { shared.load self.old slot number frame to key ≡ (result, self.new) }
@@ -141,9 +134,8 @@ impl TenantState {
     }
 
     fn store(&mut self, slot: u8, number: u64, frame: Frame, key: Key, from: Register) -> Moved
-        requires room { is_full self.old ≡ false }
-        requires from { 1 ≤ number }
-        requires to { number ≤ length self.old.rows }
+        requires room { HasRoom self.old }
+        requires row { IsNumberIn self.old.rows number }
         requires place { frame.place < LAST_PLACE }
         requires slot { slot < MAX_SLOTS }
         ensures { shared.store self.old slot number frame key from ≡ (result, self.new) }
@@ -154,8 +146,7 @@ impl TenantState {
     }
 
     fn has_used_group(&self, number: u64) -> bool
-        requires from { 1 ≤ number }
-        requires to { number ≤ length self.now.rows }
+        requires row { IsNumberIn self.now.rows number }
         ensures { result ≡ has_used_group self.now number }
     {
         is_used(self.rows(), number, 0)
@@ -166,7 +157,7 @@ impl TenantState {
 
     /// Hands the value of a region to its maker, which continues.
     fn hand_back(&mut self, kind: &Kind, value: i64)
-        requires { IfSome (maker_of kind.now) (λ m. (1 ≤ m) × (m ≤ length self.old.rows)) }
+        requires { IfSome (maker_of kind.now) (IsNumberIn self.old.rows) }
         ensures { self.new ≡ hand_back self.old kind.now value }
     {
         if let Kind::Region(maker) = *kind {
@@ -180,9 +171,8 @@ impl TenantState {
     }
 
     fn ret(&mut self, slot: u8, number: u64, frame: Frame, from: Register) -> Moved
-        requires room { is_full self.old ≡ false }
-        requires from { 1 ≤ number }
-        requires to { number ≤ length self.old.rows }
+        requires room { HasRoom self.old }
+        requires row { IsNumberIn self.old.rows number }
         ensures { shared.ret self.old slot number frame from ≡ (result, self.new) }
     {
         let row = self.row(number);
@@ -203,9 +193,8 @@ impl TenantState {
         frame: Frame,
         instr: &Instr,
     ) -> Moved
-        requires room { is_full self.old ≡ false }
-        requires from { 1 ≤ number }
-        requires to { number ≤ length self.old.rows }
+        requires room { HasRoom self.old }
+        requires row { IsNumberIn self.old.rows number }
         requires slot { slot < MAX_SLOTS }
         requires place { is_last instr.now ≡ false → frame.place < LAST_PLACE }
         requires makes_none { makes_row instr.now ≡ false }

@@ -1,10 +1,11 @@
 // Stacks of slots, and the rows that a slot may take.
-ghost use Rattle.std.specs.Prelude.{◌≡◌, ◌≤◌, ◌==◌, ◌&&◌, length, map, IfSome};
+ghost use Rattle.std.specs.Prelude.{◌≡◌, ◌==◌, ◌&&◌, map, IfSome};
 ghost use Rattle.tenant_model.specs.Walks.{is_open, is_unstarted, height, top, is_allowed, pick_of, region_on};
 ghost use Rattle.std.specs.List.{list_any};
 ghost use Rattle.tenant_model.specs.Asks.{has_outcome};
 ghost use Rattle.tenant_model.specs.Linked.{MakersPrecede};
 ghost use Rattle.tenant_model.specs.Changes.{open_rows, task_height, task_height_of, faulted_row, faulted_phase};
+ghost use Rattle.solo_eval.specs.Present.{IsNumberIn};
 
 use crate::chains::{is_within, region_of};
 use job_language::Isolation;
@@ -20,7 +21,7 @@ pub(crate) fn height(rows: &[Row], slot: u8) -> u64
 /// The number of the highest row on a slot's stack.
 pub(crate) fn top(rows: &[Row], slot: u8) -> Option<u64>
     ensures value { result ≡ top rows.now slot }
-    ensures there { IfSome result (λ n. (1 ≤ n) × (n ≤ length rows.now)) }
+    ensures there { IfSome result (IsNumberIn rows.now) }
 {
     let height = height(rows, slot);
     for (place, row) in rows.iter().enumerate() {
@@ -74,8 +75,7 @@ pub(crate) fn is_allowed(
     number: u64,
 ) -> bool
     requires precede { MakersPrecede rows.now }
-    requires from { 1 ≤ number }
-    requires to { number ≤ length rows.now }
+    requires row { IsNumberIn rows.now number }
     ensures { result ≡ is_allowed isolation.now rows.now region number }
 {
     match region {
@@ -100,7 +100,7 @@ fn region_on(rows: &[Row], slot: u8) -> Option<u64>
 pub(crate) fn pick(isolation: &Isolation, rows: &[Row], slot: u8) -> Option<u64>
     requires { MakersPrecede rows.now }
     ensures value { result ≡ pick_of isolation.now rows.now slot }
-    ensures there { IfSome result (λ n. (1 ≤ n) × (n ≤ length rows.now)) }
+    ensures there { IfSome result (IsNumberIn rows.now) }
 {
     let region = region_on(rows, slot);
     let mut oldest = None;

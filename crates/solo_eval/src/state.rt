@@ -1,6 +1,7 @@
 // The state of a tenant as the evaluator holds it, and how a step ends.
-ghost use Rattle.std.specs.Prelude.{◌≡◌, ◌<◌, ◌≤◌, length, unwrap_or, pos};
+ghost use Rattle.std.specs.Prelude.{◌≡◌, ◌<◌, unwrap_or, pos};
 ghost use Rattle.job_language.specs.declared.tenants.TheConstants.{MAX_SLOTS};
+ghost use Rattle.solo_eval.specs.Present.{IsNumberIn, HasRoom};
 
 mod jobs;
 mod rows;
@@ -37,7 +38,7 @@ impl Model for TenantState {
 }
 
 impl TenantState {
-    ghost use Rattle.std.specs.Prelude.{false};
+
     ghost use Rattle.tenant_model.specs.State.{empty};
     ghost use Rattle.thread_cells.specs.Cells.{cell, with_cell};
     ghost use Rattle.job_language.specs.Tenant.{IsValidTenant};
@@ -67,7 +68,7 @@ impl TenantState {
 
     /// Counts an entry, and settles.
     pub(crate) fn enter(&mut self)
-        requires { is_full self.old ≡ false }
+        requires { HasRoom self.old }
         ensures { self.new ≡ entry self.old }
     {
         self.entries += 1;
@@ -76,7 +77,7 @@ impl TenantState {
 
     /// Counts an entry after a step that ran. A reserved slot is freed if nothing is left on it.
     pub(crate) fn finish_step(&mut self, slot: u8) -> Moved
-        requires { is_full self.old ≡ false }
+        requires { HasRoom self.old }
         ensures { finish_step slot self.old ≡ (result, self.new) }
     {
         let freed = slot < self.config().reserved && height(self.rows(), slot) == 0;
@@ -87,9 +88,8 @@ impl TenantState {
     /// Ends the topmost row of a slot and those below it, down to and including the first that is not
     /// a region, for a fault of a job.
     pub(crate) fn fault(&mut self, slot: u8, job: u64, fault: JobFault) -> Moved
-        requires room { is_full self.old ≡ false }
-        requires from { 1 ≤ job }
-        requires to { job ≤ length self.old.jobs }
+        requires room { HasRoom self.old }
+        requires job { IsNumberIn self.old.jobs job }
         ensures { faults slot job fault self.old ≡ (result, self.new) }
     {
         let from = task_height(self.rows(), slot);

@@ -14,9 +14,13 @@ pub record Stands (procs : List (List Instr)) (f : Frame) : Type 0 where
   pub place : f.place < length (slice_index_or procs f.procedure [])
 
 -- No row of a state is stuck, started or not.
+abbrev pub AllStand : State → Type 0
+AllStand s = (n : ℕ) → 1 ≤ n → n ≤ length s.rows → Stands (job s.jobs (row s.rows n).job).program (row s.rows n).frame
+
+-- Nor will it be: the programs of its jobs are valid.
 pub record IsUnstuck (s : State) : Type 0 where
   pub programs : (j : ℕ) → 1 ≤ j → j ≤ length s.jobs → IsValidProgram (job s.jobs j).program
-  pub frames : (n : ℕ) → 1 ≤ n → n ≤ length s.rows → Stands (job s.jobs (row s.rows n).job).program (row s.rows n).frame
+  pub frames : AllStand s
 
 abbrev pub StepBringsValid : Step → Type 0
 StepBringsValid (Ask r) = BringsValid r

@@ -1,8 +1,9 @@
 // The jobs of a tenant, and changes of one of them.
-ghost use Rattle.std.specs.Prelude.{◌≡◌, ◌+◌, ◌≤◌, length, OnOk, OnErr, OnSome, map, option_copied};
+ghost use Rattle.std.specs.Prelude.{◌≡◌, ◌+◌, OnOk, OnErr, OnSome, map, option_copied};
 ghost use Rattle.tenant_model.specs.State.{row};
 ghost use Rattle.tenant_model.specs.Walks.{value_in};
 ghost use Rattle.tenant_model.specs.Asks.{retired_work};
+ghost use Rattle.solo_eval.specs.Present.{IsNumberIn, HasRoom};
 
 use crate::chains::row;
 use crate::state::TenantState;
@@ -16,7 +17,7 @@ impl TenantState {
     ghost use Rattle.thread_cells.specs.Cells.{no_cells};
     ghost use Rattle.tenant_model.specs.Asks.{add_job, known_job, outcome};
     ghost use Rattle.tenant_model.specs.Advance.{work_of};
-    ghost use Rattle.tenant_model.specs.Changes.{entry, first_fault, on_job, is_full};
+    ghost use Rattle.tenant_model.specs.Changes.{entry, first_fault, on_job};
 
     /// All jobs, in order of their numbers.
     pub(crate) fn jobs(&self) -> &[Work]
@@ -27,8 +28,7 @@ impl TenantState {
 
     /// The job of a row.
     pub(crate) fn job_of(&self, number: u64) -> &Work
-        requires from { 1 ≤ number }
-        requires to { number ≤ length self.now.rows }
+        requires row { IsNumberIn self.now.rows number }
         ensures { result.now ≡ work_of self.now number }
     {
         &self.jobs[row(self.rows.as_slice(), number).job as usize - 1]
@@ -37,7 +37,7 @@ impl TenantState {
     /// The job of a number, unless it is retired.
     pub(crate) fn known_job(&self, number: u64) -> Option<&Work>
         ensures value { option_copied result ≡ known_job self.now number }
-        ensures there { OnSome result ((1 ≤ number) × (number ≤ length self.now.jobs)) }
+        ensures there { OnSome result (IsNumberIn self.now.jobs number) }
     {
         if number == 0 || number > self.jobs.len() as u64 {
             return None;
@@ -100,8 +100,7 @@ impl TenantState {
 
     /// Sets the fuel of a job.
     pub(crate) fn set_fuel(&mut self, job: u64, fuel: u64)
-        requires from { 1 ≤ job }
-        requires to { job ≤ length self.old.jobs }
+        requires job { IsNumberIn self.old.jobs job }
         ensures { self.new ≡ on_job self.old job (λ w. record w { fuel = fuel }) }
     {
         self.jobs[job as usize - 1].fuel = fuel;
@@ -109,8 +108,7 @@ impl TenantState {
 
     /// Gives a job a fault, unless it has one.
     pub(crate) fn set_fault(&mut self, job: u64, fault: JobFault)
-        requires from { 1 ≤ job }
-        requires to { job ≤ length self.old.jobs }
+        requires job { IsNumberIn self.old.jobs job }
         ensures { self.new ≡ on_job self.old job (λ w. record w { fault = first_fault w.fault fault }) }
     {
         let work = &mut self.jobs[job as usize - 1];
@@ -121,8 +119,7 @@ impl TenantState {
 
     /// Cancels a job by request.
     pub(crate) fn cancel_job(&mut self, job: u64)
-        requires from { 1 ≤ job }
-        requires to { job ≤ length self.old.jobs }
+        requires job { IsNumberIn self.old.jobs job }
         ensures { self.new ≡ on_job self.old job (λ w. record w { cancelled = true }) }
     {
         self.jobs[job as usize - 1].cancelled = true;
@@ -130,7 +127,7 @@ impl TenantState {
 
     /// Retires all jobs, empties the cells and counts an entry. It returns the epoch that begins.
     pub(crate) fn retire_all(&mut self) -> u64
-        requires { is_full self.old ≡ false }
+        requires { HasRoom self.old }
         ensures epoch { result ≡ self.old.epoch + 1 }
         ensures state { self.new ≡ entry (record self.old { jobs = map retired_work self.old.jobs; cells = no_cells; epoch = self.old.epoch + 1 }) }
     {

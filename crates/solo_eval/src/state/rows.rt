@@ -1,6 +1,7 @@
 // The rows of a tenant, and changes of one of them.
-ghost use Rattle.std.specs.Prelude.{◌≡◌, ◌<◌, ◌≤◌, length, OnOk, OnErr, IfSome, map};
+ghost use Rattle.std.specs.Prelude.{◌≡◌, ◌<◌, ◌≤◌, OnOk, OnErr, IfSome, map};
 ghost use Rattle.tenant_model.specs.State.{row};
+ghost use Rattle.solo_eval.specs.Present.{IsNumberIn};
 
 use crate::chains::{has_cancelled_group, row};
 use crate::stacks::{fault_rows, height, open_rows};
@@ -27,19 +28,17 @@ impl TenantState {
 
     /// The row of a number.
     pub(crate) fn row(&self, number: u64) -> Row
-        requires from { 1 ≤ number }
-        requires to { number ≤ length self.now.rows }
+        requires row { IsNumberIn self.now.rows number }
         ensures value { result ≡ row self.now.rows number }
         ensures maker { IfSome (maker_of result.kind) (λ m. (1 ≤ m) × (m < number)) }
-        ensures job { (1 ≤ result.job) × (result.job ≤ length self.now.jobs) }
+        ensures job { IsNumberIn self.now.jobs result.job }
     {
         *row(self.rows.as_slice(), number)
     }
 
     /// Replaces a row by one with the same maker and job.
     fn set_row(&mut self, number: u64, changed: Row)
-        requires from { 1 ≤ number }
-        requires to { number ≤ length self.old.rows }
+        requires row { IsNumberIn self.old.rows number }
         requires kind { changed.kind ≡ (row self.old.rows number).kind }
         requires job { changed.job ≡ (row self.old.rows number).job }
         ensures { self.new ≡ record self.old { rows = with_at_number self.old.rows number changed } }
@@ -56,8 +55,8 @@ impl TenantState {
         frame: Frame,
         phase: Phase,
     ) -> Result<(), AllocError>
-        requires maker { IfSome (maker_of kind) (λ m. (1 ≤ m) × (m ≤ length self.old.rows)) }
-        requires job { (1 ≤ job) × (job ≤ length self.old.jobs) }
+        requires maker { IfSome (maker_of kind) (IsNumberIn self.old.rows) }
+        requires job { IsNumberIn self.old.jobs job }
         ensures ok { OnOk result (self.new ≡ add_row self.old (new_row kind job made_on frame phase)) }
         ensures err { OnErr result (self.new ≡ self.old) }
     {
@@ -78,8 +77,7 @@ impl TenantState {
 
     /// Sets the frame of a row.
     pub(crate) fn set_frame(&mut self, number: u64, frame: Frame)
-        requires from { 1 ≤ number }
-        requires to { number ≤ length self.old.rows }
+        requires row { IsNumberIn self.old.rows number }
         ensures { self.new ≡ with_frame self.old number frame }
     {
         let row = self.row(number);
@@ -88,8 +86,7 @@ impl TenantState {
 
     /// Makes a row live on top of a slot.
     pub(crate) fn nest(&mut self, slot: u8, number: u64)
-        requires from { 1 ≤ number }
-        requires to { number ≤ length self.old.rows }
+        requires row { IsNumberIn self.old.rows number }
         ensures { self.new ≡ nest self.old slot number }
     {
         let row = self.row(number);
@@ -100,8 +97,7 @@ impl TenantState {
 
     /// Sets a mark and the frame of a row.
     pub(crate) fn set_mark(&mut self, number: u64, group: Group, mark: Mark, frame: Frame)
-        requires from { 1 ≤ number }
-        requires to { number ≤ length self.old.rows }
+        requires row { IsNumberIn self.old.rows number }
         ensures { self.new ≡ on_row self.old number
             (λ r. record r { frame = frame; marks = slice_set r.marks group mark }) }
     {
@@ -120,8 +116,7 @@ impl TenantState {
 
     /// Ends a row with a value.
     pub(crate) fn end_row(&mut self, number: u64, frame: Frame, value: i64)
-        requires from { 1 ≤ number }
-        requires to { number ≤ length self.old.rows }
+        requires row { IsNumberIn self.old.rows number }
         ensures { self.new ≡ on_row self.old number
             (λ r. record r { frame = frame; phase = Phase.Done value }) }
     {
@@ -146,8 +141,7 @@ impl TenantState {
 
     /// Whether the context of a row is cancelled.
     pub(crate) fn is_context_cancelled(&self, number: u64) -> bool
-        requires from { 1 ≤ number }
-        requires to { number ≤ length self.now.rows }
+        requires row { IsNumberIn self.now.rows number }
         ensures { result ≡ is_context_cancelled self.now number }
     {
         self.job_of(number).is_cancelled() || has_cancelled_group(self.rows(), number)
@@ -155,8 +149,7 @@ impl TenantState {
 
     /// Drops a row that has not started, if its context is cancelled.
     fn settle_row(&mut self, number: u64)
-        requires from { 1 ≤ number }
-        requires to { number ≤ length self.old.rows }
+        requires row { IsNumberIn self.old.rows number }
         ensures { self.new ≡ record self.old {
           rows = with_at_number self.old.rows number
               (settled_row (row self.old.rows number) (is_context_cancelled self.old number));

@@ -7,5 +7,6 @@ pub invariant_of-self : goal.invariant_of-self
 invariant_of-self c =
     let r = c.requires in
     let s = shown c.self.inside in
-    let set = with_at_number-from s.rows c.args.number c.args.changed r.from in
-    rw set at (IsLinked-set s c.args.number c.args.changed r.from (rw (← c.self.view_is) at r.to) (rw (← c.self.view_is) at r.kind) (rw (← c.self.view_is) at r.job) c.self.invariant)
+    let there = rw (← c.self.view_is) at r.row in
+    let set = with_at_number-from s.rows c.args.number c.args.changed there.from in
+    rw set at (IsLinked-set s c.args.number c.args.changed there.from there.to (rw (← c.self.view_is) at r.kind) (rw (← c.self.view_is) at r.job) c.self.invariant)
