@@ -1,3 +1,4 @@
 mod Mapped
 mod Holding
 mod Present
+pub mod Fuel

@@ -1,5 +1,5 @@
--- How the code executes shared instructions, and which advances make a row.
-use Rattle.std.specs.Prelude.{ℕ, ◌≡◌, Bool, true, false, Option, Some, None, IsSome}
+-- How the code executes shared instructions, what a run costs, and which advances make a row.
+use Rattle.std.specs.Prelude.{ℕ, ◌+◌, ◌≡◌, if◌then◌else◌, Bool, true, false, Option, Some, None, IsSome}
 use Rattle.job_language.specs.declared.instructions.Instr.{Instr}
 use Rattle.job_language.specs.declared.instructions.Instr.TheVariants.{Spawn, Post, Isolate}
 use Rattle.job_language.specs.Brought.{job_of}
@@ -9,7 +9,13 @@ use Rattle.job_step.specs.declared.runs.Stop.{Stop}
 use Rattle.job_step.specs.declared.runs.Stop.TheVariants.{Shared, Yield, Fault}
 use Rattle.tenant_model.specs.State.{State}
 use Rattle.tenant_model.specs.Walks.{top}
-use Rattle.tenant_model.specs.Advance.{run_on}
+use Rattle.tenant_model.specs.Advance.{is_blocked, run_on}
+
+-- What a run costs: its private instructions, and the shared one that the row executes after them.
+abbrev pub cost_of : State → (n count : ℕ) → Stop → ℕ
+cost_of s n count (Shared i) = if is_blocked s n i then count else count + 1
+cost_of s n count Yield = count
+cost_of s n count Fault = count
 
 -- Does the instruction make a row?
 abbrev pub makes_row : Instr → Bool

@@ -4,17 +4,17 @@ ghost use Rattle.job_language.specs.declared.instructions.Instr.{Instr};
 ghost use Rattle.job_language.specs.Program.{is_last};
 ghost use Rattle.job_language.specs.declared.tenants.TheConstants.{MAX_SLOTS};
 ghost use Rattle.job_step.specs.declared.frames.TheConstants.{LAST_PLACE};
-ghost use Rattle.solo_eval.specs.Execution.{MakesRow, StopsToMake};
+ghost use Rattle.solo_eval.specs.Execution.{cost_of, MakesRow, StopsToMake};
 ghost use Rattle.solo_eval.specs.Present.{IsNumberIn, HasRoom};
 ghost use Rattle.tenant_model.specs.State.{row};
 ghost use Rattle.tenant_model.specs.Walks.{top, pick};
-ghost use Rattle.tenant_model.specs.Advance.{advance, arrive, after_run, advance_run, nest_pick, begin, is_blocked, is_idle_wait, move_on, is_open_to_workers, run_on, unless_full};
+ghost use Rattle.tenant_model.specs.Advance.{advance, arrive, after_run, advance_run, nest_pick, begin, is_blocked, is_idle_wait, is_poor, move_on, is_open_to_workers, run_on, unless_full};
 
 use crate::groups::is_pending;
 use crate::stacks::{height, pick, top};
 use crate::state::TenantState;
 use job_language::{Came, Instr, JobFault, Moved};
-use job_step::{Run, Stop, run_private};
+use job_step::{Frame, Run, Stop, run_private};
 use std::alloc::AllocError;
 use tenant_model::MAX_HEIGHT;
 
@@ -39,6 +39,7 @@ impl TenantState {
     }
 
     /// Records what the topmost row of a slot did in a run.
+    #[tactic(auto, using(crate::proofs::Fuel::out_of_fuel))]
     fn record(&mut self, slot: u8, number: u64, run: &Run) -> Result<Moved, AllocError>
         requires room { HasRoom self.old }
         requires row { IsNumberIn self.old.rows number }
@@ -50,39 +51,56 @@ impl TenantState {
         ensures err { OnErr result (self.new ≡ self.old) }
         ensures makes { OnErr result (StopsToMake run.now.stop) }
     {
-        let cost = u64::from(run.count);
+        let cost = self.cost(number, run);
+        if self.is_poor(number, cost) {
+            return Ok(self.fault_out_of_fuel(slot, number));
+        }
         match run.stop {
-            Stop::Yield => Ok(self.move_on(slot, number, run)),
+            Stop::Yield => Ok(self.move_on(slot, number, run.end, cost)),
             Stop::Fault => {
-                if self.is_poor(number, cost) {
-                    return Ok(self.fault_out_of_fuel(slot, number));
-                }
                 self.pay(number, cost);
                 let job = self.row(number).job;
                 Ok(self.fault(slot, job, JobFault::Division))
             }
             Stop::Shared(instr) => {
                 if self.is_blocked(number, &instr) {
-                    Ok(self.move_on(slot, number, run))
+                    Ok(self.move_on(slot, number, run.end, cost))
                 } else {
-                    self.execute(slot, number, run.end, &instr, cost + 1)
+                    self.execute(slot, number, run.end, &instr, cost)
                 }
             }
         }
     }
 
-    /// Pays for a run of the topmost row, which continues from the run's last frame.
-    fn move_on(&mut self, slot: u8, number: u64, run: &Run) -> Moved
+    /// What a run of a row costs: its private instructions, and the shared one that the row executes
+    /// after them.
+    fn cost(&self, number: u64, run: &Run) -> u64
+        requires row { IsNumberIn self.now.rows number }
+        ensures { result ≡ cost_of self.now number run.now.count run.now.stop }
+    {
+        let count = u64::from(run.count);
+        match run.stop {
+            Stop::Shared(instr) => {
+                if self.is_blocked(number, &instr) {
+                    count
+                } else {
+                    count + 1
+                }
+            }
+            Stop::Yield => count,
+            Stop::Fault => count,
+        }
+    }
+
+    /// Lets the topmost row of a slot continue from a frame, for a cost.
+    fn move_on(&mut self, slot: u8, number: u64, frame: Frame, cost: u64) -> Moved
         requires room { HasRoom self.old }
         requires row { IsNumberIn self.old.rows number }
-        ensures { move_on self.old slot number run.now.count run.now.end ≡ (result, self.new) }
+        requires fuel { is_poor self.old number cost ≡ false }
+        ensures { move_on self.old slot number cost frame ≡ (result, self.new) }
     {
-        let cost = u64::from(run.count);
-        if self.is_poor(number, cost) {
-            return self.fault_out_of_fuel(slot, number);
-        }
         self.pay(number, cost);
-        self.set_frame(number, run.end);
+        self.set_frame(number, frame);
         self.finish_step(slot)
     }
 

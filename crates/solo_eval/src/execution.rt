@@ -7,9 +7,9 @@ ghost use Rattle.solo_eval.specs.Execution.{makes_row};
 ghost use Rattle.solo_eval.specs.Present.{IsNumberIn, HasRoom};
 ghost use Rattle.tenant_model.specs.State.{row};
 ghost use Rattle.tenant_model.specs.Walks.{maker_of};
-ghost use Rattle.tenant_model.specs.Advance.{pay};
+ghost use Rattle.tenant_model.specs.Advance.{is_poor, with_fuel_paid};
 ghost use Rattle.tenant_model.specs.Changes.{is_row_limit_met, finish_step, faults, add_row, new_row, with_frame};
-ghost use Rattle.tenant_model.specs.Shared.{execute, isolate_at, called_frame};
+ghost use Rattle.tenant_model.specs.Shared.{execute, isolate_at, called_frame, make};
 
 use crate::stacks::height;
 use crate::state::TenantState;
@@ -40,14 +40,11 @@ impl TenantState {
         requires room { HasRoom self.old }
         requires row { IsNumberIn self.old.rows number }
         requires maker { IfSome (maker_of made.kind) (IsNumberIn self.old.rows) }
-        ensures ok { IfOk result (λ moved. pay self.old slot number cost (λ t.
-            if is_row_limit_met t then faults slot (row t.rows number).job JobFault.TaskLimit t
-            else finish_step slot (add_row (with_frame t number frame) (new_row made.kind (row t.rows number).job made.made_on made.frame made.phase))) ≡ (moved, self.new)) }
+        requires fuel { is_poor self.old number cost ≡ false }
+        ensures ok { IfOk result (λ moved. make (with_fuel_paid self.old number cost) slot number frame
+            (new_row made.kind (row self.old.rows number).job made.made_on made.frame made.phase) ≡ (moved, self.new)) }
         ensures err { OnErr result (self.new ≡ self.old) }
     {
-        if self.is_poor(number, cost) {
-            return Ok(self.fault_out_of_fuel(slot, number));
-        }
         let job = self.row(number).job;
         if self.is_row_limit_met() {
             self.pay(number, cost);
@@ -72,7 +69,8 @@ impl TenantState {
         requires row { IsNumberIn self.old.rows number }
         requires slot { slot < MAX_SLOTS }
         requires place { is_last instr.now ≡ false → frame.place < LAST_PLACE }
-        ensures ok { IfOk result (λ moved. pay self.old slot number cost (λ t. execute t slot number frame instr.now) ≡ (moved, self.new)) }
+        requires fuel { is_poor self.old number cost ≡ false }
+        ensures ok { IfOk result (λ moved. execute (with_fuel_paid self.old number cost) slot number frame instr.now ≡ (moved, self.new)) }
         ensures err { OnErr result (self.new ≡ self.old) }
         ensures makes { OnErr result (makes_row instr.now ≡ true) }
     {
@@ -100,9 +98,6 @@ impl TenantState {
                 self.isolate(slot, number, frame, cost, called_frame)
             }
             _ => {
-                if self.is_poor(number, cost) {
-                    return Ok(self.fault_out_of_fuel(slot, number));
-                }
                 self.pay(number, cost);
                 Ok(self.execute_in_place(slot, number, frame, instr))
             }
@@ -120,14 +115,12 @@ impl TenantState {
     ) -> Result<Moved, AllocError>
         requires room { HasRoom self.old }
         requires row { IsNumberIn self.old.rows number }
-        ensures ok { IfOk result (λ moved. pay self.old slot number cost (λ t. isolate_at t slot number frame called_frame) ≡ (moved, self.new)) }
+        requires fuel { is_poor self.old number cost ≡ false }
+        ensures ok { IfOk result (λ moved. isolate_at (with_fuel_paid self.old number cost) slot number frame called_frame ≡ (moved, self.new)) }
         ensures err { OnErr result (self.new ≡ self.old) }
     {
         let height = height(self.rows(), slot);
         if height == MAX_HEIGHT {
-            if self.is_poor(number, cost) {
-                return Ok(self.fault_out_of_fuel(slot, number));
-            }
             self.pay(number, cost);
             let job = self.row(number).job;
             return Ok(self.fault(slot, job, JobFault::TooDeep));

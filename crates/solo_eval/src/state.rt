@@ -38,7 +38,6 @@ impl Model for TenantState {
 }
 
 impl TenantState {
-
     ghost use Rattle.tenant_model.specs.State.{empty};
     ghost use Rattle.thread_cells.specs.Cells.{cell, with_cell};
     ghost use Rattle.job_language.specs.Tenant.{IsValidTenant};

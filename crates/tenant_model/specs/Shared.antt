@@ -8,6 +8,7 @@ use Rattle.job_step.specs.declared.frames.Frame.{Frame}
 use Rattle.job_step.specs.Frame.{new_frame, register, at_place, write_and_step, instr_at}
 use Rattle.tenant_model.specs.declared.rows.Kind.{Kind}
 use Rattle.tenant_model.specs.declared.rows.Kind.TheVariants.{Posted, Spawned, Region}
+use Rattle.tenant_model.specs.declared.rows.Row.{Row}
 use Rattle.tenant_model.specs.declared.rows.Phase.TheVariants.{Unstarted, Live, Done}
 use Rattle.tenant_model.specs.declared.rows.TheConstants.{MAX_HEIGHT}
 use Rattle.tenant_model.specs.State.{State, row, job}
@@ -23,24 +24,25 @@ next_place f = at_place f (f.place + 1)
 abbrev pub called_frame : Frame → (p a b : ℕ) → Frame
 called_frame f p a b = new_frame p (register f a) (register f b)
 
+-- Row n continues from a frame and makes a row, if one more row may be open.
+abbrev pub make : State → (slot n : ℕ) → Frame → Row → Moved × State
+make s slot n f made =
+    if is_row_limit_met s then faults slot (row s.rows n).job TaskLimit s
+    else finish_step slot (add_row (with_frame s n f) made)
+
 -- (`task_group::run`)
 abbrev pub spawn : State → (slot n : ℕ) → Frame → (g p a b : ℕ) → Moved × State
-spawn s slot n f g p a b =
-    if is_row_limit_met s then faults slot (row s.rows n).job TaskLimit s
-    else finish_step slot (add_row (with_frame s n (next_place f)) (new_row (Spawned n g) (row s.rows n).job (Some slot) (called_frame f p a b) Unstarted))
+spawn s slot n f g p a b = make s slot n (next_place f) (new_row (Spawned n g) (row s.rows n).job (Some slot) (called_frame f p a b) Unstarted)
 
 -- (`enqueue`)
 abbrev pub post : State → (slot n : ℕ) → Frame → (p a b : ℕ) → Moved × State
-post s slot n f p a b =
-    if is_row_limit_met s then faults slot (row s.rows n).job TaskLimit s
-    else finish_step slot (add_row (with_frame s n (next_place f)) (new_row Posted (row s.rows n).job None (called_frame f p a b) Unstarted))
+post s slot n f p a b = make s slot n (next_place f) (new_row Posted (row s.rows n).job None (called_frame f p a b) Unstarted)
 
 -- While the region runs, its maker stays at the isolate (`this_task_arena::isolate`).
 abbrev pub isolate_at : State → (slot n : ℕ) → (f called_frame : Frame) → Moved × State
 isolate_at s slot n f g =
     if height s.rows slot == MAX_HEIGHT then faults slot (row s.rows n).job TooDeep s
-    else if is_row_limit_met s then faults slot (row s.rows n).job TaskLimit s
-    else finish_step slot (add_row (with_frame s n f) (new_row (Region n) (row s.rows n).job (Some slot) g (Live slot (height s.rows slot + 1))))
+    else make s slot n f (new_row (Region n) (row s.rows n).job (Some slot) g (Live slot (height s.rows slot + 1)))
 
 -- the status that a wait stores: 2 if the group was cancelled, directly or from above, else 1
 abbrev pub group_status : State → (n g : ℕ) → ℤ
