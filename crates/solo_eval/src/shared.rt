@@ -4,7 +4,7 @@ ghost use Rattle.job_language.specs.Program.{is_last};
 ghost use Rattle.job_language.specs.declared.tenants.TheConstants.{MAX_SLOTS};
 ghost use Rattle.job_step.specs.declared.frames.TheConstants.{LAST_PLACE};
 ghost use Rattle.solo_eval.specs.Execution.{makes_row};
-ghost use Rattle.solo_eval.specs.Present.{IsNumberIn, HasRoom};
+ghost use Rattle.solo_eval.specs.Present.{CanMove, HasRoom, IsNumberIn};
 ghost use Rattle.tenant_model.specs.State.{row};
 ghost use Rattle.tenant_model.specs.Walks.{maker_of};
 ghost use Rattle.tenant_model.specs.Advance.{is_poor, with_fuel_paid, with_fuel, pay};
@@ -70,9 +70,7 @@ impl TenantState {
         status_to: Register,
         group: Group,
     ) -> Moved
-        requires room { HasRoom self.old }
-        requires row { IsNumberIn self.old.rows number }
-        requires place { frame.place < LAST_PLACE }
+        requires moves { CanMove self.old number frame }
         ensures { shared.wait self.old slot number frame total_to status_to group ≡ (result, self.new) }
     {
         let mut waited = frame;
@@ -89,9 +87,7 @@ impl TenantState {
 
 impl TenantState {
     fn cancel(&mut self, slot: u8, number: u64, frame: Frame, group: Group) -> Moved
-        requires room { HasRoom self.old }
-        requires row { IsNumberIn self.old.rows number }
-        requires place { frame.place < LAST_PLACE }
+        requires moves { CanMove self.old number frame }
         ensures { shared.cancel self.old slot number frame group ≡ (result, self.new) }
     {
         let mark = self.row(number).marks[group.index()];
@@ -112,9 +108,7 @@ impl TenantState {
         to: Register,
         value: i64,
     ) -> Moved
-        requires room { HasRoom self.old }
-        requires row { IsNumberIn self.old.rows number }
-        requires place { frame.place < LAST_PLACE }
+        requires moves { CanMove self.old number frame }
         ensures { shared.write_register self.old slot number frame to value ≡ (result, self.new) }
     {
         self.set_frame(number, frame.write_and_step(to, value));
@@ -122,9 +116,7 @@ impl TenantState {
     }
 
     fn load(&mut self, slot: u8, number: u64, frame: Frame, to: Register, key: Key) -> Moved
-        requires room { HasRoom self.old }
-        requires row { IsNumberIn self.old.rows number }
-        requires place { frame.place < LAST_PLACE }
+        requires moves { CanMove self.old number frame }
         requires slot { slot < MAX_SLOTS }
         ensures { shared.load self.old slot number frame to key ≡ (result, self.new) }
     {
@@ -134,9 +126,7 @@ impl TenantState {
     }
 
     fn store(&mut self, slot: u8, number: u64, frame: Frame, key: Key, from: Register) -> Moved
-        requires room { HasRoom self.old }
-        requires row { IsNumberIn self.old.rows number }
-        requires place { frame.place < LAST_PLACE }
+        requires moves { CanMove self.old number frame }
         requires slot { slot < MAX_SLOTS }
         ensures { shared.store self.old slot number frame key from ≡ (result, self.new) }
     {
