@@ -90,11 +90,29 @@ posted_entry a j c f = record { number = a.made + 1; source = Posted; job = j; m
 
 -- the entry of a row that was spawned
 abbrev pub spawned_entry : Held → (maker : RowId) → (group job context slot : ℕ) → Frame → OpenRow
-spawned_entry a m g j c slot f = record { number = a.made + 1; source = Spawned m g; job = j; made_on = Some slot; stage = stage.Waiting f; groups = no_members; group_contexts = replicate GROUPS None; context = c }
+spawned_entry a m g j c slot f = record {
+  number = a.made + 1;
+  source = Spawned m g;
+  job = j;
+  made_on = Some slot;
+  stage = stage.Waiting f;
+  groups = no_members;
+  group_contexts = replicate GROUPS None;
+  context = c;
+}
 
 -- the entry of a region on top of its maker
 abbrev pub region_entry : Held → (maker : RowId) → (job context slot : ℕ) → OpenRow
-region_entry a m j c slot = record { number = a.made + 1; source = Region m; job = j; made_on = Some slot; stage = stage.Live slot (length (stack a.nests slot) + 1); groups = no_members; group_contexts = replicate GROUPS None; context = c }
+region_entry a m j c slot = record {
+  number = a.made + 1;
+  source = Region m;
+  job = j;
+  made_on = Some slot;
+  stage = stage.Live slot (length (stack a.nests slot) + 1);
+  groups = no_members;
+  group_contexts = replicate GROUPS None;
+  context = c;
+}
 
 -- a region on top of a slot
 abbrev pub region_pushed : Held → (slot : ℕ) → Frame → RowId → Held

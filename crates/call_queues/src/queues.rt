@@ -69,7 +69,8 @@ impl Model for CallQueues {
 
     ghost view = { λ q. record { queues = record { levels = three q.high.queue q.normal.queue q.low.queue; passes = q.passes }; config = q.config } };
 
-    ghost invariant = { λ q. (0 < q.passes) × (q.high.room ≡ room_at q.config High) × (q.normal.room ≡ room_at q.config Normal) × (q.low.room ≡ room_at q.config Low) × (q.room.items ≡ []) × (3072 ≤ vec_capacity q.room) };
+    ghost invariant = { λ q. (0 < q.passes) × (q.high.room ≡ room_at q.config High) × (q.normal.room ≡ room_at q.config Normal)
+        × (q.low.room ≡ room_at q.config Low) × (q.room.items ≡ []) × (3072 ≤ vec_capacity q.room) };
 }
 
 impl CallQueues {

@@ -56,7 +56,9 @@ is_cancelled forest c = list_any (λ d. asks_in (binding forest d)) (chain fores
 abbrev pub is_cancelled_above : Forest → ℕ → Bool
 is_cancelled_above forest c = option_map_or (is_cancelled forest) (parent forest c) false
 
--- What holds of all contexts that can be made: what a context is bound to is held; the chain of a context is the context and then the chain of what it is bound to, and so the walk up is one step and then the walk from there; and no two contexts are above one another.
+-- What holds of all contexts that can be made: what a context is bound to is held; the chain of a
+-- context is the context and then the chain of what it is bound to, and so the walk up is one step and
+-- then the walk from there; and no two contexts are above one another.
 pub record IsForest (forest : Forest) : Type 0 where
   pub parents : (c p : ℕ) → parent forest c ≡ Some p → IsHeld forest p
   pub chains : (c p : ℕ) → parent forest c ≡ Some p → chain forest c ≡ c ∷ chain forest p

@@ -114,6 +114,7 @@ fn in_threads<R: Threads + Wait + Sync>(
             };
             let asking = move || {
                 let seat = submit_and_poll(rt, desk, events);
+                // Closing finds a seat that is lost.
                 let _ = back.lock(rt).push(seat);
             };
             is_whole = scope.spawn(asking).is_ok() && is_whole;

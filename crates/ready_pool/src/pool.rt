@@ -47,7 +47,9 @@ impl Model for Pool {
 
     ghost view = { λ p. record { isolation = p.isolation; limit = length p.rows.items; slots = p.slots; rows = rows_of p.rows.items p.all } };
 
-    ghost invariant = { λ p. HoldsRows (length p.rows.items) (record { slots = p.slots; table = p.rows.items; all = p.all; by_slot = p.by_slot; by_region = p.by_region; by_both = p.by_both }) (rows_of p.rows.items p.all) };
+    ghost invariant = { λ p. HoldsRows (length p.rows.items)
+        (record { slots = p.slots; table = p.rows.items; all = p.all; by_slot = p.by_slot; by_region = p.by_region; by_both = p.by_both })
+        (rows_of p.rows.items p.all) };
 }
 
 impl Pool {

@@ -12,6 +12,7 @@ fn main(rt: HostRuntime) -> ExitCode {
         Err(_) => ScriptEnd::Memory,
     };
     if let Some(fault) = end.fault() {
+        // The status tells of the fault even if standard error takes nothing.
         let _ = rt.eprintln(fault);
     }
     ExitCode::from(end.status())

@@ -81,6 +81,7 @@ fn accept_all<R: Threads + Wait + Sync>(
             };
             let session = move || {
                 let (own, _end) = serve_client(rt, alloc, client, &mut &stream, &mut &stream);
+                // The client may have gone before.
                 let _ = stream.shutdown(Shutdown::Both);
                 give_back(&mut back.lock(rt), own);
             };
@@ -95,6 +96,7 @@ fn accept_all<R: Threads + Wait + Sync>(
 /// Keeps the seats that came back.
 fn give_back(back: &mut Vec<Seat>, own: Vec<Seat>) {
     for seat in own {
+        // Closing finds a seat that is lost.
         let _ = back.push(seat);
     }
 }

@@ -25,7 +25,8 @@ pub record Ways (D : Type 0) : Type 1 where
   pub homes : D → D → Type 0
   pub arrives : D → Call → Came → Option Call → D → Type 0
 
-abbrev pub ways : {D : Type 0} → (D → View → Type 0) → (D → Top → Moved → Option Call → D → Type 0) → (D → Moved → Option Call → D → Type 0) → (D → ℕ → Type 0) → (D → Bool → D → Type 0) → (D → D → Type 0) → (D → Call → Came → Option Call → D → Type 0) → Ways D
+abbrev pub ways : {D : Type 0} → (D → View → Type 0) → (D → Top → Moved → Option Call → D → Type 0) → (D → Moved → Option Call → D → Type 0) →
+    (D → ℕ → Type 0) → (D → Bool → D → Type 0) → (D → D → Type 0) → (D → Call → Came → Option Call → D → Type 0) → Ways D
 ways {D = D} views commits advances heights pauses homes arrives = record { views = views; commits = commits; advances = advances; heights = heights; pauses = pauses; homes = homes; arrives = arrives }
 
 abbrev pub views_of : {D : Type 0} → (D → View → Type 0) → SlotSeen D → View → Type 0
