@@ -1,13 +1,11 @@
 // Checking a tenant's history by its arena.
-ghost use Rattle.std.specs.Prelude.{◌≡◌, ◌≤◌, ◌&&◌, ℕ, true, IfOk, OnErr, Ok, length, map};
+ghost use Rattle.std.specs.Prelude.{◌≡◌, ◌≤◌, ◌↔◌, ℕ, true, IfOk, IsTrue, OnErr, Ok, length, map};
 ghost use Rattle.job_language.specs.Recorded.{is_entry};
 ghost use Rattle.tenant_model.specs.Asks.{ask};
 ghost use Rattle.tenant_model.specs.Solo.{answers, step};
 ghost use Rattle.tenant_model.specs.State.{State, empty};
 ghost use Rattle.arena_core.specs.Stands.{StandsFor, Takes};
-ghost use Rattle.history_check.specs.Checked.{wrong_from};
-ghost use Rattle.same_values.specs.SameAnswer.{same_answer};
-ghost use Rattle.history_check.specs.Verdicts.{unless_wrong, verdict_of};
+ghost use Rattle.history_check.specs.Verdicts.{IsVerdict, IsVerdictFrom};
 
 use arena_core::Arena;
 use history_check::Verdict;
@@ -19,7 +17,7 @@ use std::alloc::{AllocError, Global};
 /// answers. An answer that changes nothing, such as that of an idle advance, is not an entry of a
 /// history. It fails only if an allocation failed.
 pub fn check(alloc: Global, config: TenantConfig, entries: &[Entry]) -> Result<Verdict, AllocError>
-    ensures verdict { IfOk result (λ verdict. verdict ≡ verdict_of config entries.now) }
+    ensures verdict { IfOk result (λ verdict. IsVerdict config entries.now verdict) }
 
     // The answers in a history that passes are those of its tenant to its steps.
     ensures yes { result ≡ Ok Verdict.Yes → answers (empty config) (map (λ e. e.step) entries.now) ≡ map (λ e. e.answer) entries.now }
@@ -31,7 +29,7 @@ pub fn check(alloc: Global, config: TenantConfig, entries: &[Entry]) -> Result<V
 
 /// Takes the steps of a history in an arena, and compares the answers.
 fn check_all(arena: &mut Arena, entries: &[Entry]) -> Result<Verdict, AllocError>
-    ensures verdict { (s : State) → StandsFor arena.old s → IfOk result (λ verdict. verdict ≡ unless_wrong (wrong_from s 1 entries.now)) }
+    ensures verdict { (s : State) → StandsFor arena.old s → IfOk result (λ verdict. IsVerdictFrom s 1 entries.now verdict) }
     ensures yes { (s : State) → StandsFor arena.old s → result ≡ Ok Verdict.Yes → answers s (map (λ e. e.step) entries.now) ≡ map (λ e. e.answer) entries.now }
     ensures no { (k : ℕ) → result ≡ Ok (Verdict.No k) → (1 ≤ k) × (k ≤ length entries.now) }
 {
@@ -46,8 +44,7 @@ fn check_all(arena: &mut Arena, entries: &[Entry]) -> Result<Verdict, AllocError
 
 /// Whether an answer is an entry, and the same as was given.
 fn is_recorded(given: &Answer, recorded: &Answer) -> bool
-    ensures value { result ≡ (is_entry recorded.now && same_answer given.now recorded.now) }
-    ensures exact { result ≡ true → given.now ≡ recorded.now }
+    ensures { IsTrue result ↔ ((is_entry recorded.now ≡ true) × (given.now ≡ recorded.now)) }
 {
     recorded.is_entry() && is_same_answer(given, recorded)
 }

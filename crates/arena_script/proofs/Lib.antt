@@ -2,3 +2,4 @@ mod Answering
 mod Parts
 mod Telling
 mod Running
+mod Verdicts

@@ -1,6 +1,5 @@
 -- What the lines of a dump come to: the history of a tenant, or the first line that is none of a dump's.
 use Rattle.std.specs.Prelude.{ℕ, ◌+◌, List, [], ◌∷◌, ◌++◌, Bool, false, true, if◌then◌else◌, Option, None, Result, Ok, Err}
-use Rattle.std.specs.Io.KnownBytes.{Appends}
 use Rattle.std.specs.Option.{option_map_or}
 use Rattle.job_language.specs.declared.steps.Entry.{Entry}
 use Rattle.job_language.specs.declared.tenants.Tenant.{Tenant}
@@ -9,8 +8,6 @@ use Rattle.dump_lines.specs.declared.lines.Said.{Said}
 use Rattle.dump_lines.specs.declared.lines.Said.TheVariants as said
 use Rattle.dump_lines.specs.Lines.{said_by}
 use Rattle.dump_lines.specs.Requests.{tenant_in}
-use Rattle.arena_script.specs.DumpVerdict.{verdict_on}
-use Rattle.arena_script.specs.VerdictText.{verdict_text, bad_line_text}
 
 -- a tenant, the entries before the first that is foreign, and whether there is one
 pub record DumpData : Type 0 where
@@ -39,13 +36,3 @@ abbrev pub dump_of : List Line → Result DumpData ℕ
 dump_of [] = Err 1
 dump_of (too_long ∷ lines) = Err 1
 dump_of (whole line ∷ lines) = option_map_or (λ tenant. read_on lines 2 (new_dump tenant)) (tenant_in line) (Err 1)
-
--- The verdict on a dump is what a writer gets.
-abbrev pub TellsVerdict : Result DumpData ℕ → Option (List ℕ) → Option (List ℕ) → Type 0
-TellsVerdict (Ok dump) before after = Appends before after (verdict_text (verdict_on dump.config dump.entries dump.has_foreign))
-TellsVerdict (Err number) before after = ⊥
-
--- The number of its first bad line is.
-abbrev pub TellsBadLine : Result DumpData ℕ → Option (List ℕ) → Option (List ℕ) → Type 0
-TellsBadLine (Ok dump) before after = ⊥
-TellsBadLine (Err number) before after = Appends before after (bad_line_text number)

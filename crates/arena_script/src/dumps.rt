@@ -2,7 +2,7 @@
 ghost use Rattle.std.specs.Prelude.{◌≡◌, ◌<◌, ◌^◌, [], unwrap_or, IsSome, IfOk, IfErr, OnOk};
 ghost use Rattle.request_reader.specs.Reading.{lines_left, work_left};
 ghost use Rattle.arena_script.specs.CheckEnds.{IsLost};
-ghost use Rattle.arena_script.specs.DumpVerdict.{verdict_on};
+ghost use Rattle.arena_script.specs.DumpVerdict.{IsVerdictOn};
 ghost use Rattle.arena_script.specs.DumpData.{with_said, read_on, dump_of};
 ghost use Rattle.arena_script.specs.DumpReads.{came_to, after_first};
 ghost use Rattle.arena_script.specs.ScriptLines.{lines_in};
@@ -127,7 +127,7 @@ impl Dump {
 
     /// The verdict on its history, in which a foreign entry is never right.
     pub(crate) fn verdict(&self, alloc: Global) -> Result<Verdict, AllocError>
-        ensures { IfOk result (λ verdict. verdict ≡ verdict_on self.now.config self.now.entries self.now.has_foreign) }
+        ensures { IfOk result (λ verdict. IsVerdictOn self.now verdict) }
     {
         let verdict = check(alloc, self.config, self.entries.as_slice())?;
         if !self.has_foreign {

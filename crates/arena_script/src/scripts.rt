@@ -5,13 +5,13 @@ ghost use Rattle.std.specs.Io.KnownBytes.{Appends};
 ghost use Rattle.tenant_model.specs.State.{State};
 ghost use Rattle.arena_core.specs.Stands.{StandsFor};
 ghost use Rattle.arena_script.specs.CheckEnds.{are_check_words, IsCheckEnd};
-ghost use Rattle.arena_script.specs.DumpData.{dump_of, TellsVerdict, TellsBadLine};
+ghost use Rattle.arena_script.specs.DumpData.{dump_of};
 ghost use Rattle.arena_script.specs.KnownWords.{are_known_words};
 ghost use Rattle.arena_script.specs.OwnAnswers.{told};
 ghost use Rattle.arena_script.specs.OwnEnds.{are_own_words, IsFault, IsOwnEnd};
 ghost use Rattle.dump_lines.specs.Parts.{AppendsPart};
 ghost use Rattle.arena_script.specs.Answered.{AnswersAll, AnswersPart};
-ghost use Rattle.arena_script.specs.DumpText.{told_text};
+ghost use Rattle.arena_script.specs.DumpText.{TellsVerdict, TellsBadLine, TellsPart};
 ghost use Rattle.arena_script.specs.RunAnswers.{AnswersRun, HasNoConfig, StartsRun};
 ghost use Rattle.arena_script.specs.RunWords.{are_run_words};
 ghost use Rattle.dump_lines.specs.Requests.{tenant_in};
@@ -80,7 +80,7 @@ pub fn script<R: Read, W: Write>(
     ensures run_part { are_run_words words.now ≡ true → IsSome (R.remaining reader.old)
         → StartsRun (all_lines (R.remaining reader.old)) (W.contents writer.old) (W.contents writer.new) }
     ensures check_part { are_check_words words.now ≡ true → IsSome (R.remaining reader.old)
-        → AppendsPart (W.contents writer.old) (W.contents writer.new) (told_text (dump_of (lines_in (R.remaining reader.old)))) }
+        → TellsPart (dump_of (lines_in (R.remaining reader.old))) (W.contents writer.old) (W.contents writer.new) }
     ensures serial_part { are_serial_words words.now ≡ true → IsSome (R.remaining reader.old)
         → AppendsPart (W.contents writer.old) (W.contents writer.new) (serial_answers (all_lines (R.remaining reader.old))) }
 {

@@ -2,8 +2,8 @@
 ghost use Rattle.std.specs.Prelude.{◌≡◌, ◌≤◌, ℕ, IfOk, OnErr, Ok, length, map};
 ghost use Rattle.tenant_model.specs.Solo.{answers};
 ghost use Rattle.tenant_model.specs.State.{empty};
-ghost use Rattle.history_check.specs.Checked.{SomeTakesMemory};
-ghost use Rattle.history_check.specs.Verdicts.{verdict_of};
+ghost use Rattle.history_check.specs.Memory.{SomeTakesMemory};
+ghost use Rattle.history_check.specs.Verdicts.{IsVerdict};
 
 use job_language::{Entry, TenantConfig};
 use same_values::is_same_answer;
@@ -23,7 +23,7 @@ pub enum Verdict {
 /// answers. An answer that changes nothing, such as that of an idle advance, is not an entry of a
 /// history. It fails only if a step brings a job or makes a row and an allocation failed.
 pub fn check(alloc: Global, config: TenantConfig, entries: &[Entry]) -> Result<Verdict, AllocError>
-    ensures verdict { IfOk result (λ verdict. verdict ≡ verdict_of config entries.now) }
+    ensures verdict { IfOk result (λ verdict. IsVerdict config entries.now verdict) }
 
     // The answers in a history that passes are those of its tenant to its steps.
     ensures yes { result ≡ Ok Verdict.Yes → answers (empty config) (map (λ e. e.step) entries.now) ≡ map (λ e. e.answer) entries.now }
