@@ -1,13 +1,11 @@
 // Whether two answers are the same.
 ghost use Rattle.std.specs.Prelude.{◌≡◌, ◌↔◌, IsTrue};
-ghost use Rattle.same_values.specs.SameAnswer.{same_answer, same_reply, same_status, same_came, same_moved};
 
 use job_language::{Answer, Came, Moved, Reply, Status};
 
 /// Whether two answers are the same.
 pub fn is_same_answer(given: &Answer, wanted: &Answer) -> bool
-    ensures value { result ≡ same_answer given.now wanted.now }
-    ensures exact { IsTrue result ↔ (given.now ≡ wanted.now) }
+    ensures { IsTrue result ↔ (given.now ≡ wanted.now) }
 {
     match (given, wanted) {
         (Answer::Replied(given), Answer::Replied(wanted)) => is_same_reply(given, wanted),
@@ -19,8 +17,7 @@ pub fn is_same_answer(given: &Answer, wanted: &Answer) -> bool
 
 /// Whether two replies are the same.
 pub fn is_same_reply(given: &Reply, wanted: &Reply) -> bool
-    ensures value { result ≡ same_reply given.now wanted.now }
-    ensures exact { IsTrue result ↔ (given.now ≡ wanted.now) }
+    ensures { IsTrue result ↔ (given.now ≡ wanted.now) }
 {
     match (given, wanted) {
         (Reply::Bound(name), Reply::Bound(other)) => name.as_bytes() == other.as_bytes(),
@@ -44,8 +41,7 @@ pub fn is_same_reply(given: &Reply, wanted: &Reply) -> bool
 }
 
 fn is_same_status(given: &Status, wanted: &Status) -> bool
-    ensures value { result ≡ same_status given.now wanted.now }
-    ensures exact { IsTrue result ↔ (given.now ≡ wanted.now) }
+    ensures { IsTrue result ↔ (given.now ≡ wanted.now) }
 {
     match (*given, *wanted) {
         (Status::Running, Status::Running) => true,
@@ -57,15 +53,13 @@ fn is_same_status(given: &Status, wanted: &Status) -> bool
 }
 
 fn is_same_came(given: &Came, wanted: &Came) -> bool
-    ensures value { result ≡ same_came given.now wanted.now }
-    ensures exact { IsTrue result ↔ (given.now ≡ wanted.now) }
+    ensures { IsTrue result ↔ (given.now ≡ wanted.now) }
 {
     given == wanted
 }
 
 fn is_same_moved(given: &Moved, wanted: &Moved) -> bool
-    ensures value { result ≡ same_moved given.now wanted.now }
-    ensures exact { IsTrue result ↔ (given.now ≡ wanted.now) }
+    ensures { IsTrue result ↔ (given.now ≡ wanted.now) }
 {
     given == wanted
 }
