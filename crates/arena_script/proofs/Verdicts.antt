@@ -16,18 +16,13 @@ one_verdict_on dump one other first second =
     let same = one_verdict (empty dump.config) 1 dump.entries first.0 second.0 first.1 second.1 in
     first.2 ∙ ap (after_entries (length dump.entries) dump.has_foreign) same ∙ sym second.2
 
--- Nothing is told yet.
+-- Nothing is written yet.
 pub tells_part_none : (read : Result DumpData ℕ) (known : Option (List ℕ)) → TellsPart read known known
 tells_part_none (Ok dump) known = λ verdict is. part_none known (verdict_text verdict)
 tells_part_none (Err number) known = part_none known (bad_line_text number)
 
-module _ (read : Result DumpData ℕ) (before after : Option (List ℕ)) where
-  -- A part of its verdict is.
-  pub tells_part_verdict : (dump : DumpData) (verdict : Verdict) → read ≡ Ok dump → IsVerdictOn dump verdict → AppendsPart before after (verdict_text verdict) → TellsPart read before after
-  tells_part_verdict dump verdict came is part =
-      let told : TellsPart (Ok dump) before after = λ other also. subst (λ (v : Verdict). AppendsPart before after (verdict_text v)) (one_verdict_on dump verdict other is also) part in
-      subst (λ (r : Result DumpData ℕ). TellsPart r before after) (sym came) told
-
-  -- A part of the number of its first bad line is.
-  pub tells_part_bad_line : (number : ℕ) → read ≡ Err number → AppendsPart before after (bad_line_text number) → TellsPart read before after
-  tells_part_bad_line number came part = subst (λ (r : Result DumpData ℕ). TellsPart r before after) (sym came) part
+-- A part of its verdict is.
+pub tells_part_verdict : (read : Result DumpData ℕ) (dump : DumpData) (verdict : Verdict) (before after : Option (List ℕ)) (text : List ℕ) → read ≡ Ok dump → IsVerdictOn dump verdict → text ≡ verdict_text verdict → AppendsPart before after text → TellsPart read before after
+tells_part_verdict read dump verdict before after text came is as_text part =
+    let told : TellsPart (Ok dump) before after = λ other also. subst (λ (t : List ℕ). AppendsPart before after t) (as_text ∙ ap verdict_text (one_verdict_on dump verdict other is also)) part in
+    subst (λ (r : Result DumpData ℕ). TellsPart r before after) (sym came) told

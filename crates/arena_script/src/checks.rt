@@ -14,7 +14,7 @@ use std::alloc::{AllocError, Global};
 use std::io::{Read, Write};
 
 /// Reads a dump, and writes its verdict, or the number of its first bad line.
-#[tactic(auto, using(crate::proofs::Verdicts::tells_part_none, crate::proofs::Verdicts::tells_part_verdict, crate::proofs::Verdicts::tells_part_bad_line, dump_lines::proofs::Parts::part_all, dump_lines::proofs::Parts::part_fewer))]
+#[tactic(auto, using(crate::proofs::Verdicts::tells_part_none, dump_lines::proofs::Parts::part_all, dump_lines::proofs::Parts::part_fewer))]
 pub(crate) fn check_dump<R: Read, W: Write>(
     alloc: Global,
     reader: &mut R,
