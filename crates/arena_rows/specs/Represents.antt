@@ -176,7 +176,7 @@ held_by (Some e) = one_if (is_spawned e.source) + count_by (λ (c : Option ℕ).
 -- The contexts of rows, of their groups, and of the jobs that are not retired, of which there are so many.
 pub record AreContexts (s : State) (retired current : ℕ) (table : List (Option OpenRow)) (forest : Forest) (at : Assigned) : Type 0 where
   pub of_jobs : (j : ℕ) → retired < j → j ≤ length s.jobs → (at.owner (at.of_job j) ≡ OfJob j)
-    × (binding forest (at.of_job j) ≡ Some (record { parent = None; is_asked = is_job_cancelled (job s.jobs j); is_orphan = false }))
+      × (binding forest (at.of_job j) ≡ Some (record { parent = None; is_asked = is_job_cancelled (job s.jobs j); is_orphan = false }))
   pub of_rows : (n : ℕ) → is_open (row s.rows n).phase ≡ true → IsRowContext s forest at n (row s.rows n).kind
   pub of_groups : (n g : ℕ) → is_open (row s.rows n).phase ≡ true → g < GROUPS → IsGroupContext s forest at n g (at.of_group n g)
   pub bare : (n g : ℕ) → is_unstarted (row s.rows n).phase ≡ true → at.of_group n g ≡ None
