@@ -3,9 +3,9 @@
 lines and in which crates.
 
 usage: checks/reading/run.py, at the top of the repository. A promise is a list of functions, types and traits, where a type
-or trait stands for its functions. Their contracts cite definitions of `specs/`, and so do the models of the types in their
-signatures; each definition brings those that it cites. A line counts if it is neither blank, nor a comment, nor a `use`.
-Definitions of `std` and of other crates are not counted.
+or trait stands for its functions; clauses named after "without" are left out. Their contracts cite definitions of `specs/`,
+and so do the models of the types in their signatures; each definition brings those that it cites. A line counts if it is
+neither blank, nor a comment, nor a `use`. Definitions of `std` and of other crates are not counted.
 """
 import re
 import sys
@@ -22,6 +22,7 @@ PROMISES = [
     ("lines in", ["request_reader::LineReader", "request_reader::read_request"]),
     ("lines out", ["reply_writer::reply_line", "reply_writer::answer_line"]),
     ("the program's scripts", ["arena_script::script"]),
+    ("its scripts but for worlds, with regions and rows that are never stuck", ["arena_script::script without run outcomes no_config run_part", "tenant_model::regions_protect_cells", "tenant_model::never_stuck"]),
     ("dumps that are written", ["dump_lines::write_dump", "dump_lines::dumps_have_these_lines"]),
     ("many tenants", ["world_model::tenants_are_isolated"]),
     ("many tenants on one thread", ["world_core::World"]),
@@ -126,6 +127,12 @@ def contracts_of(name):
                 yield found.group(), text
 
 
+def without(labels, contract):
+    """Returns a contract without the clauses of these labels."""
+    clauses = re.split(r"(?=^\s*(?:requires|ensures|//))", contract, flags=re.M)
+    return "".join(clause for clause in clauses if not re.match(rf"\s*ensures ({'|'.join(labels) or '-'})\b", clause))
+
+
 @cache
 def models():
     """Returns the text of the model of each type, and of the file that it stands in."""
@@ -139,7 +146,8 @@ def models():
 
 def roots_of(name):
     """Yields the definitions that contracts cite, and those of the models of their types."""
-    contracts = list(contracts_of(name))
+    name, _, dropped = name.partition(" without ")
+    contracts = [(without(dropped.split(), contract), text) for contract, text in contracts_of(name)]
     if not contracts:
         sys.exit(f"no such function, type or trait: {name}")
     types = set(name.split("::"))

@@ -3,7 +3,5 @@
 #![tactic(auto)]
 
 mod checking;
-#[cfg(test)]
-mod tests;
 
 pub use checking::check;

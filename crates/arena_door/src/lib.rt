@@ -3,8 +3,6 @@
 
 mod attending;
 mod door;
-#[cfg(test)]
-mod tests;
 
 pub use attending::attend_slot;
 pub use door::ArenaDoor;

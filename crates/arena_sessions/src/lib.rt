@@ -4,8 +4,6 @@
 mod arenas;
 mod doors;
 mod serving;
-#[cfg(test)]
-mod tests;
 
 pub use doors::ArenaDoors;
 pub use serving::serve_arenas;

@@ -6,8 +6,6 @@ mod level;
 mod marks;
 mod queues;
 mod rule;
-#[cfg(test)]
-mod tests;
 
 pub use config::{MarketConfig, MarketTenant};
 pub use queues::{CallQueues, QueuePass};

@@ -6,8 +6,6 @@ mod below;
 mod bindings;
 mod contexts;
 mod flags;
-#[cfg(test)]
-mod tests;
 
 pub use bindings::ContextId;
 pub use contexts::{BASE_CONTEXTS, CONTEXTS_PER_ROW, Contexts, MAX_ROWS};

@@ -4,8 +4,6 @@
 
 mod slots;
 mod state;
-#[cfg(test)]
-mod tests;
 mod waiting;
 
 pub use call_queues::{MarketConfig, MarketTenant};

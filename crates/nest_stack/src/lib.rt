@@ -3,8 +3,6 @@
 
 mod nests;
 mod stack;
-#[cfg(test)]
-mod tests;
 
 pub use nests::Nests;
 pub use stack::{MAX_HEIGHT, Nested};

@@ -3,8 +3,6 @@
 
 mod attending;
 mod doors;
-#[cfg(test)]
-mod tests;
 
 pub use attending::{Attended, attend};
 pub use doors::{Door, MAX_HEIGHT};

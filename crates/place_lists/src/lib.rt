@@ -5,8 +5,6 @@
 mod filing;
 mod links;
 mod lists;
-#[cfg(test)]
-mod tests;
 
 pub use filing::Filing;
 pub use lists::{Lists, Places};

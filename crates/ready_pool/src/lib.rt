@@ -3,7 +3,5 @@
 
 mod families;
 mod pool;
-#[cfg(test)]
-mod tests;
 
 pub use pool::{Pool, Waiting};

@@ -3,8 +3,6 @@
 
 mod regions;
 mod row_id;
-#[cfg(test)]
-mod tests;
 
 pub use regions::{Regions, Tagged};
 pub use row_id::RowId;

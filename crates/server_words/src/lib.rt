@@ -1,8 +1,6 @@
 //! The words that `arena-server` is called with.
 #![tactic(auto)]
 
-#[cfg(test)]
-mod tests;
 mod words;
 
 pub use words::{MAX_CONNECTIONS, Words, WordsFault, read_words};

@@ -5,8 +5,6 @@ mod doors;
 mod jobs;
 mod replying;
 mod serving;
-#[cfg(test)]
-mod tests;
 
 pub use doors::{Answered, Doors};
 pub use serving::{SessionEnd, serve};

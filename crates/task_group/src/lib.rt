@@ -3,7 +3,5 @@
 #![tactic(auto)]
 
 mod groups;
-#[cfg(test)]
-mod tests;
 
 pub use groups::{GROUPS, Groups};

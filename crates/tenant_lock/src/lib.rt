@@ -6,8 +6,6 @@ mod doors;
 mod faults;
 mod held;
 mod seat_logs;
-#[cfg(test)]
-mod tests;
 
 pub use closing::fault_of;
 pub use doors::{Closed, TenantDoor};

@@ -2,8 +2,6 @@
 #![tactic(auto)]
 
 mod slots;
-#[cfg(test)]
-mod tests;
 mod ways;
 
 pub use slots::TenantSlots;

@@ -6,6 +6,7 @@ mod readers;
 mod refusals;
 mod replies;
 mod requests;
+mod words;
 mod writers;
 
 use job_language::{Job, Place, Refused, read_job};

@@ -7,8 +7,6 @@ mod gate;
 mod ringer;
 mod signal;
 mod slot_door;
-#[cfg(test)]
-mod tests;
 mod visits;
 mod working;
 

@@ -7,8 +7,6 @@ mod lines;
 mod raws;
 mod starting;
 mod steps;
-#[cfg(test)]
-mod tests;
 mod worlds;
 
 pub use arenas::TenantArena;

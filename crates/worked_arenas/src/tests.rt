@@ -1,0 +1,9 @@
+// Tests by what they call.
+mod arena_served;
+mod attending;
+mod desk_served;
+mod histories;
+mod markets;
+mod tenants;
+mod waits;
+mod worlds;

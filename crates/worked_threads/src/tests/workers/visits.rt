@@ -1,0 +1,167 @@
+// What one worker does, by the tables of its slots.
+ghost use Rattle.std.specs.Prelude.{◌≡◌, length};
+
+use super::tours::{Row, Tour, one_tenant, returns_its_slot};
+use call_queues::{CallQueues, QueuePass};
+use job_language::{Came, Moved, Program};
+use nested_wait::Door;
+use std::alloc::Global;
+use std::sync::Wait;
+use std::test::*;
+use worker_main::{Bell, NoGate, Ringer, Signal, SlotDoor, worker};
+use world_model::Call;
+
+const FIRST: Call = Call { tenant: 0, slot: 5 };
+
+const SECOND: Call = Call { tenant: 0, slot: 6 };
+
+const DUE: Call = Call { tenant: 0, slot: 9 };
+
+/// What was done at a tour, and which call was left.
+#[derive(Clone, Copy, Debug, PartialEq, Eq)]
+struct Counts {
+    place: usize,
+    commits: u32,
+    advances: u32,
+    pauses: u32,
+    homes: u32,
+    is_out: bool,
+    left: Option<Call>,
+}
+
+/// A worker is called twice, and told to stop with the second arrival.
+fn counts_of<R: Wait>(rt: &R, alloc: Global, rows: &[Row]) -> Result<Counts, Fail> {
+    let program = returns_its_slot(alloc)?;
+    let (queues, mut passes) = CallQueues::new(alloc, one_tenant(alloc)?, 1)?;
+    Ok(served(rt, &queues, passes.remove(0), program, rows))
+}
+
+fn served<R: Wait>(
+    rt: &R,
+    queues: &CallQueues,
+    mut pass: QueuePass,
+    program: Program,
+    rows: &[Row],
+) -> Counts
+    requires pass { pass.queues ≡ queues.now.queues }
+    requires tenant { length queues.now.config ≡ 1 }
+{
+    let _ = queues.push_call(rt, &mut pass, FIRST);
+    let _ = queues.push_call(rt, &mut pass, SECOND);
+    let bell = Bell::new();
+    let tour = Tour::new(program, rt, &bell, rows, 2);
+    let (mut pass, tour) = worker(rt, queues, pass, tour, &bell, &NoGate);
+    Counts {
+        place: tour.place,
+        commits: tour.commits,
+        advances: tour.advances,
+        pauses: tour.pauses,
+        homes: tour.homes,
+        is_out: tour.at.is_some(),
+        left: queues.pop_call(rt, &mut pass),
+    }
+}
+
+#[test]
+fn a_visit_goes_on_after_nested_and_ends_after_left(rt: HostRuntime) -> Result<(), Fail> {
+    let rows = [
+        (1, Moved::Ran, None),
+        (0, Moved::Nested(2), None),
+        (1, Moved::Ran, None),
+        (0, Moved::Left, None),
+    ];
+    let counts = counts_of(&rt, rt.alloc(), &rows)?;
+    assert_eq!(rt; (counts.place, counts.commits, counts.advances), (4, 2, 2));
+    assert_eq!(rt;
+        (counts.homes, counts.is_out, counts.left),
+        (0, false, None)
+    );
+    Ok(())
+}
+
+#[test]
+fn a_slot_goes_home_at_a_full_history(rt: HostRuntime) -> Result<(), Fail> {
+    let rows = [(1, Moved::Full, None), (0, Moved::Full, None)];
+    let counts = counts_of(&rt, rt.alloc(), &rows)?;
+    assert_eq!(rt; (counts.commits, counts.advances, counts.pauses), (1, 1, 0));
+    assert_eq!(rt; (counts.homes, counts.is_out), (2, false));
+    Ok(())
+}
+
+#[test]
+fn a_slot_goes_home_where_nothing_can_run(rt: HostRuntime) -> Result<(), Fail> {
+    let rows = [(1, Moved::Idle, None), (0, Moved::Idle, None)];
+    let counts = counts_of(&rt, rt.alloc(), &rows)?;
+    assert_eq!(rt; (counts.commits, counts.advances, counts.pauses), (1, 1, 1));
+    assert_eq!(rt; (counts.homes, counts.is_out), (2, false));
+    Ok(())
+}
+
+#[test]
+fn calls_are_served_in_order_until_the_bell_tells_to_stop(rt: HostRuntime) -> Result<(), Fail> {
+    let rows = [
+        (1, Moved::Ran, Some(9)),
+        (0, Moved::Left, None),
+        (1, Moved::Ran, None),
+        (0, Moved::Left, None),
+        (1, Moved::Ran, None),
+    ];
+    let counts = counts_of(&rt, rt.alloc(), &rows)?;
+    assert_eq!(rt; (counts.place, counts.homes), (4, 0));
+    assert_eq!(rt; counts.left, Some(DUE));
+    Ok(())
+}
+
+/// What a slot's door is answered where a second slot becomes due, what the bell says of each, and the call
+/// that is left.
+#[derive(Clone, Copy, Debug, PartialEq, Eq)]
+struct Rung {
+    came: Came,
+    moved: Moved,
+    /// Before the advance, after it, and once the bell tells to stop.
+    heard: [Option<u64>; 3],
+    left: Option<Call>,
+}
+
+/// A slot is arrived at, and its advance makes a second one due.
+fn ring_for_due<R: Wait>(rt: &R, alloc: Global) -> Result<Rung, Fail> {
+    let program = returns_its_slot(alloc)?;
+    let (queues, mut passes) = CallQueues::new(alloc, one_tenant(alloc)?, 1)?;
+    Ok(arrive_and_advance(rt, &queues, passes.remove(0), program))
+}
+
+fn arrive_and_advance<R: Wait>(
+    rt: &R,
+    queues: &CallQueues,
+    pass: QueuePass,
+    program: Program,
+) -> Rung
+    requires pass { pass.queues ≡ queues.now.queues }
+    requires tenant { length queues.now.config ≡ 1 }
+{
+    let bell = Bell::new();
+    let rows = [(1, Moved::Ran, Some(9)), (0, Moved::Left, None)];
+    let tour = Tour::new(program, rt, &bell, &rows, 2);
+    let mut door = SlotDoor::new(Ringer::new(rt, &bell, queues, pass), &NoGate, tour);
+    let came = door.arrive(FIRST);
+    let before = bell.listen(rt);
+    let moved = door.advance();
+    let after = bell.listen(rt);
+    let left = door.pop();
+    bell.stop(rt);
+    Rung {
+        came,
+        moved,
+        heard: [before, after, bell.listen(rt)],
+        left,
+    }
+}
+
+#[test]
+fn the_bell_rings_for_a_slot_that_becomes_due(rt: HostRuntime) -> Result<(), Fail> {
+    let rung = ring_for_due(&rt, rt.alloc())?;
+    assert_eq!(rt; (rung.came, rung.moved), (Came::At(1), Moved::Ran));
+    assert_eq!(rt; rung.heard, [Some(0), Some(1), None]);
+    assert_eq!(rt; rung.left, Some(DUE));
+    Ok(())
+}
