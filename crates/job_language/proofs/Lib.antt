@@ -1,5 +1,6 @@
 pub mod Fronts
 pub mod Items
+pub mod Named
 mod AsciiNames
 mod ConfigTests
 mod Padding

@@ -10,7 +10,7 @@ use Rattle.job_language.specs.declared.instructions.Instr.{Instr}
 use Rattle.job_language.specs.declared.instructions.Instr.TheVariants.{Set, Add, Sub, Mul, Div, Lt, Jz, Jmp, Slot, Width, Spawn, Post, Wait, Cancel, Ask, Isolate, Load, Store, Sum, Count, Ret}
 use Rattle.job_language.specs.Program.{IsInRange, Calls}
 use Rattle.job_language.specs.Json.{integer}
-use Rattle.job_language.specs.Instruction.{instr_of}
+use Rattle.job_language.specs.Instruction.{instr_from, instr_of}
 use Rattle.job_language.specs.JobData.{instr_data, number_data}
 
 abbrev AreRegisters : List ℕ → Type 0
@@ -33,6 +33,7 @@ integer-number_data (pos n) h =
 integer-number_data (negsuc n) h = refl
 
 pub instr_of-instr_data : (procs instrs : ℕ) (i : Instr) → IsInRange instrs i → Calls procs i → instr_of procs instrs (instr_data i) ≡ Some i
+unfolding instr_from
 instr_of-instr_data procs instrs (Set d n) h calls = simp (first d [] h.registers, integer-number_data n h.number)
 instr_of-instr_data procs instrs (Add d a b) h calls = simp (first d (a ∷ b ∷ []) h.registers, second d a (b ∷ []) h.registers, third d a b [] h.registers)
 instr_of-instr_data procs instrs (Sub d a b) h calls = simp (first d (a ∷ b ∷ []) h.registers, second d a (b ∷ []) h.registers, third d a b [] h.registers)

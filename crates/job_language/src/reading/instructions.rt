@@ -5,6 +5,7 @@ ghost use Rattle.job_language.specs.Program.{IsInRange, Calls};
 ghost use Rattle.serde_json.specs.View.{view};
 ghost use Rattle.job_language.specs.Json.{items_of, integer};
 ghost use Rattle.job_language.specs.Instruction.{register, group, key, below, one, two, three, four, instr_from, instr_of};
+ghost use Rattle.job_language.specs.Operation.{name_of};
 
 use crate::instructions::{GROUPS, Group, Instr, KEYS, Key, REGISTERS, Register};
 use crate::operations::Operation;
@@ -14,6 +15,7 @@ use serde_json::Value;
 
 /// The instruction that a value spells, in a program of so many procedures and a procedure of so
 /// many instructions.
+#[tactic(auto, using(crate::proofs::Named::instr_found, crate::proofs::Named::instr_missing))]
 pub(super) fn instr_of(procs: usize, instrs: usize, value: &Value) -> Option<Instr>
     requires procs { procs ≤ MAX_PROCS }
     requires instrs { instrs ≤ MAX_INSTRS }
@@ -69,6 +71,7 @@ fn below(limit: usize, value: &Value) -> Option<u8>
 
 /// The instruction of that name with these operands, in a program of `procs` procedures and a
 /// procedure of `instrs` instructions.
+#[tactic(auto, unfolding(crate::specs::Instruction::instr_from))]
 fn instr_from(
     operation: Operation,
     procs: usize,
@@ -77,7 +80,7 @@ fn instr_from(
 ) -> Option<Instr>
     requires procs { procs ≤ MAX_PROCS }
     requires instrs { instrs ≤ MAX_INSTRS }
-    ensures value { result ≡ instr_from operation procs instrs (map view operands.now) }
+    ensures value { result ≡ instr_from (name_of operation) procs instrs (map view operands.now) }
     ensures in_range { IfSome result (IsInRange instrs) }
     ensures calls { IfSome result (Calls procs) }
 {
