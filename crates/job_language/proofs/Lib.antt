@@ -1,4 +1,5 @@
 pub mod Fronts
+pub mod Groups
 pub mod Items
 pub mod Named
 mod AsciiNames
