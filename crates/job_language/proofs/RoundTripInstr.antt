@@ -8,7 +8,7 @@ use Rattle.job_language.specs.declared.instructions.Instr.{Instr}
 use Rattle.job_language.specs.declared.instructions.Instr.TheVariants.{Set, Add, Sub, Mul, Div, Lt, Jz, Jmp, Slot, Width, Spawn, Post, Wait, Cancel, Ask, Isolate, Load, Store, Sum, Count, Ret}
 use Rattle.job_language.specs.Program.{IsInRange, Calls}
 use Rattle.job_language.specs.Json.{integer}
-use Rattle.job_language.specs.Instruction.{instr_from, instr_of}
+use Rattle.job_language.specs.Instruction.{one, two, three, four, instr_from, instr_of}
 use Rattle.job_language.specs.JobData.{instr_data, number_data}
 
 -- a number of 64 bits is below 2 ^ 63, if it isn't negative
@@ -19,7 +19,7 @@ integer-number_data (pos n) h =
 integer-number_data (negsuc n) h = refl
 
 pub instr_of-instr_data : (procs instrs : ℕ) (i : Instr) → IsInRange instrs i → Calls procs i → instr_of procs instrs (instr_data i) ≡ Some i
-unfolding instr_from
+unfolding instr_from one two three four
 instr_of-instr_data procs instrs (Set d n) h calls = simp (lt-ltb d 8 h.0, integer-number_data n h.1)
 instr_of-instr_data procs instrs (Add d a b) h calls = simp (lt-ltb d 8 h.0, lt-ltb a 8 h.1, lt-ltb b 8 h.2)
 instr_of-instr_data procs instrs (Sub d a b) h calls = simp (lt-ltb d 8 h.0, lt-ltb a 8 h.1, lt-ltb b 8 h.2)

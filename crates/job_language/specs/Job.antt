@@ -22,7 +22,7 @@ pub record Outline : Type 0 where
   pub procs : List Data
 
 abbrev pub args_of : Data → Option (List ℤ)
-args_of d = items_of d >>= two integer integer >>= λ x. Some (x.0 ∷ x.1 ∷ [])
+args_of d = items_of d >>= two integer integer (λ x y. x ∷ y ∷ [])
 
 abbrev pub fuel_of : Data → Option ℕ
 fuel_of d = whole d >>= λ n. if nat_le 1 n && nat_le n MAX_FUEL then Some n else None

@@ -60,6 +60,7 @@ fn outline_of_members(value: &Value) -> Option<Outline<'_>>
     })
 }
 
+#[tactic(auto, unfolding(crate::specs::Instruction::one, crate::specs::Instruction::two))]
 fn args_of(value: &Value) -> Option<[i64; 2]>
     ensures { result ≡ args_of (view value.now) }
 {
