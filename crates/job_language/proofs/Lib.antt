@@ -1,5 +1,8 @@
 pub mod Fronts
+pub mod Groups
 pub mod Items
+pub mod Named
+pub mod Operands
 mod AsciiNames
 mod ConfigTests
 mod Padding

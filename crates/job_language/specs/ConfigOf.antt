@@ -1,11 +1,10 @@
 -- The configuration that a JSON value spells.
 use Rattle.std.specs.Prelude.{ℕ, List, [], ◌∷◌, Option, Some, None, if◌then◌else◌, codes}
 use Rattle.serde_json.specs.Data.{Data}
-use Rattle.serde_json.specs.Find.{get}
 use Rattle.job_language.specs.declared.configs.TheConstants.{MAX_WORKERS}
 use Rattle.job_language.specs.declared.tenants.Tenant.{Tenant}
 use Rattle.job_language.specs.Configuration.{Configuration, is_valid_config}
-use Rattle.job_language.specs.Json.{◌>>=◌, has_members, items_of, number_in}
+use Rattle.job_language.specs.Json.{◌>>=◌, get_as, has_members, items_of, number_in}
 use Rattle.job_language.specs.TenantOf.{tenant_of}
 
 -- each is a tenant
@@ -19,10 +18,8 @@ tenants_of (d ∷ ds) = do
 -- the number of workers, and what stands in the tenants' place
 abbrev pub config_members : Data → Option (ℕ × List Data)
 config_members d = do
-  w ← get (codes "workers") d
-  workers ← number_in 1 MAX_WORKERS w
-  ts ← get (codes "tenants") d
-  tenants ← items_of ts
+  workers ← get_as (codes "workers") (number_in 1 MAX_WORKERS) d
+  tenants ← get_as (codes "tenants") items_of d
   Some (workers, tenants)
 
 -- an object of these two members

@@ -5,33 +5,26 @@ use Rattle.job_language.specs.declared.errors.Error.TheVariants.{LineTooLong, Ba
 use Rattle.job_language.specs.declared.errors.JobFault.{JobFault}
 use Rattle.job_language.specs.declared.errors.JobFault.TheVariants as fault
 
+-- the code of an error, and its name
+abbrev pub code_and_name : Error → ℕ × List ℕ
+code_and_name LineTooLong = (1, codes "line_too_long")
+code_and_name BadJson = (2, codes "bad_json")
+code_and_name BadRequest = (3, codes "bad_request")
+code_and_name BadProgram = (4, codes "bad_program")
+code_and_name UnknownTenant = (5, codes "unknown_tenant")
+code_and_name UnknownJob = (6, codes "unknown_job")
+code_and_name JobLimit = (7, codes "job_limit")
+code_and_name HistoryFull = (8, codes "history_full")
+code_and_name NoMemory = (9, codes "no_memory")
+code_and_name TaskLimit = (10, codes "task_limit")
+code_and_name NoTenant = (11, codes "no_tenant")
+code_and_name Busy = (12, codes "busy")
+
 abbrev pub code_of : Error → ℕ
-code_of LineTooLong = 1
-code_of BadJson = 2
-code_of BadRequest = 3
-code_of BadProgram = 4
-code_of UnknownTenant = 5
-code_of UnknownJob = 6
-code_of JobLimit = 7
-code_of HistoryFull = 8
-code_of NoMemory = 9
-code_of TaskLimit = 10
-code_of NoTenant = 11
-code_of Busy = 12
+code_of error = (code_and_name error).0
 
 abbrev pub name_of : Error → List ℕ
-name_of LineTooLong = codes "line_too_long"
-name_of BadJson = codes "bad_json"
-name_of BadRequest = codes "bad_request"
-name_of BadProgram = codes "bad_program"
-name_of UnknownTenant = codes "unknown_tenant"
-name_of UnknownJob = codes "unknown_job"
-name_of JobLimit = codes "job_limit"
-name_of HistoryFull = codes "history_full"
-name_of NoMemory = codes "no_memory"
-name_of TaskLimit = codes "task_limit"
-name_of NoTenant = codes "no_tenant"
-name_of Busy = codes "busy"
+name_of error = (code_and_name error).1
 
 abbrev pub fault_code_of : JobFault → ℕ
 fault_code_of fault.Division = 1

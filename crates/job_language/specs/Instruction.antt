@@ -1,14 +1,12 @@
 -- Which instruction a JSON value spells.
-use Rattle.std.specs.Prelude.{ℕ, List, [], ◌∷◌, Option, Some, None, if◌then◌else◌, nat_lt}
+use Rattle.std.specs.Prelude.{ℕ, List, [], ◌∷◌, Option, Some, None, option_map, if◌then◌else◌, nat_lt, codes}
+use Rattle.std.specs.Str.{bytes_eq}
 use Rattle.serde_json.specs.Data.{Data}
 use Rattle.serde_json.specs.Find.{as_str}
 use Rattle.job_language.specs.declared.instructions.TheConstants.{REGISTERS, GROUPS, KEYS}
 use Rattle.job_language.specs.declared.instructions.Instr.{Instr}
 use Rattle.job_language.specs.declared.instructions.Instr.TheVariants as instr
-use Rattle.job_language.specs.declared.operations.Operation.{Operation}
-use Rattle.job_language.specs.declared.operations.Operation.TheVariants.{Set, Add, Sub, Mul, Div, Lt, Jz, Jmp, Slot, Width, Spawn, Post, Wait, Cancel, Ask, Isolate, Load, Store, Sum, Count, Ret}
 use Rattle.job_language.specs.Json.{◌>>=◌, whole, integer, items_of}
-use Rattle.job_language.specs.Operation.{operation_named}
 
 -- a whole number below a limit
 abbrev pub below : ℕ → Data → Option ℕ
@@ -23,66 +21,56 @@ group = below GROUPS
 abbrev pub key : Data → Option ℕ
 key = below KEYS
 
--- the operands of an instruction, one operand after another
-abbrev pub one : {A : Type 0} → (Data → Option A) → List Data → Option A
-one f (x ∷ []) = f x
-one f ds = None
+-- an operand, and what is made of it
+unfoldable pub one : {A B : Type 0} → (Data → Option A) → (A → B) → List Data → Option B
+one f make (x ∷ []) = option_map make (f x)
+one f make ds = None
 
-abbrev pub two : {A B : Type 0} → (Data → Option A) → (Data → Option B) → List Data → Option (A × B)
-two f g (x ∷ y ∷ []) = do
-  a ← f x
-  b ← g y
-  Some (a, b)
-two f g ds = None
+-- two operands, and what is made of them
+unfoldable pub two : {A B C : Type 0} → (Data → Option A) → (Data → Option B) → (A → B → C) → List Data → Option C
+two f g make (x ∷ y ∷ []) = f x >>= λ a. one g (make a) (y ∷ [])
+two f g make ds = None
 
-abbrev pub three : {A B C : Type 0} → (Data → Option A) → (Data → Option B) → (Data → Option C) → List Data → Option (A × B × C)
-three f g h (x ∷ y ∷ z ∷ []) = do
-  a ← f x
-  b ← g y
-  c ← h z
-  Some (a, b, c)
-three f g h ds = None
+-- three operands
+unfoldable pub three : {A B C D : Type 0} → (Data → Option A) → (Data → Option B) → (Data → Option C) → (A → B → C → D) → List Data → Option D
+three f g h make (x ∷ y ∷ z ∷ []) = f x >>= λ a. two g h (make a) (y ∷ z ∷ [])
+three f g h make ds = None
 
-abbrev pub four : {A B C D : Type 0} → (Data → Option A) → (Data → Option B) → (Data → Option C) → (Data → Option D) → List Data → Option (A × B × C × D)
-four f g h k (x ∷ y ∷ z ∷ w ∷ []) = do
-  a ← f x
-  b ← g y
-  c ← h z
-  d ← k w
-  Some (a, b, c, d)
-four f g h k ds = None
+-- four operands
+unfoldable pub four : {A B C D E : Type 0} → (Data → Option A) → (Data → Option B) → (Data → Option C) → (Data → Option D) → (A → B → C → D → E) → List Data → Option E
+four f g h k make (x ∷ y ∷ z ∷ w ∷ []) = f x >>= λ a. three g h k (make a) (y ∷ z ∷ w ∷ [])
+four f g h k make ds = None
 
 -- The instruction of that name with these operands, in a program and a procedure of these sizes.
-abbrev pub instr_from : Operation → (procs instrs : ℕ) → List Data → Option Instr
-instr_from Set procs instrs ds = two register integer ds >>= λ x. Some (instr.Set x.0 x.1)
-instr_from Add procs instrs ds = three register register register ds >>= λ x. Some (instr.Add x.0 x.1 x.2)
-instr_from Sub procs instrs ds = three register register register ds >>= λ x. Some (instr.Sub x.0 x.1 x.2)
-instr_from Mul procs instrs ds = three register register register ds >>= λ x. Some (instr.Mul x.0 x.1 x.2)
-instr_from Div procs instrs ds = three register register register ds >>= λ x. Some (instr.Div x.0 x.1 x.2)
-instr_from Lt procs instrs ds = three register register register ds >>= λ x. Some (instr.Lt x.0 x.1 x.2)
-instr_from Jz procs instrs ds = two register (below instrs) ds >>= λ x. Some (instr.Jz x.0 x.1)
-instr_from Jmp procs instrs ds = one (below instrs) ds >>= λ t. Some (instr.Jmp t)
-instr_from Slot procs instrs ds = one register ds >>= λ d. Some (instr.Slot d)
-instr_from Width procs instrs ds = one register ds >>= λ d. Some (instr.Width d)
-instr_from Spawn procs instrs ds = four group (below procs) register register ds >>= λ x. Some (instr.Spawn x.0 x.1 x.2 x.3)
-instr_from Post procs instrs ds = three (below procs) register register ds >>= λ x. Some (instr.Post x.0 x.1 x.2)
-instr_from Wait procs instrs ds = three register register group ds >>= λ x. Some (instr.Wait x.0 x.1 x.2)
-instr_from Cancel procs instrs ds = one group ds >>= λ g. Some (instr.Cancel g)
-instr_from Ask procs instrs ds = one register ds >>= λ d. Some (instr.Ask d)
-instr_from Isolate procs instrs ds = four register (below procs) register register ds >>= λ x. Some (instr.Isolate x.0 x.1 x.2 x.3)
-instr_from Load procs instrs ds = two register key ds >>= λ x. Some (instr.Load x.0 x.1)
-instr_from Store procs instrs ds = two key register ds >>= λ x. Some (instr.Store x.0 x.1)
-instr_from Sum procs instrs ds = two register key ds >>= λ x. Some (instr.Sum x.0 x.1)
-instr_from Count procs instrs ds = two register key ds >>= λ x. Some (instr.Count x.0 x.1)
-instr_from Ret procs instrs ds = one register ds >>= λ a. Some (instr.Ret a)
+unfoldable pub instr_from : (name : List ℕ) → (procs instrs : ℕ) → List Data → Option Instr
+instr_from name procs instrs ds =
+    if bytes_eq name (codes "set") then two register integer instr.Set ds
+    else if bytes_eq name (codes "add") then three register register register instr.Add ds
+    else if bytes_eq name (codes "sub") then three register register register instr.Sub ds
+    else if bytes_eq name (codes "mul") then three register register register instr.Mul ds
+    else if bytes_eq name (codes "div") then three register register register instr.Div ds
+    else if bytes_eq name (codes "lt") then three register register register instr.Lt ds
+    else if bytes_eq name (codes "jz") then two register (below instrs) instr.Jz ds
+    else if bytes_eq name (codes "jmp") then one (below instrs) instr.Jmp ds
+    else if bytes_eq name (codes "slot") then one register instr.Slot ds
+    else if bytes_eq name (codes "width") then one register instr.Width ds
+    else if bytes_eq name (codes "spawn") then four group (below procs) register register instr.Spawn ds
+    else if bytes_eq name (codes "post") then three (below procs) register register instr.Post ds
+    else if bytes_eq name (codes "wait") then three register register group instr.Wait ds
+    else if bytes_eq name (codes "cancel") then one group instr.Cancel ds
+    else if bytes_eq name (codes "ask") then one register instr.Ask ds
+    else if bytes_eq name (codes "isolate") then four register (below procs) register register instr.Isolate ds
+    else if bytes_eq name (codes "load") then two register key instr.Load ds
+    else if bytes_eq name (codes "store") then two key register instr.Store ds
+    else if bytes_eq name (codes "sum") then two register key instr.Sum ds
+    else if bytes_eq name (codes "count") then two register key instr.Count ds
+    else if bytes_eq name (codes "ret") then one register instr.Ret ds
+    else None
 
 -- an instruction is a list of its name and its operands
 abbrev pub instr_of_list : (procs instrs : ℕ) → List Data → Option Instr
 instr_of_list procs instrs [] = None
-instr_of_list procs instrs (name ∷ operands) = do
-  text ← as_str name
-  operation ← operation_named text
-  instr_from operation procs instrs operands
+instr_of_list procs instrs (name ∷ operands) = as_str name >>= λ text. instr_from text procs instrs operands
 
 abbrev pub instr_of : (procs instrs : ℕ) → Data → Option Instr
 instr_of procs instrs d = items_of d >>= instr_of_list procs instrs

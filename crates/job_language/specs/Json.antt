@@ -2,7 +2,7 @@
 use Rattle.std.specs.Prelude.{ℕ, ℤ, List, [], ◌∷◌, Option, Some, None, Result, Ok, Err, option_map, option_and_then, Bool, false, ◌==◌, ◌&&◌, nat_le, if◌then◌else◌, suc, zero}
 use Rattle.std.specs.Option.{option_map_or}
 use Rattle.serde_json.specs.Data.{Data, Items, no_items, item, Members, no_members, member}
-use Rattle.serde_json.specs.Find.{as_number, as_u64, as_i64, as_array, as_object}
+use Rattle.serde_json.specs.Find.{get, as_number, as_u64, as_i64, as_array, as_object}
 
 infixl 10 ◌>>=◌
 abbrev pub ◌>>=◌ : {A B : Type 0} → Option A → (A → Option B) → Option B
@@ -11,6 +11,10 @@ o >>= f = option_and_then f o
 abbrev pub result_map : {A B E : Type 0} → (A → B) → Result A E → Result B E
 result_map f (Ok x) = Ok (f x)
 result_map f (Err e) = Err e
+
+-- a member of an object, as what it spells
+abbrev pub get_as : {A : Type 0} → (name : List ℕ) → (Data → Option A) → Data → Option A
+get_as name read d = get name d >>= read
 
 -- a number that is whole and not negative, below 2 ^ 64
 abbrev pub whole : Data → Option ℕ

@@ -2,6 +2,7 @@ pub mod Brought
 pub mod ConfigOf
 pub mod Configuration
 pub mod ErrorCodes
+pub mod InsideOperation
 pub mod Instruction
 pub mod Job
 pub mod JobData

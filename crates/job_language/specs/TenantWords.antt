@@ -1,5 +1,5 @@
 -- The words for priorities and isolation modes.
-use Rattle.std.specs.Prelude.{ℕ, List, Option, Some, None, if◌then◌else◌, codes}
+use Rattle.std.specs.Prelude.{ℕ, List, [], ◌∷◌, Option, find, codes}
 use Rattle.std.specs.Str.{bytes_eq}
 use Rattle.job_language.specs.declared.tenants.Isolation.{Isolation}
 use Rattle.job_language.specs.declared.tenants.Isolation.TheVariants.{Exact, Within}
@@ -12,18 +12,11 @@ level_word Normal = codes "normal"
 level_word Low = codes "low"
 
 abbrev pub level_named : List ℕ → Option Level
-level_named word =
-    if bytes_eq word (codes "high") then Some High
-    else if bytes_eq word (codes "normal") then Some Normal
-    else if bytes_eq word (codes "low") then Some Low
-    else None
+level_named word = find (λ level. bytes_eq word (level_word level)) (High ∷ Normal ∷ Low ∷ [])
 
 abbrev pub isolation_word : Isolation → List ℕ
 isolation_word Exact = codes "exact"
 isolation_word Within = codes "within"
 
 abbrev pub isolation_named : List ℕ → Option Isolation
-isolation_named word =
-    if bytes_eq word (codes "exact") then Some Exact
-    else if bytes_eq word (codes "within") then Some Within
-    else None
+isolation_named word = find (λ isolation. bytes_eq word (isolation_word isolation)) (Exact ∷ Within ∷ [])

@@ -1,6 +1,7 @@
 // The names of instructions in a job's text.
 ghost use Rattle.std.specs.Prelude.{◌≡◌};
-ghost use Rattle.job_language.specs.Operation.{operation_named, name_of};
+ghost use Rattle.job_language.specs.InsideOperation.{operation_named};
+ghost use Rattle.job_language.specs.Operation.{name_of};
 
 /// What an instruction does, without its operands.
 #[derive(Clone, Copy, Debug, PartialEq, Eq)]

@@ -3,7 +3,8 @@ use Rattle.std.proofs.Common.{◌≡◌, ℕ, zero, suc, ◌+◌, ◌<◌, List,
 use Rattle.std.specs.Prelude.{slice_get, slice_index_or, is_some, IfSome}
 use Rattle.std.proofs.lemmas.Bool.{cases_lt}
 use Rattle.std.proofs.lemmas.Option.{slice_get-get_or, slice_get_within}
-use Rattle.job_language.specs.Program.{IsValidProgram, IsInRange, group_of}
+use Rattle.job_language.proofs.Groups.{group_of}
+use Rattle.job_language.specs.Program.{IsValidProgram, IsInRange}
 use Rattle.job_language.specs.declared.instructions.TheConstants.{GROUPS}
 use Rattle.job_step.proofs.RunSteps.{instr_at-past_procs}
 use Rattle.std.specs.List.{list_all}

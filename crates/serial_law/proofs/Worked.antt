@@ -3,7 +3,7 @@ use Rattle.std.proofs.Common.{refl, ℕ, arith, List, [], ◌∷◌, length, get
 use Rattle.std.specs.Prelude.{All, ⊤}
 use Rattle.std.proofs.lemmas.List.Elements.{All-cons, All-nil}
 use Rattle.job_language.specs.declared.instructions.Instr.{Instr}
-use Rattle.job_language.specs.Program.{IsInRange, IsValidProc, Calls, registers_of, group_of, key_of, number_of, target_of, callee_of}
+use Rattle.job_language.specs.Program.{IsInRange, IsValidProc, Calls}
 use Rattle.job_step.specs.Run.{run_for}
 use Rattle.tenant_model.specs.Worked.{fib}
 use Rattle.serial_law.specs.Worked.{FibIsValid, FibIsSerial, FibIsJob1, FibCompletesWith8}

@@ -4,7 +4,8 @@ use Rattle.std.specs.Prelude.{int_lt, if◌then◌else◌, is_some, slice_get, s
 use Rattle.std.specs.Int.{int_wrapping_add, int_wrapping_sub, int_wrapping_mul, int_wrapping_div, w64}
 use Rattle.std.proofs.lemmas.Bool.{cond_both, cases_lt}
 use Rattle.std.proofs.lemmas.Option.{slice_get-get_or, slice_get_within}
-use Rattle.job_language.specs.Program.{IsValidProgram, IsInRange, group_of}
+use Rattle.job_language.proofs.Groups.{group_of, group-in_range}
+use Rattle.job_language.specs.Program.{IsValidProgram, IsInRange}
 use Rattle.job_language.specs.declared.instructions.TheConstants.{GROUPS}
 use Rattle.job_step.proofs.RunSteps.{instr_at-past_procs}
 use Rattle.job_language.specs.declared.instructions.Instr.{Instr}
@@ -97,6 +98,6 @@ names_groups procs valid f i at = elim (cases_lt f.procedure (length procs)) [
       let found : get_or proc f.place i ≡ i = ap (λ o. unwrap_or o i) (sym (slice_get-get_or proc f.place i within) ∙ at) in
       let its : IsInRange (length proc) (get_or proc f.place i) = (valid.each f.procedure [] there).each f.place i within in
       let own : IsInRange (length proc) i = rw found at its in
-      own.group
+      group-in_range (length proc) i own
   | inr past ↦ absurd (grind (arith, ap is_some (sym (instr_at-past_procs procs f past) ∙ at)))
 ]

@@ -81,8 +81,8 @@ module _ (procs : List (List Instr)) (valid : IsValidProgram procs) where
   effect_stands f (Lt d a b) slot width stands at = stands_next f (Lt d a b) d _ stands at refl
   effect_stands f (Jz a t) slot width stands at =
       let its = in_range f (Jz a t) stands at in
-      jumped f (is_zero (register f a)) t stands its.0.target (its.2 refl)
-  effect_stands f (Jmp t) slot width stands at = stands_at f t stands (in_range f (Jmp t) stands at).0.target
+      jumped f (is_zero (register f a)) t stands its.0.1 (its.2 refl)
+  effect_stands f (Jmp t) slot width stands at = stands_at f t stands (in_range f (Jmp t) stands at).0
   effect_stands f (Slot d) slot width stands at = stands_next f (Slot d) d _ stands at refl
   effect_stands f (Width d) slot width stands at = stands_next f (Width d) d _ stands at refl
   effect_stands f (Spawn g p a b) slot width stands at = tt

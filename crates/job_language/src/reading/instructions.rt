@@ -5,6 +5,7 @@ ghost use Rattle.job_language.specs.Program.{IsInRange, Calls};
 ghost use Rattle.serde_json.specs.View.{view};
 ghost use Rattle.job_language.specs.Json.{items_of, integer};
 ghost use Rattle.job_language.specs.Instruction.{register, group, key, below, one, two, three, four, instr_from, instr_of};
+ghost use Rattle.job_language.specs.Operation.{name_of};
 
 use crate::instructions::{GROUPS, Group, Instr, KEYS, Key, REGISTERS, Register};
 use crate::operations::Operation;
@@ -14,6 +15,7 @@ use serde_json::Value;
 
 /// The instruction that a value spells, in a program of so many procedures and a procedure of so
 /// many instructions.
+#[tactic(auto, using(crate::proofs::Named::instr_found, crate::proofs::Named::instr_missing))]
 pub(super) fn instr_of(procs: usize, instrs: usize, value: &Value) -> Option<Instr>
     requires procs { procs ≤ MAX_PROCS }
     requires instrs { instrs ≤ MAX_INSTRS }
@@ -69,6 +71,7 @@ fn below(limit: usize, value: &Value) -> Option<u8>
 
 /// The instruction of that name with these operands, in a program of `procs` procedures and a
 /// procedure of `instrs` instructions.
+#[tactic(auto, using(crate::proofs::Operands::one_made, crate::proofs::Operands::two_made, crate::proofs::Operands::three_made, crate::proofs::Operands::four_made), unfolding(crate::specs::Instruction::instr_from))]
 fn instr_from(
     operation: Operation,
     procs: usize,
@@ -77,7 +80,7 @@ fn instr_from(
 ) -> Option<Instr>
     requires procs { procs ≤ MAX_PROCS }
     requires instrs { instrs ≤ MAX_INSTRS }
-    ensures value { result ≡ instr_from operation procs instrs (map view operands.now) }
+    ensures value { result ≡ instr_from (name_of operation) procs instrs (map view operands.now) }
     ensures in_range { IfSome result (IsInRange instrs) }
     ensures calls { IfSome result (Calls procs) }
 {
@@ -110,101 +113,113 @@ fn instr_from(
     }
 }
 
+#[tactic(auto, unfolding(crate::specs::Instruction::one))]
 fn one_register(operands: &[Value]) -> Option<Register>
-    ensures value { result ≡ one register (map view operands.now) }
+    ensures value { result ≡ one register (λ x. x) (map view operands.now) }
     ensures in_range { IfSome result (λ d. d < REGISTERS) }
 {
     let [d] = operands else { return None };
     register(d)
 }
 
+#[tactic(auto, unfolding(crate::specs::Instruction::one))]
 fn one_group(operands: &[Value]) -> Option<Group>
-    ensures value { result ≡ one group (map view operands.now) }
+    ensures value { result ≡ one group (λ x. x) (map view operands.now) }
     ensures in_range { IfSome result (λ g. g < GROUPS) }
 {
     let [g] = operands else { return None };
     group(g)
 }
 
+#[tactic(auto, unfolding(crate::specs::Instruction::one))]
 fn one_place(instrs: usize, operands: &[Value]) -> Option<u8>
     requires { instrs ≤ MAX_INSTRS }
-    ensures value { result ≡ one (below instrs) (map view operands.now) }
+    ensures value { result ≡ one (below instrs) (λ x. x) (map view operands.now) }
     ensures in_range { IfSome result (λ t. t < instrs) }
 {
     let [t] = operands else { return None };
     below(instrs, t)
 }
 
+#[tactic(auto, unfolding(crate::specs::Instruction::one, crate::specs::Instruction::two))]
 fn register_and_number(operands: &[Value]) -> Option<(Register, i64)>
-    ensures value { result ≡ two register integer (map view operands.now) }
+    ensures value { result ≡ two register integer (λ x y. (x, y)) (map view operands.now) }
     ensures in_range { IfSome result (λ x. (x.0 < REGISTERS) × FitsSigned w64 x.1) }
 {
     let [d, n] = operands else { return None };
     Some((register(d)?, number(n)?))
 }
 
+#[tactic(auto, unfolding(crate::specs::Instruction::one, crate::specs::Instruction::two))]
 fn register_and_place(instrs: usize, operands: &[Value]) -> Option<(Register, u8)>
     requires { instrs ≤ MAX_INSTRS }
-    ensures value { result ≡ two register (below instrs) (map view operands.now) }
+    ensures value { result ≡ two register (below instrs) (λ x y. (x, y)) (map view operands.now) }
     ensures in_range { IfSome result (λ x. (x.0 < REGISTERS) × (x.1 < instrs)) }
 {
     let [a, t] = operands else { return None };
     Some((register(a)?, below(instrs, t)?))
 }
 
+#[tactic(auto, unfolding(crate::specs::Instruction::one, crate::specs::Instruction::two))]
 fn register_and_key(operands: &[Value]) -> Option<(Register, Key)>
-    ensures value { result ≡ two register key (map view operands.now) }
+    ensures value { result ≡ two register key (λ x y. (x, y)) (map view operands.now) }
     ensures in_range { IfSome result (λ x. (x.0 < REGISTERS) × (x.1 < KEYS)) }
 {
     let [d, k] = operands else { return None };
     Some((register(d)?, key(k)?))
 }
 
+#[tactic(auto, unfolding(crate::specs::Instruction::one, crate::specs::Instruction::two))]
 fn key_and_register(operands: &[Value]) -> Option<(Key, Register)>
-    ensures value { result ≡ two key register (map view operands.now) }
+    ensures value { result ≡ two key register (λ x y. (x, y)) (map view operands.now) }
     ensures in_range { IfSome result (λ x. (x.0 < KEYS) × (x.1 < REGISTERS)) }
 {
     let [k, a] = operands else { return None };
     Some((key(k)?, register(a)?))
 }
 
+#[tactic(auto, unfolding(crate::specs::Instruction::one, crate::specs::Instruction::two, crate::specs::Instruction::three))]
 fn three_registers(operands: &[Value]) -> Option<(Register, Register, Register)>
-    ensures value { result ≡ three register register register (map view operands.now) }
+    ensures value { result ≡ three register register register (λ x y z. (x, y, z)) (map view operands.now) }
     ensures in_range { IfSome result (λ x. (x.0 < REGISTERS) × (x.1 < REGISTERS) × (x.2 < REGISTERS)) }
 {
     let [d, a, b] = operands else { return None };
     Some((register(d)?, register(a)?, register(b)?))
 }
 
+#[tactic(auto, unfolding(crate::specs::Instruction::one, crate::specs::Instruction::two, crate::specs::Instruction::three))]
 fn two_registers_and_group(operands: &[Value]) -> Option<(Register, Register, Group)>
-    ensures value { result ≡ three register register group (map view operands.now) }
+    ensures value { result ≡ three register register group (λ x y z. (x, y, z)) (map view operands.now) }
     ensures in_range { IfSome result (λ x. (x.0 < REGISTERS) × (x.1 < REGISTERS) × (x.2 < GROUPS)) }
 {
     let [d, e, g] = operands else { return None };
     Some((register(d)?, register(e)?, group(g)?))
 }
 
+#[tactic(auto, unfolding(crate::specs::Instruction::one, crate::specs::Instruction::two, crate::specs::Instruction::three))]
 fn call(procs: usize, operands: &[Value]) -> Option<(u8, Register, Register)>
     requires { procs ≤ MAX_PROCS }
-    ensures value { result ≡ three (below procs) register register (map view operands.now) }
+    ensures value { result ≡ three (below procs) register register (λ x y z. (x, y, z)) (map view operands.now) }
     ensures in_range { IfSome result (λ x. (x.0 < procs) × (x.1 < REGISTERS) × (x.2 < REGISTERS)) }
 {
     let [p, a, b] = operands else { return None };
     Some((below(procs, p)?, register(a)?, register(b)?))
 }
 
+#[tactic(auto, unfolding(crate::specs::Instruction::one, crate::specs::Instruction::two, crate::specs::Instruction::three, crate::specs::Instruction::four))]
 fn group_and_call(procs: usize, operands: &[Value]) -> Option<(Group, u8, Register, Register)>
     requires { procs ≤ MAX_PROCS }
-    ensures value { result ≡ four group (below procs) register register (map view operands.now) }
+    ensures value { result ≡ four group (below procs) register register (λ x y z w. (x, y, z, w)) (map view operands.now) }
     ensures in_range { IfSome result (λ x. (x.0 < GROUPS) × (x.1 < procs) × (x.2 < REGISTERS) × (x.3 < REGISTERS)) }
 {
     let [g, p, a, b] = operands else { return None };
     Some((group(g)?, below(procs, p)?, register(a)?, register(b)?))
 }
 
+#[tactic(auto, unfolding(crate::specs::Instruction::one, crate::specs::Instruction::two, crate::specs::Instruction::three, crate::specs::Instruction::four))]
 fn register_and_call(procs: usize, operands: &[Value]) -> Option<(Register, u8, Register, Register)>
     requires { procs ≤ MAX_PROCS }
-    ensures value { result ≡ four register (below procs) register register (map view operands.now) }
+    ensures value { result ≡ four register (below procs) register register (λ x y z w. (x, y, z, w)) (map view operands.now) }
     ensures in_range { IfSome result (λ x. (x.0 < REGISTERS) × (x.1 < procs) × (x.2 < REGISTERS) × (x.3 < REGISTERS)) }
 {
     let [d, p, a, b] = operands else { return None };

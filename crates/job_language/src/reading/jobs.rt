@@ -2,10 +2,12 @@
 ghost use Rattle.std.specs.Prelude.{◌≡◌, ◌≤◌, ◌<◌, map, option_map, length, true, All, IfOk, IfSome, ◌+◌, IsTrue};
 ghost use Rattle.std.specs.List.{list_all};
 ghost use Rattle.serde_json.specs.View.{view};
+ghost use Rattle.job_language.specs.declared.jobs.TheConstants.{MAX_FUEL};
+ghost use Rattle.job_language.specs.Json.{number_in};
 ghost use Rattle.job_language.specs.Outline.{shape};
 ghost use Rattle.job_language.specs.Program.{Calls, IsInRange, is_last, IsValidProc, IsValidProgram};
 ghost use Rattle.job_language.specs.Reads.{Reads};
-ghost use Rattle.job_language.specs.Job.{args_of, fuel_of, is_proc, are_procs, procs_of, outline_of, outline_of_members, instr_at, instrs_from, proc_of, proc_at, procs_from, job_of};
+ghost use Rattle.job_language.specs.Job.{args_of, is_proc, are_procs, procs_of, outline_of, outline_of_members, instr_at, instrs_from, proc_of, proc_at, procs_from, job_of};
 
 use super::instructions::instr_of;
 use crate::errors::{Place, Refused};
@@ -60,6 +62,7 @@ fn outline_of_members(value: &Value) -> Option<Outline<'_>>
     })
 }
 
+#[tactic(auto, unfolding(crate::specs::Instruction::one, crate::specs::Instruction::two))]
 fn args_of(value: &Value) -> Option<[i64; 2]>
     ensures { result ≡ args_of (view value.now) }
 {
@@ -70,7 +73,7 @@ fn args_of(value: &Value) -> Option<[i64; 2]>
 }
 
 fn fuel_of(value: &Value) -> Option<Fuel>
-    ensures { result ≡ fuel_of (view value.now) }
+    ensures { result ≡ number_in 1 MAX_FUEL (view value.now) }
 {
     Fuel::new(value.as_u64()?)
 }

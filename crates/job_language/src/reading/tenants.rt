@@ -1,8 +1,9 @@
 // Reading tenants.
-ghost use Rattle.std.specs.Prelude.{◌≡◌, option_map};
-ghost use Rattle.std.specs.Option.{ok_or};
+ghost use Rattle.std.specs.Prelude.{◌≡◌, option_map, Some};
+ghost use Rattle.std.specs.Option.{ok_or, option_map_or};
 ghost use Rattle.serde_json.specs.View.{view};
-ghost use Rattle.job_language.specs.TenantOf.{name_of, level_of, isolation_of, isolation_or_exact, tenant_of, tenant_of_members};
+ghost use Rattle.job_language.specs.declared.tenants.Isolation.TheVariants.{Exact};
+ghost use Rattle.job_language.specs.TenantOf.{name_of, level_of, isolation_of, tenant_of, tenant_of_members};
 
 use crate::errors::{Place, Refused};
 use crate::names::TenantName;
@@ -63,7 +64,7 @@ fn isolation_of(value: &Value) -> Option<Isolation>
 }
 
 fn isolation_or_exact(value: Option<&Value>) -> Option<Isolation>
-    ensures { result ≡ isolation_or_exact (option_map (λ v. view v.now) value.entry) }
+    ensures { result ≡ option_map_or isolation_of (option_map (λ v. view v.now) value.entry) (Some Exact) }
 {
     match value {
         Some(value) => isolation_of(value),

@@ -30,6 +30,7 @@ fn write_members(alloc: Global, args: Value, fuel: u64, procs: Value) -> Result<
     json!(in alloc; {"args": args, "fuel": fuel, "procs": procs})
 }
 
+#[tactic(auto, unfolding(crate::specs::Instruction::one, crate::specs::Instruction::two))]
 fn write_args(alloc: Global, args: &[i64; 2]) -> Result<Value, AllocError>
     ensures value { IfOk result (λ v. view v ≡ array_of (map number_data args.now)) }
     ensures reads_back { IfOk result (λ v. args_of (view v) ≡ Some args.now) }
