@@ -1,7 +1,8 @@
 -- What is read from a JSON value: whole numbers, items and members.
-use Rattle.std.specs.Prelude.{ℕ, ℤ, List, [], ◌∷◌, Option, Some, None, Result, Ok, Err, option_map, option_and_then, Bool, false, ◌==◌, ◌&&◌, nat_le, if◌then◌else◌, suc, zero}
+use Rattle.std.specs.Prelude.{ℕ, ℤ, List, [], ◌∷◌, Option, Some, None, Result, Ok, Err, option_map, option_and_then, Bool, false, ◌==◌, ◌&&◌, nat_le, if◌then◌else◌}
 use Rattle.std.specs.Option.{option_map_or}
-use Rattle.serde_json.specs.Data.{Data, Items, no_items, item, Members, no_members, member}
+use Rattle.serde_json.specs.Data.{Data, Items, no_items, item}
+use Rattle.serde_json.specs.Events.{members_len}
 use Rattle.serde_json.specs.Find.{get, as_number, as_u64, as_i64, as_array, as_object}
 
 infixl 10 ◌>>=◌
@@ -36,11 +37,6 @@ list_of (item d ds) = d ∷ list_of ds
 abbrev pub items_of : Data → Option (List Data)
 items_of d = option_map list_of (as_array d)
 
--- An object has each name once.
-abbrev pub count : Members → ℕ
-count no_members = zero
-count (member name d ms) = suc (count ms)
-
--- an object with so many members
+-- An object with so many members. It has each name once.
 abbrev pub has_members : ℕ → Data → Bool
-has_members n d = option_map_or (λ ms. count ms == n) (as_object d) false
+has_members n d = option_map_or (λ ms. members_len ms == n) (as_object d) false
