@@ -30,6 +30,22 @@ input_lines-line input.Line text h = refl
 input_lines-line input.TooLong text h = refl
 input_lines-line input.End text h = absurd (h refl)
 
+-- The next input, which is no end, is one line.
+pub next_is_line : (i : Input) (text text' : List ℕ) (left left' : List Line) → text' ≡ text → i ≢ input.End → left ≡ input_lines i text ++ left' → left ≡ line_of i text' ∷ left'
+next_is_line i text text' left left' same_text going here = here ∙ ap (λ ls. ls ++ left') (input_lines-line i text going) ∙ ap (λ t. line_of i t ∷ left') (sym same_text)
+
+-- At the end no lines are left, and all are answered.
+pub text_end : (i : Input) (text : List ℕ) (left left' : List Line) (answers : List Line → List ℕ) (known : Option (List ℕ)) → answers [] ≡ [] → i ≡ input.End → left ≡ input_lines i text ++ left' → left' ≡ [] → Appends known known (answers left)
+text_end i text left left' answers known nothing ended here none =
+    let no_lines : left ≡ [] = here ∙ ap (λ e. input_lines e text ++ left') ended ∙ none in
+    subst (λ (t : List ℕ). Appends known known t) (sym (ap answers no_lines ∙ nothing)) (appends_nothing known)
+
+-- A line is answered, and then the others.
+pub text_step : (before middle after : Option (List ℕ)) (all said rest line : List ℕ) → all ≡ said ++ newline ∷ rest → line ≡ said ++ newline ∷ [] → Appends before middle line → Appends middle after rest → Appends before after all
+text_step before middle after all said rest line all_is line_is written others =
+    subst (λ (t : List ℕ). Appends before after t) (sym all_is)
+    (appends_two before middle after said rest (subst (λ (t : List ℕ). Appends before middle t) line_is written) others)
+
 module _ {S : Type 0} (takes : S → Line → List ℕ → S → Type 0) where
   -- A line that is taken and answered, and then the others.
   answers_on : (line : Line) (lines : List Line) (old mid final : S) (said : List ℕ) (before middle after : Option (List ℕ)) → takes old line said mid → Appends before middle (said ++ newline ∷ []) → AnswersAll takes lines mid middle after final → AnswersAll takes (line ∷ lines) old before after final

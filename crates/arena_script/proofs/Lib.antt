@@ -1,4 +1,5 @@
 mod Answering
+mod Ending
 mod Parts
 mod Telling
 mod Running

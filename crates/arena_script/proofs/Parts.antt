@@ -34,6 +34,18 @@ part_cut before after line rest cut =
     ap (take cut.count) (sym (append_assoc line (newline ∷ []) rest)) ∙ take-append-le cut.count (line ++ newline ∷ []) rest (omega (arith, cut.fewer)) in
     record { count = cut.count; appended = subst (λ (t : List ℕ). Appends before after t) (sym front) cut.appended }
 
+-- A line is answered, and then a part of the others.
+pub text_part_step : (before middle after : Option (List ℕ)) (all said rest line : List ℕ) → all ≡ said ++ newline ∷ rest → line ≡ said ++ newline ∷ [] → Appends before middle line → AppendsPart middle after rest → AppendsPart before after all
+text_part_step before middle after all said rest line all_is line_is written others =
+    subst (λ (t : List ℕ). AppendsPart before after t) (sym all_is)
+    (part_on before middle after said rest (subst (λ (t : List ℕ). Appends before middle t) line_is written) others)
+
+-- The answer to a line is cut short.
+pub text_part_cut : (before after : Option (List ℕ)) (all said rest line : List ℕ) → all ≡ said ++ newline ∷ rest → line ≡ said ++ newline ∷ [] → AppendsFewer before after line → AppendsPart before after all
+text_part_cut before after all said rest line all_is line_is cut =
+    subst (λ (t : List ℕ). AppendsPart before after t) (sym all_is)
+    (part_cut before after said rest (subst (λ (t : List ℕ). AppendsFewer before after t) line_is cut))
+
 -- The next input, which is no end, is one line.
 one_line : (i : Input) (text : List ℕ) (left left' : List Line) → i ≢ input.End → left ≡ input_lines i text ++ left' → left ≡ line_of i text ∷ left'
 one_line i text left left' going here = here ∙ ap (λ ls. ls ++ left') (input_lines-line i text going)

@@ -1,14 +1,15 @@
--- The verdict on a dump.
-use Rattle.std.specs.Prelude.{◌≡◌, ℕ, ◌+◌, Bool, true, length}
+-- The verdict on what a dump says.
+use Rattle.std.specs.Prelude.{◌≡◌, ◌⊎◌, ℕ, ◌+◌, List, [], ◌∷◌}
 use Rattle.history_check.specs.declared.checking.Verdict.{Verdict}
 use Rattle.history_check.specs.declared.checking.Verdict.TheVariants.{Yes, No}
-use Rattle.history_check.specs.Verdicts.{IsVerdict}
-use Rattle.arena_script.specs.DumpData.{DumpData}
+use Rattle.history_check.specs.Verdicts.{IsRight}
+use Rattle.tenant_model.specs.Solo.{step}
+use Rattle.tenant_model.specs.State.{State}
+use Rattle.dump_lines.specs.declared.lines.Said.{Said}
+use Rattle.dump_lines.specs.declared.lines.Said.TheVariants.{Entry, Foreign}
 
-abbrev pub after_entries : ℕ → Bool → Verdict → Verdict
-after_entries count true Yes = No (count + 1)
-after_entries count has_foreign verdict = verdict
-
--- The verdict on a dump is that on its entries, unless a foreign one follows them, which is never right.
-abbrev pub IsVerdictOn : DumpData → Verdict → Type 0
-IsVerdictOn dump verdict = (on_entries : Verdict) × IsVerdict dump.config dump.entries on_entries × (verdict ≡ after_entries (length dump.entries) dump.has_foreign on_entries)
+-- from that state on, where the next entry has the number k: the first that is not right, which a foreign one never is
+abbrev pub IsVerdictOn : State → (k : ℕ) → List Said → Verdict → Type 0
+IsVerdictOn s k [] verdict = verdict ≡ Yes
+IsVerdictOn s k (Foreign ∷ others) verdict = verdict ≡ No k
+IsVerdictOn s k (Entry e ∷ others) verdict = (IsRight s e × IsVerdictOn (step s e.step).1 (k + 1) others verdict) ⊎ ((IsRight s e → ⊥) × (verdict ≡ No k))

@@ -1,29 +1,31 @@
--- The bytes that answer the lines of a script.
-use Rattle.std.specs.Prelude.{◌≡◌, ℕ, List, Option, None}
+-- The bytes that answer the lines of a script of one tenant's steps.
+use Rattle.std.specs.Prelude.{ℕ, List, [], ◌∷◌, ◌++◌, drop, Option, Some, None, codes}
+use Rattle.std.specs.Option.{option_map_or}
+use Rattle.std.specs.Result.{result_ok}
 use Rattle.job_language.specs.declared.answers.Answer.{Answer}
 use Rattle.job_language.specs.declared.tenants.Tenant.{Tenant}
-use Rattle.request_reader.specs.Lines.{Line, whole, too_long}
+use Rattle.job_language.specs.Json.{◌>>=◌}
+use Rattle.request_reader.specs.LineAsks.{value_of}
+use Rattle.request_reader.specs.Lines.{Line, newline}
+use Rattle.reply_writer.specs.AnswerText.{answer_text}
 use Rattle.tenant_model.specs.State.{State, empty}
-use Rattle.dump_lines.specs.Requests.{tenant_in}
-use Rattle.arena_script.specs.Answered.{AnswersFrom, StartsFrom, HasNoFirst}
-use Rattle.arena_script.specs.OwnAnswers.{step_taken, step_in, told}
+use Rattle.arena_script.specs.ScriptLines.{first_tenant, text_in}
+use Rattle.arena_script.specs.Steps.{value_taken}
 
-abbrev pub line_taken : (slots : ℕ) → Line → State → Option Answer × State
-line_taken slots (whole text) s = step_taken slots (step_in text) s
-line_taken slots too_long s = (None, s)
+-- the answer to a line that is a step, and the tenant after it
+abbrev pub line_taken : State → Line → Option (Answer × State)
+line_taken s line = text_in line >>= λ text. result_ok (value_of text) >>= value_taken s
 
--- A line is taken, and its answer told.
-abbrev pub TellsAnswer : (slots : ℕ) → State → Line → List ℕ → State → Type 0
-TellsAnswer slots old line said new = let taken = line_taken slots line old in (said ≡ told taken.0) × (new ≡ taken.1)
+-- the text of the answer; what is no step has one too, and changes nothing
+abbrev pub told : State → Option (Answer × State) → List ℕ × State
+told s (Some taken) = (answer_text taken.0, taken.1)
+told s None = (codes "{\"moved\":\"bad_step\"}", s)
 
--- the first line is a tenant, and the others are its steps
-abbrev pub AnswersScript : List Line → Option (List ℕ) → Option (List ℕ) → Type 0
-AnswersScript = AnswersFrom tenant_in (λ (c : Tenant). TellsAnswer c.slots) empty
+-- the lines that answer these lines, in order
+abbrev pub own_answers : State → List Line → List ℕ
+own_answers s [] = []
+own_answers s (line ∷ lines) = let said = told s (line_taken s line) in said.0 ++ newline ∷ own_answers said.1 lines
 
--- a part of what answers a script; nothing, where its first line is no tenant
-abbrev pub StartsScript : List Line → Option (List ℕ) → Option (List ℕ) → Type 0
-StartsScript = StartsFrom tenant_in (λ (c : Tenant). TellsAnswer c.slots) empty
-
--- no first line, or one that names no tenant
-abbrev pub NamesNoTenant : List Line → Type 0
-NamesNoTenant = HasNoFirst tenant_in
+-- The first line is a tenant, and the others are its steps. Without a tenant there is no answer.
+abbrev pub own_text : List Line → List ℕ
+own_text lines = option_map_or (λ (c : Tenant). own_answers (empty c) (drop 1 lines)) (first_tenant lines) []

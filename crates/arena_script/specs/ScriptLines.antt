@@ -1,9 +1,12 @@
 -- The lines of a script that are not blank, and which of them is read next.
-use Rattle.std.specs.Prelude.{◌≡◌, ◌<◌, ◌⊎◌, ℕ, List, [], ◌∷◌, Bool, true, not, filter, Option, unwrap_or, Result, Ok, Err}
+use Rattle.std.specs.Prelude.{◌≡◌, ◌<◌, ◌⊎◌, ℕ, List, [], ◌∷◌, Bool, true, not, filter, Option, Some, None, unwrap_or, Result, Ok, Err}
 use Rattle.std.specs.List.{list_all}
+use Rattle.job_language.specs.declared.tenants.Tenant.{Tenant}
+use Rattle.job_language.specs.Json.{◌>>=◌}
 use Rattle.request_reader.specs.Blank.{is_blank_byte}
 use Rattle.request_reader.specs.Lines.{Line, whole, too_long, lines_of}
 use Rattle.request_reader.specs.Reading.{Reading, IsPending, lines_left}
+use Rattle.dump_lines.specs.Requests.{tenant_in}
 use Rattle.arena_script.specs.declared.inputs.TheConstants.{MAX_SCRIPT_LINE}
 use Rattle.arena_script.specs.declared.inputs.Input.{Input}
 use Rattle.arena_script.specs.declared.inputs.Input.TheVariants as input
@@ -23,6 +26,16 @@ lines_in known = lines_of MAX_SCRIPT_LINE (unwrap_or known [])
 -- those that are not blank
 abbrev pub all_lines : Option (List ℕ) → List Line
 all_lines known = filter is_filled (lines_in known)
+
+-- the text of a line that is not too long
+abbrev pub text_in : Line → Option (List ℕ)
+text_in (whole text) = Some text
+text_in too_long = None
+
+-- the tenant that the first line names
+abbrev pub first_tenant : List Line → Option Tenant
+first_tenant [] = None
+first_tenant (line ∷ lines) = text_in line >>= tenant_in
 
 -- the line that an input is, where this is the text that was read
 abbrev pub line_of : Input → List ℕ → Line

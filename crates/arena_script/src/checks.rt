@@ -1,8 +1,11 @@
 // Checking a dump.
-ghost use Rattle.std.specs.Prelude.{◌≡◌, Err, IsSome, IfErr, IfOk, OnOk, string_bytes};
-ghost use Rattle.arena_script.specs.CheckEnds.{IsCheckFault};
+ghost use Rattle.std.specs.Prelude.{◌≡◌, ℕ, List, Err, IsErr, IsOk, IsSome, IfErr, IfOk, OnOk, string_bytes};
+ghost use Rattle.std.specs.Io.KnownBytes.{Appends};
+ghost use Rattle.dump_lines.specs.Parts.{AppendsPart};
+ghost use Rattle.arena_script.specs.declared.commands.Command.TheVariants as command;
+ghost use Rattle.arena_script.specs.Faults.{IsFault};
 ghost use Rattle.arena_script.specs.DumpData.{dump_of};
-ghost use Rattle.arena_script.specs.DumpText.{TellsVerdict, TellsBadLine, TellsPart};
+ghost use Rattle.arena_script.specs.DumpText.{AnswersDump};
 ghost use Rattle.arena_script.specs.ScriptLines.{lines_in};
 ghost use Rattle.arena_script.specs.VerdictText.{verdict_text, bad_line_text};
 
@@ -14,19 +17,24 @@ use std::alloc::{AllocError, Global};
 use std::io::{Read, Write};
 
 /// Reads a dump, and writes its verdict, or the number of its first bad line.
-#[tactic(auto, using(crate::proofs::Verdicts::tells_part_none, dump_lines::proofs::Parts::part_all, dump_lines::proofs::Parts::part_fewer))]
+#[tactic(auto, using(dump_lines::proofs::Parts::part_none))]
 pub(crate) fn check_dump<R: Read, W: Write>(
     alloc: Global,
     reader: &mut R,
     writer: &mut W,
 ) -> Result<(), ScriptEnd>
     ensures verdict { OnOk result (IsSome (R.remaining reader.old)
-        → TellsVerdict (dump_of (lines_in (R.remaining reader.old))) (W.contents writer.old) (W.contents writer.new)) }
+        → IsOk (dump_of (lines_in (R.remaining reader.old)))
+        × (text : List ℕ) × AnswersDump (dump_of (lines_in (R.remaining reader.old))) text
+        × Appends (W.contents writer.old) (W.contents writer.new) text) }
     ensures bad_line { result ≡ Err ScriptEnd.BadLine → IsSome (R.remaining reader.old)
-        → TellsBadLine (dump_of (lines_in (R.remaining reader.old))) (W.contents writer.old) (W.contents writer.new) }
+        → IsErr (dump_of (lines_in (R.remaining reader.old)))
+        × (text : List ℕ) × AnswersDump (dump_of (lines_in (R.remaining reader.old))) text
+        × Appends (W.contents writer.old) (W.contents writer.new) text }
     ensures part { IsSome (R.remaining reader.old)
-        → TellsPart (dump_of (lines_in (R.remaining reader.old))) (W.contents writer.old) (W.contents writer.new) }
-    ensures ends { IfErr result IsCheckFault }
+        → (text : List ℕ) → AnswersDump (dump_of (lines_in (R.remaining reader.old))) text
+        → AppendsPart (W.contents writer.old) (W.contents writer.new) text }
+    ensures ends { IfErr result (IsFault command.Check) }
 {
     match read_dump(alloc, reader)? {
         DumpRead::Whole(dump) => {

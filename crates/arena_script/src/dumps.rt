@@ -1,10 +1,8 @@
 // The lines of a dump: a tenant, and the entries of its history.
 ghost use Rattle.std.specs.Prelude.{◌≡◌, ◌<◌, ◌^◌, [], unwrap_or, IsSome, IfOk, IfErr, OnOk};
 ghost use Rattle.request_reader.specs.Reading.{lines_left, work_left};
-ghost use Rattle.arena_script.specs.CheckEnds.{IsLost};
-ghost use Rattle.arena_script.specs.DumpVerdict.{IsVerdictOn};
-ghost use Rattle.arena_script.specs.DumpData.{with_said, read_on, dump_of};
-ghost use Rattle.arena_script.specs.DumpReads.{came_to, after_first};
+ghost use Rattle.arena_script.specs.Faults.{IsLost};
+ghost use Rattle.arena_script.specs.DumpReads.{with_said, read_on, dump_read, came_to, after_first, IsVerdictHeld};
 ghost use Rattle.arena_script.specs.ScriptLines.{lines_in};
 
 use crate::devices::next_line;
@@ -29,9 +27,9 @@ pub(crate) struct Dump {
 }
 
 impl Model for Dump {
-    ghost use Rattle.arena_script.specs.DumpData.{DumpData};
+    ghost use Rattle.arena_script.specs.DumpHeld.{DumpHeld};
 
-    ghost Value = { DumpData };
+    ghost Value = { DumpHeld };
 
     ghost view = { λ d. record { config = d.config; entries = d.entries.items; has_foreign = d.has_foreign } };
 }
@@ -47,7 +45,7 @@ pub(crate) enum DumpRead {
 /// Reads a dump to its end, or to its first bad line.
 pub(crate) fn read_dump<R: Read>(alloc: Global, reader: &mut R) -> Result<DumpRead, ScriptEnd>
     ensures read { IfOk result (λ read. IsSome (R.remaining reader.old)
-        → dump_of (lines_in (R.remaining reader.old)) ≡ came_to read) }
+        → dump_read (lines_in (R.remaining reader.old)) ≡ came_to read) }
     ensures lost { IfErr result IsLost }
 {
     let mut lines = LineReader::new(alloc, MAX_SCRIPT_LINE)?;
@@ -64,7 +62,7 @@ fn read_first<R: Read>(
     reader: &mut R,
 ) -> Result<Option<Dump>, ScriptEnd>
     ensures first { IfOk result (λ first. IsSome (R.remaining reader.old)
-        → dump_of (lines_left lines.old (unwrap_or (R.remaining reader.old) []))
+        → dump_read (lines_left lines.old (unwrap_or (R.remaining reader.old) []))
         ≡ after_first first (lines_left lines.new (unwrap_or (R.remaining reader.new) []))) }
     ensures known { IsSome (R.remaining reader.old) → IsSome (R.remaining reader.new) }
     ensures work { IfOk result (λ first. IsSome first → work_left lines.new < work_left lines.old) }
@@ -127,7 +125,7 @@ impl Dump {
 
     /// The verdict on its history, in which a foreign entry is never right.
     pub(crate) fn verdict(&self, alloc: Global) -> Result<Verdict, AllocError>
-        ensures { IfOk result (λ verdict. IsVerdictOn self.now verdict) }
+        ensures { IfOk result (λ verdict. IsVerdictHeld self.now verdict) }
     {
         let verdict = check(alloc, self.config, self.entries.as_slice())?;
         if !self.has_foreign {

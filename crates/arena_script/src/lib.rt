@@ -2,6 +2,7 @@
 #![tactic(auto)]
 
 mod checks;
+mod commands;
 mod devices;
 mod dumps;
 mod ends;
@@ -10,7 +11,6 @@ mod own;
 mod runs;
 mod scripts;
 mod serials;
-mod steps;
 
 pub use ends::ScriptEnd;
 pub use inputs::MAX_SCRIPT_LINE;

@@ -1,142 +1,168 @@
 // The steps of one tenant, as the lines of a script spell them, and their answers.
-ghost use Rattle.std.specs.Prelude.{◌≡◌, nat_lt, if◌then◌else◌, Some, None, Ok, IfNone, IfSome, IfOk, OnErr};
+ghost use Rattle.std.specs.Prelude.{◌≡◌, option_and_then, option_map, Some, None, IfNone, IfSome, IfOk, OnErr, codes};
+ghost use Rattle.std.specs.Result.{result_ok};
+ghost use Rattle.job_language.specs.declared.steps.Step.TheVariants as step;
 ghost use Rattle.job_language.specs.declared.tenants.Tenant.{Tenant as Limits};
+ghost use Rattle.tenant_model.specs.Solo.{step as step_of};
 ghost use Rattle.tenant_model.specs.State.{State, empty};
+ghost use Rattle.serde_json.specs.Find.{get};
 ghost use Rattle.serde_json.specs.View.{view};
 ghost use Rattle.request_reader.specs.Answers.{HasJob};
 ghost use Rattle.request_reader.specs.Asks.{asked_by_value};
-ghost use Rattle.request_reader.specs.LineAsks.{IsText};
+ghost use Rattle.request_reader.specs.LineAsks.{IsText, value_of};
 ghost use Rattle.arena_core.specs.Stands.{StandsFor, Takes};
-ghost use Rattle.arena_script.specs.Steps.{own_line};
 ghost use Rattle.dump_lines.specs.Requests.{request_in, tenant_in};
 ghost use Rattle.arena_script.specs.ScriptAnswers.{line_taken};
 ghost use Rattle.arena_script.specs.ScriptLines.{line_of};
-ghost use Rattle.arena_script.specs.OwnAnswers.{reply_to, arrival, advancement, step_in, step_taken, OwnTakesMemory};
+ghost use Rattle.arena_script.specs.Steps.{asked, slot_of, step_name, step_taken, value_taken};
+ghost use Rattle.arena_script.specs.Taken.{or_none, StepTakesMemory, ValueTakesMemory};
 
 use crate::inputs::Input;
-use crate::steps::{OwnLine, own_line};
 use arena_core::Arena;
 use dump_lines::{request_in, tenant_of};
-use job_language::{Answer, Error, Reply, Request};
+use job_language::values::has_members;
+use job_language::{Answer, Error, Reply};
 use request_reader::value_of;
 use serde_json::Value;
 use std::alloc::{AllocError, Global};
 
-/// One tenant that a script speaks of, by its arena.
-#[derive(Drop)]
-pub(crate) struct Own {
-    arena: Arena,
-    slots: u8,
+/// The arena of the tenant that a script's first line names, which has done nothing yet.
+#[tactic(auto, using(crate::proofs::Telling::text_of_tenant))]
+pub(crate) fn read_arena(alloc: Global, line: &[u8]) -> Result<Option<Arena>, AllocError>
+    ensures none { IfOk result (λ arena. IfNone arena (tenant_in line.now ≡ None)) }
+    ensures new { IfOk result (λ arena. IfSome arena (λ arena. (c : Limits) × (tenant_in line.now ≡ Some c)
+        × StandsFor arena (empty c))) }
+    ensures takes { OnErr result (IsText line.now) }
+{
+    match tenant_of(alloc, line)? {
+        Some(config) => Ok(Some(Arena::new(alloc, config)?)),
+        None => Ok(None),
+    }
 }
 
-impl Own {
-    /// The tenant of a script's first line, which has done nothing yet.
-    #[tactic(auto, using(crate::proofs::Telling::text_of_tenant))]
-    pub(crate) fn read(alloc: Global, line: &[u8]) -> Result<Option<Own>, AllocError>
-        ensures none { IfOk result (λ own. IfNone own (tenant_in line.now ≡ None)) }
-        ensures new { IfOk result (λ own. IfSome own (λ own. (c : Limits) × (tenant_in line.now ≡ Some c)
-            × (own.slots ≡ c.slots) × StandsFor own.arena (empty c))) }
-        ensures takes { OnErr result (IsText line.now) }
-    {
-        let Some(config) = tenant_of(alloc, line)? else {
-            return Ok(None);
-        };
-        let slots = config.tenant().slots;
-        let arena = Arena::new(alloc, config)?;
-        Ok(Some(Own { arena, slots }))
+/// Takes the step of an input, whose text is that line, and gives the answer; what is no step has
+/// none. A line that is too long is no step.
+pub(crate) fn take_input(
+    alloc: Global,
+    arena: &mut Arena,
+    input: Input,
+    line: &[u8],
+) -> Result<Option<Answer>, AllocError>
+    ensures ok { (s : State) → StandsFor arena.old s → IfOk result (λ answer.
+        Takes arena.new answer (or_none s (line_taken s (line_of input line.now)))) }
+    ensures err { OnErr result (arena.new ≡ arena.old) }
+    ensures takes { OnErr result (IsText line.now) }
+{
+    match input {
+        Input::Line => take(alloc, arena, line),
+        Input::TooLong | Input::End => Ok(None),
     }
+}
 
-    /// Takes the step of an input, whose text is that line, and gives the answer. A line that is too
-    /// long is no step.
-    pub(crate) fn take_input(
-        &mut self,
-        alloc: Global,
-        input: Input,
-        line: &[u8],
-    ) -> Result<Option<Answer>, AllocError>
-        ensures ok { (s : State) → StandsFor self.old.arena s → IfOk result (λ answer.
-            Takes self.new.arena answer (line_taken self.old.slots (line_of input line.now) s)) }
-        ensures slots { self.new.slots ≡ self.old.slots }
-        ensures err { OnErr result (self.new.arena ≡ self.old.arena) }
-        ensures takes { OnErr result (IsText line.now) }
-    {
-        match input {
-            Input::Line => self.take(alloc, line),
-            Input::TooLong | Input::End => Ok(None),
-        }
+/// Takes the step of a line.
+fn take(alloc: Global, arena: &mut Arena, line: &[u8]) -> Result<Option<Answer>, AllocError>
+    ensures ok { (s : State) → StandsFor arena.old s → IfOk result (λ answer.
+        Takes arena.new answer (or_none s (option_and_then (value_taken s) (result_ok (value_of line.now))))) }
+    ensures err { OnErr result (arena.new ≡ arena.old) }
+    ensures takes { OnErr result (IsText line.now) }
+{
+    match value_of(alloc, line) {
+        Ok(value) => take_value(alloc, arena, &value),
+        Err(Error::NoMemory) => Err(AllocError),
+        Err(_) => Ok(None),
     }
+}
 
-    /// Takes the step of a line, and gives the answer; a line that is no step has none.
-    fn take(&mut self, alloc: Global, line: &[u8]) -> Result<Option<Answer>, AllocError>
-        ensures ok { (s : State) → StandsFor self.old.arena s → IfOk result (λ answer.
-            Takes self.new.arena answer (step_taken self.old.slots (step_in line.now) s)) }
-        ensures slots { self.new.slots ≡ self.old.slots }
-        ensures err { OnErr result (self.new.arena ≡ self.old.arena) }
-        ensures takes { OnErr result (IsText line.now) }
-    {
-        let value = match value_of(alloc, line) {
-            Ok(value) => value,
-            Err(Error::NoMemory) => return Err(AllocError),
-            Err(_) => return Ok(None),
-        };
-        self.take_value(alloc, &value)
+fn take_value(alloc: Global, arena: &mut Arena, value: &Value) -> Result<Option<Answer>, AllocError>
+    ensures ok { (s : State) → StandsFor arena.old s → IfOk result (λ answer.
+        Takes arena.new answer (or_none s (value_taken s (view value.now)))) }
+    ensures err { OnErr result (arena.new ≡ arena.old) }
+    ensures takes { OnErr result (ValueTakesMemory (view value.now)) }
+{
+    if !has_members(2, value) {
+        return Ok(None);
     }
-
-    fn take_value(&mut self, alloc: Global, value: &Value) -> Result<Option<Answer>, AllocError>
-        ensures ok { (s : State) → StandsFor self.old.arena s → IfOk result (λ answer.
-            Takes self.new.arena answer (step_taken self.old.slots (own_line (view value.now)) s)) }
-        ensures slots { self.new.slots ≡ self.old.slots }
-        ensures err { OnErr result (self.new.arena ≡ self.old.arena) }
-        ensures takes { OnErr result (OwnTakesMemory (own_line (view value.now))) }
-    {
-        match own_line(value) {
-            Some(OwnLine::Ask(request)) => Ok(Some(Answer::Replied(self.ask(alloc, request)?))),
-            Some(OwnLine::Arrive(slot)) => Ok(self.arrive(slot)),
-            Some(OwnLine::Advance(slot)) => Ok(self.advance(slot)),
-            None => Ok(None),
-        }
+    match step_name(value) {
+        Some(name) => take_step(alloc, arena, name, value),
+        None => Ok(None),
     }
+}
 
-    fn ask(&mut self, alloc: Global, value: &Value) -> Result<Reply, AllocError>
-        ensures ok { (s : State) → StandsFor self.old.arena s → IfOk result (λ reply.
-            Takes self.new.arena reply (reply_to s (request_in (view value.now)))) }
-        ensures slots { self.new.slots ≡ self.old.slots }
-        ensures err { OnErr result (self.new.arena ≡ self.old.arena) }
-        ensures takes { OnErr result (HasJob (asked_by_value (view value.now))) }
-    {
-        match request_in(alloc, value) {
-            Ok(request) => Ok(self.arena.ask(request)),
-            Err(Error::NoMemory) => Err(AllocError),
-            Err(error) => Ok(Reply::Refused(error)),
-        }
+fn step_name(value: &Value) -> Option<&str>
+    ensures { option_map (λ name. name.now) result ≡ step_name (view value.now) }
+{
+    value.get("step")?.as_str()
+}
+
+/// Takes the step of that name which a value spells.
+fn take_step(
+    alloc: Global,
+    arena: &mut Arena,
+    name: &str,
+    value: &Value,
+) -> Result<Option<Answer>, AllocError>
+    ensures ok { (s : State) → StandsFor arena.old s → IfOk result (λ answer.
+        Takes arena.new answer (or_none s (step_taken s name.now (view value.now)))) }
+    ensures err { OnErr result (arena.new ≡ arena.old) }
+    ensures takes { OnErr result (StepTakesMemory name.now (view value.now)) }
+{
+    match name {
+        "ask" => ask(alloc, arena, value),
+        "arrive" => Ok(arrive(arena, value)),
+        "advance" => Ok(advance(arena, value)),
+        _ => Ok(None),
     }
+}
 
-    fn arrive(&mut self, slot: u64) -> Option<Answer>
-        ensures answer { (s : State) → StandsFor self.old.arena s
-            → Takes self.new.arena result (arrival self.old.slots s slot) }
-        ensures slots { self.new.slots ≡ self.old.slots }
-    {
-        let slot = self.slot(slot)?;
-        Some(Answer::Came(self.arena.arrive(slot)))
+fn ask(alloc: Global, arena: &mut Arena, value: &Value) -> Result<Option<Answer>, AllocError>
+    ensures ok { (s : State) → StandsFor arena.old s → IfOk result (λ answer. Takes arena.new answer
+        (or_none s (option_and_then (λ request. Some (asked s (request_in request))) (get (codes "request") (view value.now))))) }
+    ensures err { OnErr result (arena.new ≡ arena.old) }
+    ensures takes { OnErr result (HasJob (option_and_then asked_by_value (get (codes "request") (view value.now)))) }
+{
+    match value.get("request") {
+        Some(request) => Ok(Some(Answer::Replied(reply_to(alloc, arena, request)?))),
+        None => Ok(None),
     }
+}
 
-    fn advance(&mut self, slot: u64) -> Option<Answer>
-        ensures answer { (s : State) → StandsFor self.old.arena s
-            → Takes self.new.arena result (advancement self.old.slots s slot) }
-        ensures slots { self.new.slots ≡ self.old.slots }
-    {
-        let slot = self.slot(slot)?;
-        Some(Answer::Moved(self.arena.advance(slot)))
+fn reply_to(alloc: Global, arena: &mut Arena, request: &Value) -> Result<Reply, AllocError>
+    ensures ok { (s : State) → StandsFor arena.old s → IfOk result (λ reply.
+        Takes arena.new (Answer.Replied reply) (asked s (request_in (view request.now)))) }
+    ensures err { OnErr result (arena.new ≡ arena.old) }
+    ensures takes { OnErr result (HasJob (asked_by_value (view request.now))) }
+{
+    match request_in(alloc, request) {
+        Ok(request) => Ok(arena.ask(request)),
+        Err(Error::NoMemory) => Err(AllocError),
+        Err(error) => Ok(Reply::Refused(error)),
     }
+}
 
-    /// The slot of a number, where the tenant has it.
-    fn slot(&self, number: u64) -> Option<u8>
-        ensures { result ≡ (if nat_lt number self.now.slots then Some number else None) }
-    {
-        if number < u64::from(self.slots) {
-            Some(number as u8)
-        } else {
-            None
-        }
+fn arrive(arena: &mut Arena, value: &Value) -> Option<Answer>
+    ensures { (s : State) → StandsFor arena.old s → Takes arena.new result
+        (or_none s (option_and_then (λ slot. Some (step_of s (step.Arrive slot))) (slot_of s (view value.now)))) }
+{
+    let slot = slot_of(arena, value)?;
+    Some(Answer::Came(arena.arrive(slot)))
+}
+
+fn advance(arena: &mut Arena, value: &Value) -> Option<Answer>
+    ensures { (s : State) → StandsFor arena.old s → Takes arena.new result
+        (or_none s (option_and_then (λ slot. Some (step_of s (step.Advance slot))) (slot_of s (view value.now)))) }
+{
+    let slot = slot_of(arena, value)?;
+    Some(Answer::Moved(arena.advance(slot)))
+}
+
+/// The slot that a value names, if the tenant has it.
+fn slot_of(arena: &Arena, value: &Value) -> Option<u8>
+    ensures { (s : State) → StandsFor arena.now s → result ≡ slot_of s (view value.now) }
+{
+    let slot = value.get("slot")?.as_u64()?;
+    if slot < u64::from(arena.config().slots) {
+        Some(slot as u8)
+    } else {
+        None
     }
 }

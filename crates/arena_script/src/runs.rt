@@ -3,7 +3,8 @@ ghost use Rattle.std.specs.Prelude.{◌≡◌, ◌≢◌, ℕ, List, Err, IsSome
 ghost use Rattle.world_model.specs.World.{World as Known};
 ghost use Rattle.world_script.specs.Knowing.{Knows};
 ghost use Rattle.arena_script.specs.Answered.{AnswersAll, AnswersPart};
-ghost use Rattle.arena_script.specs.OwnEnds.{IsFault};
+ghost use Rattle.arena_script.specs.declared.commands.Command.TheVariants as command;
+ghost use Rattle.arena_script.specs.Faults.{IsFault};
 ghost use Rattle.arena_script.specs.RunAnswers.{AnswersRun, HasNoConfig, StartsRun, TakesLine, TellsOutcome};
 ghost use Rattle.arena_script.specs.ScriptLines.{all_lines, line_of, script_lines};
 
@@ -24,7 +25,7 @@ pub(crate) fn run<A: TenantArena, R: Read, W: Write>(
     reader: &mut R,
     writer: &mut W,
 ) -> Result<(), ScriptEnd>
-    ensures ends { IfErr result IsFault }
+    ensures ends { IfErr result (IsFault command.Run) }
     ensures unwritten { result ≡ Err ScriptEnd.Config → writer.new ≡ writer.old }
     ensures no_config { result ≡ Err ScriptEnd.Config → IsSome (R.remaining reader.old)
         → HasNoConfig (all_lines (R.remaining reader.old)) }
@@ -52,7 +53,7 @@ fn take_all<A: TenantArena, R: Read, W: Write>(
     reader: &mut R,
     writer: &mut W,
 ) -> Result<(), ScriptEnd>
-    ensures ends { IfErr result (λ end. IsFault end × (end ≢ ScriptEnd.Config)) }
+    ensures ends { IfErr result (λ end. IsFault command.Run end × (end ≢ ScriptEnd.Config)) }
     ensures done { (names : List (List ℕ)) (w : Known) → Knows A.stands_for names w world.old
         → OnOk result (IsSome (R.remaining reader.old) → (final : Known)
         × AnswersAll (TellsOutcome names) (script_lines lines (R.remaining reader.old)) w

@@ -7,7 +7,8 @@ ghost use Rattle.request_reader.specs.LineAsks.{IsText};
 ghost use Rattle.dump_lines.specs.Parts.{AppendsPart};
 ghost use Rattle.arena_script.specs.ScriptLines.{line_of, all_lines};
 ghost use Rattle.arena_script.specs.SerialAnswers.{serial_answer, serial_answers, serial_in, serial_of_job, serial_of_read};
-ghost use Rattle.arena_script.specs.SerialEnds.{IsSerialFault};
+ghost use Rattle.arena_script.specs.declared.commands.Command.TheVariants as command;
+ghost use Rattle.arena_script.specs.Faults.{IsFault};
 
 use crate::devices::put;
 use crate::ends::ScriptEnd;
@@ -27,7 +28,7 @@ pub(crate) fn serial_values<R: Read, W: Write>(
     reader: &mut R,
     writer: &mut W,
 ) -> Result<(), ScriptEnd>
-    ensures ends { IfErr result IsSerialFault }
+    ensures ends { IfErr result (IsFault command.Serial) }
     ensures done { OnOk result (IsSome (R.remaining reader.old)
         → Appends (W.contents writer.old) (W.contents writer.new) (serial_answers (all_lines (R.remaining reader.old)))) }
     ensures part { IsSome (R.remaining reader.old)

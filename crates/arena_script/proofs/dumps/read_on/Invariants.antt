@@ -1,6 +1,6 @@
 use Rattle.std.proofs.Common.{◌≡◌, ◌≤◌, ◌+◌, [], unwrap_or, IsSome}
 use Rattle.request_reader.specs.Reading.{lines_left, work_left}
-use Rattle.arena_script.specs.DumpData.{read_on}
+use Rattle.arena_script.specs.DumpReads.{read_on}
 use Rattle.arena_script.proofs.dumps.read_on.Given as goal
 
 abbrev pub invariant-loop-lines : goal.invariant-loop-lines

@@ -1,13 +1,62 @@
-use Rattle.std.proofs.Common.{rules}
+use Rattle.std.proofs.Common.{rules, ◌≡◌, ◌∙◌, sym, ap, subst, Some, Ok, Err, Result}
+use Rattle.std.specs.Prelude.{Contains, IfErr, OnOk}
+use Rattle.arena_script.specs.Commands.{command_of, ends_of}
+use Rattle.arena_script.specs.declared.commands.Command.TheVariants as command
+use Rattle.arena_script.specs.declared.ends.ScriptEnd.{ScriptEnd}
+use Rattle.arena_script.specs.declared.ends.ScriptEnd.TheVariants.{Words}
+use Rattle.arena_script.proofs.Ending.{ends_fault, ends_words}
 use Rattle.arena_script.proofs.scripts.script.Goals as goal
-use Rattle.arena_script.proofs.scripts.script.Goals.{in-check, in-serial, in-run, in_default, in_default-2, in-empty, then-words-lt1, else-words-lt1+then-words-lt2+in-own-1}
+use Rattle.arena_script.proofs.scripts.script.Goals.{in-Some-Own, in-Some-Run, in-Some-Check, in-Some-Serial, in-None}
+
+ok_then : {T E : Type 0} (r s : Result T E) (x : T) (P : Type 0) → r ≡ s → r ≡ Ok x → OnOk s P → P
+ok_then {T = T} {E = E} r s x P same ok it = subst (λ (q : Result T E). OnOk q P) (sym same ∙ ok) it
+
+err_then : {T E : Type 0} (r s : Result T E) (e : E) (P : E → Type 0) → r ≡ s → r ≡ Err e → IfErr s P → P e
+err_then {T = T} {E = E} r s e P same err it = subst (λ (q : Result T E). IfErr q P) (sym same ∙ err) it
+
+pub returns-in-Ok-clause-verdict : goal.returns-in-Ok-clause-verdict
+returns-in-Ok-clause-verdict g c = elim c.match-of.branch [
+  | in-Some-Own w ↦ λ is done known. absurd (cc)
+  | in-Some-Run w ↦ λ is done known. absurd (cc)
+  | in-Some-Check w ↦ λ is done known. rw w.writer-is (ok_then _ _ _ _ w.ended-is c.in-Ok.is w.check_dump-ended.ensures.verdict known)
+  | in-Some-Serial w ↦ λ is done known. absurd (cc)
+  | in-None w ↦ λ is done known. absurd (cc)
+]
+
+pub returns-in-Ok-clause-own_part : goal.returns-in-Ok-clause-own_part
+returns-in-Ok-clause-own_part g c = elim c.match-of.branch [
+  | in-Some-Own w ↦ λ is known. rw w.writer-is (w.own-ended.ensures.part known)
+  | in-Some-Run w ↦ λ is known. absurd (cc)
+  | in-Some-Check w ↦ λ is known. absurd (cc)
+  | in-Some-Serial w ↦ λ is known. absurd (cc)
+  | in-None w ↦ λ is known. absurd (cc)
+]
 
 pub returns-in-Ok-clause-check_part : goal.returns-in-Ok-clause-check_part
-returns-in-Ok-clause-check_part g c = elim c.if-words-lt1.branch [
-  | in-check w ↦ λ _ known. rw w.writer-is (w.check_dump-ended.ensures.part known)
-  | in-serial w ↦ search rules
-  | in-run w ↦ search rules
-  | in_default w ↦ search rules
-  | in_default-2 w ↦ search rules
-  | in-empty w ↦ search rules
+returns-in-Ok-clause-check_part g c = elim c.match-of.branch [
+  | in-Some-Own w ↦ λ is known. absurd (cc)
+  | in-Some-Run w ↦ λ is known. absurd (cc)
+  | in-Some-Check w ↦ λ is known. rw w.writer-is (w.check_dump-ended.ensures.part known)
+  | in-Some-Serial w ↦ λ is known. absurd (cc)
+  | in-None w ↦ λ is known. absurd (cc)
+]
+
+pub returns-in-Err-clause-ends : goal.returns-in-Err-clause-ends
+returns-in-Err-clause-ends g c = elim c.match-of.branch [
+  | in-Some-Own w ↦ ends_fault _ command.Own _ (cc) (err_then _ _ _ _ w.ended-is c.in-Err.is w.own-ended.ensures.ends)
+  | in-Some-Run w ↦ ends_fault _ command.Run _ (cc) (err_then _ _ _ _ w.ended-is c.in-Err.is w.run-ended.ensures.ends)
+  | in-Some-Check w ↦ ends_fault _ command.Check _ (cc) (err_then _ _ _ _ w.ended-is c.in-Err.is w.check_dump-ended.ensures.ends)
+  | in-Some-Serial w ↦ ends_fault _ command.Serial _ (cc) (err_then _ _ _ _ w.ended-is c.in-Err.is w.serial_values-ended.ensures.ends)
+  | in-None w ↦
+      let as_words : Words ≡ c.in-Err.end = cc in
+      subst (λ (e : ScriptEnd). Contains (ends_of (command_of c.args.words.now)) e) as_words (ends_words _ (cc))
+]
+
+pub returns-in-Err-clause-bad_line : goal.returns-in-Err-clause-bad_line
+returns-in-Err-clause-bad_line g c = elim c.match-of.branch [
+  | in-Some-Own w ↦ λ is bad known. absurd (cc)
+  | in-Some-Run w ↦ λ is bad known. absurd (cc)
+  | in-Some-Check w ↦ λ is bad known. rw w.writer-is (w.check_dump-ended.ensures.bad_line (sym w.ended-is ∙ c.in-Err.is ∙ ap (λ (e : ScriptEnd). Err e) bad) known)
+  | in-Some-Serial w ↦ λ is bad known. absurd (cc)
+  | in-None w ↦ λ is bad known. absurd (cc)
 ]
