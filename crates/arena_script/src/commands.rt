@@ -4,7 +4,7 @@ ghost use Rattle.arena_script.specs.Commands.{command_of};
 
 /// What a script is.
 #[derive(Clone, Copy, Debug, PartialEq, Eq)]
-pub(crate) enum Command {
+pub enum Command {
     /// The first line is a tenant, and the others are its steps.
     Own,
     /// The first line is a configuration, and the others are the steps of its world.
@@ -17,7 +17,7 @@ pub(crate) enum Command {
 
 impl Command {
     /// The command that words ask for.
-    pub(crate) fn of(words: &[&str]) -> Option<Command>
+    pub fn of(words: &[&str]) -> Option<Command>
         ensures { result ≡ command_of words.now }
     {
         match words {

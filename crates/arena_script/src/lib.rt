@@ -12,6 +12,7 @@ mod runs;
 mod scripts;
 mod serials;
 
+pub use commands::Command;
 pub use ends::ScriptEnd;
 pub use inputs::MAX_SCRIPT_LINE;
 pub use scripts::script;
