@@ -9,8 +9,13 @@ use Rattle.request_reader.specs.LineAsks.{value_of}
 use Rattle.job_language.specs.declared.answers.Reply.TheVariants.{Refused}
 use Rattle.job_language.specs.declared.errors.Error.{Error}
 use Rattle.job_language.specs.declared.errors.Error.TheVariants.{LineTooLong, BadJson, BadRequest, BadProgram, UnknownTenant, UnknownJob, JobLimit, HistoryFull, NoMemory, TaskLimit, NoTenant, Busy}
+use Rattle.job_language.specs.declared.requests.Request.{Request}
+use Rattle.job_language.specs.declared.answers.Reply.{Reply}
+use Rattle.dump_lines.specs.declared.lines.Said.TheVariants as said
+use Rattle.dump_lines.specs.Lines.{ask, recorded, said_in_value}
 use Rattle.dump_lines.specs.Replies.{reply_in}
-use Rattle.dump_lines.specs.Written.{refusal_data}
+use Rattle.dump_lines.specs.Requests.{request_in}
+use Rattle.dump_lines.specs.Written.{ask_data, refusal_data}
 
 pub text_reads : (line text : List ℕ) (d : Data) → text ≡ line → IsUtf8 text → read line ≡ Some d → value_of line ≡ Ok d
 text_reads line text d same utf8 reads =
@@ -30,3 +35,6 @@ read_refusal NoMemory = refl
 read_refusal TaskLimit = refl
 read_refusal NoTenant = refl
 read_refusal Busy = refl
+
+pub read_ask : (d answered asked : Data) (request : Request) (reply : Reply) → d ≡ ask_data answered asked → recorded (request_in asked) ≡ Some request → reply_in answered ≡ Some (Some reply) → said_in_value d ≡ Some (said.Entry (ask request reply))
+read_ask d answered asked request reply is p q = rw (is, p, q) refl

@@ -1,9 +1,10 @@
--- The replies that a dump's entries hold. A reply has exactly the members that are listed. Where
--- its numbers are none that a tenant answers with, there is none inside.
-use Rattle.std.specs.Prelude.{ℕ, ℤ, nat_le, nat_lt, ◌==◌, ◌||◌, Bool, if◌then◌else◌, List, [], ◌∷◌, Option, Some, None, is_some, option_map, find, codes}
+-- The replies that a dump's entries hold. A reply has exactly the members that are listed. Where its numbers are none
+-- that a tenant answers with, there is none inside.
+use Rattle.std.specs.Prelude.{ℕ, ◌==◌, ◌||◌, Bool, false, if◌then◌else◌, List, [], ◌∷◌, Option, Some, None, is_some, option_map, find, fold, codes}
+use Rattle.std.specs.Option.{option_map_or, option_or}
 use Rattle.std.specs.Str.{bytes_eq}
 use Rattle.serde_json.specs.Data.{Data}
-use Rattle.serde_json.specs.Find.{get, as_str, as_bool}
+use Rattle.serde_json.specs.Find.{as_str, as_bool}
 use Rattle.job_language.specs.declared.answers.Reply.{Reply}
 use Rattle.job_language.specs.declared.answers.Reply.TheVariants.{Made, Placed, Job, Cells, Arena, Epoch, Refused}
 use Rattle.job_language.specs.declared.answers.Reply.TheVariants as reply
@@ -13,30 +14,37 @@ use Rattle.job_language.specs.declared.errors.Error.{Error}
 use Rattle.job_language.specs.declared.errors.Error.TheVariants.{LineTooLong, BadJson, BadRequest, BadProgram, UnknownTenant, UnknownJob, JobLimit, HistoryFull, NoMemory, TaskLimit, NoTenant, Busy}
 use Rattle.job_language.specs.declared.errors.JobFault.{JobFault}
 use Rattle.job_language.specs.declared.errors.JobFault.TheVariants as fault
-use Rattle.job_language.specs.declared.tenants.Level.{Level}
 use Rattle.job_language.specs.ErrorCodes.{code_of, name_of, fault_code_of}
-use Rattle.job_language.specs.declared.instructions.TheConstants.{KEYS}
-use Rattle.job_language.specs.Json.{◌>>=◌, whole, integer, has_members}
-use Rattle.job_language.specs.TenantWords.{level_named}
+use Rattle.job_language.specs.Instruction.{below, key}
+use Rattle.job_language.specs.Json.{◌>>=◌, get_as, whole, integer, has_members}
+use Rattle.job_language.specs.TenantOf.{level_of}
 
--- a whole number of 64 bits, with a sign or without
-abbrev pub is_whole : Data → Bool
-is_whole d = is_some (whole d) || is_some (integer d)
+-- what is read of a value with exactly so many members
+abbrev pub only : {A : Type 0} → ℕ → Data → Option A → Option A
+only n d it = if has_members n d then it else None
 
--- a member that is whole, and inside what it is without a sign
-abbrev pub natural : List ℕ → Data → Option (Option ℕ)
-natural name d = get name d >>= λ number. if is_whole number then Some (whole number) else None
+-- Is the member of that name this text?
+abbrev pub is_word : (name text : List ℕ) → Data → Bool
+is_word name text d = option_map_or (λ it. bytes_eq it text) (get_as name as_str d) false
 
--- the same, inside what it is with a sign
-abbrev pub signed : List ℕ → Data → Option (Option ℤ)
-signed name d = get name d >>= λ number. if is_whole number then Some (integer number) else None
+-- a member that is a whole number of 64 bits, with a sign or without
+abbrev pub whole_member : List ℕ → Data → Option Data
+whole_member name = get_as name (λ it. if is_some (whole it) || is_some (integer it) then Some it else None)
 
-abbrev pub byte : Option ℕ → Option ℕ
-byte number = number >>= λ n. if nat_le n 255 then Some n else None
+-- the same, and inside what it is to a tenant
+abbrev pub number : {A : Type 0} → (Data → Option A) → List ℕ → Data → Option (Option A)
+number read name d = option_map read (whole_member name d)
 
--- the same, inside what it is from 0 to 255
-abbrev pub small : List ℕ → Data → Option (Option ℕ)
-small name d = option_map byte (natural name d)
+-- a member that is always one of a tenant's
+abbrev pub sure : {A : Type 0} → (Data → Option A) → List ℕ → Data → Option (Option A)
+sure read name d = option_map (λ it. Some it) (get_as name read d)
+
+-- what two make, if both are there
+abbrev pub two : {A B C : Type 0} → (A → B → C) → Option A → Option B → Option C
+two make a b = a >>= λ x. option_map (make x) b
+
+abbrev pub three : {A B C D : Type 0} → (A → B → C → D) → Option A → Option B → Option C → Option D
+three make a b c = a >>= λ x. two (make x) b c
 
 abbrev pub errors : List Error
 errors = LineTooLong ∷ BadJson ∷ BadRequest ∷ BadProgram ∷ UnknownTenant ∷ UnknownJob ∷ JobLimit ∷ HistoryFull ∷ NoMemory ∷ TaskLimit ∷ NoTenant ∷ Busy ∷ []
@@ -44,105 +52,33 @@ errors = LineTooLong ∷ BadJson ∷ BadRequest ∷ BadProgram ∷ UnknownTenant
 abbrev pub error_coded : ℕ → Option Error
 error_coded code = find (λ e. code_of e == code) errors
 
--- the error of a code, where that is its name
-abbrev pub error_of : ℕ → List ℕ → Option Error
-error_of code name = error_coded code >>= λ e. if bytes_eq (name_of e) name then Some e else None
-
+-- the error whose code and name stand there
 abbrev pub error_in : Data → Option Error
-error_in d = do
-  c ← get (codes "code") d
-  code ← whole c
-  e ← get (codes "error") d
-  name ← as_str e
-  error_of code name
+error_in d = get_as (codes "code") whole d >>= error_coded >>= λ e. if is_word (codes "error") (name_of e) d then Some e else None
 
 abbrev pub faults : List JobFault
 faults = fault.Division ∷ fault.Fuel ∷ fault.TooDeep ∷ fault.TaskLimit ∷ fault.MissingWait ∷ []
 
-abbrev pub fault_coded : ℕ → Option JobFault
-fault_coded code = find (λ f. fault_code_of f == code) faults
+abbrev pub fault_of : Data → Option JobFault
+fault_of d = whole d >>= λ code. find (λ f. fault_code_of f == code) faults
 
-abbrev pub fault_of : Option ℕ → Option JobFault
-fault_of code = code >>= fault_coded
+-- a job under the status of that word
+abbrev pub job_that : List ℕ → Option (Option Status) → Data → Option (Option Reply)
+job_that word status d = if is_word (codes "status") word d then two (two Job) (number whole (codes "job") d) status else None
 
-abbrev pub fault_in : Data → Option (Option JobFault)
-fault_in d = option_map fault_of (natural (codes "fault") d)
-
-abbrev pub placed : Option ℕ → Option ℕ → Option Reply
-placed job slot = job >>= λ j. slot >>= λ s. Some (Placed j s)
-
-abbrev pub canceled : Option ℕ → Bool → Option Reply
-canceled job first = job >>= λ j. Some (reply.Cancelled j first)
-
-abbrev pub status_of : Option ℕ → Option Status → Option Reply
-status_of job status = job >>= λ j. status >>= λ s. Some (Job j s)
-
-abbrev pub arena : Level → Option ℕ → Option ℕ → Option Reply
-arena level reserved slots = reserved >>= λ r. slots >>= λ s. Some (Arena level r s)
-
-abbrev pub key_of : ℕ → Option ℕ
-key_of n = if nat_lt n KEYS then Some n else None
-
-abbrev pub cells : Option ℕ → Option ℕ → Option ℤ → Option Reply
-cells key count sum = key >>= λ n. key_of n >>= λ k. count >>= λ c. sum >>= λ s. Some (Cells k c s)
-
-abbrev pub arena_in : Data → Option (Option Reply)
-arena_in d = do
-  p ← get (codes "priority") d
-  word ← as_str p
-  level ← level_named word
-  reserved ← small (codes "reserved") d
-  slots ← small (codes "slots") d
-  Some (arena level reserved slots)
-
-abbrev pub cells_in : Data → Option (Option Reply)
-cells_in d = do
-  count ← natural (codes "count") d
-  key ← natural (codes "key") d
-  sum ← signed (codes "sum") d
-  Some (cells key count sum)
-
--- `{"job":..}`, `{"epoch":..}` or `{"tenant":..}`; a tenant never tells its name
-abbrev pub single : Data → Option (Option Reply)
-single d =
-    if is_some (get (codes "job") d) then option_map (option_map (λ j. Made j)) (natural (codes "job") d)
-    else if is_some (get (codes "epoch") d) then option_map (option_map (λ n. Epoch n)) (natural (codes "epoch") d)
-    else (get (codes "tenant") d >>= λ t. as_str t >>= λ text. Some None)
-
-abbrev pub bare_status : List ℕ → Option ℕ → Option (Option Reply)
-bare_status word job =
-    if bytes_eq word (codes "running") then Some (status_of job (Some Running))
-    else if bytes_eq word (codes "canceled") then Some (status_of job (Some Cancelled))
-    else None
-
--- an error, or a job with a slot, with `first` or with a status that says no more
-abbrev pub with_job : Data → Option ℕ → Option (Option Reply)
-with_job d job =
-    if is_some (get (codes "slot") d) then option_map (placed job) (small (codes "slot") d)
-    else if is_some (get (codes "first") d) then (get (codes "first") d >>= λ f. as_bool f >>= λ first. Some (canceled job first))
-    else (get (codes "status") d >>= λ s. as_str s >>= λ word. bare_status word job)
-
-abbrev pub double : Data → Option (Option Reply)
-double d =
-    if is_some (get (codes "error") d) then option_map (λ e. Some (Refused e)) (error_in d)
-    else (natural (codes "job") d >>= with_job d)
-
-abbrev pub full_status : Data → List ℕ → Option ℕ → Option (Option Reply)
-full_status d word job =
-    if bytes_eq word (codes "complete") then option_map (λ value. status_of job (option_map (λ x. Complete x) value)) (signed (codes "value") d)
-    else if bytes_eq word (codes "fault") then option_map (λ fault. status_of job (option_map (λ f. Fault f) fault)) (fault_in d)
-    else None
-
--- the arena's limits, cells, or a job's value or fault
-abbrev pub triple : Data → Option (Option Reply)
-triple d =
-    if is_some (get (codes "priority") d) then arena_in d
-    else if is_some (get (codes "key") d) then cells_in d
-    else (natural (codes "job") d >>= λ job. get (codes "status") d >>= λ s. as_str s >>= λ word. full_status d word job)
-
+-- the first of these shapes that it has; a tenant never tells its name
 abbrev pub reply_in : Data → Option (Option Reply)
-reply_in d =
-    if has_members 1 d then single d
-    else if has_members 2 d then double d
-    else if has_members 3 d then triple d
-    else None
+reply_in d = fold option_or None
+    (only 1 d (option_map (option_map Made) (number whole (codes "job") d))
+    ∷ only 1 d (option_map (option_map Epoch) (number whole (codes "epoch") d))
+    ∷ only 1 d (option_map (λ name. None) (get_as (codes "tenant") as_str d))
+    ∷ only 2 d (option_map (λ error. Some (Refused error)) (error_in d))
+    ∷ only 2 d (two (two Placed) (number whole (codes "job") d) (number (below 256) (codes "slot") d))
+    ∷ only 2 d (two (two reply.Cancelled) (number whole (codes "job") d) (sure as_bool (codes "first") d))
+    ∷ only 2 d (job_that (codes "running") (Some (Some Running)) d)
+    ∷ only 2 d (job_that (codes "canceled") (Some (Some Cancelled)) d)
+    ∷ only 3 d (job_that (codes "complete") (option_map (option_map Complete) (number integer (codes "value") d)) d)
+    ∷ only 3 d (job_that (codes "fault") (option_map (option_map Fault) (number fault_of (codes "fault") d)) d)
+    ∷ only 3 d (three (three Arena) (sure level_of (codes "priority") d) (number (below 256) (codes "reserved") d) (number (below 256) (codes "slots") d))
+    ∷ only 3 d (three (three Cells) (number key (codes "key") d) (number whole (codes "count") d) (number integer (codes "sum") d))
+    ∷ [])

@@ -1,13 +1,17 @@
 // What the lines of a dump after the first say.
-ghost use Rattle.std.specs.Prelude.{◌≡◌, option_map, IfOk, OnErr};
+ghost use Rattle.std.specs.Prelude.{◌≡◌, ◌&&◌, Some, option_map, codes, IfOk, OnErr};
 ghost use Rattle.serde_json.specs.View.{view};
+ghost use Rattle.job_language.specs.declared.answers.Moved.TheVariants as moved;
+ghost use Rattle.job_language.specs.Instruction.{below};
+ghost use Rattle.job_language.specs.Json.{get_as, whole};
 ghost use Rattle.request_reader.specs.Answers.{HasJob};
 ghost use Rattle.request_reader.specs.Asks.{asked_by_value};
 ghost use Rattle.request_reader.specs.LineAsks.{IsText};
-ghost use Rattle.dump_lines.specs.Lines.{said_by, said_in_value, step_word, asked, ask_said, recorded, arrived, arrival_of, arrival_said, advanced, advance_said, moved_word, moved_named};
+ghost use Rattle.dump_lines.specs.Lines.{said_by, said_in_value, entry_in, ask, arrival, advance, moved_in, recorded};
+ghost use Rattle.dump_lines.specs.Replies.{is_word, number, only, reply_in, sure, two};
 ghost use Rattle.dump_lines.specs.Requests.{request_in};
 
-use crate::replies::{natural, reply_in, small};
+use crate::replies::{is_word, natural, reply_in, slot};
 use crate::requests::request_in;
 use job_language::values::has_members;
 use job_language::{Answer, Came, Entry, Error, Moved, Reply, Request, Step};
@@ -39,22 +43,31 @@ pub fn said_by(alloc: Global, line: &[u8]) -> Result<Option<Said>, AllocError>
 fn said_in_value(alloc: Global, value: &Value) -> Result<Option<Said>, AllocError>
     ensures { IfOk result (λ said. said ≡ said_in_value (view value.now)) }
 {
-    match step_word(value) {
-        Some("ask") => asked(alloc, value),
-        Some("arrive") => Ok(arrived(value)),
-        Some("advance") => Ok(advanced(value)),
-        _ => Ok(None),
+    match entry_in(alloc, value)? {
+        Some(Some(entry)) => Ok(Some(Said::Entry(entry))),
+        Some(None) => Ok(Some(Said::Foreign)),
+        None => Ok(None),
     }
 }
 
-fn step_word(value: &Value) -> Option<&str>
-    ensures { option_map (λ word. word.now) result ≡ step_word (view value.now) }
+/// The entry that a value spells; one that no tenant has is an inner `None`.
+fn entry_in(alloc: Global, value: &Value) -> Result<Option<Option<Entry>>, AllocError>
+    ensures { IfOk result (λ entry. entry ≡ entry_in (view value.now)) }
 {
-    value.get("step")?.as_str()
+    if is_word("step", "ask", value) {
+        asked(alloc, value)
+    } else if is_word("step", "arrive", value) && is_word("moved", "arrived", value) {
+        Ok(arrived(value))
+    } else if is_word("step", "advance", value) {
+        Ok(advanced(value))
+    } else {
+        Ok(None)
+    }
 }
 
-fn asked(alloc: Global, value: &Value) -> Result<Option<Said>, AllocError>
-    ensures { IfOk result (λ said. said ≡ asked (view value.now)) }
+fn asked(alloc: Global, value: &Value) -> Result<Option<Option<Entry>>, AllocError>
+    ensures { IfOk result (λ entry. entry ≡ only 3 (view value.now)
+        (two (two ask) (sure (λ r. recorded (request_in r)) (codes "request") (view value.now)) (get_as (codes "reply") reply_in (view value.now)))) }
 {
     if !has_members(3, value) {
         return Ok(None);
@@ -66,21 +79,18 @@ fn asked(alloc: Global, value: &Value) -> Result<Option<Said>, AllocError>
         return Ok(None);
     };
     match recorded(alloc, request)? {
-        Some(request) => Ok(Some(ask_said(request, reply))),
+        Some(request) => Ok(Some(ask(request, reply))),
         None => Ok(None),
     }
 }
 
-fn ask_said(request: Request, reply: Option<Reply>) -> Said
-    ensures { result ≡ ask_said request reply }
+fn ask(request: Request, reply: Option<Reply>) -> Option<Entry>
+    ensures { result ≡ two ask (Some request) reply }
 {
-    match reply {
-        Some(reply) => Said::Entry(Entry {
-            step: Step::Ask(request),
-            answer: Answer::Replied(reply),
-        }),
-        None => Said::Foreign,
-    }
+    Some(Entry {
+        answer: Answer::Replied(reply?),
+        step: Step::Ask(request),
+    })
 }
 
 /// The request that a value spells, where it is valid and no hello.
@@ -96,72 +106,72 @@ fn recorded(alloc: Global, value: &Value) -> Result<Option<Request>, AllocError>
     }
 }
 
-fn arrived(value: &Value) -> Option<Said>
-    ensures { result ≡ arrived (view value.now) }
+fn arrived(value: &Value) -> Option<Option<Entry>>
+    ensures { result ≡ only 4 (view value.now) (two (two arrival) (number (below 256) (codes "slot") (view value.now)) (number whole (codes "row") (view value.now))) }
 {
     if !has_members(4, value) {
         return None;
     }
-    match moved_word(value)? {
-        "arrived" => arrival_of(value),
-        _ => None,
-    }
+    let slot = slot("slot", value)?;
+    Some(arrival(slot, natural("row", value)?))
 }
 
-fn arrival_of(value: &Value) -> Option<Said>
-    ensures { result ≡ arrival_of (view value.now) }
+fn arrival(slot: Option<u8>, row: Option<u64>) -> Option<Entry>
+    ensures { result ≡ two arrival slot row }
 {
-    let slot = small("slot", value)?;
-    let row = natural("row", value)?;
-    Some(arrival_said(slot, row))
+    Some(Entry {
+        step: Step::Arrive(slot?),
+        answer: Answer::Came(Came::At(row?)),
+    })
 }
 
-fn arrival_said(slot: Option<u8>, row: Option<u64>) -> Said
-    ensures { result ≡ arrival_said slot row }
+fn advanced(value: &Value) -> Option<Option<Entry>>
+    ensures { result ≡ two (two advance) (number (below 256) (codes "slot") (view value.now)) (moved_in (view value.now)) }
 {
-    match (slot, row) {
-        (Some(slot), Some(row)) => Said::Entry(Entry {
-            step: Step::Arrive(slot),
-            answer: Answer::Came(Came::At(row)),
-        }),
-        _ => Said::Foreign,
-    }
+    let slot = slot("slot", value)?;
+    Some(advance(slot, moved_in(value)?))
 }
 
-fn moved_word(value: &Value) -> Option<&str>
-    ensures { option_map (λ word. word.now) result ≡ moved_word (view value.now) }
+fn advance(slot: Option<u8>, moved: Option<Moved>) -> Option<Entry>
+    ensures { result ≡ two advance slot moved }
 {
-    value.get("moved")?.as_str()
-}
-
-fn advanced(value: &Value) -> Option<Said>
-    ensures { result ≡ advanced (view value.now) }
-{
-    let slot = small("slot", value)?;
-    let moved = moved_named(moved_word(value)?, value)?;
-    Some(advance_said(slot, moved))
-}
-
-fn advance_said(slot: Option<u8>, moved: Option<Moved>) -> Said
-    ensures { result ≡ advance_said slot moved }
-{
-    match (slot, moved) {
-        (Some(slot), Some(moved)) => Said::Entry(Entry {
-            step: Step::Advance(slot),
-            answer: Answer::Moved(moved),
-        }),
-        _ => Said::Foreign,
-    }
+    Some(Entry {
+        step: Step::Advance(slot?),
+        answer: Answer::Moved(moved?),
+    })
 }
 
 /// What an advance did; a row of a number below 0 is an inner `None`.
-fn moved_named(word: &str, value: &Value) -> Option<Option<Moved>>
-    ensures { result ≡ moved_named word.now (view value.now) }
+fn moved_in(value: &Value) -> Option<Option<Moved>>
+    ensures { result ≡ moved_in (view value.now) }
 {
-    match word {
-        "ran" if has_members(3, value) => Some(Some(Moved::Ran)),
-        "freed" if has_members(3, value) => Some(Some(Moved::Freed)),
-        "nested" if has_members(4, value) => Some(natural("row", value)?.map(Moved::Nested)),
-        _ => None,
+    if is_word("moved", "ran", value) {
+        bare(Moved::Ran, value)
+    } else if is_word("moved", "freed", value) {
+        bare(Moved::Freed, value)
+    } else if is_word("moved", "nested", value) {
+        nested(value)
+    } else {
+        None
     }
+}
+
+/// What an advance did that names no row.
+fn bare(moved: Moved, value: &Value) -> Option<Option<Moved>>
+    ensures { result ≡ only 3 (view value.now) (Some (Some moved)) }
+{
+    if has_members(3, value) {
+        Some(Some(moved))
+    } else {
+        None
+    }
+}
+
+fn nested(value: &Value) -> Option<Option<Moved>>
+    ensures { result ≡ only 4 (view value.now) (option_map (option_map moved.Nested) (number whole (codes "row") (view value.now))) }
+{
+    if !has_members(4, value) {
+        return None;
+    }
+    Some(natural("row", value)?.map(Moved::Nested))
 }

@@ -1,7 +1,13 @@
 // The replies that the lines of a dump hold.
-ghost use Rattle.std.specs.Prelude.{◌≡◌};
+ghost use Rattle.std.specs.Prelude.{◌≡◌, None, Some, option_map, codes};
+ghost use Rattle.serde_json.specs.Find.{as_bool, as_str};
 ghost use Rattle.serde_json.specs.View.{view};
-ghost use Rattle.dump_lines.specs.Replies.{reply_in, single, double, with_job, bare_status, triple, full_status, arena_in, cells_in, placed, canceled, status_of, arena, cells, error_in, error_of, error_coded, fault_in, fault_of, fault_coded, natural, small, byte, signed, is_whole};
+ghost use Rattle.job_language.specs.declared.answers.Reply.TheVariants as reply;
+ghost use Rattle.job_language.specs.declared.answers.Status.TheVariants as status;
+ghost use Rattle.job_language.specs.Instruction.{below, key};
+ghost use Rattle.job_language.specs.Json.{get_as, whole, integer};
+ghost use Rattle.job_language.specs.TenantOf.{level_of};
+ghost use Rattle.dump_lines.specs.Replies.{error_coded, error_in, fault_of, is_word, job_that, number, only, reply_in, sure, three, two, whole_member};
 
 use job_language::values::has_members;
 use job_language::{Error, JobFault, Key, Level, Reply, Status};
@@ -12,148 +18,176 @@ use serde_json::Value;
 pub(crate) fn reply_in(value: &Value) -> Option<Option<Reply>>
     ensures { result ≡ reply_in (view value.now) }
 {
-    if has_members(1, value) {
-        single(value)
-    } else if has_members(2, value) {
-        double(value)
-    } else if has_members(3, value) {
-        triple(value)
-    } else {
-        None
-    }
+    made(value)
+        .or(epoch(value))
+        .or(named(value))
+        .or(refused(value))
+        .or(placed(value))
+        .or(canceled(value))
+        .or(running(value))
+        .or(job_canceled(value))
+        .or(complete(value))
+        .or(faulted(value))
+        .or(arena(value))
+        .or(cells(value))
 }
 
-fn single(value: &Value) -> Option<Option<Reply>>
-    ensures { result ≡ single (view value.now) }
+fn made(value: &Value) -> Option<Option<Reply>>
+    ensures { result ≡ only 1 (view value.now) (option_map (option_map reply.Made) (number whole (codes "job") (view value.now))) }
 {
-    if value.get("job").is_some() {
-        return Some(natural("job", value)?.map(Reply::Made));
+    if !has_members(1, value) {
+        return None;
     }
-    if value.get("epoch").is_some() {
-        return Some(natural("epoch", value)?.map(Reply::Epoch));
+    Some(natural("job", value)?.map(Reply::Made))
+}
+
+fn epoch(value: &Value) -> Option<Option<Reply>>
+    ensures { result ≡ only 1 (view value.now) (option_map (option_map reply.Epoch) (number whole (codes "epoch") (view value.now))) }
+{
+    if !has_members(1, value) {
+        return None;
     }
-    // A tenant never tells its name.
-    let _name = value.get("tenant")?.as_str()?;
+    Some(natural("epoch", value)?.map(Reply::Epoch))
+}
+
+/// The name that a hello is answered with, which a tenant never tells.
+fn named(value: &Value) -> Option<Option<Reply>>
+    ensures { result ≡ only 1 (view value.now) (option_map (λ name. None) (get_as (codes "tenant") as_str (view value.now))) }
+{
+    if !has_members(1, value) {
+        return None;
+    }
+    let _name = word("tenant", value)?;
     Some(None)
 }
 
-fn double(value: &Value) -> Option<Option<Reply>>
-    ensures { result ≡ double (view value.now) }
+fn refused(value: &Value) -> Option<Option<Reply>>
+    ensures { result ≡ only 2 (view value.now) (option_map (λ error. Some (reply.Refused error)) (error_in (view value.now))) }
 {
-    if value.get("error").is_some() {
-        return Some(Some(Reply::Refused(error_in(value)?)));
+    if !has_members(2, value) {
+        return None;
     }
-    with_job(value, natural("job", value)?)
+    Some(Some(Reply::Refused(error_in(value)?)))
 }
 
-fn with_job(value: &Value, job: Option<u64>) -> Option<Option<Reply>>
-    ensures { result ≡ with_job (view value.now) job }
+fn placed(value: &Value) -> Option<Option<Reply>>
+    ensures { result ≡ only 2 (view value.now) (two (two reply.Placed) (number whole (codes "job") (view value.now)) (number (below 256) (codes "slot") (view value.now))) }
 {
-    if value.get("slot").is_some() {
-        return Some(placed(job, small("slot", value)?));
-    }
-    if let Some(first) = value.get("first") {
-        return Some(canceled(job, first.as_bool()?));
-    }
-    bare_status(value.get("status")?.as_str()?, job)
-}
-
-/// The status of a job that the word alone tells.
-fn bare_status(word: &str, job: Option<u64>) -> Option<Option<Reply>>
-    ensures { result ≡ bare_status word.now job }
-{
-    match word {
-        "running" => Some(status_of(job, Some(Status::Running))),
-        "canceled" => Some(status_of(job, Some(Status::Cancelled))),
-        _ => None,
-    }
-}
-
-fn triple(value: &Value) -> Option<Option<Reply>>
-    ensures { result ≡ triple (view value.now) }
-{
-    if value.get("priority").is_some() {
-        return arena_in(value);
-    }
-    if value.get("key").is_some() {
-        return cells_in(value);
+    if !has_members(2, value) {
+        return None;
     }
     let job = natural("job", value)?;
-    full_status(value, value.get("status")?.as_str()?, job)
+    Some(placed_at(job, slot("slot", value)?))
 }
 
-/// The status of a job with what it came to.
-fn full_status(value: &Value, word: &str, job: Option<u64>) -> Option<Option<Reply>>
-    ensures { result ≡ full_status (view value.now) word.now job }
-{
-    match word {
-        "complete" => Some(status_of(job, signed("value", value)?.map(Status::Complete))),
-        "fault" => Some(status_of(job, fault_in(value)?.map(Status::Fault))),
-        _ => None,
-    }
-}
-
-fn arena_in(value: &Value) -> Option<Option<Reply>>
-    ensures { result ≡ arena_in (view value.now) }
-{
-    let level = Level::named(value.get("priority")?.as_str()?)?;
-    let reserved = small("reserved", value)?;
-    let slots = small("slots", value)?;
-    Some(arena(level, reserved, slots))
-}
-
-fn cells_in(value: &Value) -> Option<Option<Reply>>
-    ensures { result ≡ cells_in (view value.now) }
-{
-    let count = natural("count", value)?;
-    let key = natural("key", value)?;
-    let sum = signed("sum", value)?;
-    Some(cells(key, count, sum))
-}
-
-fn placed(job: Option<u64>, slot: Option<u8>) -> Option<Reply>
-    ensures { result ≡ placed job slot }
+fn placed_at(job: Option<u64>, slot: Option<u8>) -> Option<Reply>
+    ensures { result ≡ two reply.Placed job slot }
 {
     Some(Reply::Placed(job?, slot?))
 }
 
-fn canceled(job: Option<u64>, first: bool) -> Option<Reply>
-    ensures { result ≡ canceled job first }
+fn canceled(value: &Value) -> Option<Option<Reply>>
+    ensures { result ≡ only 2 (view value.now) (two (two reply.Cancelled) (number whole (codes "job") (view value.now)) (sure as_bool (codes "first") (view value.now))) }
+{
+    if !has_members(2, value) {
+        return None;
+    }
+    let job = natural("job", value)?;
+    Some(canceled_by(job, value.get("first")?.as_bool()?))
+}
+
+fn canceled_by(job: Option<u64>, first: bool) -> Option<Reply>
+    ensures { result ≡ two reply.Cancelled job (Some first) }
 {
     Some(Reply::Cancelled(job?, first))
 }
 
-fn status_of(job: Option<u64>, status: Option<Status>) -> Option<Reply>
-    ensures { result ≡ status_of job status }
+fn running(value: &Value) -> Option<Option<Reply>>
+    ensures { result ≡ only 2 (view value.now) (job_that (codes "running") (Some (Some status.Running)) (view value.now)) }
+{
+    if !has_members(2, value) || !is_word("status", "running", value) {
+        return None;
+    }
+    Some(job_of(natural("job", value)?, Some(Status::Running)))
+}
+
+fn job_canceled(value: &Value) -> Option<Option<Reply>>
+    ensures { result ≡ only 2 (view value.now) (job_that (codes "canceled") (Some (Some status.Cancelled)) (view value.now)) }
+{
+    if !has_members(2, value) || !is_word("status", "canceled", value) {
+        return None;
+    }
+    Some(job_of(natural("job", value)?, Some(Status::Cancelled)))
+}
+
+fn complete(value: &Value) -> Option<Option<Reply>>
+    ensures { result ≡ only 3 (view value.now) (job_that (codes "complete") (option_map (option_map status.Complete) (number integer (codes "value") (view value.now))) (view value.now)) }
+{
+    if !has_members(3, value) || !is_word("status", "complete", value) {
+        return None;
+    }
+    let job = natural("job", value)?;
+    Some(job_of(job, signed("value", value)?.map(Status::Complete)))
+}
+
+fn faulted(value: &Value) -> Option<Option<Reply>>
+    ensures { result ≡ only 3 (view value.now) (job_that (codes "fault") (option_map (option_map status.Fault) (number fault_of (codes "fault") (view value.now))) (view value.now)) }
+{
+    if !has_members(3, value) || !is_word("status", "fault", value) {
+        return None;
+    }
+    let job = natural("job", value)?;
+    Some(job_of(job, fault("fault", value)?.map(Status::Fault)))
+}
+
+fn job_of(job: Option<u64>, status: Option<Status>) -> Option<Reply>
+    ensures { result ≡ two reply.Job job status }
 {
     Some(Reply::Job(job?, status?))
 }
 
-fn arena(level: Level, reserved: Option<u8>, slots: Option<u8>) -> Option<Reply>
-    ensures { result ≡ arena level reserved slots }
+fn arena(value: &Value) -> Option<Option<Reply>>
+    ensures { result ≡ only 3 (view value.now)
+        (three (three reply.Arena) (sure level_of (codes "priority") (view value.now)) (number (below 256) (codes "reserved") (view value.now)) (number (below 256) (codes "slots") (view value.now))) }
+{
+    if !has_members(3, value) {
+        return None;
+    }
+    let level = Level::named(word("priority", value)?)?;
+    let reserved = slot("reserved", value)?;
+    Some(arena_of(level, reserved, slot("slots", value)?))
+}
+
+fn arena_of(level: Level, reserved: Option<u8>, slots: Option<u8>) -> Option<Reply>
+    ensures { result ≡ three reply.Arena (Some level) reserved slots }
 {
     Some(Reply::Arena(level, reserved?, slots?))
 }
 
-fn cells(key: Option<u64>, count: Option<u64>, sum: Option<i64>) -> Option<Reply>
-    ensures { result ≡ cells key count sum }
+fn cells(value: &Value) -> Option<Option<Reply>>
+    ensures { result ≡ only 3 (view value.now)
+        (three (three reply.Cells) (number key (codes "key") (view value.now)) (number whole (codes "count") (view value.now)) (number integer (codes "sum") (view value.now))) }
 {
-    Some(Reply::Cells(Key::new(key?)?, count?, sum?))
+    if !has_members(3, value) {
+        return None;
+    }
+    let key = key("key", value)?;
+    let count = natural("count", value)?;
+    Some(cells_of(key, count, signed("sum", value)?))
+}
+
+fn cells_of(key: Option<Key>, count: Option<u64>, sum: Option<i64>) -> Option<Reply>
+    ensures { result ≡ three reply.Cells key count sum }
+{
+    Some(Reply::Cells(key?, count?, sum?))
 }
 
 /// The error whose code and name stand there.
 fn error_in(value: &Value) -> Option<Error>
     ensures { result ≡ error_in (view value.now) }
 {
-    let code = value.get("code")?.as_u64()?;
-    error_of(code, value.get("error")?.as_str()?)
-}
-
-fn error_of(code: u64, name: &str) -> Option<Error>
-    ensures { result ≡ error_of code name.now }
-{
-    let error = error_coded(code)?;
-    if error.name() == name {
+    let error = error_coded(value.get("code")?.as_u64()?)?;
+    if is_word("error", error.name(), value) {
         Some(error)
     } else {
         None
@@ -180,22 +214,91 @@ fn error_coded(code: u64) -> Option<Error>
     }
 }
 
-fn fault_in(value: &Value) -> Option<Option<JobFault>>
-    ensures { result ≡ fault_in (view value.now) }
+/// A member that is a text.
+fn word<'v>(name: &str, value: &'v Value) -> Option<&'v str>
+    ensures { option_map (λ it. it.now) result ≡ get_as name.now as_str (view value.now) }
 {
-    Some(fault_of(natural("fault", value)?))
+    value.get(name)?.as_str()
 }
 
-fn fault_of(code: Option<u64>) -> Option<JobFault>
-    ensures { result ≡ fault_of code }
+/// Whether a member is that text.
+pub(crate) fn is_word(name: &str, text: &str, value: &Value) -> bool
+    ensures { result ≡ is_word name.now text.now (view value.now) }
 {
-    fault_coded(code?)
+    match word(name, value) {
+        Some(it) => it == text,
+        None => false,
+    }
 }
 
-fn fault_coded(code: u64) -> Option<JobFault>
-    ensures { result ≡ fault_coded code }
+/// A member that is a whole number of 64 bits, with or without a sign.
+fn whole_member<'v>(name: &str, value: &'v Value) -> Option<&'v Value>
+    ensures { option_map (λ it. view it.now) result ≡ whole_member name.now (view value.now) }
 {
-    match code {
+    let number = value.get(name)?;
+    if number.as_u64().is_some() || number.as_i64().is_some() {
+        Some(number)
+    } else {
+        None
+    }
+}
+
+/// Such a member, where an inner `None` is a number below 0.
+pub(crate) fn natural(name: &str, value: &Value) -> Option<Option<u64>>
+    ensures { result ≡ number whole name.now (view value.now) }
+{
+    Some(whole_member(name, value)?.as_u64())
+}
+
+/// The same, where an inner `None` is a number of 64 bits that has no room for a sign.
+fn signed(name: &str, value: &Value) -> Option<Option<i64>>
+    ensures { result ≡ number integer name.now (view value.now) }
+{
+    Some(whole_member(name, value)?.as_i64())
+}
+
+/// The same, where an inner `None` is a number outside 0 to 255.
+pub(crate) fn slot(name: &str, value: &Value) -> Option<Option<u8>>
+    ensures { result ≡ number (below 256) name.now (view value.now) }
+{
+    Some(slot_of(whole_member(name, value)?))
+}
+
+fn slot_of(value: &Value) -> Option<u8>
+    ensures { result ≡ below 256 (view value.now) }
+{
+    let number = value.as_u64()?;
+    if number < 256 {
+        Some(number as u8)
+    } else {
+        None
+    }
+}
+
+/// The same, where an inner `None` is the number of no key.
+fn key(name: &str, value: &Value) -> Option<Option<Key>>
+    ensures { result ≡ number key name.now (view value.now) }
+{
+    Some(key_of(whole_member(name, value)?))
+}
+
+fn key_of(value: &Value) -> Option<Key>
+    ensures { result ≡ key (view value.now) }
+{
+    Key::new(value.as_u64()?)
+}
+
+/// The same, where an inner `None` is the code of no fault.
+fn fault(name: &str, value: &Value) -> Option<Option<JobFault>>
+    ensures { result ≡ number fault_of name.now (view value.now) }
+{
+    Some(fault_of(whole_member(name, value)?))
+}
+
+fn fault_of(value: &Value) -> Option<JobFault>
+    ensures { result ≡ fault_of (view value.now) }
+{
+    match value.as_u64()? {
         1 => Some(JobFault::Division),
         2 => Some(JobFault::Fuel),
         3 => Some(JobFault::TooDeep),
@@ -203,53 +306,4 @@ fn fault_coded(code: u64) -> Option<JobFault>
         5 => Some(JobFault::MissingWait),
         _ => None,
     }
-}
-
-/// A member that is a whole number of 64 bits, with or without a sign; one below 0 is an inner
-/// `None`.
-pub(crate) fn natural(name: &str, value: &Value) -> Option<Option<u64>>
-    ensures { result ≡ natural name.now (view value.now) }
-{
-    let number = value.get(name)?;
-    if is_whole(number) {
-        Some(number.as_u64())
-    } else {
-        None
-    }
-}
-
-/// The same, where an inner `None` is a number outside 0 to 255.
-pub(crate) fn small(name: &str, value: &Value) -> Option<Option<u8>>
-    ensures { result ≡ small name.now (view value.now) }
-{
-    Some(byte(natural(name, value)?))
-}
-
-fn byte(number: Option<u64>) -> Option<u8>
-    ensures { result ≡ byte number }
-{
-    let number = number?;
-    if number <= 255 {
-        Some(number as u8)
-    } else {
-        None
-    }
-}
-
-/// The same, where an inner `None` is a number of 64 bits that has no room for a sign.
-fn signed(name: &str, value: &Value) -> Option<Option<i64>>
-    ensures { result ≡ signed name.now (view value.now) }
-{
-    let number = value.get(name)?;
-    if is_whole(number) {
-        Some(number.as_i64())
-    } else {
-        None
-    }
-}
-
-fn is_whole(value: &Value) -> bool
-    ensures { result ≡ is_whole (view value.now) }
-{
-    value.as_u64().is_some() || value.as_i64().is_some()
 }

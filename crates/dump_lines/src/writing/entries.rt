@@ -31,6 +31,7 @@ pub(super) fn entry_value(alloc: Global, entry: &Entry) -> Result<Option<Value>,
     }
 }
 
+#[tactic(auto, using(crate::proofs::RoundTrip::read_ask))]
 fn ask_value(alloc: Global, request: &Request, reply: Reply) -> Result<Option<Value>, AllocError>
     requires { is_entry (Replied reply) ≡ true }
     ensures value { IfOk result (λ v. option_map view v ≡ step_data (step.Ask request.now) (Replied reply)) }
@@ -40,8 +41,13 @@ fn ask_value(alloc: Global, request: &Request, reply: Reply) -> Result<Option<Va
         return Ok(None);
     };
     let reply = reply_value(alloc, reply)?;
-    let value = json!(in alloc; {"reply": reply, "request": request, "step": "ask"})?;
-    Ok(Some(value))
+    Ok(Some(ask_data(alloc, reply, request)?))
+}
+
+fn ask_data(alloc: Global, reply: Value, request: Value) -> Result<Value, AllocError>
+    ensures { IfOk result (λ v. view v ≡ ask_data (view reply) (view request)) }
+{
+    json!(in alloc; {"reply": reply, "request": request, "step": "ask"})
 }
 
 fn arrival_value(alloc: Global, slot: u8, row: u64) -> Result<Option<Value>, AllocError>
