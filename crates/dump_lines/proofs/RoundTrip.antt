@@ -1,4 +1,4 @@
--- Lines and refusals read back.
+-- Lines, refusals and asks read back.
 use Rattle.std.proofs.Common.{◌≡◌, ℕ, List, Some, Ok, true, refl, subst, ap}
 use Rattle.std.specs.Option.{ok_or}
 use Rattle.std.specs.Str.{IsUtf8, is_utf8}
@@ -6,11 +6,11 @@ use Rattle.std.proofs.lemmas.Str.{is_utf8-from_IsUtf8}
 use Rattle.serde_json.specs.Data.{Data}
 use Rattle.serde_json.specs.Read.{read}
 use Rattle.request_reader.specs.LineAsks.{value_of}
+use Rattle.job_language.specs.declared.answers.Reply.{Reply}
 use Rattle.job_language.specs.declared.answers.Reply.TheVariants.{Refused}
 use Rattle.job_language.specs.declared.errors.Error.{Error}
 use Rattle.job_language.specs.declared.errors.Error.TheVariants.{LineTooLong, BadJson, BadRequest, BadProgram, UnknownTenant, UnknownJob, JobLimit, HistoryFull, NoMemory, TaskLimit, NoTenant, Busy}
 use Rattle.job_language.specs.declared.requests.Request.{Request}
-use Rattle.job_language.specs.declared.answers.Reply.{Reply}
 use Rattle.dump_lines.specs.declared.lines.Said.TheVariants as said
 use Rattle.dump_lines.specs.Lines.{ask, recorded, said_in_value}
 use Rattle.dump_lines.specs.Replies.{reply_in}

@@ -1,5 +1,5 @@
 // What the lines of a dump after the first say.
-ghost use Rattle.std.specs.Prelude.{◌≡◌, ◌&&◌, Some, option_map, codes, IfOk, OnErr};
+ghost use Rattle.std.specs.Prelude.{◌≡◌, Some, option_map, codes, IfOk, OnErr};
 ghost use Rattle.serde_json.specs.View.{view};
 ghost use Rattle.job_language.specs.declared.answers.Moved.TheVariants as moved;
 ghost use Rattle.job_language.specs.Instruction.{below};
@@ -8,7 +8,7 @@ ghost use Rattle.request_reader.specs.Answers.{HasJob};
 ghost use Rattle.request_reader.specs.Asks.{asked_by_value};
 ghost use Rattle.request_reader.specs.LineAsks.{IsText};
 ghost use Rattle.dump_lines.specs.Lines.{said_by, said_in_value, entry_in, ask, arrival, advance, moved_in, recorded};
-ghost use Rattle.dump_lines.specs.Replies.{is_word, number, only, reply_in, sure, two};
+ghost use Rattle.dump_lines.specs.Replies.{number, only, reply_in, sure, two};
 ghost use Rattle.dump_lines.specs.Requests.{request_in};
 
 use crate::replies::{is_word, natural, reply_in, slot};
