@@ -8,7 +8,7 @@ use Rattle.request_reader.specs.Lines.{Line, newline}
 use Rattle.dump_lines.proofs.Parts.{appends_nothing}
 use Rattle.arena_script.specs.Answered.{AnswersAll}
 use Rattle.arena_script.specs.ScriptLines.{line_of, input_lines}
-use Rattle.arena_script.specs.SerialAnswers.{serial_answer, serial_answers}
+use Rattle.arena_script.specs.SerialAnswers.{job_in, serial_answer, serial_answers}
 use Rattle.arena_script.specs.declared.inputs.Input.{Input}
 use Rattle.arena_script.specs.declared.inputs.Input.TheVariants as input
 
@@ -67,9 +67,9 @@ module _ {S : Type 0} (takes : S → Line → List ℕ → S → Type 0) where
       subst (λ (ls : List Line). AnswersAll takes ls s known known s) (sym no_lines) ([], (refl, refl), appends_nothing known)
 
 -- The next input is answered with the serial value that it asks, and then the lines that are left.
-pub serial_step : (i : Input) (text text' : List ℕ) (left left' : List Line) (answer : SerialAnswer) (line : List ℕ) (before middle after : Option (List ℕ)) → text' ≡ text → i ≢ input.End → left ≡ input_lines i text ++ left' → answer ≡ serial_answer (line_of i text') → line ≡ serial_text answer ++ newline ∷ [] → Appends before middle line → Appends middle after (serial_answers left') → Appends before after (serial_answers left)
+pub serial_step : (i : Input) (text text' : List ℕ) (left left' : List Line) (answer : SerialAnswer) (line : List ℕ) (before middle after : Option (List ℕ)) → text' ≡ text → i ≢ input.End → left ≡ input_lines i text ++ left' → answer ≡ serial_answer (job_in (line_of i text')) → line ≡ serial_text answer ++ newline ∷ [] → Appends before middle line → Appends middle after (serial_answers left') → Appends before after (serial_answers left)
 serial_step i text text' left left' answer line before middle after same_text going here answered told_as written others =
-    let told_here : line ≡ serial_text (serial_answer (line_of i text)) ++ newline ∷ [] = told_as ∙ ap (λ a. serial_text a ++ newline ∷ []) answered ∙ ap (λ t. serial_text (serial_answer (line_of i t)) ++ newline ∷ []) same_text in
-    let written_line : Appends before middle (serial_text (serial_answer (line_of i text)) ++ newline ∷ []) = subst (λ (t : List ℕ). Appends before middle t) told_here written in
+    let told_here : line ≡ serial_text (serial_answer (job_in (line_of i text))) ++ newline ∷ [] = told_as ∙ ap (λ a. serial_text a ++ newline ∷ []) answered ∙ ap (λ t. serial_text (serial_answer (job_in (line_of i t))) ++ newline ∷ []) same_text in
+    let written_line : Appends before middle (serial_text (serial_answer (job_in (line_of i text))) ++ newline ∷ []) = subst (λ (t : List ℕ). Appends before middle t) told_here written in
     let one_line : left ≡ line_of i text ∷ left' = here ∙ ap (λ ls. ls ++ left') (input_lines-line i text going) in
-    subst (λ (ls : List Line). Appends before after (serial_answers ls)) (sym one_line) (appends_two before middle after (serial_text (serial_answer (line_of i text))) (serial_answers left') written_line others)
+    subst (λ (ls : List Line). Appends before after (serial_answers ls)) (sym one_line) (appends_two before middle after (serial_text (serial_answer (job_in (line_of i text)))) (serial_answers left') written_line others)

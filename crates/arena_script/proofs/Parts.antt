@@ -10,7 +10,7 @@ use Rattle.dump_lines.specs.Parts.{AppendsFewer, AppendsPart}
 use Rattle.dump_lines.proofs.Parts.{appends_nothing, part_none}
 use Rattle.arena_script.specs.Answered.{Answered, AnswersPart, AnswersLater, StartsFrom}
 use Rattle.arena_script.specs.ScriptLines.{line_of, input_lines}
-use Rattle.arena_script.specs.SerialAnswers.{serial_answer, serial_answers}
+use Rattle.arena_script.specs.SerialAnswers.{job_in, serial_answer, serial_answers}
 use Rattle.arena_script.specs.declared.inputs.Input.{Input}
 use Rattle.arena_script.specs.declared.inputs.Input.TheVariants as input
 use Rattle.arena_script.proofs.Answering.{appends_two, input_lines-line}
@@ -98,9 +98,9 @@ module _ {B S : Type 0} (first : List ℕ → Option B) (takes : B → S → Lin
   starts_from_none (too_long ∷ lines) known = appends_nothing known
   starts_from_none (whole line ∷ lines) known = later_none (first line) lines known
 
-module _ (i : Input) (text text' : List ℕ) (left left' : List Line) (answer : SerialAnswer) (line : List ℕ) (same_text : text' ≡ text) (going : i ≢ input.End) (here : left ≡ input_lines i text ++ left') (answered : answer ≡ serial_answer (line_of i text')) (told_as : line ≡ serial_text answer ++ newline ∷ []) where
-  serial_there : line ≡ serial_text (serial_answer (line_of i text)) ++ newline ∷ []
-  serial_there = told_as ∙ ap (λ a. serial_text a ++ newline ∷ []) answered ∙ ap (λ t. serial_text (serial_answer (line_of i t)) ++ newline ∷ []) same_text
+module _ (i : Input) (text text' : List ℕ) (left left' : List Line) (answer : SerialAnswer) (line : List ℕ) (same_text : text' ≡ text) (going : i ≢ input.End) (here : left ≡ input_lines i text ++ left') (answered : answer ≡ serial_answer (job_in (line_of i text'))) (told_as : line ≡ serial_text answer ++ newline ∷ []) where
+  serial_there : line ≡ serial_text (serial_answer (job_in (line_of i text))) ++ newline ∷ []
+  serial_there = told_as ∙ ap (λ a. serial_text a ++ newline ∷ []) answered ∙ ap (λ t. serial_text (serial_answer (job_in (line_of i t))) ++ newline ∷ []) same_text
 
   serial_lines : line_of i text ∷ left' ≡ left
   serial_lines = sym (one_line i text left left' going here)
@@ -109,10 +109,10 @@ module _ (i : Input) (text text' : List ℕ) (left left' : List Line) (answer : 
   pub serial_part_step : (before middle after : Option (List ℕ)) → Appends before middle line → AppendsPart middle after (serial_answers left') → AppendsPart before after (serial_answers left)
   serial_part_step before middle after written others =
       subst (λ (ls : List Line). AppendsPart before after (serial_answers ls)) serial_lines
-      (part_on before middle after (serial_text (serial_answer (line_of i text))) (serial_answers left') (subst (λ (t : List ℕ). Appends before middle t) serial_there written) others)
+      (part_on before middle after (serial_text (serial_answer (job_in (line_of i text)))) (serial_answers left') (subst (λ (t : List ℕ). Appends before middle t) serial_there written) others)
 
   -- The answer to the next input is cut short.
   pub serial_part_cut : (before after : Option (List ℕ)) → AppendsFewer before after line → AppendsPart before after (serial_answers left)
   serial_part_cut before after cut =
       subst (λ (ls : List Line). AppendsPart before after (serial_answers ls)) serial_lines
-      (part_cut before after (serial_text (serial_answer (line_of i text))) (serial_answers left') (subst (λ (t : List ℕ). AppendsFewer before after t) serial_there cut))
+      (part_cut before after (serial_text (serial_answer (job_in (line_of i text)))) (serial_answers left') (subst (λ (t : List ℕ). AppendsFewer before after t) serial_there cut))

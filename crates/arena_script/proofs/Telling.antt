@@ -1,6 +1,7 @@
 -- The answers to a tenant's steps, and the line that names the tenant.
 use Rattle.std.proofs.Common.{◌≡◌, ℕ, Bool, true, false, List, Option, Some, None, Result, Err, if◌then◌else◌, refl, ap, arith}
 use Rattle.std.specs.Option.{ok_or}
+use Rattle.std.specs.Result.{result_ok}
 use Rattle.std.specs.Str.{is_utf8}
 use Rattle.serde_json.specs.Data.{Data}
 use Rattle.serde_json.specs.Read.{read}
@@ -8,9 +9,10 @@ use Rattle.job_language.specs.declared.answers.Answer.{Answer}
 use Rattle.job_language.specs.declared.errors.Error.{Error}
 use Rattle.job_language.specs.declared.errors.Error.TheVariants.{BadJson}
 use Rattle.job_language.specs.declared.tenants.Tenant.{Tenant}
+use Rattle.job_language.specs.Json.{◌>>=◌}
 use Rattle.request_reader.specs.LineAsks.{IsText}
 use Rattle.tenant_model.specs.State.{State}
-use Rattle.dump_lines.specs.Requests.{tenant_in, tenant_of_value}
+use Rattle.dump_lines.specs.Requests.{tenant_in}
 use Rattle.arena_script.specs.ScriptAnswers.{told}
 use Rattle.arena_script.specs.Taken.{answer_told, or_none}
 
@@ -20,10 +22,10 @@ pub told_so : (s : State) (taken : Option (Answer × State)) (answer : Option An
 told_so s None answer stands_for arena it = (ap answer_told it.0, it.1)
 told_so s (Some taken) answer stands_for arena it = (ap answer_told it.0, it.1)
 
-named_text : (is_text : Bool) (read : Result Data Error) (c : Tenant) → tenant_of_value (if is_text then read else Err BadJson) ≡ Some c → is_text ≡ true
-named_text true read c is = refl
-named_text false read c is = absurd (grind (arith, is))
+named_text : (is_text : Bool) (read : Result Data Error) (named : Data → Option Tenant) (c : Tenant) → (result_ok (if is_text then read else Err BadJson) >>= named) ≡ Some c → is_text ≡ true
+named_text true read named c is = refl
+named_text false read named c is = absurd (grind (arith, is))
 
 -- A line that names a tenant is a text.
 pub text_of_tenant : (line : List ℕ) (c : Tenant) → tenant_in line ≡ Some c → IsText line
-text_of_tenant line c is = named_text (is_utf8 line) (ok_or (read line) BadJson) c is
+text_of_tenant line c is = named_text (is_utf8 line) (ok_or (read line) BadJson) _ c is

@@ -9,7 +9,7 @@ use Rattle.job_language.specs.declared.answers.Reply.TheVariants.{Refused}
 use Rattle.job_language.specs.declared.errors.Error.{Error}
 use Rattle.job_language.specs.declared.requests.Request.{Request}
 use Rattle.job_language.specs.declared.steps.Step.TheVariants.{Ask, Arrive, Advance}
-use Rattle.job_language.specs.Json.{◌>>=◌, whole, has_members}
+use Rattle.job_language.specs.Json.{◌>>=◌, get_as, whole, has_members}
 use Rattle.tenant_model.specs.Solo.{step}
 use Rattle.tenant_model.specs.State.{State}
 use Rattle.dump_lines.specs.Requests.{request_in}
@@ -31,9 +31,6 @@ step_taken s name d =
     else if bytes_eq name (codes "advance") then (slot_of s d >>= λ slot. Some (step s (Advance slot)))
     else None
 
-abbrev pub step_name : Data → Option (List ℕ)
-step_name d = get (codes "step") d >>= as_str
-
 -- the same of the step that a value spells
 abbrev pub value_taken : State → Data → Option (Answer × State)
-value_taken s d = if has_members 2 d then (step_name d >>= λ name. step_taken s name d) else None
+value_taken s d = if has_members 2 d then (get_as (codes "step") as_str d >>= λ name. step_taken s name d) else None

@@ -2,14 +2,13 @@
 use Rattle.std.specs.Prelude.{List, ℕ, Option, Some, None, if◌then◌else◌, codes}
 use Rattle.std.specs.Str.{bytes_eq}
 use Rattle.serde_json.specs.Data.{Data}
-use Rattle.serde_json.specs.Find.{get}
+use Rattle.serde_json.specs.Find.{get, as_str}
 use Rattle.job_language.specs.declared.answers.Answer.{Answer}
-use Rattle.job_language.specs.Json.{◌>>=◌, has_members}
+use Rattle.job_language.specs.Json.{◌>>=◌, get_as, has_members}
 use Rattle.request_reader.specs.Answers.{HasJob}
 use Rattle.request_reader.specs.Asks.{asked_by_value}
 use Rattle.reply_writer.specs.AnswerText.{answer_text}
 use Rattle.tenant_model.specs.State.{State}
-use Rattle.arena_script.specs.Steps.{step_name}
 
 -- what is no step has no answer, and changes nothing
 abbrev pub or_none : State → Option (Answer × State) → Option Answer × State
@@ -29,4 +28,4 @@ abbrev pub StepTakesMemory : List ℕ → Data → Type 0
 StepTakesMemory name d = HasJob (request_of name d >>= asked_by_value)
 
 abbrev pub ValueTakesMemory : Data → Type 0
-ValueTakesMemory d = HasJob (if has_members 2 d then (step_name d >>= λ name. request_of name d >>= asked_by_value) else None)
+ValueTakesMemory d = HasJob (if has_members 2 d then (get_as (codes "step") as_str d >>= λ name. request_of name d >>= asked_by_value) else None)

@@ -5,8 +5,9 @@ ghost use Rattle.job_language.specs.declared.steps.Step.TheVariants as step;
 ghost use Rattle.job_language.specs.declared.tenants.Tenant.{Tenant as Limits};
 ghost use Rattle.tenant_model.specs.Solo.{step as step_of};
 ghost use Rattle.tenant_model.specs.State.{State, empty};
-ghost use Rattle.serde_json.specs.Find.{get};
+ghost use Rattle.serde_json.specs.Find.{as_str, get};
 ghost use Rattle.serde_json.specs.View.{view};
+ghost use Rattle.job_language.specs.Json.{get_as};
 ghost use Rattle.request_reader.specs.Answers.{HasJob};
 ghost use Rattle.request_reader.specs.Asks.{asked_by_value};
 ghost use Rattle.request_reader.specs.LineAsks.{IsText, value_of};
@@ -14,7 +15,7 @@ ghost use Rattle.arena_core.specs.Stands.{StandsFor, Takes};
 ghost use Rattle.dump_lines.specs.Requests.{request_in, tenant_in};
 ghost use Rattle.arena_script.specs.ScriptAnswers.{line_taken};
 ghost use Rattle.arena_script.specs.ScriptLines.{line_of};
-ghost use Rattle.arena_script.specs.Steps.{asked, slot_of, step_name, step_taken, value_taken};
+ghost use Rattle.arena_script.specs.Steps.{asked, slot_of, step_taken, value_taken};
 ghost use Rattle.arena_script.specs.Taken.{or_none, StepTakesMemory, ValueTakesMemory};
 
 use crate::inputs::Input;
@@ -89,7 +90,7 @@ fn take_value(alloc: Global, arena: &mut Arena, value: &Value) -> Result<Option<
 }
 
 fn step_name(value: &Value) -> Option<&str>
-    ensures { option_map (λ name. name.now) result ≡ step_name (view value.now) }
+    ensures { option_map (λ name. name.now) result ≡ get_as (codes "step") as_str (view value.now) }
 {
     value.get("step")?.as_str()
 }

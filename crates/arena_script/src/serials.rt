@@ -1,12 +1,15 @@
 // The serial values of jobs, one on each line.
-ghost use Rattle.std.specs.Prelude.{◌≡◌, IsSome, IfOk, IfErr, OnErr, OnOk};
+ghost use Rattle.std.specs.Prelude.{◌≡◌, IsSome, Ok, IfOk, IfErr, OnErr, OnOk};
 ghost use Rattle.std.specs.Io.KnownBytes.{Appends};
+ghost use Rattle.std.specs.Result.{result_map_both};
 ghost use Rattle.serde_json.specs.View.{view};
+ghost use Rattle.job_language.specs.declared.errors.Error.TheVariants.{BadProgram};
 ghost use Rattle.job_language.specs.Job.{job_of};
 ghost use Rattle.request_reader.specs.LineAsks.{IsText};
+ghost use Rattle.request_reader.specs.Lines.{whole};
 ghost use Rattle.dump_lines.specs.Parts.{AppendsPart};
 ghost use Rattle.arena_script.specs.ScriptLines.{line_of, all_lines};
-ghost use Rattle.arena_script.specs.SerialAnswers.{serial_answer, serial_answers, serial_in, serial_of_job, serial_of_read};
+ghost use Rattle.arena_script.specs.SerialAnswers.{job_in, serial_answer, serial_answers};
 ghost use Rattle.arena_script.specs.declared.commands.Command.TheVariants as command;
 ghost use Rattle.arena_script.specs.Faults.{IsFault};
 
@@ -47,7 +50,7 @@ pub(crate) fn serial_values<R: Read, W: Write>(
 
 /// The answer to an input, whose text is that line.
 fn serial_of_input(alloc: Global, input: Input, line: &[u8]) -> Result<SerialAnswer, AllocError>
-    ensures ok { IfOk result (λ answer. answer ≡ serial_answer (line_of input line.now)) }
+    ensures ok { IfOk result (λ answer. answer ≡ serial_answer (job_in (line_of input line.now))) }
     ensures takes { OnErr result (IsText line.now) }
 {
     match input {
@@ -58,7 +61,7 @@ fn serial_of_input(alloc: Global, input: Input, line: &[u8]) -> Result<SerialAns
 
 /// The answer to the job that a line spells.
 fn serial_in(alloc: Global, line: &[u8]) -> Result<SerialAnswer, AllocError>
-    ensures ok { IfOk result (λ answer. answer ≡ serial_in line.now) }
+    ensures ok { IfOk result (λ answer. answer ≡ serial_answer (job_in (whole line.now))) }
     ensures takes { OnErr result (IsText line.now) }
 {
     let value = match value_of(alloc, line) {
@@ -70,7 +73,7 @@ fn serial_in(alloc: Global, line: &[u8]) -> Result<SerialAnswer, AllocError>
 }
 
 fn serial_of_value(alloc: Global, value: &Value) -> Result<SerialAnswer, AllocError>
-    ensures { IfOk result (λ answer. answer ≡ serial_of_read (job_of (view value.now))) }
+    ensures { IfOk result (λ answer. answer ≡ serial_answer (result_map_both (λ job. job) (λ place. BadProgram) (job_of (view value.now)))) }
 {
     match read_job(alloc, value) {
         Ok(job) => serial_of_job(alloc, &job),
@@ -80,7 +83,7 @@ fn serial_of_value(alloc: Global, value: &Value) -> Result<SerialAnswer, AllocEr
 }
 
 fn serial_of_job(alloc: Global, job: &Job) -> Result<SerialAnswer, AllocError>
-    ensures { IfOk result (λ answer. answer ≡ serial_of_job job.now) }
+    ensures { IfOk result (λ answer. answer ≡ serial_answer (Ok job.now)) }
 {
     if !job.program.is_serial() {
         return Ok(SerialAnswer::NotSerial);

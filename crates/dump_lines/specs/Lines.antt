@@ -24,8 +24,7 @@ use Rattle.dump_lines.specs.Requests.{request_in}
 -- the request that a history may hold: one that is valid and no hello
 abbrev pub recorded : Result Request Error → Option Request
 recorded (Ok (Hello name)) = None
-recorded (Ok request) = Some request
-recorded (Err error) = None
+recorded result = result_ok result
 
 abbrev pub ask : Request → Reply → Entry
 ask request reply = record { step = step.Ask request; answer = answer.Replied reply }

@@ -27,13 +27,9 @@ only n d it = if has_members n d then it else None
 abbrev pub is_word : (name text : List ℕ) → Data → Bool
 is_word name text d = option_map_or (λ it. bytes_eq it text) (get_as name as_str d) false
 
--- a member that is a whole number of 64 bits, with a sign or without
-abbrev pub whole_member : List ℕ → Data → Option Data
-whole_member name = get_as name (λ it. if is_some (whole it) || is_some (integer it) then Some it else None)
-
--- the same, and inside what it is to a tenant
+-- a member that is a whole number of 64 bits, with a sign or without, and inside what it is to a tenant
 abbrev pub number : {A : Type 0} → (Data → Option A) → List ℕ → Data → Option (Option A)
-number read name d = option_map read (whole_member name d)
+number read name d = get_as name (λ it. if is_some (whole it) || is_some (integer it) then Some (read it) else None) d
 
 -- a member that is always one of a tenant's
 abbrev pub sure : {A : Type 0} → (Data → Option A) → List ℕ → Data → Option (Option A)
@@ -49,18 +45,12 @@ three make a b c = a >>= λ x. two (make x) b c
 abbrev pub errors : List Error
 errors = LineTooLong ∷ BadJson ∷ BadRequest ∷ BadProgram ∷ UnknownTenant ∷ UnknownJob ∷ JobLimit ∷ HistoryFull ∷ NoMemory ∷ TaskLimit ∷ NoTenant ∷ Busy ∷ []
 
-abbrev pub error_coded : ℕ → Option Error
-error_coded code = find (λ e. code_of e == code) errors
-
 -- the error whose code and name stand there
 abbrev pub error_in : Data → Option Error
-error_in d = get_as (codes "code") whole d >>= error_coded >>= λ e. if is_word (codes "error") (name_of e) d then Some e else None
-
-abbrev pub faults : List JobFault
-faults = fault.Division ∷ fault.Fuel ∷ fault.TooDeep ∷ fault.TaskLimit ∷ fault.MissingWait ∷ []
+error_in d = get_as (codes "code") whole d >>= (λ code. find (λ e. code_of e == code) errors) >>= λ e. if is_word (codes "error") (name_of e) d then Some e else None
 
 abbrev pub fault_of : Data → Option JobFault
-fault_of d = whole d >>= λ code. find (λ f. fault_code_of f == code) faults
+fault_of d = whole d >>= λ code. find (λ f. fault_code_of f == code) (fault.Division ∷ fault.Fuel ∷ fault.TooDeep ∷ fault.TaskLimit ∷ fault.MissingWait ∷ [])
 
 -- a job under the status of that word
 abbrev pub job_that : List ℕ → Option (Option Status) → Data → Option (Option Reply)

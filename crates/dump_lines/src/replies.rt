@@ -1,13 +1,14 @@
 // The replies that the lines of a dump hold.
-ghost use Rattle.std.specs.Prelude.{◌≡◌, None, Some, option_map, codes};
+ghost use Rattle.std.specs.Prelude.{◌≡◌, ◌==◌, ◌||◌, None, Some, find, if◌then◌else◌, is_some, option_map, codes};
 ghost use Rattle.serde_json.specs.Find.{as_bool, as_str};
 ghost use Rattle.serde_json.specs.View.{view};
 ghost use Rattle.job_language.specs.declared.answers.Reply.TheVariants as reply;
 ghost use Rattle.job_language.specs.declared.answers.Status.TheVariants as status;
+ghost use Rattle.job_language.specs.ErrorCodes.{code_of};
 ghost use Rattle.job_language.specs.Instruction.{below, key};
 ghost use Rattle.job_language.specs.Json.{get_as, whole, integer};
 ghost use Rattle.job_language.specs.TenantOf.{level_of};
-ghost use Rattle.dump_lines.specs.Replies.{error_coded, error_in, fault_of, is_word, job_that, number, only, reply_in, sure, three, two, whole_member};
+ghost use Rattle.dump_lines.specs.Replies.{error_in, errors, fault_of, is_word, job_that, number, only, reply_in, sure, three, two};
 
 use job_language::values::has_members;
 use job_language::{Error, JobFault, Key, Level, Reply, Status};
@@ -195,7 +196,7 @@ fn error_in(value: &Value) -> Option<Error>
 }
 
 fn error_coded(code: u64) -> Option<Error>
-    ensures { result ≡ error_coded code }
+    ensures { result ≡ find (λ e. code_of e == code) errors }
 {
     match code {
         1 => Some(Error::LineTooLong),
@@ -233,7 +234,7 @@ pub(crate) fn is_word(name: &str, text: &str, value: &Value) -> bool
 
 /// A member that is a whole number of 64 bits, with or without a sign.
 fn whole_member<'v>(name: &str, value: &'v Value) -> Option<&'v Value>
-    ensures { option_map (λ it. view it.now) result ≡ whole_member name.now (view value.now) }
+    ensures { option_map (λ it. view it.now) result ≡ get_as name.now (λ it. if is_some (whole it) || is_some (integer it) then Some it else None) (view value.now) }
 {
     let number = value.get(name)?;
     if number.as_u64().is_some() || number.as_i64().is_some() {

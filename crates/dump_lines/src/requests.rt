@@ -1,11 +1,14 @@
 // The requests and the tenant that lines hold.
-ghost use Rattle.std.specs.Prelude.{◌≡◌, Ok, IfOk, OnErr};
+ghost use Rattle.std.specs.Prelude.{◌≡◌, IfOk, OnErr, codes};
 ghost use Rattle.serde_json.specs.View.{view};
+ghost use Rattle.job_language.specs.Json.{get_as};
+ghost use Rattle.job_language.specs.TenantOf.{tenant_of};
 ghost use Rattle.request_reader.specs.Answers.{HasJob};
 ghost use Rattle.request_reader.specs.Asks.{asked_by_value};
 ghost use Rattle.request_reader.specs.Exact.{ExactOrNoMemory};
 ghost use Rattle.request_reader.specs.LineAsks.{IsText};
-ghost use Rattle.dump_lines.specs.Requests.{request_in, tenant_in, tenant_of_value};
+ghost use Rattle.dump_lines.specs.Replies.{only};
+ghost use Rattle.dump_lines.specs.Requests.{request_in, tenant_in};
 
 use job_language::values::has_members;
 use job_language::{Error, Request, TenantConfig, read_tenant};
@@ -27,7 +30,7 @@ pub fn tenant_of(alloc: Global, line: &[u8]) -> Result<Option<TenantConfig>, All
 }
 
 fn tenant_of_value(value: &Value) -> Option<TenantConfig>
-    ensures { result ≡ tenant_of_value (Ok (view value.now)) }
+    ensures { result ≡ only 1 (view value.now) (get_as (codes "tenant") tenant_of (view value.now)) }
 {
     if !has_members(1, value) {
         return None;

@@ -1,12 +1,15 @@
 // Writing the lines of a dump.
-ghost use Rattle.std.specs.Prelude.{◌≡◌, ◌≤◌, false, Some, Ok, IfOk, IfSome, option_map, string_bytes};
+ghost use Rattle.std.specs.Prelude.{◌≡◌, ◌≤◌, false, Some, Ok, IfOk, IfSome, codes, option_map, string_bytes};
 ghost use Rattle.serde_json.specs.Data.{depth};
 ghost use Rattle.serde_json.specs.Read.{max_depth};
 ghost use Rattle.serde_json.specs.View.{view};
 ghost use Rattle.serde_json.specs.Written.{compact_text, has_float};
+ghost use Rattle.job_language.specs.Json.{get_as};
+ghost use Rattle.job_language.specs.TenantOf.{tenant_of};
 ghost use Rattle.request_reader.specs.LineAsks.{value_of};
 ghost use Rattle.dump_lines.specs.Lines.{said_by};
-ghost use Rattle.dump_lines.specs.Requests.{tenant_in, tenant_of_value};
+ghost use Rattle.dump_lines.specs.Replies.{only};
+ghost use Rattle.dump_lines.specs.Requests.{tenant_in};
 ghost use Rattle.dump_lines.specs.Written.{entry_data, first_data};
 ghost use Rattle.dump_lines.specs.declared.lines.Said.TheVariants as said;
 
@@ -31,7 +34,7 @@ pub fn first_line(alloc: Global, config: &TenantConfig) -> Result<String, AllocE
 
 fn first_value(alloc: Global, config: &TenantConfig) -> Result<Value, AllocError>
     ensures value { IfOk result (λ v. view v ≡ first_data config.now) }
-    ensures reads_back { IfOk result (λ v. tenant_of_value (Ok (view v)) ≡ Some config.now) }
+    ensures reads_back { IfOk result (λ v. only 1 (view v) (get_as (codes "tenant") tenant_of (view v)) ≡ Some config.now) }
 {
     let tenant = write_tenant(alloc, config)?;
     json!(in alloc; {"tenant": tenant})
