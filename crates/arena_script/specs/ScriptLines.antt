@@ -1,5 +1,5 @@
 -- The lines of a script that are not blank, and which of them is read next.
-use Rattle.std.specs.Prelude.{◌≡◌, ◌<◌, ◌⊎◌, ℕ, List, [], ◌∷◌, Bool, true, not, filter, Option, Some, None, slice_get, unwrap_or, Result, Ok, Err}
+use Rattle.std.specs.Prelude.{◌≡◌, ◌<◌, ◌⊎◌, ℕ, List, [], ◌∷◌, Bool, true, not, filter, Option, Some, None, unwrap_or, Result, Ok, Err}
 use Rattle.std.specs.List.{list_all}
 use Rattle.job_language.specs.declared.tenants.Tenant.{Tenant}
 use Rattle.job_language.specs.Json.{◌>>=◌}
@@ -34,7 +34,8 @@ text_in too_long = None
 
 -- the tenant that the first line names
 abbrev pub first_tenant : List Line → Option Tenant
-first_tenant lines = slice_get lines 0 >>= text_in >>= tenant_in
+first_tenant [] = None
+first_tenant (line ∷ lines) = text_in line >>= tenant_in
 
 -- the line that an input is, where this is the text that was read
 abbrev pub line_of : Input → List ℕ → Line

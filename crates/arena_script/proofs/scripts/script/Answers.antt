@@ -1,6 +1,7 @@
-use Rattle.std.proofs.Common.{rules, ◌≡◌, ◌∙◌, sym, ap, subst, Some, Ok, Err, Result}
+use Rattle.std.proofs.Common.{rules, ◌≡◌, ◌∙◌, sym, ap, subst, Option, Some, None, Ok, Err, Result}
 use Rattle.std.specs.Prelude.{Contains, IfErr, OnOk}
 use Rattle.arena_script.specs.Commands.{command_of, ends_of}
+use Rattle.arena_script.specs.declared.commands.Command.{Command}
 use Rattle.arena_script.specs.declared.commands.Command.TheVariants as command
 use Rattle.arena_script.specs.declared.ends.ScriptEnd.{ScriptEnd}
 use Rattle.arena_script.specs.declared.ends.ScriptEnd.TheVariants.{Words}
@@ -14,13 +15,26 @@ ok_then {T = T} {E = E} r s x P same ok it = subst (λ (q : Result T E). OnOk q 
 err_then : {T E : Type 0} (r s : Result T E) (e : E) (P : E → Type 0) → r ≡ s → r ≡ Err e → IfErr s P → P e
 err_then {T = T} {E = E} r s e P same err it = subst (λ (q : Result T E). IfErr q P) (sym same ∙ err) it
 
+-- no other command is a check
+own_is_no_check : (asked found : Option Command) (here : Command) → found ≡ asked → found ≡ Some here → here ≡ command.Own → asked ≡ Some command.Check → ⊥
+own_is_no_check asked found here same is own check = cc
+
+run_is_no_check : (asked found : Option Command) (here : Command) → found ≡ asked → found ≡ Some here → here ≡ command.Run → asked ≡ Some command.Check → ⊥
+run_is_no_check asked found here same is run check = cc
+
+serial_is_no_check : (asked found : Option Command) (here : Command) → found ≡ asked → found ≡ Some here → here ≡ command.Serial → asked ≡ Some command.Check → ⊥
+serial_is_no_check asked found here same is serial check = cc
+
+none_is_no_check : (asked found : Option Command) → found ≡ asked → found ≡ None → asked ≡ Some command.Check → ⊥
+none_is_no_check asked found same is check = cc
+
 pub returns-in-Ok-clause-verdict : goal.returns-in-Ok-clause-verdict
 returns-in-Ok-clause-verdict g c = elim c.match-of.branch [
-  | in-Some-Own w ↦ λ is done known. absurd (cc)
-  | in-Some-Run w ↦ λ is done known. absurd (cc)
+  | in-Some-Own w ↦ λ is done known. absurd (own_is_no_check _ _ _ c.of.ensures w.in-Some-Own.is w.in-Some-Own.field-0-is is)
+  | in-Some-Run w ↦ λ is done known. absurd (run_is_no_check _ _ _ c.of.ensures w.in-Some-Run.is w.in-Some-Run.field-0-is is)
   | in-Some-Check w ↦ λ is done known. rw w.writer-is (ok_then _ _ _ _ w.ended-is c.in-Ok.is w.check_dump-ended.ensures.verdict known)
-  | in-Some-Serial w ↦ λ is done known. absurd (cc)
-  | in-None w ↦ λ is done known. absurd (cc)
+  | in-Some-Serial w ↦ λ is done known. absurd (serial_is_no_check _ _ _ c.of.ensures w.in-Some-Serial.is w.in-Some-Serial.field-0-is is)
+  | in-None w ↦ λ is done known. absurd (none_is_no_check _ _ c.of.ensures w.in-None.is is)
 ]
 
 pub returns-in-Ok-clause-own_part : goal.returns-in-Ok-clause-own_part
