@@ -16,7 +16,7 @@ use Rattle.dump_lines.specs.Requests.{tenant_in}
 use Rattle.arena_script.specs.ScriptAnswers.{told}
 use Rattle.arena_script.specs.Taken.{answer_told, or_none}
 
--- The answer that an arena gave is told, and the arena stands for what is left.
+-- The answer that an arena gave is reported, and the arena stands for what is left.
 pub told_so : (s : State) (taken : Option (Answer × State)) (answer : Option Answer) {A : Type 0} (stands_for : A → State → Type 0) (arena : A) →
     (answer ≡ (or_none s taken).0) × stands_for arena (or_none s taken).1 → (answer_told answer ≡ (told s taken).0) × stands_for arena (told s taken).1
 told_so s None answer stands_for arena it = (ap answer_told it.0, it.1)

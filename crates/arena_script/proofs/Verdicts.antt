@@ -108,7 +108,7 @@ one_answer : (dump : Result (Tenant × List Said) ℕ) (one other : List ℕ) �
 one_answer (Ok dump) one other first second = first.2 ∙ ap verdict_text (one_verdict_on (empty dump.0) 1 dump.1 first.0 second.0 first.1 second.1) ∙ sym second.2
 one_answer (Err number) one other first second = first ∙ sym second
 
--- What a dump comes to, by what its lines after the first say.
+-- What a dump gives, by what its lines after the first say.
 abbrev with_tenant : Tenant → Result (List Said) ℕ → Result (Tenant × List Said) ℕ
 with_tenant c all = result_map (λ said. (c, said)) all
 

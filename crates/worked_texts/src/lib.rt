@@ -1,4 +1,4 @@
-//! Worked texts: jobs, tenants, configurations, lines and requests beside what they are read as, and replies
+//! Worked texts: jobs, tenants, configurations, lines, requests and words beside what they are read as, and replies
 //! beside what is written for them. They are tests alone; what is expected was taken from the documented
 //! format, not from a run.
 #![tactic(auto)]
