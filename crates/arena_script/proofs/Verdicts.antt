@@ -1,10 +1,10 @@
 -- The answer to a dump.
-use Rattle.std.proofs.Common.{◌≡◌, ℕ, ◌+◌, Bool, true, false, ◌||◌, List, [], ◌∷◌, ◌++◌, length, Option, Some, None, Result, Ok, Err, inl, inr, refl, sym, ap, ◌∙◌, subst, append_assoc, append-nil, arith}
+use Rattle.std.proofs.Common.{◌≡◌, ℕ, ◌+◌, Bool, true, false, List, [], ◌∷◌, ◌++◌, length, Option, Some, None, Result, Ok, Err, inl, inr, refl, sym, ap, ◌∙◌, subst, append_assoc, append-nil, arith}
 use Rattle.std.specs.Prelude.{fold, is_err, IsErr, IsOk}
 use Rattle.std.specs.Io.KnownBytes.{Appends}
 use Rattle.std.specs.Option.{option_map_or}
 use Rattle.history_check.specs.declared.checking.Verdict.{Verdict}
-use Rattle.history_check.specs.declared.checking.Verdict.TheVariants.{Yes, No}
+use Rattle.history_check.specs.declared.checking.Verdict.TheVariants.{No}
 use Rattle.history_check.specs.Verdicts.{IsVerdictFrom}
 use Rattle.job_language.specs.declared.steps.Entry.{Entry}
 use Rattle.job_language.specs.declared.tenants.Tenant.{Tenant}

@@ -4,7 +4,6 @@ use Rattle.std.specs.Option.{option_map_or}
 use Rattle.history_check.specs.declared.checking.Verdict.{Verdict}
 use Rattle.history_check.specs.declared.checking.Verdict.TheVariants.{Yes, No}
 use Rattle.history_check.specs.Verdicts.{IsVerdict}
-use Rattle.job_language.specs.declared.steps.Entry.{Entry}
 use Rattle.job_language.specs.declared.tenants.Tenant.{Tenant}
 use Rattle.request_reader.specs.Lines.{Line, whole, too_long}
 use Rattle.dump_lines.specs.declared.lines.Said.{Said}

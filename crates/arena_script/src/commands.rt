@@ -16,7 +16,7 @@ pub enum Command {
 }
 
 impl Command {
-    /// The command that words ask for.
+    /// The command that words ask for; none for any other words. No word at all asks for `Own`.
     pub fn of(words: &[&str]) -> Option<Command>
         ensures { result ≡ command_of words.now }
     {

@@ -1,4 +1,4 @@
-use Rattle.std.proofs.Common.{rules, ◌≡◌, ◌∙◌, sym, ap, subst, Option, Some, None, Ok, Err, Result}
+use Rattle.std.proofs.Common.{◌≡◌, ◌∙◌, sym, ap, subst, Option, Some, None, Ok, Err, Result}
 use Rattle.std.specs.Prelude.{Contains, IfErr, OnOk}
 use Rattle.arena_script.specs.Commands.{command_of, ends_of}
 use Rattle.arena_script.specs.declared.commands.Command.{Command}
