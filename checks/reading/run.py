@@ -173,7 +173,7 @@ def row(promise, definitions):
     crates = {}
     for module, name in definitions:
         crates[module.crate] = crates.get(module.crate, 0) + len(module.definitions[name])
-    shares = ", ".join(f"`{crate}` {lines}" for crate, lines in sorted(crates.items(), key=lambda share: -share[1]))
+    shares = ", ".join(f"`{crate}` {lines}" for crate, lines in sorted(crates.items(), key=lambda share: (-share[1], share[0])))
     return f"| {promise} | {len(definitions)} | {sum(crates.values())} | {shares} |"
 
 
