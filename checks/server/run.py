@@ -243,6 +243,58 @@ def hostile_lines_have_their_errors():
     assert server.end() == (["acme: closed, 4 entries"], "", 0)
 
 
+def requests_have_exactly_their_members():
+    """Each line beside its reply. A request that is read is answered by the tenant, and one that is not is none."""
+    limits = {"priority": "normal", "reserved": 1, "slots": 1}
+    bad_json, bad_request = {"code": 2, "error": "bad_json"}, {"code": 3, "error": "bad_request"}
+    bad_program, unknown_job = {"code": 4, "error": "bad_program"}, {"code": 6, "error": "unknown_job"}
+    unknown_tenant, line_too_long = {"code": 5, "error": "unknown_tenant"}, {"code": 1, "error": "line_too_long"}
+    table = [
+        ('{"op":"hello","tenant":"No Name"}', unknown_tenant),
+        ('{"op":"hello","tenant":7}', bad_request),
+        ('{"op":"hello"}', bad_request),
+        ('{"op":"hello","tenant":"acme"}', {"tenant": "acme"}),
+        ('{"job":0,"op":"poll"}', unknown_job),
+        ('{"op":"poll", "job":18446744073709551615}', unknown_job),
+        ('{"job":18446744073709551616,"op":"poll"}', bad_request),
+        ('{"job":1e0,"op":"poll"}', bad_request),
+        ('{"job":-1,"op":"poll"}', bad_request),
+        ('{"job":"1","op":"poll"}', bad_request),
+        ('{"job":3,"op":"collect"}', unknown_job),
+        ('{"job":4,"op":"cancel"}', unknown_job),
+        ('{"key":7,"op":"cells"}', {"count": 0, "key": 7, "sum": 0}),
+        ('{"key":8,"op":"cells"}', bad_request),
+        ('{"op":"retire","job":1}', bad_request),
+        ('{"job":5,"op":"submit"}', bad_program),
+        ('{"job":null,"op":"submit"}', bad_program),
+        ('{"job":6,"op":"execute"}', bad_program),
+        ('{"job":6,"op":"execute","slot":0}', bad_request),
+        ('{"job":6,"op":"Execute"}', bad_request),
+        ('{"job":1,"job":2,"op":"arena","op":"poll"}', unknown_job),
+        ('{"op":7}', bad_request),
+        ("{}", bad_request),
+        ("[]", bad_request),
+        ('"arena"', bad_request),
+        ("null", bad_request),
+        ('{"op":"arena"}}', bad_json),
+        ('\ufeff{"op":"arena"}', bad_json),
+        ("[" * 30_000 + "]" * 30_000, bad_json),
+        ('{"op":"arena"}'.rjust(200_000), line_too_long),
+        (' {"op":"\\u0061rena"}\r', limits),
+        ('{"op":"retire"}', {"epoch": 1}),
+    ]
+    server = Server([tenant("acme", 1, 1)], 1, 1)
+    with server.connect() as client:
+        client.sendall("".join(line + "\n" for line, _ in table).encode())
+        client.shutdown(socket.SHUT_WR)
+        with client.makefile() as replies:
+            got = [json.loads(reply) for reply in replies]
+    for (line, wanted), reply in zip(table, got, strict=True):
+        assert reply == wanted, (line[:100], reply)
+    # The unknown jobs, the cells, the arena and the retirement: errors of the reading are no entries.
+    assert server.end() == (["acme: closed, 8 entries"], "", 0)
+
+
 def client_that_never_reads():
     server = Server([tenant("acme", 2, 1)], 1, 2)
     with server.connect() as client:
@@ -384,7 +436,14 @@ def wrong_words_and_files_are_faults():
         done = subprocess.run([PROGRAM, *words], capture_output=True, text=True, timeout=60)
         return done.stdout, done.stderr, done.returncode
 
-    assert run() == ("", "arena-server: words\n", 2)
+    wrong_words, no_file = ("", "arena-server: words\n", 2), ("", "arena-server: device\n", 3)
+    assert run() == wrong_words
+    for words in ["--config f --socket s --connections 65", "--config f --socket s --connections 0",
+                  "--config f --connections 2", "--config f --socket s --connections 2 now"]:
+        assert run(*words.split()) == wrong_words, words
+    # No file has these names, which is found out once the words are right.
+    for words in ["--config f --socket s --connections 2", "--dump=d --connections=64 --socket=s --config=f"]:
+        assert run(*words.split()) == no_file, words
     with tempfile.TemporaryDirectory() as folder:
         at = os.path.join(folder, "socket")
         config = os.path.join(folder, "config")
@@ -405,7 +464,8 @@ def wrong_words_and_files_are_faults():
 
 CHECKS = [job_is_executed_and_polled, workers_share_a_job, each_job_has_its_end, tenants_do_not_see_each_other,
           client_that_goes_away_ends_its_session_alone, client_that_goes_away_after_any_byte,
-          job_stands_though_its_reply_is_lost, hostile_lines_have_their_errors, client_that_never_reads,
+          job_stands_though_its_reply_is_lost, hostile_lines_have_their_errors,
+          requests_have_exactly_their_members, client_that_never_reads,
           client_that_sends_without_end, clients_that_say_nothing, many_clients_at_once,
           jobs_are_retired_round_after_round, dump_is_the_history, waiting_ends_at_a_full_history,
           executes_end_at_a_full_history, folder_of_dumps_is_missing, wrong_words_and_files_are_faults]

@@ -10,11 +10,21 @@ use std::alloc::{AllocError, Global};
 
 /// A tenant's arena beside its plain evaluator, which take the same steps, and a private run that was
 /// made away from the arena.
-#[derive(Drop)]
 pub(crate) struct Pair {
     arena: Arena,
     solo: Solo,
     kept: Option<Segment>,
+}
+
+impl Drop for Pair {
+    // An owner drops it in one call, not part by part at each of its ways out.
+    fn drop(self) {
+        let Pair {
+            arena: _arena,
+            solo: _solo,
+            kept: _kept,
+        } = self;
+    }
 }
 
 /// What the arena and the evaluator answered.

@@ -18,7 +18,6 @@ use task_group::Groups;
 
 /// The open rows by their places, and the contexts. A row that waits is filed by its context, so that a
 /// cancellation leads to the rows that are to be dropped, and no others are looked at.
-#[derive(Drop)]
 pub(crate) struct OpenRows {
     table: Vec<Option<OpenRow>>,
     contexts: Contexts,
@@ -29,6 +28,19 @@ pub(crate) struct OpenRows {
     doomed: usize,
     /// Room for the contexts that a cancellation reaches.
     turned: Vec<ContextId>,
+}
+
+impl Drop for OpenRows {
+    // An owner drops it in one call, not part by part at each of its ways out.
+    fn drop(self) {
+        let OpenRows {
+            table: _table,
+            contexts: _contexts,
+            filing: _filing,
+            doomed: _doomed,
+            turned: _turned,
+        } = self;
+    }
 }
 
 impl Model for OpenRows {

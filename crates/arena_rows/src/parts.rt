@@ -14,7 +14,6 @@ use std::marker::Model;
 use thread_cells::Cells;
 
 /// What an arena is made of: its open rows by their places, and the leaves that say what they may do.
-#[derive(Drop)]
 pub struct Parts {
     pub(crate) config: TenantConfig,
     /// The open rows by their places, and the contexts.
@@ -32,6 +31,26 @@ pub struct Parts {
     pub(crate) regions: Regions,
     pub(crate) pool: Pool,
     pub(crate) nests: Nests,
+}
+
+impl Drop for Parts {
+    // An owner drops it in one call, not part by part at each of its ways out.
+    fn drop(self) {
+        let Parts {
+            config: _config,
+            rows: _rows,
+            free: _free,
+            made: _made,
+            jobs: _jobs,
+            retired: _retired,
+            cells: _cells,
+            entries: _entries,
+            epoch: _epoch,
+            regions: _regions,
+            pool: _pool,
+            nests: _nests,
+        } = self;
+    }
 }
 
 impl Model for Parts {

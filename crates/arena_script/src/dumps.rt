@@ -18,12 +18,22 @@ use std::io::Read;
 use std::marker::Model;
 
 /// A tenant, and what a dump says of its history.
-#[derive(Drop)]
 pub(crate) struct Dump {
     config: TenantConfig,
     /// The entries before the first that is foreign.
     entries: Vec<Entry>,
     has_foreign: bool,
+}
+
+impl Drop for Dump {
+    // An owner drops it in one call, not part by part at each of its ways out.
+    fn drop(self) {
+        let Dump {
+            config: _config,
+            entries: _entries,
+            has_foreign: _has_foreign,
+        } = self;
+    }
 }
 
 impl Model for Dump {

@@ -48,7 +48,6 @@ impl QueuePass {
 }
 
 /// A queue of calls for each level of priority, which threads share.
-#[derive(Drop)]
 pub struct CallQueues {
     config: MarketConfig,
     passes: usize,
@@ -56,6 +55,20 @@ pub struct CallQueues {
     normal: LevelQueue,
     low: LevelQueue,
     room: Vec<Call>,
+}
+
+impl Drop for CallQueues {
+    // An owner drops it in one call, not part by part at each of its ways out.
+    fn drop(self) {
+        let CallQueues {
+            config: _config,
+            passes: _passes,
+            high: _high,
+            normal: _normal,
+            low: _low,
+            room: _room,
+        } = self;
+    }
 }
 
 impl Model for CallQueues {
@@ -164,11 +177,12 @@ impl CallQueues {
             × (result.items ≡ map (λ m. m.call) (high ++ normal ++ low)) }
     {
         let CallQueues {
+            config: _config,
+            passes: _passes,
             high,
             normal,
             low,
             mut room,
-            ..
         } = self;
         let QueuePass {
             high: first_high,

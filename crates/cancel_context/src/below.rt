@@ -10,11 +10,21 @@ use std::marker::Model;
 
 /// For each context the list of those bound to it, the last bound first, linked both ways through
 /// their places.
-#[derive(Drop)]
 pub(crate) struct Below {
     first: Vec<Option<ContextId>>,
     next: Vec<Option<ContextId>>,
     previous: Vec<Option<ContextId>>,
+}
+
+impl Drop for Below {
+    // An owner drops it in one call, not part by part at each of its ways out.
+    fn drop(self) {
+        let Below {
+            first: _first,
+            next: _next,
+            previous: _previous,
+        } = self;
+    }
 }
 
 impl Model for Below {

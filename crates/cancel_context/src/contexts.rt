@@ -24,7 +24,6 @@ const _: () = prove!(BASE_CONTEXTS == 256 && CONTEXTS_PER_ROW == 5 && MAX_ROWS =
 
 /// Contexts that are bound to one another. A context is cancelled where it has a cancel request of
 /// its own, or one that it is bound to is cancelled.
-#[derive(Drop)]
 pub struct Contexts {
     bindings: Vec<Option<Binding>>,
     /// The free place that comes after each free place.
@@ -32,6 +31,19 @@ pub struct Contexts {
     first_free: Option<ContextId>,
     below: Below,
     flags: Flags,
+}
+
+impl Drop for Contexts {
+    // An owner drops it in one call, not part by part at each of its ways out.
+    fn drop(self) {
+        let Contexts {
+            bindings: _bindings,
+            next_free: _next_free,
+            first_free: _first_free,
+            below: _below,
+            flags: _flags,
+        } = self;
+    }
 }
 
 impl Model for Contexts {

@@ -12,11 +12,20 @@ use std::alloc::{AllocError, Global};
 use std::marker::Model;
 
 /// For each context whether it is cancelled.
-#[derive(Drop)]
 pub(crate) struct Flags {
     is_cancelled: Vec<bool>,
     /// While a change spreads: the contexts whose flag has turned, and not yet the flags below them.
     reached: Vec<ContextId>,
+}
+
+impl Drop for Flags {
+    // An owner drops it in one call, not part by part at each of its ways out.
+    fn drop(self) {
+        let Flags {
+            is_cancelled: _is_cancelled,
+            reached: _reached,
+        } = self;
+    }
 }
 
 impl Model for Flags {

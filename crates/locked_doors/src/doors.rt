@@ -15,13 +15,25 @@ use worker_main::{DueDoor, Ringer, Signal};
 
 /// One session's ways to the tenants behind locks. It has a seat of each tenant, and is at one slot
 /// at most: that of the job that it executes. It calls workers to the slots that become due.
-#[derive(Drop)]
 pub struct LockedDoors<'d, 'q, R: Wait, S: Signal> {
     pub(crate) slots: TenantSlots<'d, R>,
     pub(crate) ringer: Ringer<'q, R, S>,
     pub(crate) names: &'d [TenantName],
     pub(crate) seats: Vec<Seat>,
     pub(crate) bound: usize,
+}
+
+impl<'d, 'q, R: Wait, S: Signal> Drop for LockedDoors<'d, 'q, R, S> {
+    // An owner drops it in one call, not part by part at each of its ways out.
+    fn drop(self) {
+        let LockedDoors {
+            slots: _slots,
+            ringer: _ringer,
+            names: _names,
+            seats: _seats,
+            bound: _bound,
+        } = self;
+    }
 }
 
 impl<'d, 'q, R: Wait, S: Signal> Model for LockedDoors<'d, 'q, R, S> {

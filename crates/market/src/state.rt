@@ -13,12 +13,23 @@ use world_model::{Call, SlotState, WorkerState};
 
 /// Where the slots and the workers are, and which calls wait. Tenants, slots and workers are
 /// numbered from 0.
-#[derive(Drop)]
 pub struct MarketState {
     levels: Vec<Level>,
     slots: Vec<TenantSlots>,
     waiting: WaitingCalls,
     workers: Vec<WorkerState>,
+}
+
+impl Drop for MarketState {
+    // An owner drops it in one call, not part by part at each of its ways out.
+    fn drop(self) {
+        let MarketState {
+            levels: _levels,
+            slots: _slots,
+            waiting: _waiting,
+            workers: _workers,
+        } = self;
+    }
 }
 
 impl Model for MarketState {

@@ -9,11 +9,20 @@ use std::marker::Model;
 /// Places that are each filed in one list, or in none. It knows where each place is filed, so a place is
 /// filed elsewhere without a search. No call takes memory but `new`, and none walks a list but
 /// `file_all`.
-#[derive(Drop)]
 pub struct Filing {
     lists: Lists,
     /// By place, the list that it is filed in.
     by_place: Vec<Option<usize>>,
+}
+
+impl Drop for Filing {
+    // An owner drops it in one call, not part by part at each of its ways out.
+    fn drop(self) {
+        let Filing {
+            lists: _lists,
+            by_place: _by_place,
+        } = self;
+    }
 }
 
 impl Model for Filing {

@@ -8,12 +8,23 @@ use std::marker::Model;
 
 /// For each list its first and its last place, and for each place what comes after and before it in the
 /// list that it is in.
-#[derive(Drop)]
 pub(crate) struct Links {
     heads: Vec<Option<usize>>,
     tails: Vec<Option<usize>>,
     next: Vec<Option<usize>>,
     previous: Vec<Option<usize>>,
+}
+
+impl Drop for Links {
+    // An owner drops it in one call, not part by part at each of its ways out.
+    fn drop(self) {
+        let Links {
+            heads: _heads,
+            tails: _tails,
+            next: _next,
+            previous: _previous,
+        } = self;
+    }
 }
 
 impl Model for Links {

@@ -24,7 +24,6 @@ pub struct Waiting {
 
 /// The rows of a tenant that wait to be started, in order of making. No call takes memory but `new`,
 /// and none walks over the rows but `pick` for a waiter in mode within.
-#[derive(Drop)]
 pub struct Pool {
     isolation: Isolation,
     slots: usize,
@@ -36,6 +35,21 @@ pub struct Pool {
     by_slot: Lists,
     by_region: Lists,
     by_both: Lists,
+}
+
+impl Drop for Pool {
+    // An owner drops it in one call, not part by part at each of its ways out.
+    fn drop(self) {
+        let Pool {
+            isolation: _isolation,
+            slots: _slots,
+            rows: _rows,
+            all: _all,
+            by_slot: _by_slot,
+            by_region: _by_region,
+            by_both: _by_both,
+        } = self;
+    }
 }
 
 impl Model for Pool {

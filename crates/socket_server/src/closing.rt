@@ -18,7 +18,7 @@ impl House {
     ) -> Result<Vec<Result<Closed, CloseFault>>, AllocError>
         ensures { IfOk result (λ ends. AreEnds self.doors seats.items ends.items) }
     {
-        let House { doors, .. } = self;
+        let doors = self.into_doors();
         let mut left = seats;
         let mut ends = Vec::with_capacity(alloc, doors.len())?;
         for door in doors {

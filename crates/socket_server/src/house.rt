@@ -1,8 +1,11 @@
 // What all threads of a server share.
-ghost use Rattle.std.specs.Prelude.{◌≡◌, ◌≤◌, ◌+◌, IfOk, length};
+ghost use Rattle.std.specs.Prelude.{◌≡◌, ◌≤◌, ◌+◌, All, IfOk, length};
 ghost use Rattle.job_language.specs.Configuration.{names_of};
+ghost use Rattle.job_language.specs.Tenant.{IsValidTenant};
 ghost use Rattle.socket_server.specs.Houses.{doors_of, seats_of};
 ghost use Rattle.socket_server.specs.Shared.{ArePassesOf};
+ghost use Rattle.tenant_lock.specs.Doors.{DoorData};
+ghost use Rattle.tenant_slots.specs.Seen.{AreNumbered};
 
 use crate::starting::open_doors;
 use call_queues::{CallQueues, QueuePass};
@@ -18,12 +21,23 @@ use world_script::names_of;
 
 /// What all threads of a server share: the doors of all tenants with their names, the queues of
 /// calls for workers, and the bell that is rung after each push.
-#[derive(Drop)]
 pub struct House {
     pub(crate) doors: Vec<TenantDoor>,
     pub(crate) names: Vec<TenantName>,
     pub(crate) queues: CallQueues,
     pub(crate) bell: Bell,
+}
+
+impl Drop for House {
+    // An owner drops it in one call, not part by part at each of its ways out.
+    fn drop(self) {
+        let House {
+            doors: _doors,
+            names: _names,
+            queues: _queues,
+            bell: _bell,
+        } = self;
+    }
 }
 
 impl Model for House {
@@ -71,6 +85,21 @@ impl House {
             passes,
             seats,
         })
+    }
+
+    /// The tenants' doors, when nothing else of the house is needed.
+    pub(crate) fn into_doors(self) -> Vec<TenantDoor>
+        ensures value { result.items ≡ self.doors }
+        ensures numbers { AreNumbered result.items }
+        ensures tenants { All (λ (d : DoorData). IsValidTenant d.config) result.items }
+    {
+        let House {
+            doors,
+            names: _names,
+            queues: _queues,
+            bell: _bell,
+        } = self;
+        doors
     }
 
     /// Tells all that wait, for a tenant or for a call, to stop.

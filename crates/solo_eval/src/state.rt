@@ -14,7 +14,6 @@ use tenant_model::{Row, Work};
 use thread_cells::Cells;
 
 /// All rows that a tenant ever made, its jobs, and its cells by key and by slot.
-#[derive(Drop)]
 pub(crate) struct TenantState {
     config: TenantConfig,
     rows: Vec<Row>,
@@ -22,6 +21,20 @@ pub(crate) struct TenantState {
     cells: Cells,
     entries: usize,
     epoch: u64,
+}
+
+impl Drop for TenantState {
+    // An owner drops it in one call, not part by part at each of its ways out.
+    fn drop(self) {
+        let TenantState {
+            config: _config,
+            rows: _rows,
+            jobs: _jobs,
+            cells: _cells,
+            entries: _entries,
+            epoch: _epoch,
+        } = self;
+    }
 }
 
 impl Model for TenantState {

@@ -29,13 +29,25 @@ pub struct Closed {
 
 /// A tenant behind a lock. Each call takes the lock once, and what it does to the tenant is said of
 /// the tenant's cell; here stands what it does to the tokens.
-#[derive(Drop)]
 pub struct TenantDoor {
     tenant: usize,
     config: TenantConfig,
     seats: usize,
     held: Mutex<Held>,
     changed: Condvar,
+}
+
+impl Drop for TenantDoor {
+    // An owner drops it in one call, not part by part at each of its ways out.
+    fn drop(self) {
+        let TenantDoor {
+            tenant: _tenant,
+            config: _config,
+            seats: _seats,
+            held: _held,
+            changed: _changed,
+        } = self;
+    }
 }
 
 impl Model for TenantDoor {

@@ -28,12 +28,23 @@ use std::marker::Model;
 /// A tenant's arena with its history, and what is known of its asks and slots. It is right by its
 /// type: the history replays to the arena, each ask in it has the number of its seat, and the pass
 /// of each reserved slot with nothing on it is home.
-#[derive(Drop)]
 pub struct TenantCell {
     tenant: usize,
     replay: Replay,
     askers: Vec<usize>,
     slots: SlotBooks,
+}
+
+impl Drop for TenantCell {
+    // An owner drops it in one call, not part by part at each of its ways out.
+    fn drop(self) {
+        let TenantCell {
+            tenant: _tenant,
+            replay: _replay,
+            askers: _askers,
+            slots: _slots,
+        } = self;
+    }
 }
 
 impl Model for TenantCell {
@@ -138,7 +149,13 @@ impl TenantCell {
         ensures value { result.items ≡ self.history }
         ensures right { IsRight self }
     {
-        self.replay.into_history()
+        let TenantCell {
+            tenant: _tenant,
+            replay,
+            askers: _askers,
+            slots: _slots,
+        } = self;
+        replay.into_history()
     }
 
     /// What is seen of a pass's slot: its topmost frame, if another handle on the frame's program is

@@ -27,11 +27,21 @@ use std::marker::Model;
 /// A tenant's arena, and the history of its steps. The history replays to the arena by its type:
 /// its answers are those that a new tenant gives to its steps, and the arena stands for the state
 /// after them.
-#[derive(Drop)]
 pub struct Replay {
     config: TenantConfig,
     arena: Arena,
     history: Vec<Entry>,
+}
+
+impl Drop for Replay {
+    // An owner drops it in one call, not part by part at each of its ways out.
+    fn drop(self) {
+        let Replay {
+            config: _config,
+            arena: _arena,
+            history: _history,
+        } = self;
+    }
 }
 
 impl Model for Replay {
@@ -78,7 +88,12 @@ impl Replay {
     pub fn into_history(self) -> Vec<Entry>
         ensures { result.items ≡ self.history }
     {
-        self.history
+        let Replay {
+            config: _config,
+            arena: _arena,
+            history,
+        } = self;
+        history
     }
 
     /// How many rows are on a slot.

@@ -3,7 +3,6 @@ mod arena_served;
 mod attending;
 mod desk_served;
 mod histories;
-mod markets;
 mod tenants;
 mod waits;
 mod worlds;

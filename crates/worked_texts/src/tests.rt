@@ -1,12 +1,9 @@
 // Worked examples, refusals, and readers and writers that fail.
 mod examples;
-mod hostile;
 mod lines;
 mod readers;
 mod refusals;
 mod replies;
-mod requests;
-mod words;
 mod writers;
 
 use job_language::{Job, Place, Refused, read_job};

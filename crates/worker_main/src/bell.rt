@@ -7,10 +7,19 @@ use std::sync::{Condvar, Mutex, Wait};
 
 /// A bell for workers. A thread that waits for it sleeps. Rings are counted, so one that comes
 /// between a failed pop and the wait is not lost, unless 2^64 come there.
-#[derive(Drop)]
 pub struct Bell {
     rung: Mutex<Rung>,
     changed: Condvar,
+}
+
+impl Drop for Bell {
+    // An owner drops it in one call, not part by part at each of its ways out.
+    fn drop(self) {
+        let Bell {
+            rung: _rung,
+            changed: _changed,
+        } = self;
+    }
 }
 
 /// How often the bell rang, modulo 2^64, and whether it tells to stop.

@@ -22,10 +22,19 @@ use std::marker::Model;
 use world_model::{Call, Outcome, SlotState, WorkerState};
 
 /// Many tenants and the market between them.
-#[derive(Drop)]
 pub struct World<A: TenantArena> {
     arenas: Vec<A>,
     market: MarketState,
+}
+
+impl<A: TenantArena> Drop for World<A> {
+    // An owner drops it in one call, not part by part at each of its ways out.
+    fn drop(self) {
+        let World {
+            arenas: _arenas,
+            market: _market,
+        } = self;
+    }
 }
 
 impl<A: TenantArena> Model for World<A> {

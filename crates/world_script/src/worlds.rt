@@ -24,10 +24,19 @@ use world_core::{Raw, TenantArena, World};
 use world_model::{Call, Outcome};
 
 /// A world whose tenants are known by their names.
-#[derive(Drop)]
 pub struct NamedWorld<A: TenantArena> {
     names: Vec<TenantName>,
     world: World<A>,
+}
+
+impl<A: TenantArena> Drop for NamedWorld<A> {
+    // An owner drops it in one call, not part by part at each of its ways out.
+    fn drop(self) {
+        let NamedWorld {
+            names: _names,
+            world: _world,
+        } = self;
+    }
 }
 
 impl<A: TenantArena> Model for NamedWorld<A> {

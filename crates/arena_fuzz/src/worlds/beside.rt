@@ -12,12 +12,23 @@ use world_core::{Raw, World};
 use world_model::{Call, Outcome, WorkerState};
 
 /// A world, and beside it what is expected of it: the market on plain lists, and each tenant by itself.
-#[derive(Drop)]
 pub(crate) struct Beside {
     alloc: Global,
     world: World<Arena>,
     market: PlainMarket,
     tenants: Vec<Alone>,
+}
+
+impl Drop for Beside {
+    // An owner drops it in one call, not part by part at each of its ways out.
+    fn drop(self) {
+        let Beside {
+            alloc: _alloc,
+            world: _world,
+            market: _market,
+            tenants: _tenants,
+        } = self;
+    }
 }
 
 impl Beside {

@@ -11,11 +11,21 @@ struct TenantSlots {
 }
 
 /// Where slots and workers are, and which calls wait, in the order of their pushes.
-#[derive(Drop)]
 pub(crate) struct PlainMarket {
     tenants: Vec<TenantSlots>,
     calls: Vec<Call>,
     workers: Vec<WorkerState>,
+}
+
+impl Drop for PlainMarket {
+    // An owner drops it in one call, not part by part at each of its ways out.
+    fn drop(self) {
+        let PlainMarket {
+            tenants: _tenants,
+            calls: _calls,
+            workers: _workers,
+        } = self;
+    }
 }
 
 impl PlainMarket {

@@ -29,13 +29,25 @@ const FLOOD: u64 = 260;
 const NAMES: [&str; 4] = ["acme", "beta", "gamma", "delta"];
 
 /// A round under way.
-#[derive(Drop)]
 struct Round {
     alloc: Global,
     beside: Beside,
     jobs: Vec<Spelled>,
     draws: Pcg32,
     steps: u64,
+}
+
+impl Drop for Round {
+    // An owner drops it in one call, not part by part at each of its ways out.
+    fn drop(self) {
+        let Round {
+            alloc: _alloc,
+            beside: _beside,
+            jobs: _jobs,
+            draws: _draws,
+            steps: _steps,
+        } = self;
+    }
 }
 
 impl Round {

@@ -9,11 +9,21 @@ use world_core::{Raw, World};
 use world_model::{Call, Outcome};
 
 /// A tenant by itself.
-#[derive(Drop)]
 pub(crate) struct Alone {
     solo: Solo,
     world: World<Arena>,
     made: u64,
+}
+
+impl Drop for Alone {
+    // An owner drops it in one call, not part by part at each of its ways out.
+    fn drop(self) {
+        let Alone {
+            solo: _solo,
+            world: _world,
+            made: _made,
+        } = self;
+    }
 }
 
 impl Alone {

@@ -1,4 +1,4 @@
-// Sessions over memory: worked examples, and readers and writers that fail.
+// Sessions over memory: worked examples, and a reader that is always interrupted.
 mod faults;
 mod sessions;
 

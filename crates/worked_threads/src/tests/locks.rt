@@ -115,35 +115,6 @@ fn a_job_runs_through_the_door(rt: HostRuntime) -> Result<(), Fail> {
     Ok(())
 }
 
-/// A worker runs the first job; then a second job waits, for the holder of the pass alone, and another
-/// worker arrives. Returns the answer to that arrival, whether it has a pass, and the answers to the holder's
-/// advances before and after it.
-fn work_on<R: Wait>(
-    rt: &R,
-    alloc: Global,
-    door: &TenantDoor,
-    seats: &mut [Seat],
-) -> Option<(Came, bool, [Moved; 2])> {
-    let _first = submit(rt, alloc, door, seats)?;
-    let arrived = door.arrive(rt, CALL);
-    let ran = advance(rt, door, arrived.pass)?;
-    let _second = submit(rt, alloc, door, seats)?;
-    let other = door.arrive(rt, CALL);
-    let nested = advance(rt, door, ran.pass)?;
-    Some((other.came, other.pass.is_some(), [ran.moved, nested.moved]))
-}
-
-#[test]
-fn nobody_arrives_where_the_pass_is_out(rt: HostRuntime) -> Result<(), Fail> {
-    let (door, mut seats) = TenantDoor::new(rt.alloc(), 0, two_slots()?, 1)?;
-    let worked = work_on(&rt, rt.alloc(), &door, seats.as_mut_slice());
-    let (came, has_pass, moved) = worked.ok_or("no pass came")?;
-    assert_eq!(rt; came, Came::Nothing);
-    assert!(rt; !has_pass);
-    assert_eq!(rt; moved, [Moved::Ran, Moved::Nested(2)]);
-    Ok(())
-}
-
 /// The segment of the topmost frame of a pass's slot, if the pass is one of the door's.
 fn segment<R: Wait>(rt: &R, door: &TenantDoor, pass: &Option<Pass>) -> Option<Segment> {
     let pass = pass.as_ref()?;

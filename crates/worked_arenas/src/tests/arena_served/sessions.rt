@@ -79,38 +79,6 @@ fn a_history_that_is_full_is_error_8(rt: HostRuntime) -> Result<(), Fail> {
 }
 
 #[test]
-fn lines_that_ask_for_nothing_are_refused(rt: HostRuntime) -> Result<(), Fail> {
-    let lines = [
-        "{\"job\":1,\"op\":\"poll\"}\n",
-        "{\"op\":\"hello\",\"tenant\":\"zed\"}\n",
-        HELLO,
-        HELLO,
-        "{\"key\":0,\"op\":\"cells\"}\n",
-        "{\"op\":\"submit\"}\n",
-        "{\"job\":{\"args\":[0,0],\"fuel\":1,\"procs\":[[[\"jmp\",1]]]},\"op\":\"submit\"}\n",
-        "{\"job\":9,\"op\":\"poll\"}\n",
-        "{\"op\":\n",
-        "{\"op\":\"arena\"}",
-    ];
-    let (written, end) = served_once(rt.alloc(), 10_000, &lines)?;
-    assert_eq!(rt; end, SessionEnd::Ended);
-    let wanted = [
-        "{\"code\":11,\"error\":\"no_tenant\"}\n",
-        "{\"code\":5,\"error\":\"unknown_tenant\"}\n",
-        BOUND,
-        "{\"code\":3,\"error\":\"bad_request\"}\n",
-        "{\"count\":0,\"key\":0,\"sum\":0}\n",
-        "{\"code\":3,\"error\":\"bad_request\"}\n",
-        "{\"code\":4,\"error\":\"bad_program\"}\n",
-        "{\"code\":6,\"error\":\"unknown_job\"}\n",
-        "{\"code\":2,\"error\":\"bad_json\"}\n",
-        "{\"priority\":\"normal\",\"reserved\":1,\"slots\":1}\n",
-    ];
-    assert_eq!(rt; written.as_str(), wanted.concat(rt.alloc())?.as_str());
-    Ok(())
-}
-
-#[test]
 fn a_collect_that_is_pending_stops_the_session(rt: HostRuntime) -> Result<(), Fail> {
     let lines = [
         HELLO,

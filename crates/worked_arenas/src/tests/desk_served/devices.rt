@@ -2,18 +2,16 @@
 use std::io;
 use std::io::{ErrorKind, Read, Write};
 
-/// A reader that gives some bytes at a call, and fails where they end or says that there are no
-/// more.
+/// A reader that gives some bytes at a call, and fails where they end.
 #[derive(Drop)]
 pub(super) struct Few<'b> {
     pub bytes: &'b [u8],
     pub at_a_call: usize,
-    pub fails: bool,
 }
 
 impl Read for Few<'_> {
     fn read(&mut self, room: &mut [u8]) -> io::Result<usize> {
-        if self.fails && self.bytes.is_empty() {
+        if self.bytes.is_empty() {
             return Err(io::Error::from(ErrorKind::TimedOut));
         }
         let count = self.at_a_call.min(self.bytes.len()).min(room.len());

@@ -34,11 +34,7 @@ fn a_reader_that_fails_ends_the_session(rt: HostRuntime) -> Result<(), Fail> {
     for at_a_call in [1, 7, 100] {
         for (given, answered) in [(6, 0), (7, FIRST), (20, FIRST), (23, WANTED.len())] {
             let bytes = LINES.as_bytes().get(..given).ok_or("fewer bytes")?;
-            let mut reader = Few {
-                bytes,
-                at_a_call,
-                fails: true,
-            };
+            let mut reader = Few { bytes, at_a_call };
             let mut written = Vec::new(rt.alloc());
             let mut desk = Desk::new(&[], &[], &[], 0);
             let end = serve(rt.alloc(), &mut reader, &mut written, &mut desk)?;
@@ -46,24 +42,6 @@ fn a_reader_that_fails_ends_the_session(rt: HostRuntime) -> Result<(), Fail> {
             let went = WANTED.as_bytes().get(..answered).ok_or("fewer bytes")?;
             assert_eq!(rt; written.as_slice(), went, "{given} bytes");
         }
-    }
-    Ok(())
-}
-
-#[test]
-fn the_last_line_needs_no_newline(rt: HostRuntime) -> Result<(), Fail> {
-    for at_a_call in [1, 7, 100] {
-        let bytes = LINES.as_bytes().get(..22).ok_or("fewer bytes")?;
-        let mut reader = Few {
-            bytes,
-            at_a_call,
-            fails: false,
-        };
-        let mut written = Vec::new(rt.alloc());
-        let mut desk = Desk::new(&[], &[], &[], 0);
-        let end = serve(rt.alloc(), &mut reader, &mut written, &mut desk)?;
-        assert_eq!(rt; end, SessionEnd::Ended);
-        assert_eq!(rt; written.as_slice(), WANTED.as_bytes());
     }
     Ok(())
 }

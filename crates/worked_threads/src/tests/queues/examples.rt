@@ -1,7 +1,7 @@
-// Worked examples, and memory that is refused.
+// Worked examples.
 ghost use Rattle.std.specs.Prelude.{◌≡◌, length, IfOk};
 
-use call_queues::{CallQueues, MarketConfig, MarketTenant, QueuePass};
+use call_queues::{CallQueues, MarketConfig, MarketTenant};
 use job_language::Level;
 use std::alloc::{AllocError, Global};
 use std::test::*;
@@ -26,21 +26,6 @@ fn acme_and_beta(alloc: Global) -> Result<MarketConfig, AllocError>
         reserved: 0,
     };
     Ok(MarketConfig::new(vec![in alloc; acme, beta]?))
-}
-
-fn three_passes(alloc: Global) -> Result<(CallQueues, Vec<QueuePass>), AllocError> {
-    CallQueues::new(alloc, acme_and_beta(alloc)?, 3)
-}
-
-// Where memory is refused once, a second call serves.
-#[test]
-fn new_serves_after_a_refusal(rt: HostRuntime) -> Result<(), Fail> {
-    let made = match three_passes(rt.alloc()) {
-        Ok(made) => made,
-        Err(_) => three_passes(rt.alloc())?,
-    };
-    assert_eq!(rt; made.1.len(), 3);
-    Ok(())
 }
 
 #[test]

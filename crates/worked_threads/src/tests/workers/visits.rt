@@ -89,15 +89,6 @@ fn a_slot_goes_home_at_a_full_history(rt: HostRuntime) -> Result<(), Fail> {
 }
 
 #[test]
-fn a_slot_goes_home_where_nothing_can_run(rt: HostRuntime) -> Result<(), Fail> {
-    let rows = [(1, Moved::Idle, None), (0, Moved::Idle, None)];
-    let counts = counts_of(&rt, rt.alloc(), &rows)?;
-    assert_eq!(rt; (counts.commits, counts.advances, counts.pauses), (1, 1, 1));
-    assert_eq!(rt; (counts.homes, counts.is_out), (2, false));
-    Ok(())
-}
-
-#[test]
 fn calls_are_served_in_order_until_the_bell_tells_to_stop(rt: HostRuntime) -> Result<(), Fail> {
     let rows = [
         (1, Moved::Ran, Some(9)),
