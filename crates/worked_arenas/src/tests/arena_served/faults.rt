@@ -7,11 +7,10 @@ use std::io;
 use std::io::{ErrorKind, Read};
 use std::test::Fail;
 
-/// A reader that gives one byte at a call, and fails where they end.
+/// A reader that gives one byte at a call, and is interrupted at each call once they end.
 #[derive(Drop)]
 struct Bytewise<'b> {
     bytes: &'b [u8],
-    failure: ErrorKind,
 }
 
 impl Read for Bytewise<'_> {
@@ -22,19 +21,15 @@ impl Read for Bytewise<'_> {
                 self.bytes = rest;
                 Ok(1)
             }
-            _ => Err(io::Error::from(self.failure)),
+            _ => Err(io::Error::from(ErrorKind::Interrupted)),
         }
     }
 }
 
-/// What is written where the reader gives these bytes and then fails, and how the session ends.
-fn served_until(
-    alloc: Global,
-    bytes: &[u8],
-    failure: ErrorKind,
-) -> Result<(Vec<u8>, SessionEnd), Fail> {
+/// What is written where the reader gives these bytes, and how the session ends.
+fn served_until(alloc: Global, bytes: &[u8]) -> Result<(Vec<u8>, SessionEnd), Fail> {
     let mut doors = ArenaDoors::new(Vec::new(alloc));
-    add_and_serve(alloc, Bytewise { bytes, failure }, &mut doors)
+    add_and_serve(alloc, Bytewise { bytes }, &mut doors)
 }
 
 fn add_and_serve(
@@ -51,7 +46,7 @@ fn add_and_serve(
 #[test]
 fn a_reader_that_is_always_interrupted_is_left(rt: HostRuntime) -> Result<(), Fail> {
     for (text, wanted) in [("", ""), (HELLO, BOUND)] {
-        let (written, end) = served_until(rt.alloc(), text.as_bytes(), ErrorKind::Interrupted)?;
+        let (written, end) = served_until(rt.alloc(), text.as_bytes())?;
         assert_eq!(rt; end, SessionEnd::TurnLimit);
         assert_eq!(rt; written.as_slice(), wanted.as_bytes());
     }
