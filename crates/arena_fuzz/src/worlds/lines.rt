@@ -103,7 +103,18 @@ pub(crate) fn asking(
     question: Request,
 ) -> Result<Line, AllocError> {
     let mut text = String::new(alloc);
-    match &question {
+    write_question(&mut text, &question)?;
+    if draws.random_range(0u8..8) == 0 {
+        text.push_str(" \t")?;
+    }
+    Ok(Line {
+        text,
+        asks: Asks::Request(question),
+    })
+}
+
+fn write_question(text: &mut String, question: &Request) -> Result<(), AllocError> {
+    match question {
         Request::Poll(job) => write!(text, "{{\"op\":\"poll\",\"job\":{job}}}")?,
         Request::Collect(job) => write!(text, "{{\"job\":{job},\"op\":\"collect\"}}")?,
         Request::Cancel(job) => write!(text, "{{ \"op\": \"cancel\", \"job\": {job} }}")?,
@@ -115,13 +126,7 @@ pub(crate) fn asking(
         Request::Retire => text.push_str("{\"op\":\"retire\"}\r")?,
         _ => text.push_str("{\"op\":\"hello\",\"tenant\":\"No Name\"}")?,
     }
-    if draws.random_range(0u8..8) == 0 {
-        text.push_str(" \t")?;
-    }
-    Ok(Line {
-        text,
-        asks: Asks::Request(question),
-    })
+    Ok(())
 }
 
 /// A line that brings one of the jobs.

@@ -1,5 +1,5 @@
 // Worked examples of sessions over arenas.
-use super::{BOUND, HELLO, RETURNS, add_both, served};
+use super::{HELLO, RETURNS, add_both, served};
 use arena_sessions::ArenaDoors;
 use session_core::SessionEnd;
 use std::alloc::Global;
@@ -55,17 +55,15 @@ fn jobs_are_executed(rt: HostRuntime) -> Result<(), Fail> {
     ];
     let (written, end, after) = served_twice(rt.alloc(), &first, &second)?;
     assert_eq!(rt; end, SessionEnd::Ended);
-    let wanted = [
-        BOUND,
-        "{\"job\":1,\"status\":\"complete\",\"value\":7}\n",
-        "{\"job\":2,\"status\":\"complete\",\"value\":8}\n",
-    ];
-    assert_eq!(rt; written.as_str(), wanted.concat(rt.alloc())?.as_str());
-    let wanted = [
-        "{\"tenant\":\"beta\"}\n",
-        "{\"code\":6,\"error\":\"unknown_job\"}\n",
-    ];
-    assert_eq!(rt; after.as_str(), wanted.concat(rt.alloc())?.as_str());
+    let wanted = r#"{"tenant":"acme"}
+{"job":1,"status":"complete","value":7}
+{"job":2,"status":"complete","value":8}
+"#;
+    assert_eq!(rt; written.as_str(), wanted);
+    let wanted = r#"{"tenant":"beta"}
+{"code":6,"error":"unknown_job"}
+"#;
+    assert_eq!(rt; after.as_str(), wanted);
     Ok(())
 }
 
@@ -73,8 +71,10 @@ fn jobs_are_executed(rt: HostRuntime) -> Result<(), Fail> {
 fn a_history_that_is_full_is_error_8(rt: HostRuntime) -> Result<(), Fail> {
     let (written, end) = served_once(rt.alloc(), 85, &[HELLO, FIB])?;
     assert_eq!(rt; end, SessionEnd::Ended);
-    let wanted = [BOUND, "{\"code\":8,\"error\":\"history_full\"}\n"];
-    assert_eq!(rt; written.as_str(), wanted.concat(rt.alloc())?.as_str());
+    let wanted = r#"{"tenant":"acme"}
+{"code":8,"error":"history_full"}
+"#;
+    assert_eq!(rt; written.as_str(), wanted);
     Ok(())
 }
 
@@ -88,7 +88,7 @@ fn a_collect_that_is_pending_stops_the_session(rt: HostRuntime) -> Result<(), Fa
     ];
     let (written, end) = served_once(rt.alloc(), 10_000, &lines)?;
     assert_eq!(rt; end, SessionEnd::Stopped);
-    let wanted = [BOUND, "{\"job\":1}\n"];
-    assert_eq!(rt; written.as_str(), wanted.concat(rt.alloc())?.as_str());
+    let wanted = "{\"tenant\":\"acme\"}\n{\"job\":1}\n";
+    assert_eq!(rt; written.as_str(), wanted);
     Ok(())
 }
