@@ -33,7 +33,7 @@ def entries_of(number):
 
 
 def steps(entries):
-    """Steps that make exactly so many entries, the longest jobs first."""
+    """Steps that make exactly that number of entries, the longest jobs first."""
     for number in range(23, 0, -1):
         while entries_of(number) <= entries:
             entries -= entries_of(number)

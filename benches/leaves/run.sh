@@ -12,7 +12,7 @@ work=$(mktemp -d)
 trap 'rm -rf "$work"' EXIT
 leaves="pool pool_region contexts regions nests groups cells"
 
-# The nanoseconds of a run of a leaf with so many rows and rounds, added to a file of their own.
+# The nanoseconds of a run of a leaf with a number of rows and rounds, added to a file of their own.
 measure() {
     begun=$(date +%s%N)
     printed=$("$built" "$1" "$2" "$3")
@@ -27,7 +27,7 @@ fastest() {
     sort -n "$work/$1.$2.$3" | head -n 1
 }
 
-# The nanoseconds of all rounds of a leaf with so many rows.
+# The nanoseconds of all rounds of a leaf with a number of rows.
 spent() {
     echo $(($(fastest "$1" "$2" "$rounds") - $(fastest "$1" "$2" 0)))
 }

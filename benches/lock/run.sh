@@ -10,7 +10,7 @@ built=../../crates/lock_bench/out/lock_bench
 work=$(mktemp -d)
 trap 'rm -rf "$work"' EXIT
 
-# The nanoseconds for an event by so many threads over so many tenants, added to a file of their own.
+# The nanoseconds for an event by a number of threads over a number of tenants, added to a file of their own.
 measure() {
     each=$((events / $1))
     total=$((each * $1))

@@ -11,7 +11,7 @@ built=../../crates/queue_bench/out/queue_bench
 work=$(mktemp -d)
 trap 'rm -rf "$work"' EXIT
 
-# The nanoseconds for a call of a queue and so many threads, added to a file of their own.
+# The nanoseconds for a call of a queue and a number of threads, added to a file of their own.
 measure() {
     each=$((calls / $2))
     total=$((each * $2))

@@ -1,8 +1,8 @@
 #!/usr/bin/env python3
 """Measures arena-server from outside, by clients over its socket, beside a plain echo server in C.
 
-usage: benches/server/run.py [SECONDS [PROGRAM]], at the top of the repository. Each measure takes so many seconds, two
-if none are said. It needs `cc`, and out/arena-server of `make build` if no program is said.
+usage: benches/server/run.py [SECONDS [PROGRAM]], at the top of the repository. Each measure takes SECONDS, two if none
+are said. It needs `cc`, and out/arena-server of `make build` if no program is said.
 """
 import json
 import os
@@ -174,7 +174,7 @@ class Bench:
         return f"{1e3 * best:.0f}"
 
     def workers(self):
-        print("\n| Milliseconds, by so many workers | 1 | 2 | 4 |\n|---|---|---|---|")
+        print("\n| Milliseconds, by number of workers | 1 | 2 | 4 |\n|---|---|---|---|")
         for name, tenants, jobs, value in [
             ("100 jobs of 750,003 instructions, one tenant", 1, [LARGE] * 100, 150_000),
             ("the same, 25 for each of four tenants", 4, [LARGE] * 25, 150_000),

@@ -1,7 +1,7 @@
 #!/bin/sh
 # Fails each allocation of the program `failed_allocations` in turn: what it prints must stay the same,
-# since each call that failed, of the readers and writers of texts, the evaluator, an arena, a world or a
-# tenant's door, is made again and then has its answer. It needs `rt` and `cc` on the path, and builds the
+# since each call that failed, of the readers and writers of texts, scripts, the evaluator, an arena, a
+# world, a session, the queues of calls or a tenant's door, is made again and then has its answer. It needs `rt` and `cc` on the path, and builds the
 # program if a source is newer than it. Its last line says how many allocations there are, and after how
 # many of them something else was printed.
 set -eu

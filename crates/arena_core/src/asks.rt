@@ -17,14 +17,9 @@ pub(crate) fn ask(parts: &mut Parts, request: Request) -> Reply
     requires { IsOfSomeState parts.old }
     ensures { (s : State) → Rests parts.old s → Gives parts.new result (ask s request) }
 {
-    if let Request::Hello(_name) = request {
-        return Reply::Refused(Error::BadRequest);
-    }
-    if parts.is_full() {
-        return Reply::Refused(Error::HistoryFull);
-    }
     match request {
         Request::Hello(_name) => Reply::Refused(Error::BadRequest),
+        _ if parts.is_full() => Reply::Refused(Error::HistoryFull),
         Request::Submit(job) => submit(parts, job),
         Request::Execute(job) => submit_placed(parts, job),
         Request::Poll(job) => poll(parts, job),

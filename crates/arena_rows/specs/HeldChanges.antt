@@ -189,7 +189,7 @@ next_job a = a.retired + length a.jobs + 1
 abbrev pub root_frame : Job → Frame
 root_frame j = new_frame 0 (slice_index_or j.args 0 (pos 0)) (slice_index_or j.args 1 (pos 0))
 
--- a job more, whose root is the next row, with so many open rows
+-- a job more, whose root is the next row, with `opened` open rows
 abbrev pub new_current : Held → Job → (context opened : ℕ) → CurrentJob
 new_current a j c opened = record { work = record { program = j.program; fuel = j.fuel; root = a.made + 1; cancelled = false; fault = None; retired = false }; value = pos 0; open_rows = opened; context = c }
 

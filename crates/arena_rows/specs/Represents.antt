@@ -173,7 +173,7 @@ abbrev pub held_by : Option OpenRow → ℕ
 held_by None = 0
 held_by (Some e) = one_if (is_spawned e.source) + count_by (λ (c : Option ℕ). is_some c) e.group_contexts
 
--- The contexts of rows, of their groups, and of the jobs that are not retired, of which there are so many.
+-- The contexts of rows, of their groups, and of the jobs that are not retired, which are `current`.
 pub record AreContexts (s : State) (retired current : ℕ) (table : List (Option OpenRow)) (forest : Forest) (at : Assigned) : Type 0 where
   pub of_jobs : (j : ℕ) → retired < j → j ≤ length s.jobs → (at.owner (at.of_job j) ≡ OfJob j)
       × (binding forest (at.of_job j) ≡ Some (record { parent = None; is_asked = is_job_cancelled (job s.jobs j); is_orphan = false }))

@@ -32,7 +32,7 @@ use std::alloc::Global;
 use std::io::{Read, Write};
 
 /// Does the whole work of `arena-script`: reads a script, and writes one line for each of its
-/// lines that is not blank, in order. Without a word, or with the word `own`, the first line is a
+/// steps, in order. Without a word, or with the word `own`, the first line is a
 /// tenant and the others are its steps. With the word `run` the first line is a configuration and
 /// the others are the steps of its world. With the word `serial` each line is a job, whose serial
 /// value is asked. With the word `check` it reads a dump and writes one line: its verdict, or the

@@ -122,7 +122,7 @@ impl CallQueues {
 }
 
 impl CallQueues {
-    /// The queues of these tenants, and so many passes, by rising number.
+    /// The queues of these tenants, and as many passes as asked for, by rising number.
     pub fn new(
         alloc: Global,
         config: MarketConfig,

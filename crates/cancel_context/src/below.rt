@@ -36,7 +36,7 @@ impl Model for Below {
 }
 
 impl Below {
-    /// Lists of so many contexts, each empty.
+    /// Lists of `count` contexts, each empty.
     pub(crate) fn new(alloc: Global, count: usize) -> Result<Below, AllocError>
         ensures { IfOk result (λ below. below ≡ record { first = replicate count None; next = replicate count None; previous = replicate count None }) }
     {

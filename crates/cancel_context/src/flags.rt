@@ -40,7 +40,7 @@ impl Model for Flags {
 }
 
 impl Flags {
-    /// The flags of so many contexts, none of them cancelled.
+    /// The flags of `count` contexts, none of them cancelled.
     pub(crate) fn new(alloc: Global, count: usize) -> Result<Flags, AllocError>
         ensures { IfOk result (λ flags. flags ≡ record { flags = replicate count false; reached = [] }) }
     {

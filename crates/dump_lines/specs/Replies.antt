@@ -19,7 +19,7 @@ use Rattle.job_language.specs.Instruction.{below, key}
 use Rattle.job_language.specs.Json.{◌>>=◌, get_as, whole, integer, has_members}
 use Rattle.job_language.specs.TenantOf.{level_of}
 
--- what is read of a value with exactly so many members
+-- what is read of a value, if it has exactly that number of members
 abbrev pub only : {A : Type 0} → ℕ → Data → Option A → Option A
 only n d it = if has_members n d then it else None
 

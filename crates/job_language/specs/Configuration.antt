@@ -27,7 +27,7 @@ abbrev pub are_distinct : List (List ℕ) → Bool
 are_distinct [] = true
 are_distinct (name ∷ names) = not (list_any (bytes_eq name) names) && are_distinct names
 
--- whether tenants that are valid, each for itself, and so many workers make a configuration
+-- whether tenants that are valid, each for itself, make a configuration with the workers
 abbrev pub is_valid_config : Configuration → Bool
 is_valid_config c =
     nat_le 1 (length c.tenants) && nat_le (length c.tenants) MAX_TENANTS && nat_le 1 c.workers && nat_le c.workers MAX_WORKERS && are_distinct (names_of c.tenants)

@@ -64,7 +64,7 @@ proc_of procs number ds = instrs_from procs number (length ds) 0 ds
 abbrev pub proc_at : (procs number : ℕ) → Data → Result (List Instr) Place
 proc_at procs number d = option_map_or (proc_of procs number) (items_of d) (Ok [])
 
--- the procedures from a number on, in a program of so many
+-- the procedures from a number on, in a program of `procs`
 abbrev pub procs_from : (procs number : ℕ) → List Data → Result (List (List Instr)) Place
 procs_from procs number [] = Ok []
 procs_from procs number (d ∷ ds) = item_then (proc_at procs number d) (procs_from procs (number + 1) ds)

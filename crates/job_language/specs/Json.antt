@@ -37,6 +37,6 @@ list_of (item d ds) = d ∷ list_of ds
 abbrev pub items_of : Data → Option (List Data)
 items_of d = option_map list_of (as_array d)
 
--- An object with so many members. It has each name once.
+-- An object with that number of members. It has each name once.
 abbrev pub has_members : ℕ → Data → Bool
 has_members n d = option_map_or (λ ms. members_len ms == n) (as_object d) false

@@ -51,7 +51,7 @@ pub record IsValidProc (instrs : List Instr) : Type 0 where
   pub each : All (IsInRange (length instrs)) instrs
   pub ends : IfSome (slice_get instrs (length instrs - 1)) (λ i. IsTrue (is_last i))
 
--- The procedure that an instruction names is there, in a program of so many.
+-- The procedure that an instruction names is there, in a program of `procs`.
 abbrev pub Calls : (procs : ℕ) → Instr → Type 0
 Calls procs (Spawn g p a b) = p < procs
 Calls procs (Post p a b) = p < procs

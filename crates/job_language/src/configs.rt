@@ -34,7 +34,7 @@ impl Model for Config {
 }
 
 impl Config {
-    /// The configuration of these tenants and so many worker threads, where they make one.
+    /// The configuration of these tenants and this number of worker threads, if they make one.
     pub fn new(tenants: Vec<TenantConfig>, workers: usize) -> Option<Config>
         ensures { result ≡ (if is_valid_config (record { tenants = tenants.items; workers = workers }) then Some (record { tenants = tenants.items; workers = workers }) else None) }
     {

@@ -69,7 +69,10 @@ impl Request {
 /// What a line asks for, before its job is read.
 #[derive(Drop)]
 pub enum Asked {
+    /// A request that brings no job.
     Plain(Request),
+    /// The job of a submit, not read yet.
     Submit(Value),
+    /// The job of an execute, not read yet.
     Execute(Value),
 }

@@ -15,7 +15,7 @@ pub fn items_of(value: &Value) -> Option<&[Value]>
     }
 }
 
-/// Whether it is an object with so many members.
+/// Whether it is an object with exactly `count` members.
 pub fn has_members(count: usize, value: &Value) -> bool
     ensures { result ≡ has_members count (view value.now) }
 {

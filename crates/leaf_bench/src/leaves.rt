@@ -58,7 +58,7 @@ impl Leaf {
         }
     }
 
-    /// Makes the leaf with these rows, and then so many rounds of its calls.
+    /// Makes the leaf with these rows, and then `rounds` rounds of its calls.
     pub(crate) fn run(self, alloc: Global, rows: Rows, rounds: u32) -> Result<Ran, AllocError> {
         Ok(match self {
             Leaf::Pool => run(WaitingRows::outside(alloc, rows)?, rounds),

@@ -20,7 +20,7 @@ pub(crate) struct Ran {
     pub(crate) sum: u64,
 }
 
-/// Makes so many rounds.
+/// Makes `rounds` rounds.
 pub(crate) fn run<L: Rounds>(mut leaf: L, rounds: u32) -> Ran {
     let mut sum = 0u64;
     for number in 0..rounds {

@@ -8,7 +8,7 @@ use worked_jobs::JobText;
 /// How many rows a tenant may have open.
 const ROWS: usize = 200;
 
-/// A tenant of so many slots, of which so many are reserved, whose history may have so many entries.
+/// A tenant with these slots, of which `reserved` are for masters, whose history may have `steps` entries.
 pub(crate) fn tenant(slots: u8, reserved: u8, steps: usize) -> Option<TenantConfig> {
     TenantConfig::new(Tenant {
         name: TenantName::new("acme")?,

@@ -1,5 +1,5 @@
-//! Runs jobs by threads at the locked doors of tenants. `steps EVENTS THREADS TENANTS` lets so many threads
-//! make so many events each, over so many tenants, and prints how many events the closed histories have.
+//! Runs jobs by threads at the locked doors of tenants. `steps EVENTS THREADS TENANTS` lets THREADS threads
+//! make EVENTS events each, over TENANTS tenants, and prints how many events the closed histories have.
 //! Without words it executes a job by a caller beside two workers, lets two private runs meet, and makes a
 //! few events.
 #![tactic(auto)]

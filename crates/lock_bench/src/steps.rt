@@ -96,7 +96,7 @@ fn add(
     }
 }
 
-/// Lets a thread for each seat make so many events, and says whether each did. The seats come back.
+/// Lets a thread for each seat make the events, and says whether each did. The seats come back.
 fn in_threads<R: Threads + Wait + Sync>(
     rt: &R,
     alloc: Global,
@@ -142,7 +142,7 @@ fn door_of<'d>(doors: &'d [TenantDoor], seat: &Seat) -> Option<&'d TenantDoor>
     }
 }
 
-/// Submits a job, and polls the tenant's first job, so that so many events are made. The seat comes back.
+/// Submits a job, and polls the tenant's first job, so that `events` events are made. The seat comes back.
 fn submit_and_poll<R: Wait>(rt: &R, desk: Desk<'_>, events: usize) -> Seat {
     let Desk {
         door,

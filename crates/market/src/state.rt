@@ -44,7 +44,7 @@ impl Model for MarketState {
 }
 
 impl MarketState {
-    /// The market in which nothing was done yet, with so many workers.
+    /// The market in which nothing was done yet, with that number of workers.
     pub fn new(
         alloc: Global,
         config: &MarketConfig,

@@ -29,7 +29,7 @@ last_of xs = last_from None xs
 abbrev pub without : ℕ → List ℕ → List ℕ
 without place xs = filter (λ x. not (x == place)) xs
 
--- at most so many that follow one another by the links
+-- at most `left` that follow one another by the links
 abbrev pub walk : (left : ℕ) → List (Option ℕ) → Option ℕ → List ℕ
 walk zero next from = []
 walk (suc n) next None = []

@@ -10,7 +10,7 @@ use std::sync::Wait;
 use std::thread;
 use std::thread::Threads;
 
-/// One thread pushes and pops so many calls of a tenant of that level.
+/// One thread pushes and pops `calls` calls of a tenant of that level.
 pub(crate) fn by_one<R: Wait>(
     rt: &R,
     alloc: Global,
@@ -22,7 +22,7 @@ pub(crate) fn by_one<R: Wait>(
     Ok(with_rest(rt, &queues, done))
 }
 
-/// Four threads push and pop so many calls each, all of one tenant of that level.
+/// Four threads push and pop `calls` calls each, all of one tenant of that level.
 pub(crate) fn by_four<R: Threads + Wait + Sync>(
     rt: &R,
     alloc: Global,

@@ -37,7 +37,7 @@ impl Counts {
     }
 }
 
-/// The call that is pushed after so many: for each slot of the first tenant in turn.
+/// The call that is pushed after `number` others: for each slot of the first tenant in turn.
 pub(crate) fn call_number(number: usize) -> Call
     ensures { result.tenant ≡ 0 }
 {

@@ -7,14 +7,14 @@ use std::thread;
 use std::thread::Threads;
 use world_model::Call;
 
-/// One thread pushes and pops so many calls.
+/// One thread pushes and pops `calls` calls.
 pub(crate) fn by_one<R: Wait>(rt: &R, alloc: Global, calls: usize) -> Result<Counts, AllocError> {
     let queue = ArrayQueue::new(alloc, usize::from(ROOM))?;
     let counts = push_and_pop(rt, &queue, calls);
     Ok(counts.plus(pop_rest(rt, &queue)))
 }
 
-/// Four threads push and pop so many calls each.
+/// Four threads push and pop `calls` calls each.
 pub(crate) fn by_four<R: Threads + Wait + Sync>(
     rt: &R,
     alloc: Global,

@@ -68,7 +68,7 @@ pub record AreListed (key : Waiting → Option ℕ) (count places : ℕ) (lists 
 abbrev pub AreAlike : List Waiting → Type 0
 AreAlike rows = (v w : Waiting) → Waits rows v → Waits rows w → (place : ℕ) → place_of v.region ≡ Some place → place_of w.region ≡ Some place → v.region ≡ w.region
 
--- These rows are held, of at most so many.
+-- These rows are held, at most `limit`.
 pub record HoldsRows (limit : ℕ) (held : PoolParts) (rows : List Waiting) : Type 0 where
   pub size : length held.table ≡ limit
   pub few : limit ≤ MAX_ROWS

@@ -19,7 +19,7 @@ pub record Reading : Type 0 where
   -- how often the reader of bytes may still be called
   pub turns : ℕ
 
--- whether a line is too long that has so many of the bytes held
+-- whether a line is too long that has that number of the bytes held
 abbrev pub is_long : Reading → ℕ → Bool
 is_long r len = r.is_within_long || nat_lt r.limit len
 

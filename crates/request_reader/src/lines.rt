@@ -216,7 +216,7 @@ impl LineReader {
         }
     }
 
-    /// Whether a line is too long that has so many of the bytes that are held.
+    /// Whether a line is too long that has `len` of the bytes that are held.
     fn is_long(&self, len: usize) -> bool
         ensures { result ≡ is_long self.now len }
     {

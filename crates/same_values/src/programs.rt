@@ -3,7 +3,7 @@ ghost use Rattle.std.specs.Prelude.{◌≡◌, ◌↔◌, IsTrue};
 
 use job_language::{Group, Instr, Key, Proc, Program, Register};
 
-/// Whether an instruction is the private one that is given.
+/// Whether two instructions are the same.
 fn is_same_instr(instr: &Instr, other: &Instr) -> bool
     ensures { IsTrue result ↔ (instr.now ≡ other.now) }
 {

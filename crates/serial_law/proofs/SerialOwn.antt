@@ -132,7 +132,7 @@ module _ (rows : List Row) (n : ℕ) (r : Row) (from : 1 ≤ n) (to : n ≤ leng
         news = λ k p after le other. ap (λ (x : Row). is_made_by p x.kind) (row-push_new (with_at_number rows n r) k q (omega (arith, after, le, long, more))) ∙ none p other;
       }
 
--- Row n of the serial job is on top, and ran so many private instructions up to frame f, which are paid with one more.
+-- Row n of the serial job is on top, and ran `count` private instructions up to frame f, which are paid with one more.
 pub record HasRun (o : Origin) (s : State) (slot n count : ℕ) (f : Frame) : Type 0 where
   pub top : OnTop s.rows slot n
   pub own : (row s.rows n).job ≡ o.number

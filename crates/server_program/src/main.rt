@@ -84,10 +84,8 @@ where
         passes,
         seats,
     } = House::open(alloc, &config, words.connections)?;
-    let Ok(listener) = UnixListener::bind(rt, words.socket) else {
-        return Err(ServerEnd::Device);
-    };
-    let is_ready = is_listening(rt, words.socket);
+    let listener = bind_private(rt, words.socket)?;
+    let is_told = println!(rt; "listening").is_ok();
     let served = serve_connections(
         rt,
         alloc,
@@ -100,7 +98,7 @@ where
     );
     let is_removed = fs::remove_file(rt, words.socket).is_ok();
     let end = close_tenants(rt, alloc, house, served.seats, config.tenants(), words.dump)?;
-    if is_ready && served.is_whole && is_removed {
+    if is_told && served.is_whole && is_removed {
         Ok(end)
     } else {
         Ok(ServerEnd::Device)
@@ -119,10 +117,17 @@ fn config_bytes<R: Files + AllocGlobal>(rt: &R, path: &str) -> Result<Vec<u8>, S
     }
 }
 
-/// Keeps the socket for its owner alone, and says that it is there.
-fn is_listening<R: Files + Print>(rt: &R, socket: &str) -> bool {
-    fs::set_permissions(rt, socket, Permissions::from_mode(0o600)).is_ok()
-        && println!(rt; "listening").is_ok()
+/// Binds the socket for its owner alone. If that can't be kept, the socket is removed again.
+fn bind_private<R: Files + Net>(rt: &R, socket: &str) -> Result<UnixListener, ServerEnd> {
+    let Ok(listener) = UnixListener::bind(rt, socket) else {
+        return Err(ServerEnd::Device);
+    };
+    if fs::set_permissions(rt, socket, Permissions::from_mode(0o600)).is_err() {
+        // The end is the same if it can't be removed.
+        let _ = fs::remove_file(rt, socket);
+        return Err(ServerEnd::Device);
+    }
+    Ok(listener)
 }
 
 /// Closes all tenants, tells each one's end, and goes on after a fault. The first fault is the end.

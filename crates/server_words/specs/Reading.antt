@@ -23,7 +23,7 @@ server_app =
 abbrev pub options_in : List Text → List Row
 options_in words = matches_of server_app words
 
--- The text is that number of connections in decimal digits, with or without a plus before them, and there may be so many.
+-- The text is that number of connections in decimal digits, with or without a plus before them, from 1 to 64.
 pub record NamesCount (text : Text) (n : ℕ) : Type 0 where
   pub digits : IsNumeral 10 (without_leading_plus text)
   pub value : n ≡ digits_value 10 (without_leading_plus text)

@@ -15,7 +15,7 @@ use Rattle.session_core.specs.Calls.{Asks, Waits, AttendsTo}
 abbrev pub Gives : {D : Type 0} → Asks D → Request → Reply → D → D → Type 0
 Gives {D = D} asks request r d e = (placed : Bool) × asks d request (record { reply = r; placed = placed }) e
 
--- so many times a collect was pending, and then a pause said to go on
+-- `times` times a collect was pending, and then a pause said to go on
 abbrev pub Pends : {D : Type 0} → Asks D → Waits D → (job times : ℕ) → D → D → Type 0
 Pends {D = D} asks waits job zero d e = e ≡ d
 Pends {D = D} asks waits job (suc n) d e = (f : D) × (g : D) × (Pends asks waits job n d f × Gives asks (Collect job) reply.Pending f g × waits g job false e)

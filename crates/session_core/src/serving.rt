@@ -4,11 +4,12 @@ ghost use Rattle.nested_wait.specs.Runs.{Attends};
 ghost use Rattle.nested_wait.specs.Turns.{Turn};
 ghost use Rattle.session_core.specs.Replies.{Replies};
 ghost use Rattle.session_core.specs.Sessions.{Serves, Answers, RefusesLong};
+ghost use Rattle.session_core.specs.declared.serving.SessionEnd.TheVariants as session_end;
 
 use crate::doors::Doors;
 use crate::replying::reply_to;
 use job_language::{Error, Reply};
-use reply_writer::{reply_line, write_all_of};
+use reply_writer::{WriteFault, reply_line, write_all_of};
 use request_reader::{LineRead, LineReader, MAX_REQUEST, is_blank};
 use std::alloc::{AllocError, Global};
 use std::io::{Read, Write};
@@ -26,6 +27,14 @@ pub enum SessionEnd {
     TurnLimit,
     /// A pause said to stop while a reply was owed.
     Stopped,
+}
+
+impl From<WriteFault> for SessionEnd {
+    ghost from_gives = { λ fault end. end ≡ session_end.WriteFault fault.sent };
+
+    fn from(fault: WriteFault) -> SessionEnd {
+        SessionEnd::WriteFault { sent: fault.sent }
+    }
 }
 
 /// Serves one client: each line is read and answered, one after another, until an end comes. Its
@@ -63,10 +72,8 @@ fn refuse<W: Write>(writer: &mut W) -> Result<(), SessionEnd>
     ensures { RefusesLong (W.contents writer.old) (W.contents writer.new) result }
 {
     let reply = reply_line(&Reply::Refused(Error::LineTooLong));
-    match write_all_of(writer, reply.line()) {
-        Ok(()) => Ok(()),
-        Err(fault) => Err(SessionEnd::WriteFault { sent: fault.sent }),
-    }
+    write_all_of(writer, reply.line())?;
+    Ok(())
 }
 
 /// Answers a line. A blank one has no answer.
@@ -86,8 +93,6 @@ fn answer<W: Write, D: Doors>(
     let Some(reply) = reply_to(alloc, doors, is_bound, line) else {
         return Err(SessionEnd::Stopped);
     };
-    match write_all_of(writer, reply_line(&reply).line()) {
-        Ok(()) => Ok(()),
-        Err(fault) => Err(SessionEnd::WriteFault { sent: fault.sent }),
-    }
+    write_all_of(writer, reply_line(&reply).line())?;
+    Ok(())
 }

@@ -13,7 +13,7 @@ use Rattle.tenant_lock.specs.Doors.{DoorData}
 use Rattle.tenant_lock.specs.declared.doors.Closed.{Closed}
 use Rattle.tenant_lock.specs.declared.faults.CloseFault.{CloseFault}
 
--- the door of the tenant of a number, with so many seats
+-- the door of the tenant of a number, with its seats
 abbrev pub door_of : (seats : ℕ) → ℕ × Tenant → DoorData
 door_of seats t = record { tenant = t.0; config = t.1; seats = seats }
 

@@ -59,7 +59,7 @@ pub struct Opened {
 }
 
 impl House {
-    /// The house of a configuration's tenants, which have done nothing yet, for so many connections.
+    /// The house of a configuration's tenants, which have done nothing yet, for `connections` connections.
     pub fn open(alloc: Global, config: &Config, connections: u8) -> Result<Opened, AllocError>
         requires { 1 ≤ connections }
         ensures passes { IfOk result (λ opened. ArePassesOf opened.house.queues.queues opened.passes.items) }

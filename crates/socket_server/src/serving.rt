@@ -23,8 +23,8 @@ pub struct Served {
     pub is_whole: bool,
 }
 
-/// Accepts so many connections, and serves each by a thread of its own beside the threads of so many
-/// workers. When all sessions have ended it tells the workers to stop, and waits for them.
+/// Accepts `connections` connections, and serves each by a thread of its own beside the threads of
+/// `workers` workers. When all sessions have ended it tells the workers to stop, and waits for them.
 pub fn serve_connections<R: Threads + Wait + Sync>(
     rt: &R,
     alloc: Global,
@@ -59,7 +59,8 @@ pub fn serve_connections<R: Threads + Wait + Sync>(
     }
 }
 
-/// Accepts so many connections, and waits until their sessions have ended. Whether all were served.
+/// Accepts `connections` connections, waits until their sessions have ended, and says whether all
+/// were served.
 fn accept_all<R: Threads + Wait + Sync>(
     rt: &R,
     alloc: Global,
@@ -80,7 +81,7 @@ fn accept_all<R: Threads + Wait + Sync>(
                 return false;
             };
             let session = move || {
-                let (own, _end) = serve_client(rt, alloc, client, &mut &stream, &mut &stream);
+                let own = serve_client(rt, alloc, client, &mut &stream, &mut &stream);
                 // The client may have gone before.
                 let _ = stream.shutdown(Shutdown::Both);
                 give_back(&mut back.lock(rt), own);

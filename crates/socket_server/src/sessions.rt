@@ -2,30 +2,30 @@
 
 use crate::posts::{Client, Post};
 use locked_doors::LockedDoors;
-use session_core::{SessionEnd, serve};
-use std::alloc::{AllocError, Global};
+use session_core::serve;
+use std::alloc::Global;
 use std::io::{Read, Write};
 use std::sync::Wait;
 use tenant_record::Seat;
 use tenant_slots::TenantSlots;
 use worker_main::{NoGate, Ringer, worker};
 
-/// Serves one client, and gives the seats back.
+/// Serves one client, and gives the seats back, however its session ended.
 pub(crate) fn serve_client<R: Wait, I: Read, O: Write>(
     rt: &R,
     alloc: Global,
     client: Client<'_>,
     reader: &mut I,
     writer: &mut O,
-) -> (Vec<Seat>, Result<SessionEnd, AllocError>) {
+) -> Vec<Seat> {
     let Client { post, seats } = client;
     let Post { house, pass } = post;
     let slots = TenantSlots::new(rt, house.doors.as_slice());
     let ringer = Ringer::new(rt, &house.bell, &house.queues, pass);
     let mut doors = LockedDoors::new(slots, ringer, house.names.as_slice(), seats);
-    let end = serve(alloc, reader, writer, &mut doors);
+    let _end = serve(alloc, reader, writer, &mut doors);
     let (seats, _ringer) = doors.into_parts();
-    (seats, end)
+    seats
 }
 
 /// Serves calls until the house tells to stop.

@@ -8,7 +8,7 @@ use std::alloc::{AllocError, Global};
 use tenant_lock::TenantDoor;
 use tenant_record::Seat;
 
-/// The doors of all tenants, with so many seats of each. The seats of tenant 0 come first.
+/// The doors of all tenants, with `seats` seats of each. The seats of tenant 0 come first.
 pub(crate) fn open_doors(
     alloc: Global,
     tenants: &[TenantConfig],

@@ -19,14 +19,9 @@ impl TenantState {
         ensures err { OnErr result (self.new ≡ self.old) }
         ensures brings { OnErr result (IsSome (job_of request)) }
     {
-        if let Request::Hello(_name) = request {
-            return Ok(Reply::Refused(Error::BadRequest));
-        }
-        if self.is_full() {
-            return Ok(Reply::Refused(Error::HistoryFull));
-        }
         match request {
             Request::Hello(_name) => Ok(Reply::Refused(Error::BadRequest)),
+            _ if self.is_full() => Ok(Reply::Refused(Error::HistoryFull)),
             Request::Submit(job) => self.submit(job),
             Request::Execute(job) => self.submit_placed(job),
             Request::Poll(job) => Ok(self.poll(job)),

@@ -56,7 +56,7 @@ impl TenantState {
         Ok(self.finish_step(slot))
     }
 
-    /// Executes a shared instruction of the topmost row, whose frame is at it, for a cost.
+    /// Executes the shared instruction that the topmost row's frame is at; `cost` is the fuel that it takes.
     pub(crate) fn execute(
         &mut self,
         slot: u8,

@@ -10,8 +10,8 @@ use tenant_record::{
     Seat, SlotFault, TenantCell, are_all_told, are_seats, first_slot_fault, is_one_full,
 };
 
-/// What is wrong with a cell, where these seats came back to a door of that tenant, with so many seats,
-/// if anything is.
+/// What is wrong with a cell, where these seats came back to a door of that tenant with that limit of
+/// seats, if anything is.
 pub fn fault_of(
     cell: &TenantCell,
     seats: &[Seat],

@@ -54,7 +54,7 @@ has_seat tenant seats number = list_any (is_seat tenant number) seats
 abbrev pub are_seats : (tenant : ℕ) → List SeatData → (count : ℕ) → Bool
 are_seats tenant seats count = (length seats == count) && list_all (has_seat tenant seats) (range_with_len 0 count)
 
--- how many asks so many seats were told of
+-- how many asks these seats were told of
 abbrev pub asks_told : List SeatData → ℕ
 asks_told seats = sum_by (λ (s : SeatData). length s.log) seats
 

@@ -45,7 +45,7 @@ abbrev pub is_full_answer : Moved → Bool
 is_full_answer moved.Full = true
 is_full_answer m = false
 
--- since when the slot is idle, where the history had so many entries
+-- since when the slot is idle, if the history had that number of entries
 abbrev pub still_after : Option ℕ → Moved → (entries : ℕ) → Option ℕ
 still_after still moved.Idle entries = Some entries
 still_after still moved.Ran entries = None
@@ -59,7 +59,7 @@ goes_home moved.Freed = true
 goes_home moved.Left = true
 goes_home m = false
 
--- the pass after an advance of its slot with that answer, where the history had so many entries before it
+-- the pass after an advance of its slot with that answer, before which the history had that number of entries
 abbrev pub advanced : PassData → Moved → (entries : ℕ) → PassData
 advanced p m entries = record p {
   log = p.log ++ entries_of (Advance p.slot) (answer.Moved m);

@@ -33,6 +33,6 @@ asked s request reply = record s { log = s.log ++ entries_of (Ask request) (Repl
 abbrev pub first_seat : (tenant limit number : ℕ) → SeatData
 first_seat tenant limit number = record { tenant = tenant; number = number; limit = limit; log = []; full = false }
 
--- so many seats of a tenant, numbered from 0
+-- the first `count` seats of a tenant, numbered from 0
 abbrev pub first_seats : (tenant limit count : ℕ) → List SeatData
 first_seats tenant limit count = map (first_seat tenant limit) (range_with_len 0 count)

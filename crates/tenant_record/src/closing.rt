@@ -49,7 +49,7 @@ pub fn first_slot_fault(cell: &TenantCell) -> Option<(u8, SlotFault)>
     None
 }
 
-/// Whether these are the seats of a tenant, so many, each of another number.
+/// Whether these are `count` seats of a tenant, each of another number.
 pub fn are_seats(tenant: usize, seats: &[Seat], count: usize) -> bool
     ensures { result ≡ are_seats tenant seats.now count }
 {

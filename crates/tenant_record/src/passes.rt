@@ -104,7 +104,7 @@ impl Pass {
         is_log(self.slot, history, self.log.as_slice())
     }
 
-    /// Tells its holder how an advance was answered, which came when the history had so many entries.
+    /// Tells its holder how an advance was answered, which came when the history had `entries` entries.
     pub(crate) fn tell_move(&mut self, moved: Moved, entries: usize)
         requires { is_entry (Answer.Moved moved) ≡ true → has_room self.old ≡ true }
         ensures { self.new ≡ advanced self.old moved entries }
@@ -131,7 +131,7 @@ impl Pass {
     }
 }
 
-/// Since when a slot is idle, after an advance that came when the history had so many entries.
+/// Since when a slot is idle, after an advance that came when the history had `entries` entries.
 pub(crate) fn still_after(still: Option<usize>, moved: Moved, entries: usize) -> Option<usize>
     ensures { result ≡ still_after still moved entries }
 {

@@ -64,7 +64,7 @@ impl SlotBooks {
         })
     }
 
-    /// Takes note of an advance of a pass's slot, which came when the history had so many entries.
+    /// Takes note of an advance of a pass's slot, which came when the history had `entries` entries.
     pub(crate) fn moved(
         &mut self,
         replay: &Replay,

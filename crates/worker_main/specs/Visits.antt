@@ -31,7 +31,7 @@ AfterAttending {D = D} w Stopped r s t = (r ≡ Ended) × (t ≡ s)
 abbrev pub TakesRound : {D : Type 0} → Ways D → Round → SlotSeen D → SlotSeen D → Type 0
 TakesRound {D = D} w r s t = (how : Attended) × (f : SlotSeen D) × (AttendsSlot w how s f × AfterAttending w how r f t)
 
--- so many rounds, after each of which the slot has a row again
+-- `rounds` rounds, after each of which the slot has a row again
 abbrev pub GoesAgain : {D : Type 0} → Ways D → (rounds : ℕ) → SlotSeen D → SlotSeen D → Type 0
 GoesAgain {D = D} w zero s t = t ≡ s
 GoesAgain {D = D} w (suc n) s t = (f : SlotSeen D) × (GoesAgain w n s f × TakesRound w Again f t)

@@ -1,8 +1,9 @@
 // What a private run passes through.
 
-/// Called for each segment that was made, outside any lock, before it is committed. Tenants and
-/// slots are numbered from 0.
+/// What a worker calls between a private run and its commit.
 pub trait Gate {
+    /// Called once for each segment that was made, outside any lock. Tenants and slots are numbered
+    /// from 0.
     fn inside(&self, tenant: usize, slot: u8);
 }
 

@@ -35,6 +35,6 @@ module _ {A : Type 0} (stands_for : A → State → Type 0) (old mid new : World
       let longer = run_push (map raw_of (take i raws)) (raw_of (get_or raws i d)) run answer world in
       subst (λ (xs : List Raw). HasRun stands_for old new xs (os ++ o ∷ [])) (sym (map_more raw_of raws i d within)) longer
 
--- so many steps of a list
+-- the first steps of a list
 pub taken_long : (raws : List Code) (i : ℕ) → i ≤ length raws → length (map raw_of (take i raws)) ≡ i
 taken_long raws i within = length-map (take i raws) raw_of ∙ length-take-le i raws within

@@ -78,7 +78,7 @@ const REFUSED: [(&str, Error); 16] = [
     ),
 ];
 
-/// Draws a line to a tenant that has made so many jobs.
+/// Draws a line to a tenant that has made `jobs` jobs.
 pub(crate) fn draw_line(
     alloc: Global,
     draws: &mut Pcg32,

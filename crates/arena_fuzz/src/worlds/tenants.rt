@@ -27,7 +27,7 @@ impl Drop for Alone {
 }
 
 impl Alone {
-    /// A tenant that has done nothing yet, with so many workers.
+    /// A tenant that has done nothing yet, with `workers` workers.
     pub(crate) fn new(alloc: Global, config: TenantConfig, workers: usize) -> Result<Alone, Stop> {
         let mut tenants = Vec::new(alloc);
         tenants.push(config)?;

@@ -13,8 +13,8 @@ use crate::programs::{MAX_INSTRS, MAX_PROCS};
 use crate::values::items_of;
 use serde_json::Value;
 
-/// The instruction that a value spells, in a program of so many procedures and a procedure of so
-/// many instructions.
+/// The instruction that a value spells, in a program of `procs` procedures and a procedure of
+/// `instrs` instructions.
 #[tactic(auto, using(crate::proofs::Named::instr_found, crate::proofs::Named::instr_missing))]
 pub(super) fn instr_of(procs: usize, instrs: usize, value: &Value) -> Option<Instr>
     requires procs { procs ≤ MAX_PROCS }

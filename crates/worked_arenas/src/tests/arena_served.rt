@@ -23,7 +23,7 @@ fn one_slot(name: &str, steps: usize) -> Result<TenantConfig, Fail> {
     Ok(tenant(name, 1, 1, steps).ok_or("each number is in its range")?)
 }
 
-/// Adds the arena of a tenant, with room for so many entries.
+/// Adds the arena of a tenant, with room for `steps` entries.
 fn add_arena(alloc: Global, name: &str, steps: usize, doors: &mut ArenaDoors) -> Result<(), Fail> {
     let arena = Arena::new(alloc, one_slot(name, steps)?)?;
     doors.arenas.push(arena)?;
