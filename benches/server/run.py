@@ -124,7 +124,7 @@ class Bench:
             print(f"| submitted and collected | {self.turns(server, 1, hello('acme'), submit, COLLECT)} |", flush=True)
 
     def beside(self, name, slots, priority, *lines):
-        """A quiet tenant, while another one has a hundred large jobs at any time."""
+        """A quiet tenant, while another one runs large jobs, a hundred at a time."""
         tenants = [tenant("quiet", 2, 1, priority), tenant("noisy", slots, 0)]
         with arena(tenants, 4, 2) as server:
             noise, is_over = Desk(server.path, "noisy"), threading.Event()
