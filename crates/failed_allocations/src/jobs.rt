@@ -4,7 +4,7 @@ use job_language::{Job, Reply, Request, Status, Step, TenantConfig, read_job, re
 use serde_json::Value;
 use std::alloc::Global;
 
-/// The sixth Fibonacci number: a task for each smaller one, in a region each that stores and posts.
+/// The sixth Fibonacci number. Each task above 1 first makes a region, which stores and posts.
 pub(crate) const FIBONACCI: &str =
     r#"{"args":[6,0],"fuel":5000,"procs":[[["set",2,2],["lt",3,0,2],["jz",3,4],["ret",0],["isolate",6,1,0,0],["set",2,1],["sub",3,0,2],["spawn",0,0,3,1],["sub",3,3,2],["spawn",0,0,3,1],["wait",4,5,0],["ret",4]],[["store",0,0],["post",2,0,0],["ret",0]],[["ret",0]]]}"#;
 

@@ -1,6 +1,6 @@
-//! Makes each call of the readers and writers of texts, of scripts, of the evaluator, of an arena, of a
-//! world, of a session and of a tenant's door that takes memory, and makes it again if an allocation failed, and prints the answers. What it prints is the same
-//! whichever allocation was refused.
+//! Makes the calls that take memory: of the readers and writers of texts, scripts, the evaluator, an arena,
+//! a world, a session, the queues of calls and a tenant's door. Each is made again if an allocation failed.
+//! It prints the answers, which are the same whichever allocation was refused.
 #![tactic(auto)]
 
 mod arenas;

@@ -15,12 +15,12 @@ pub enum CloseFault {
     LogWrong(u8),
     #[error("these are not all seats of the door")]
     SeatMissing,
-    /// For the number of seats it says that all seats together were told of another number of asks.
+    /// The number of seats stands for all of them: together they were told of another number of asks.
     #[error("seat {0} was told of other asks than the history has")]
     AskWrong(usize),
-    #[error("the tenant is not given what its door says")]
+    #[error("the tenant's configuration is not that of its door")]
     ConfigWrong,
-    #[error("a history that is not full was told to be")]
+    #[error("a pass or seat was told that the history is full, and it is not")]
     FullWrong,
 }
 

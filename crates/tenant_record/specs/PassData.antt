@@ -45,7 +45,7 @@ abbrev pub is_full_answer : Moved → Bool
 is_full_answer moved.Full = true
 is_full_answer m = false
 
--- since when the slot is idle, if the history had that number of entries
+-- the count of entries at which the slot was last found idle, after an advance that came at that count
 abbrev pub still_after : Option ℕ → Moved → (entries : ℕ) → Option ℕ
 still_after still moved.Idle entries = Some entries
 still_after still moved.Ran entries = None

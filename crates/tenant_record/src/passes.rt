@@ -12,8 +12,8 @@ use std::alloc::{AllocError, Global};
 use std::marker::Model;
 
 /// The right to move a slot of a tenant. It can't be copied, and it keeps what its holders were
-/// told: the entries of the slot, in order, whether a move was refused as at a full history, and at
-/// which count of entries the slot was idle, if it was not touched since.
+/// told: the entries of the slot, in order, whether a move was refused as at a full history, and the
+/// count of entries at which the slot was last found idle, unless it was touched since.
 #[derive(Drop)]
 pub struct Pass {
     tenant: usize,
@@ -131,7 +131,8 @@ impl Pass {
     }
 }
 
-/// Since when a slot is idle, after an advance that came when the history had `entries` entries.
+/// The count of entries at which a slot was last found idle, after an advance that came at `entries`
+/// entries.
 pub(crate) fn still_after(still: Option<usize>, moved: Moved, entries: usize) -> Option<usize>
     ensures { result ≡ still_after still moved entries }
 {

@@ -16,8 +16,8 @@ use crate::replay::Replay;
 use job_language::{Answer, Came, Moved, Reply, TenantConfig};
 use std::alloc::{AllocError, Global};
 
-/// What is kept of each slot of a tenant: how many entries it has, at which count of entries it was
-/// idle, if it was not touched since, and where its pass is.
+/// What is kept of each slot of a tenant: how many entries it has, the count of entries at which it
+/// was last found idle, unless it was touched since, and where its pass is.
 #[derive(Drop)]
 pub(crate) struct SlotBooks {
     pub(crate) counts: [usize; 16],
@@ -151,7 +151,7 @@ fn count(counts: &mut [usize; 16], slot: u8, has_entered: bool)
     }
 }
 
-/// Notes since when a slot is idle, after an advance of it.
+/// Notes at which count of entries a slot was last found idle, after an advance of it.
 fn mark(stills: &mut [Option<usize>; 16], slot: u8, moved: Moved, entries: usize)
     requires { slot < MAX_SLOTS }
     ensures { stills.new ≡ slice_set stills.old slot (still_after (slice_index_or stills.old slot None) moved entries) }
