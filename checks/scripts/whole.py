@@ -67,7 +67,7 @@ SCRIPTS = [
     (["own"], TENANT + STEPS, ANSWERS, DONE),
     ([], TENANT + STEPS.rstrip(), ANSWERS, DONE),
     ([], "\n \t\r\n" + TENANT + "\n\n" + STEPS.rstrip() + "\n \n", ANSWERS, DONE),
-    *((words, TENANT + STEPS, "", WORDS) for words in (["--help"], ["Own"], [""], ["own", "own"])),
+    *((words, TENANT + STEPS, "", WORDS) for words in (["--help"], ["Own"], [""], ["own", "own"], ["\udcff"])),
     ([], "", "", CONFIG),
     *(([], line + STEPS, "", CONFIG) for line in NO_TENANTS),
     *(([], TENANT + line + "\n" + STEPS, BAD_STEP + "\n" + ANSWERS, DONE) for line in NO_STEPS),

@@ -8,6 +8,7 @@ crates/script_program.
 import json
 import os
 import re
+import resource
 import socket
 import stat
 import subprocess
@@ -438,6 +439,8 @@ def wrong_words_and_files_are_faults():
 
     wrong_words, no_file = ("", "arena-server: words\n", 2), ("", "arena-server: device\n", 3)
     assert run() == wrong_words
+    # A word that is no text.
+    assert run("--config", "f", "--socket", "s", "--connections", "\udcff") == run("\udcff") == wrong_words
     for words in ["--config f --socket s --connections 65", "--config f --socket s --connections 0",
                   "--config f --connections 2", "--config f --socket s --connections 2 now"]:
         assert run(*words.split()) == wrong_words, words
@@ -457,9 +460,30 @@ def wrong_words_and_files_are_faults():
         assert run(*words) == ("", "arena-server: config\n", 2)
         with open(config, "w") as it:
             json.dump({"tenants": [tenant("acme", 1, 1)], "workers": 1}, it)
+        assert run("--config", config, "--socket", "", "--connections", "1") == no_file
         with open(at, "w"):
             pass
         assert run(*words) == ("", "arena-server: device\n", 3)
+
+
+def socket_may_be_gone_at_the_end():
+    server = Server([tenant("acme", 1, 1)], 1, 1)
+    with server.connect():
+        os.unlink(server.path)
+    assert server.end() == (["acme: closed, 0 entries"], "", 0)
+
+
+def worker_that_cannot_be_started_is_a_fault():
+    memory = 48 << 20  # holds the tenant and the stacks of some threads, but not of 32
+    with tempfile.TemporaryDirectory() as folder:
+        config, at = os.path.join(folder, "config"), os.path.join(folder, "socket")
+        with open(config, "w") as it:
+            json.dump({"tenants": [tenant("acme", 1, 1)], "workers": 32}, it)
+        done = subprocess.run([PROGRAM, "--config", config, "--socket", at, "--connections", "1"],
+                              capture_output=True, text=True, timeout=60,
+                              preexec_fn=lambda: resource.setrlimit(resource.RLIMIT_AS, (memory, memory)))
+        assert (done.stdout, done.stderr, done.returncode) == ("", "arena-server: device\n", 3)
+        assert not os.path.exists(at)
 
 
 CHECKS = [job_is_executed_and_polled, workers_share_a_job, each_job_has_its_end, tenants_do_not_see_each_other,
@@ -468,7 +492,8 @@ CHECKS = [job_is_executed_and_polled, workers_share_a_job, each_job_has_its_end,
           requests_have_exactly_their_members, client_that_never_reads,
           client_that_sends_without_end, clients_that_say_nothing, many_clients_at_once,
           jobs_are_retired_round_after_round, dump_is_the_history, waiting_ends_at_a_full_history,
-          executes_end_at_a_full_history, folder_of_dumps_is_missing, wrong_words_and_files_are_faults]
+          executes_end_at_a_full_history, folder_of_dumps_is_missing, wrong_words_and_files_are_faults,
+          socket_may_be_gone_at_the_end, worker_that_cannot_be_started_is_a_fault]
 
 
 def main():

@@ -3,13 +3,18 @@
 
 use arena_script::{ScriptEnd, script};
 use std::env::Env;
+use std::io::ErrorKind;
 use std::process::ExitCode;
 use std::{env, io};
 
 fn main(rt: HostRuntime) -> ExitCode {
     let end = match words_of(&rt) {
         Ok(words) => answered(&rt, words.as_slice()),
-        Err(_) => ScriptEnd::Memory,
+        Err(fault) => match fault.kind() {
+            // A word that is no text.
+            ErrorKind::InvalidData => ScriptEnd::Words,
+            _ => ScriptEnd::Memory,
+        },
     };
     if let Some(fault) = end.fault() {
         // The status tells of the fault even if standard error takes nothing.

@@ -10,7 +10,7 @@ use socket_server::{House, MAX_CONFIG, Opened, Served, ServerEnd, config_of, ser
 use std::alloc::Global;
 use std::env::Env;
 use std::fs::{File, Files, Permissions};
-use std::io::Read;
+use std::io::{ErrorKind, Read};
 use std::net::Net;
 use std::os::unix::fs::PermissionsExt;
 use std::os::unix::net::UnixListener;
@@ -24,7 +24,11 @@ use tenant_record::Seat;
 fn main(rt: HostRuntime) -> ExitCode {
     let end = match words_of(&rt) {
         Ok(words) => end_of(&rt, words.as_slice()),
-        Err(_) => ServerEnd::Memory,
+        Err(fault) => match fault.kind() {
+            // A word that is no text.
+            ErrorKind::InvalidData => ServerEnd::Words,
+            _ => ServerEnd::Memory,
+        },
     };
     if let Some(fault) = end.fault() {
         // The status tells of the fault even if standard error takes nothing.
@@ -85,7 +89,6 @@ where
         seats,
     } = House::open(alloc, &config, words.connections)?;
     let listener = bind_private(rt, words.socket)?;
-    let is_told = println!(rt; "listening").is_ok();
     let served = serve_connections(
         rt,
         alloc,
@@ -96,9 +99,13 @@ where
         config.workers(),
         words.connections,
     );
-    let is_removed = fs::remove_file(rt, words.socket).is_ok();
+    // Somebody may have removed it before.
+    let _ = fs::remove_file(rt, words.socket);
+    let Some(served) = served else {
+        return Err(ServerEnd::Device);
+    };
     let end = close_tenants(rt, alloc, house, served.seats, config.tenants(), words.dump)?;
-    if is_told && served.is_whole && is_removed {
+    if served.is_whole {
         Ok(end)
     } else {
         Ok(ServerEnd::Device)

@@ -3,7 +3,7 @@ ghost use Rattle.std.specs.Prelude.{◌≡◌};
 ghost use Rattle.socket_server.specs.Shared.{ArePassesOf};
 
 use crate::house::House;
-use crate::posts::Posts;
+use crate::posts::{Client, Posts};
 use crate::sessions::{serve_calls, serve_client};
 use call_queues::QueuePass;
 use std::alloc::Global;
@@ -17,15 +17,16 @@ use tenant_record::Seat;
 /// How the connections of a server ended.
 #[derive(Drop)]
 pub struct Served {
-    /// The seats that came back from the sessions.
+    /// The seats that came back from the sessions, and those that no session took.
     pub seats: Vec<Seat>,
-    /// Whether all threads were started, and all connections accepted.
+    /// Whether `listening` was printed, all connections were accepted, and each had its thread.
     pub is_whole: bool,
 }
 
-/// Accepts `connections` connections, and serves each by a thread of its own beside the threads of
-/// `workers` workers. When all sessions have ended it tells the workers to stop, and waits for them.
-pub fn serve_connections<R: Threads + Wait + Sync>(
+/// Starts a thread for each of `workers` workers, prints `listening`, accepts `connections` connections,
+/// and serves each by a thread of its own. When all sessions have ended it tells the workers to stop,
+/// and waits for them. None if a worker can't be started: nothing was printed, and nobody served.
+pub fn serve_connections<R: Threads + Wait + Sync + Print>(
     rt: &R,
     alloc: Global,
     house: &House,
@@ -34,7 +35,7 @@ pub fn serve_connections<R: Threads + Wait + Sync>(
     listener: &UnixListener,
     workers: usize,
     connections: u8,
-) -> Served
+) -> Option<Served>
     requires { ArePassesOf house.now.queues.queues passes.items }
 {
     let posts = Posts::new(house, passes);
@@ -42,25 +43,28 @@ pub fn serve_connections<R: Threads + Wait + Sync>(
     let back = &returned;
     let is_whole = thread::scope(thread::scope_env(), rt, move |scope| {
         let mut posts = posts;
-        let mut all_work = true;
         for _worker in 0..workers {
             let Some(post) = posts.next() else {
                 break;
             };
-            all_work &= scope.spawn(move || serve_calls(rt, post)).is_ok();
+            if scope.spawn(move || serve_calls(rt, post)).is_err() {
+                house.stop(rt);
+                return None;
+            }
         }
+        let is_told = println!(rt; "listening").is_ok();
         let all_served = accept_all(rt, alloc, posts, seats, listener, connections, back);
         house.stop(rt);
-        all_work && all_served
-    });
-    Served {
+        Some(is_told && all_served)
+    })?;
+    Some(Served {
         seats: returned.into_inner(),
         is_whole,
-    }
+    })
 }
 
 /// Accepts `connections` connections, waits until their sessions have ended, and says whether all
-/// were served.
+/// were served. The seats that no session took come back too.
 fn accept_all<R: Threads + Wait + Sync>(
     rt: &R,
     alloc: Global,
@@ -73,12 +77,12 @@ fn accept_all<R: Threads + Wait + Sync>(
     thread::scope(thread::scope_env(), rt, move |scope| {
         let mut posts = posts;
         let mut seats = seats;
+        let mut all_served = true;
         for _connection in 0..connections {
-            let Ok((stream, _address)) = listener.accept() else {
-                return false;
-            };
-            let Ok(Some(client)) = posts.next_client(alloc, &mut seats) else {
-                return false;
+            let Some((stream, client)) = next_session(alloc, listener, &mut posts, &mut seats)
+            else {
+                all_served = false;
+                break;
             };
             let session = move || {
                 let own = serve_client(rt, alloc, client, &mut &stream, &mut &stream);
@@ -87,11 +91,26 @@ fn accept_all<R: Threads + Wait + Sync>(
                 give_back(&mut back.lock(rt), own);
             };
             if scope.spawn(session).is_err() {
-                return false;
+                all_served = false;
+                break;
             }
         }
-        true
+        give_back(&mut back.lock(rt), seats);
+        all_served
     })
+}
+
+/// The next connection, with a post and a seat of each tenant for its session. None if the accept
+/// fails, or an allocation.
+fn next_session<'h>(
+    alloc: Global,
+    listener: &UnixListener,
+    posts: &mut Posts<'h>,
+    seats: &mut Vec<Seat>,
+) -> Option<(UnixStream, Client<'h>)> {
+    let (stream, _address) = listener.accept().ok()?;
+    let client = posts.next_client(alloc, seats).ok()??;
+    Some((stream, client))
 }
 
 /// Keeps the seats that came back.
