@@ -74,7 +74,9 @@ fn accept_all<R: Threads + Wait + Sync>(
     connections: u8,
     back: &Mutex<Vec<Seat>>,
 ) -> bool {
-    thread::scope(thread::scope_env(), rt, move |scope| {
+    let waiting = Mutex::new(Vec::new(alloc));
+    let desk = &waiting;
+    let all_served = thread::scope(thread::scope_env(), rt, move |scope| {
         let mut posts = posts;
         let mut seats = seats;
         let mut all_served = true;
@@ -84,12 +86,9 @@ fn accept_all<R: Threads + Wait + Sync>(
                 all_served = false;
                 break;
             };
-            let session = move || {
-                let own = serve_client(rt, alloc, client, &mut &stream, &mut &stream);
-                // The client may have gone before.
-                let _ = stream.shutdown(Shutdown::Both);
-                give_back(&mut back.lock(rt), own);
-            };
+            // A thread takes it from here, so its seats are not lost if no thread can be started.
+            let _ = desk.lock(rt).push(client);
+            let session = move || serve_waiting(rt, alloc, desk, &stream, back);
             if scope.spawn(session).is_err() {
                 all_served = false;
                 break;
@@ -97,7 +96,28 @@ fn accept_all<R: Threads + Wait + Sync>(
         }
         give_back(&mut back.lock(rt), seats);
         all_served
-    })
+    });
+    for Client { post: _post, seats } in waiting.into_inner() {
+        give_back(&mut back.lock(rt), seats);
+    }
+    all_served
+}
+
+/// Serves a client that waits, and keeps its seats.
+fn serve_waiting<R: Wait>(
+    rt: &R,
+    alloc: Global,
+    desk: &Mutex<Vec<Client<'_>>>,
+    stream: &UnixStream,
+    back: &Mutex<Vec<Seat>>,
+) {
+    let Some(client) = desk.lock(rt).pop() else {
+        return;
+    };
+    let seats = serve_client(rt, alloc, client, &mut &*stream, &mut &*stream);
+    // The client may have gone before.
+    let _ = stream.shutdown(Shutdown::Both);
+    give_back(&mut back.lock(rt), seats);
 }
 
 /// The next connection, with a post and a seat of each tenant for its session. None if the accept
