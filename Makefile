@@ -17,11 +17,12 @@ build: ## proves arena-script and arena-server, and builds them into out/
 serve: build ## serves two connections at /tmp/arena.sock (docs/OPERATIONS.md)
 	out/arena-server --config examples/server/config.json --socket /tmp/arena.sock --connections 2
 
-test: ## passes everything: examples, each proof, edit, test and program, stored runs, scripts, ranges, the server, failed allocations, drawn steps
+test: ## passes everything: examples, each proof, edit, test and program, stored runs, scripts, a second evaluator, ranges, the server, failed allocations, drawn steps
 	checks/examples/run.sh
 	checks/gate/run.py
 	checks/stored_runs/run.sh
 	checks/scripts/run.py
+	checks/evaluator/run.py
 	checks/ranges/run.py
 	checks/server/run.py
 	checks/failed_allocations/run.sh

@@ -1,0 +1,85 @@
+"""Drawn tenants, jobs and steps."""
+MIXED = """set set set add add sub mul div lt jz slot width spawn spawn spawn spawn spawn spawn spawn spawn wait wait isolate
+isolate isolate isolate isolate isolate post cancel cancel cancel ask ask load store store sum count""".split()
+# Instructions of one group, in a row.
+GROUPED = [["spawn", "set", "cancel", "wait"], ["spawn", "spawn", "set", "wait"], ["spawn", "wait", "spawn", "wait"]]
+SERIAL = "set set add sub mul div lt jz spawn spawn spawn isolate wait".split()
+VALUES = {"number": [0, 1, -1, 2, 3, 2**63 - 1, -2**63], "register": range(8), "key": range(3)}
+
+
+class Draws:
+    def __init__(self, random):
+        self.random = random
+
+    def tenant(self):
+        slots = self.random.choice([1, 2, 3, 3, 4])
+        config = {"name": "acme", "priority": self.random.choice(["low", "normal", "high"]), "slots": slots,
+                  "reserved": self.random.choice([0, 1, 1, 1, slots]), "rows": self.random.choice([1, 8, 200, 200, 200, 200]),
+                  "steps": self.random.choice([20, 100, 10000, 10000, 10000, 10000, 10000])}
+        mode = self.random.choice([None, "exact", "within"])
+        return {**config, "isolation": mode} if mode else config
+
+    def instr(self, name, group, length, procs):
+        """An instruction of a procedure of that length, which names one of these; the group is its own, if one is given."""
+        draw = {"group": lambda: self.random.randrange(2) if group is None else group,
+                "target": lambda: self.random.randrange(length), "proc": lambda: self.random.choice(procs)}
+        return [name, *(draw[kind]() if kind in draw else self.random.choice(VALUES[kind]) for kind in OPERANDS[name])]
+
+    def names(self, known):
+        """Names of instructions, each with its group if that is not to be drawn."""
+        if self.random.random() < 0.3 and {"spawn", "cancel"} <= {*known}:
+            group = self.random.randrange(2)
+            return [(name, group) for name in self.random.choice(GROUPED)]
+        return [(self.random.choice(known), None)]
+
+    def proc(self, known, procs):
+        """A procedure that makes rows of these, and mostly waits for each group at its end."""
+        names = [name for _ in range(self.random.randint(0, 8)) for name in self.names(known)]
+        body = [self.instr(*name, len(names) + 3, procs) for name in names]
+        waits = [["wait", 4, 5, group] if self.random.random() < 0.99 else ["set", 2, 1] for group in range(2)]
+        return [*body, *waits, ["ret", self.random.choice([2, 4, 5, 6, 7])]]
+
+    def job(self, is_serial=False):
+        """A job; in most of them each procedure makes rows of later ones, and in the others it is the fuel that ends it."""
+        names = SERIAL if is_serial else MIXED
+        leaf = [name for name in names if name not in ("spawn", "isolate", "post")]
+        count, is_layered = self.random.randint(1, 5), self.random.random() < 0.6
+        procs = [self.proc(names, range(number if is_layered else 0, count)) for number in range(1, count)]
+        return {"args": self.random.choices(VALUES["number"], k=2), "fuel": self.random.choice([1, 100, 1500, 4000, 4000]),
+                "procs": [*procs, self.proc(leaf, [0])]}
+
+    def request(self, made):
+        """A request to a tenant that has made that number of jobs."""
+        op = self.random.choice(["poll", "collect", "cancel", "cells", "arena", "retire", "hello"])
+        own = {"cells": {"key": self.random.randrange(3)}, "arena": {}, "retire": {}, "hello": {"tenant": "acme"}}
+        return {"op": op, **own.get(op, {"job": self.random.randint(0, made + 1)})}
+
+    def steps(self, slots):
+        """Steps of a script: jobs that come between arrivals and advances, and then moves alone."""
+        made = 0
+        for _ in range(self.random.randint(20, 300)):
+            chance = self.random.random()
+            if chance < 0.04:
+                made += 1
+                yield {"step": "ask", "request": {"op": self.random.choice(["submit", "execute"]), "job": self.job()}}
+            elif chance < 0.1:
+                yield {"step": "ask", "request": self.request(made)}
+            else:
+                yield self.move(slots + 1 if chance < 0.11 else slots)
+        for _ in range(self.random.randint(0, 300)):
+            yield self.move(slots)
+        yield from ({"step": "ask", "request": {"op": "poll", "job": job}} for job in range(1, made + 1))
+
+    def move(self, slots):
+        return {"step": self.random.choice(["arrive"] + ["advance"] * 4), "slot": self.random.randrange(slots)}
+
+
+OPERANDS = {
+    "set": ["register", "number"], "jz": ["register", "target"], "jmp": ["target"],
+    **{name: ["register"] * 3 for name in ("add", "sub", "mul", "div", "lt")},
+    **{name: ["register"] for name in ("slot", "width", "ask", "ret")},
+    **{name: ["register", "key"] for name in ("load", "sum", "count")},
+    "spawn": ["group", "proc", "register", "register"], "post": ["proc", "register", "register"],
+    "wait": ["register", "register", "group"], "cancel": ["group"], "store": ["key", "register"],
+    "isolate": ["register", "proc", "register", "register"],
+}

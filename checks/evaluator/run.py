@@ -1,0 +1,87 @@
+#!/usr/bin/env python3
+"""Compares what arena-script answers to drawn scripts, and to drawn jobs with the word `serial`, with what a second
+evaluator answers (`tenant.py`, `serial.py`), which shares nothing with the Rattle code.
+
+usage: checks/evaluator/run.py [SEED [SCRIPTS]], at the top of the repository, after `rt ci`, or `rt run` in
+crates/script_program. The seed is 1 and the number of scripts 300 if none is said.
+"""
+import collections
+import json
+import os
+import random
+import subprocess
+import sys
+
+from draws import Draws
+from serial import serial_value
+from tenant import Tenant, moved
+
+PROGRAM = os.path.abspath("crates/script_program/out/script_program")
+FINDS = ["ran", "freed", "nested", "arrived", "idle", "left", "none", "full", "pending", "bad_step", "complete",
+         "canceled", *(f"fault {code}" for code in (1, 2, 4, 5)), *(f"error {code}" for code in (3, 6, 8, 10, 12))]
+
+
+def text(value):
+    return json.dumps(value, separators=(",", ":"), sort_keys=True)
+
+
+def printed(words, lines):
+    ran = subprocess.run([PROGRAM, *words], input="\n".join(map(text, lines)), capture_output=True, text=True, check=True)
+    return ran.stdout.splitlines()
+
+
+def answer(tenant, step):
+    """What the second evaluator answers to a step."""
+    if step["step"] == "ask":
+        return tenant.ask(step["request"]) or moved("pending")
+    if step["slot"] >= tenant.config["slots"]:
+        return moved("bad_step")
+    return tenant.arrive(step["slot"]) if step["step"] == "arrive" else tenant.advance(step["slot"])
+
+
+def kind(answered):
+    """What is counted of an answer."""
+    code = {"fault": "fault", "code": "error"}
+    named = [f"{word} {answered[name]}" for name, word in code.items() if name in answered]
+    return (named or [answered.get("moved") or answered.get("status") or "other"])[0]
+
+
+def script_differs(draws, seen):
+    """Whether a drawn script is answered in another way."""
+    config = draws.tenant()
+    steps = list(draws.steps(config["slots"]))
+    tenant = Tenant(config)
+    wanted = [answer(tenant, step) for step in steps]
+    seen.update(kind(it) for it in wanted)
+    lines = printed([], [{"tenant": config}, *steps])
+    places = [at for at, line in enumerate(map(text, wanted)) if lines[at : at + 1] != [line]]
+    if places:
+        at = places[0]
+        print(f"{text(config)}\nstep {at + 1}, {text(steps[at])}: {lines[at : at + 1]}, and not {text(wanted[at])}")
+    return bool(places) or len(lines) != len(wanted)
+
+
+def serial_jobs_differ(draws, count):
+    """How many of the drawn jobs have another serial value."""
+    jobs = [draws.job(is_serial=draws.random.random() < 0.9) for _ in range(count)]
+    wanted = [text({"serial": serial_value(job)}) for job in jobs]
+    pairs = list(zip(jobs, wanted, printed(["serial"], jobs), strict=True))
+    for job, want, line in pairs:
+        if want != line:
+            print(f"{text(job)}: {line}, and not {want}")
+    return sum(want != line for _, want, line in pairs)
+
+
+def main(seed=1, scripts=300):
+    sys.setrecursionlimit(100_000)
+    draws, seen = Draws(random.Random(seed)), collections.Counter()
+    differ = sum(script_differs(draws, seen) for _ in range(scripts))
+    differ += serial_jobs_differ(draws, scripts)
+    missing = [it for it in FINDS if not seen[it]] if scripts >= 300 else []
+    if missing:
+        print(f"no answer is one of {missing}")
+    print(f"{scripts} scripts of {seen.total()} steps, {scripts} serial jobs: {differ} differences")
+    return differ or missing
+
+
+sys.exit(bool(main(*map(int, sys.argv[1:]))))
