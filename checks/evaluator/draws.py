@@ -1,5 +1,5 @@
 """Drawn tenants, jobs and steps."""
-MIXED = """set set set add add sub mul div lt jz slot width spawn spawn spawn spawn spawn spawn spawn spawn wait wait isolate
+MIXED = """set set set add add sub mul div lt jz jmp slot width spawn spawn spawn spawn spawn spawn spawn spawn wait wait isolate
 isolate isolate isolate isolate isolate post cancel cancel cancel ask ask load store store sum count""".split()
 # Instructions of one group, in a row.
 GROUPED = [["spawn", "set", "cancel", "wait"], ["spawn", "spawn", "set", "wait"], ["spawn", "wait", "spawn", "wait"]]
@@ -14,13 +14,13 @@ class Draws:
     def tenant(self):
         slots = self.random.choice([1, 2, 3, 3, 4])
         config = {"name": "acme", "priority": self.random.choice(["low", "normal", "high"]), "slots": slots,
-                  "reserved": self.random.choice([0, 1, 1, 1, slots]), "rows": self.random.choice([1, 8, 200, 200, 200, 200]),
-                  "steps": self.random.choice([20, 100, 10000, 10000, 10000, 10000, 10000])}
+                  "reserved": self.random.choice([0, 1, 1, 1, slots]), "rows": self.random.choice([1, 8] + [200] * 4),
+                  "steps": self.random.choice([20, 100] + [10000] * 5)}
         mode = self.random.choice([None, "exact", "within"])
         return {**config, "isolation": mode} if mode else config
 
     def instr(self, name, group, length, procs):
-        """An instruction of a procedure of that length, which names one of these; the group is its own, if one is given."""
+        """An instruction of a procedure of that length. It names one of these procedures, and that group if there is one."""
         draw = {"group": lambda: self.random.randrange(2) if group is None else group,
                 "target": lambda: self.random.randrange(length), "proc": lambda: self.random.choice(procs)}
         return [name, *(draw[kind]() if kind in draw else self.random.choice(VALUES[kind]) for kind in OPERANDS[name])]
@@ -36,11 +36,11 @@ class Draws:
         """A procedure that makes rows of these, and mostly waits for each group at its end."""
         names = [name for _ in range(self.random.randint(0, 8)) for name in self.names(known)]
         body = [self.instr(*name, len(names) + 3, procs) for name in names]
-        waits = [["wait", 4, 5, group] if self.random.random() < 0.99 else ["set", 2, 1] for group in range(2)]
+        waits = [["wait", 4, 5, group] if self.random.random() < 0.93 else ["set", 2, 1] for group in range(2)]
         return [*body, *waits, ["ret", self.random.choice([2, 4, 5, 6, 7])]]
 
     def job(self, is_serial=False):
-        """A job; in most of them each procedure makes rows of later ones, and in the others it is the fuel that ends it."""
+        """A job. In most of them each procedure makes rows of later ones; the others are ended by their fuel."""
         names = SERIAL if is_serial else MIXED
         leaf = [name for name in names if name not in ("spawn", "isolate", "post")]
         count, is_layered = self.random.randint(1, 5), self.random.random() < 0.6
