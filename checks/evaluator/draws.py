@@ -1,4 +1,8 @@
-"""Drawn tenants, jobs and steps."""
+"""Drawn tenants, jobs, worlds and steps."""
+import json
+
+from world import REFUSED
+
 MIXED = """set set set add add sub mul div lt jz jmp slot width spawn spawn spawn spawn spawn spawn spawn spawn wait wait isolate
 isolate isolate isolate isolate isolate post cancel cancel cancel ask ask load store store sum count""".split()
 # Instructions of one group, in a row.
@@ -11,9 +15,9 @@ class Draws:
     def __init__(self, random):
         self.random = random
 
-    def tenant(self):
+    def tenant(self, name="acme"):
         slots = self.random.choice([1, 2, 3, 3, 4])
-        config = {"name": "acme", "priority": self.random.choice(["low", "normal", "high"]), "slots": slots,
+        config = {"name": name, "priority": self.random.choice(["low", "normal", "high"]), "slots": slots,
                   "reserved": self.random.choice([0, 1, 1, 1, slots]), "rows": self.random.choice([1, 8] + [200] * 4),
                   "steps": self.random.choice([20, 100] + [10000] * 5)}
         mode = self.random.choice([None, "exact", "within"])
@@ -69,6 +73,45 @@ class Draws:
         for _ in range(self.random.randint(0, 300)):
             yield self.move(slots)
         yield from ({"step": "ask", "request": {"op": "poll", "job": job}} for job in range(1, made + 1))
+
+    def world(self):
+        names = ["acme", "beta", "core"][: self.random.randint(1, 3)]
+        return {"tenants": [self.tenant(name) for name in names], "workers": self.random.randint(1, 3)}
+
+    def line(self, made):
+        """The text of a line to a tenant that has made that number of jobs."""
+        chance = self.random.random()
+        if chance < 0.1:
+            return self.random.choice(["", " \t", *REFUSED])
+        if chance < 0.5:
+            return json.dumps({"op": self.random.choice(["submit", "execute"]), "job": self.job()})
+        return json.dumps(self.request(made))
+
+    def stray_step(self, names):
+        """A step of a world, of any tenant, slot and worker, whether or not it is there."""
+        kind, name = self.random.choice(["line", "master", "push", "pop", "arrive", "advance"]), self.random.choice(names)
+        if kind == "line":
+            return {"step": kind, "tenant": name, "text": self.line(1)}
+        if kind in ("master", "push"):
+            return {"step": kind, "tenant": name, "slot": self.random.randrange(5)}
+        return {"step": kind, "worker": self.random.randrange(4)}
+
+    def world_step(self, world):
+        """A step of a world that is mostly allowed."""
+        kind = self.random.choice(["stray", "line"] + ["master", "push"] * 3 + ["worker"] * 8)
+        name, worker = self.random.choice([*world.tenants]), self.random.randrange(len(world.workers))
+        due = [slot for slot, state in world.slots.items() if state == "due"]
+        has, tenant = world.workers[worker], world.tenants[name]
+        if kind == "line":
+            return {"step": kind, "tenant": name, "text": self.line(len(tenant.jobs))}
+        if kind == "master" and tenant.config["reserved"]:
+            return {"step": kind, "tenant": name, "slot": self.random.randrange(tenant.config["reserved"])}
+        if kind == "push" and due:
+            name, slot = self.random.choice(due)
+            return {"step": kind, "tenant": name, "slot": slot}
+        if kind == "worker":
+            return {"step": {"call": "arrive", "slot": "advance"}[has[0]] if has else "pop", "worker": worker}
+        return self.stray_step([*world.tenants, "nobody"])
 
     def move(self, slots):
         return {"step": self.random.choice(["arrive"] + ["advance"] * 4), "slot": self.random.randrange(slots)}

@@ -1,9 +1,9 @@
 #!/usr/bin/env python3
-"""Compares what arena-script answers to drawn scripts, and to drawn jobs with the word `serial`, with what a second
-evaluator answers (`tenant.py`, `serial.py`), which shares nothing with the Rattle code.
+"""Compares what arena-script answers to drawn scripts of tenants and of worlds, and to drawn jobs with the word `serial`,
+with what a second evaluator answers (`tenant.py`, `world.py`, `serial.py`), which shares nothing with the Rattle code.
 
 usage: checks/evaluator/run.py [SEED [SCRIPTS]], at the top of the repository, after `rt ci`, or `rt run` in
-crates/script_program. The seed is 1 and the number of scripts 300 if none is said.
+crates/script_program. The seed is 1, and there are 300 scripts of each kind, if none is said.
 """
 import collections
 import json
@@ -15,10 +15,14 @@ import sys
 from draws import Draws
 from serial import serial_value
 from tenant import Tenant, moved
+from world import World
 
 PROGRAM = os.path.abspath("crates/script_program/out/script_program")
+NUMBERED = {"fault": "fault", "code": "error", "market": "market"}
 FINDS = ["ran", "freed", "nested", "arrived", "idle", "left", "none", "full", "pending", "bad_step", "complete",
-         "canceled", *(f"fault {code}" for code in (1, 2, 4, 5)), *(f"error {code}" for code in (3, 6, 8, 10, 12))]
+         "canceled", *(f"fault {code}" for code in (1, 2, 4, 5)),
+         *(f"error {code}" for code in (1, 2, 3, 4, 6, 8, 10, 12)),
+         *(f"market {word}" for word in ("queued", "held", "none", "not_now"))]
 
 
 def text(value):
@@ -31,7 +35,7 @@ def printed(words, lines):
 
 
 def answer(tenant, step):
-    """What the second evaluator answers to a step."""
+    """What the second evaluator answers to a step of a tenant."""
     if step["step"] == "ask":
         return tenant.ask(step["request"]) or moved("pending")
     if step["slot"] >= tenant.config["slots"]:
@@ -41,24 +45,39 @@ def answer(tenant, step):
 
 def kind(answered):
     """What is counted of an answer."""
-    code = {"fault": "fault", "code": "error"}
-    named = [f"{word} {answered[name]}" for name, word in code.items() if name in answered]
-    return (named or [answered.get("moved") or answered.get("status") or "other"])[0]
+    numbered = [f"{word} {answered[name]}" for name, word in NUMBERED.items() if name in answered]
+    named = [answered[name] for name in ("moved", "status") if name in answered]
+    return (numbered or named or ["other"])[0]
 
 
-def script_differs(draws, seen):
-    """Whether a drawn script is answered in another way."""
-    config = draws.tenant()
-    steps = list(draws.steps(config["slots"]))
-    tenant = Tenant(config)
-    wanted = [answer(tenant, step) for step in steps]
-    seen.update(kind(it) for it in wanted)
-    lines = printed([], [{"tenant": config}, *steps])
+def differs(words, first, steps, wanted):
+    """Whether a script is answered in another way than is wanted; says where."""
+    lines = printed(words, [first, *steps])
     places = [at for at, line in enumerate(map(text, wanted)) if lines[at : at + 1] != [line]]
     if places:
         at = places[0]
-        print(f"{text(config)}\nstep {at + 1}, {text(steps[at])}: {lines[at : at + 1]}, and not {text(wanted[at])}")
+        print(f"{text(first)}\nstep {at + 1}, {text(steps[at])}: {lines[at : at + 1]}, and not {text(wanted[at])}")
     return bool(places) or len(lines) != len(wanted)
+
+
+def script_differs(draws, seen):
+    """Whether a drawn script of a tenant is answered in another way."""
+    config = draws.tenant()
+    steps, tenant = list(draws.steps(config["slots"])), Tenant(config)
+    wanted = [answer(tenant, step) for step in steps]
+    seen.update(map(kind, wanted))
+    return differs([], {"tenant": config}, steps, wanted)
+
+
+def world_differs(draws, seen):
+    """Whether a drawn script of a world is answered in another way."""
+    config = draws.world()
+    steps, wanted, world = [], [], World(config)
+    for _ in range(draws.random.randint(100, 600)):
+        steps.append(draws.world_step(world))
+        wanted.append(world.answer(steps[-1]))
+    seen.update(map(kind, wanted))
+    return differs(["run"], config, steps, wanted)
 
 
 def serial_jobs_differ(draws, count):
@@ -75,12 +94,12 @@ def serial_jobs_differ(draws, count):
 def main(seed=1, scripts=300):
     sys.setrecursionlimit(100_000)
     draws, seen = Draws(random.Random(seed)), collections.Counter()
-    differ = sum(script_differs(draws, seen) for _ in range(scripts))
+    differ = sum(script_differs(draws, seen) + world_differs(draws, seen) for _ in range(scripts))
     differ += serial_jobs_differ(draws, scripts)
     missing = [it for it in FINDS if not seen[it]] if scripts >= 300 else []
     if missing:
         print(f"no answer is one of {missing}")
-    print(f"{scripts} scripts of {seen.total()} steps, {scripts} serial jobs: {differ} differences")
+    print(f"{scripts} tenants and {scripts} worlds, {seen.total()} steps, {scripts} serial jobs: {differ} differences")
     return differ or missing
 
 

@@ -4,7 +4,8 @@ and each question is answered by a walk over it.
 from dataclasses import dataclass, field
 
 PRIVATE = {"set", "add", "sub", "mul", "div", "lt", "jz", "jmp", "slot", "width"}
-ERRORS = {3: "bad_request", 6: "unknown_job", 7: "job_limit", 8: "history_full", 10: "task_limit", 12: "busy"}
+ERRORS = {1: "line_too_long", 2: "bad_json", 3: "bad_request", 4: "bad_program", 6: "unknown_job", 7: "job_limit",
+          8: "history_full", 10: "task_limit", 12: "busy"}
 RUN, JOBS, HEIGHT = 1000, 256, 128
 ZERO, FUEL, DEPTH, ROWS, GROUP = 1, 2, 3, 4, 5  # the faults
 
