@@ -70,14 +70,18 @@ def script_differs(draws, seen):
 
 
 def world_differs(draws, seen):
-    """Whether a drawn script of a world is answered in another way."""
+    """Whether a drawn script of a world is answered in another way, or the steps of one of its tenants are, alone."""
     config = draws.world()
     steps, wanted, world = [], [], World(config)
     for _ in range(draws.random.randint(100, 600)):
         steps.append(draws.world_step(world))
         wanted.append(world.answer(steps[-1]))
-    seen.update(map(kind, wanted))
-    return differs(["run"], config, steps, wanted)
+    seen.update(kind(answered) for _, answered in wanted)
+    if differs(["run"], config, steps, [answered for _, answered in wanted]):
+        return True
+    tenant = draws.random.choice(config["tenants"])
+    own = [(step, answered) for step, (name, answered) in zip(steps, wanted) if name == tenant["name"]]
+    return differs(["run"], {**config, "tenants": [tenant]}, *([*it] for it in zip(*own))) if own else False
 
 
 def serial_jobs_differ(draws, count):

@@ -23,7 +23,10 @@ class World:
         self.workers = [None] * config["workers"]
 
     def answer(self, step):
-        return getattr(self, "do_" + step["step"])(step)
+        """The name of the tenant whom a step is of, or none, and the answer."""
+        has = self.workers[step["worker"]] if step.get("worker", len(self.workers)) < len(self.workers) else None
+        answer = getattr(self, "do_" + step["step"])(step)
+        return has[1][0] if has else step.get("tenant", answer.get("tenant")), answer
 
     def own(self, name, act, after=lambda answer: None):
         """A tenant's own step; then the market changes, and then a slot of the tenant may wake."""
