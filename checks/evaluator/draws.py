@@ -3,8 +3,8 @@ import json
 
 from world import REFUSED
 
-MIXED = """set set set add add sub mul div lt jz jmp slot width spawn spawn spawn spawn spawn spawn spawn spawn wait wait isolate
-isolate isolate isolate isolate isolate post cancel cancel cancel ask ask load store store sum count""".split()
+MIXED = """set set set add add sub mul div lt jz jmp slot width spawn spawn spawn spawn spawn spawn spawn spawn wait wait
+isolate isolate isolate isolate isolate isolate post cancel cancel cancel ask ask load store store sum count""".split()
 # Instructions of one group, in a row.
 GROUPED = [["spawn", "set", "cancel", "wait"], ["spawn", "spawn", "set", "wait"], ["spawn", "wait", "spawn", "wait"]]
 SERIAL = "set set add sub mul div lt jz spawn spawn spawn isolate wait".split()
@@ -24,7 +24,7 @@ class Draws:
         return {**config, "isolation": mode} if mode else config
 
     def instr(self, name, group, length, procs):
-        """An instruction of a procedure of that length. It names one of these procedures, and that group if there is one."""
+        """An instruction of a procedure of that length. It names one of these procedures, and the group if one is given."""
         draw = {"group": lambda: self.random.randrange(2) if group is None else group,
                 "target": lambda: self.random.randrange(length), "proc": lambda: self.random.choice(procs)}
         return [name, *(draw[kind]() if kind in draw else self.random.choice(VALUES[kind]) for kind in OPERANDS[name])]
@@ -49,8 +49,8 @@ class Draws:
         leaf = [name for name in names if name not in ("spawn", "isolate", "post")]
         count, is_layered = self.random.randint(1, 5), self.random.random() < 0.6
         procs = [self.proc(names, range(number if is_layered else 0, count)) for number in range(1, count)]
-        return {"args": self.random.choices(VALUES["number"], k=2), "fuel": self.random.choice([1, 100, 1500, 4000, 4000]),
-                "procs": [*procs, self.proc(leaf, [0])]}
+        fuel = self.random.choice([1, 100, 1500, 4000, 4000])
+        return {"args": self.random.choices(VALUES["number"], k=2), "fuel": fuel, "procs": [*procs, self.proc(leaf, [0])]}
 
     def request(self, made):
         """A request to a tenant that has made that number of jobs."""
@@ -89,7 +89,8 @@ class Draws:
 
     def stray_step(self, names):
         """A step of a world, of any tenant, slot and worker, whether or not it is there."""
-        kind, name = self.random.choice(["line", "master", "push", "pop", "arrive", "advance"]), self.random.choice(names)
+        kind = self.random.choice(["line", "master", "push", "pop", "arrive", "advance"])
+        name = self.random.choice(names)
         if kind == "line":
             return {"step": kind, "tenant": name, "text": self.line(1)}
         if kind in ("master", "push"):

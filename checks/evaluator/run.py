@@ -1,6 +1,7 @@
 #!/usr/bin/env python3
-"""Compares what arena-script answers to drawn scripts of tenants and of worlds, and to drawn jobs with the word `serial`,
-with what a second evaluator answers (`tenant.py`, `world.py`, `serial.py`), which shares nothing with the Rattle code.
+"""Compares what arena-script answers to drawn scripts of tenants and of worlds, and to drawn jobs with the word
+`serial`, with what a second evaluator answers (`tenant.py`, `world.py`, `serial.py`), which shares nothing with the
+Rattle code. A tenant's own steps of a world must also be answered the same without its neighbours.
 
 usage: checks/evaluator/run.py [SEED [SCRIPTS]], at the top of the repository, after `rt ci`, or `rt run` in
 crates/script_program. The seed is 1, and there are 300 scripts of each kind, if none is said.
@@ -30,8 +31,8 @@ def text(value):
 
 
 def printed(words, lines):
-    ran = subprocess.run([PROGRAM, *words], input="\n".join(map(text, lines)), capture_output=True, text=True, check=True)
-    return ran.stdout.splitlines()
+    script = "\n".join(map(text, lines))
+    return subprocess.run([PROGRAM, *words], input=script, capture_output=True, text=True, check=True).stdout.splitlines()
 
 
 def answer(tenant, step):
@@ -81,7 +82,8 @@ def world_differs(draws, seen):
         return True
     tenant = draws.random.choice(config["tenants"])
     own = [(step, answered) for step, (name, answered) in zip(steps, wanted) if name == tenant["name"]]
-    return differs(["run"], {**config, "tenants": [tenant]}, *([*it] for it in zip(*own))) if own else False
+    alone = {**config, "tenants": [tenant]}
+    return differs(["run"], alone, [step for step, _ in own], [answered for _, answered in own])
 
 
 def serial_jobs_differ(draws, count):

@@ -1,5 +1,5 @@
-"""A tenant as `docs/PROTOCOL.md` describes it, written as plainly as can be: all rows that were ever made stay in a list,
-and each question is answered by a walk over it.
+"""A tenant as `docs/PROTOCOL.md` describes it, written as plainly as can be: all rows that were ever made stay in a
+list, and each question is answered by a walk over it.
 """
 from dataclasses import dataclass, field
 
@@ -88,8 +88,8 @@ class Tenant:
 
     def members(self, row, group):
         """The rows of a group since its last completed wait."""
-        since = row.groups[group].since
-        return [it for it in self.rows if it.kind == "task" and (it.maker, it.group) == (row, group) and it.number > since]
+        later = self.rows[row.groups[group].since :]
+        return [it for it in later if it.kind == "task" and (it.maker, it.group) == (row, group)]
 
     def is_blocked(self, row, group):
         return any(it.is_open() for it in self.members(row, group))
