@@ -25,6 +25,8 @@ FIB = {"args": [6, 0], "fuel": 1000, "procs": [[
     ["sub", 3, 3, 2], ["spawn", 0, 0, 3, 1], ["wait", 4, 5, 0], ["ret", 4]]]}
 SEVEN = {"args": [7, 0], "fuel": 10, "procs": [[["ret", 0]]]}
 JUMPS_AWAY = {"args": [0, 0], "fuel": 1000, "procs": [[["jmp", 1]]]}
+# Memory for a tenant and the stacks of some threads, but not of 32.
+FEW_STACKS = 48 << 20
 HELLO = {"op": "hello", "tenant": "acme"}
 
 
@@ -32,10 +34,15 @@ def tenant(name, slots, reserved):
     return {"name": name, "priority": "normal", "reserved": reserved, "rows": 200, "slots": slots, "steps": 10000}
 
 
+def limited(memory):
+    """Limits the memory that a process may map, its threads' stacks among it."""
+    return lambda: resource.setrlimit(resource.RLIMIT_AS, (memory, memory))
+
+
 class Server:
     """A server on a socket of its own, with a folder that goes when it ends."""
 
-    def __init__(self, tenants, workers, connections):
+    def __init__(self, tenants, workers, connections, memory=resource.RLIM_INFINITY):
         self.folder = tempfile.TemporaryDirectory()
         self.path = os.path.join(self.folder.name, "socket")
         self.dumps = os.path.join(self.folder.name, "dumps")
@@ -44,7 +51,8 @@ class Server:
         with open(config, "w") as it:
             json.dump({"tenants": tenants, "workers": workers}, it)
         words = ["--config", config, "--socket", self.path, "--connections", str(connections), "--dump", self.dumps]
-        self.process = subprocess.Popen([PROGRAM, *words], stdout=subprocess.PIPE, stderr=subprocess.PIPE, text=True)
+        self.process = subprocess.Popen([PROGRAM, *words], stdout=subprocess.PIPE, stderr=subprocess.PIPE, text=True,
+                                        preexec_fn=limited(memory))
         assert self.process.stdout.readline() == "listening\n"
         assert stat.S_IMODE(os.stat(self.path).st_mode) == 0o600
 
@@ -312,16 +320,18 @@ def client_that_never_reads():
 
 def client_that_sends_without_end():
     server = Server([tenant("acme", 2, 1)], 1, 2)
-    is_over = threading.Event()
+    has_begun, is_over = threading.Event(), threading.Event()
 
     def send(client):
         while not is_over.is_set():
-            client.sendall(b"x" * 65536)
+            client.sendall(b"x" * 65537)
+            has_begun.set()
 
     with server.connect() as client:
         client.sendall((json.dumps(HELLO) + "\n").encode())
         sender = threading.Thread(target=send, args=(client,))
         sender.start()
+        has_begun.wait()
         assert server.ask(HELLO, {"op": "execute", "job": SEVEN})[1]["value"] == 7
         is_over.set()
         sender.join()
@@ -474,16 +484,34 @@ def socket_may_be_gone_at_the_end():
 
 
 def worker_that_cannot_be_started_is_a_fault():
-    memory = 48 << 20  # holds the tenant and the stacks of some threads, but not of 32
     with tempfile.TemporaryDirectory() as folder:
         config, at = os.path.join(folder, "config"), os.path.join(folder, "socket")
         with open(config, "w") as it:
             json.dump({"tenants": [tenant("acme", 1, 1)], "workers": 32}, it)
         done = subprocess.run([PROGRAM, "--config", config, "--socket", at, "--connections", "1"],
-                              capture_output=True, text=True, timeout=60,
-                              preexec_fn=lambda: resource.setrlimit(resource.RLIMIT_AS, (memory, memory)))
+                              capture_output=True, text=True, timeout=60, preexec_fn=limited(FEW_STACKS))
         assert (done.stdout, done.stderr, done.returncode) == ("", "arena-server: device\n", 3)
         assert not os.path.exists(at)
+
+
+def session_that_cannot_be_started_costs_no_history():
+    def is_served(client):
+        try:
+            client.sendall(b'{"op":"hello","tenant":"acme"}\n{"op":"arena"}\n')
+            with client.makefile() as replies:
+                return replies.readline() and replies.readline()
+        except OSError:
+            return False
+
+    server = Server([tenant("acme", 1, 1)], 1, 12, FEW_STACKS)
+    clients = [server.connect()]
+    while is_served(clients[-1]) and len(clients) < 12:
+        clients.append(server.connect())
+    for client in clients:
+        client.close()
+    entries = len(clients) - 1
+    assert 0 < entries < 11
+    assert server.end() == ([f"acme: closed, {entries} entries"], "arena-server: device\n", 3)
 
 
 CHECKS = [job_is_executed_and_polled, workers_share_a_job, each_job_has_its_end, tenants_do_not_see_each_other,
@@ -493,7 +521,8 @@ CHECKS = [job_is_executed_and_polled, workers_share_a_job, each_job_has_its_end,
           client_that_sends_without_end, clients_that_say_nothing, many_clients_at_once,
           jobs_are_retired_round_after_round, dump_is_the_history, waiting_ends_at_a_full_history,
           executes_end_at_a_full_history, folder_of_dumps_is_missing, wrong_words_and_files_are_faults,
-          socket_may_be_gone_at_the_end, worker_that_cannot_be_started_is_a_fault]
+          socket_may_be_gone_at_the_end, worker_that_cannot_be_started_is_a_fault,
+          session_that_cannot_be_started_costs_no_history]
 
 
 def main():
