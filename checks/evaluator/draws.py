@@ -52,6 +52,33 @@ class Draws:
         fuel = self.random.choice([1, 100, 1500, 4000, 4000])
         return {"args": self.random.choices(VALUES["number"], k=2), "fuel": fuel, "procs": [*procs, self.proc(leaf, [0])]}
 
+    def nest(self):
+        """A job of regions within regions, each with tasks, some of which are cancelled while others of them are live."""
+        def tasks(proc):
+            spawns = [["spawn", 0, proc, 0, 1] for _ in range(self.random.randint(2, 4))]
+            posts = [["post", 4, 0, 1]] * self.random.randint(0, 2)
+            cancels = [["cancel", 0]] if self.random.random() < 0.5 else []
+            return [*spawns, *posts, ["set", 2, 1], *cancels, ["wait", 4, 5, 0], ["ret", self.random.choice([4, 5])]]
+
+        def region(proc):
+            return [["isolate", 6, proc, 0, 1], ["ret", 6]]
+
+        leaf = [["store", 0, 1], ["count", 3, 0], ["ask", 4], ["lt", 5, 4, 3], ["ret", self.random.choice([3, 4])]]
+        return self.made_of([region(1), tasks(2), region(3), tasks(4), leaf])
+
+    def tower(self):
+        """A job of regions, or of tasks, that stand on one slot until there is no room."""
+        way = self.random.choice([[["isolate", 4, 0, 0, 1]], [["spawn", 0, 0, 0, 1], ["wait", 4, 5, 0]]])
+        return self.made_of([[*way, ["ret", 4]]])
+
+    def made_of(self, procs):
+        return {"args": self.random.choices(VALUES["number"], k=2), "fuel": 4000, "procs": procs}
+
+    def making(self):
+        """A request that makes a job."""
+        draw = self.random.choices([self.job, self.nest, self.tower], [10, 8, 2])[0]
+        return {"op": self.random.choice(["submit", "execute"]), "job": draw()}
+
     def request(self, made):
         """A request to a tenant that has made that number of jobs."""
         op = self.random.choice(["poll", "collect", "cancel", "cells", "arena", "retire", "hello"])
@@ -65,7 +92,7 @@ class Draws:
             chance = self.random.random()
             if chance < 0.04:
                 made += 1
-                yield {"step": "ask", "request": {"op": self.random.choice(["submit", "execute"]), "job": self.job()}}
+                yield {"step": "ask", "request": self.making()}
             elif chance < 0.1:
                 yield {"step": "ask", "request": self.request(made)}
             else:
@@ -84,7 +111,7 @@ class Draws:
         if chance < 0.1:
             return self.random.choice(["", " \t", *REFUSED])
         if chance < 0.5:
-            return json.dumps({"op": self.random.choice(["submit", "execute"]), "job": self.job()})
+            return json.dumps(self.making())
         return json.dumps(self.request(made))
 
     def stray_step(self, names):

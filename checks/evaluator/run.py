@@ -21,7 +21,7 @@ from world import World
 PROGRAM = os.path.abspath("crates/script_program/out/script_program")
 NUMBERED = {"fault": "fault", "code": "error", "market": "market"}
 FINDS = ["ran", "freed", "nested", "arrived", "idle", "left", "none", "full", "pending", "bad_step", "complete",
-         "canceled", *(f"fault {code}" for code in (1, 2, 4, 5)),
+         "canceled", *(f"fault {code}" for code in (1, 2, 3, 4, 5)),
          *(f"error {code}" for code in (1, 2, 3, 4, 6, 8, 10, 12)),
          *(f"market {word}" for word in ("queued", "held", "none", "not_now"))]
 
