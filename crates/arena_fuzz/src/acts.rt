@@ -70,7 +70,7 @@ fn draw_one(draws: &mut Pcg32, jobs: &[Job]) -> Result<Job, Stop> {
 }
 
 /// Draws a request that brings no job.
-pub(crate) fn draw_question(draws: &mut Pcg32, made: u64) -> Request {
+fn draw_question(draws: &mut Pcg32, made: u64) -> Request {
     let job = draws.random_range(0..=made.saturating_add(1));
     match draws.random_range(0u8..16) {
         0..=4 => Request::Poll(job),

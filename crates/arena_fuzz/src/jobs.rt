@@ -8,34 +8,33 @@ use serde_json::Value;
 use std::alloc::{AllocError, Global};
 use worked_jobs::{JobText, VALID};
 
-/// The text of a job of up to five procedures, one that is deep, or one whose steps were worked out by hand.
-pub(crate) fn draw_text(alloc: Global, draws: &mut Pcg32) -> Result<String, Stop> {
-    let mut text = String::new(alloc);
-    match draws.random_range(0u8..8) {
-        0 => draw_worked(draws).write(&mut text)?,
-        _ => write_job(&mut text, draws)?,
+/// A job of up to five procedures, one that is deep, or one whose steps were worked out by hand.
+fn draw_job(alloc: Global, draws: &mut Pcg32) -> Result<Job, Stop> {
+    if draws.random_range(0u8..8) == 0 {
+        return worked_job(alloc, draw_worked(draws));
     }
-    Ok(text)
-}
-
-/// A job of such a text.
-pub(crate) fn draw_job(alloc: Global, draws: &mut Pcg32) -> Result<Job, Stop> {
-    let text = draw_text(alloc, draws)?;
+    let mut text = String::new(alloc);
+    write_job(&mut text, draws)?;
     job_of(alloc, text.as_str())
 }
 
-/// Jobs of all texts that were worked out by hand.
+/// The job of a text that was worked out by hand.
+fn worked_job(alloc: Global, job: JobText) -> Result<Job, Stop> {
+    let mut text = String::new(alloc);
+    job.write(&mut text)?;
+    job_of(alloc, text.as_str())
+}
+
+/// Jobs of all such texts.
 pub(crate) fn worked_jobs(alloc: Global) -> Result<Vec<Job>, Stop> {
     let mut jobs = Vec::new(alloc);
     for job in VALID {
-        let mut text = String::new(alloc);
-        job.write(&mut text)?;
-        jobs.push(job_of(alloc, text.as_str())?)?;
+        jobs.push(worked_job(alloc, job)?)?;
     }
     Ok(jobs)
 }
 
-/// So many jobs that are drawn.
+/// That many jobs that are drawn.
 pub(crate) fn draw_jobs(alloc: Global, draws: &mut Pcg32, count: u8) -> Result<Vec<Job>, Stop> {
     let mut jobs = Vec::new(alloc);
     for _ in 0..count {
@@ -45,7 +44,7 @@ pub(crate) fn draw_jobs(alloc: Global, draws: &mut Pcg32, count: u8) -> Result<V
 }
 
 /// The job of a text.
-pub(crate) fn job_of(alloc: Global, text: &str) -> Result<Job, Stop> {
+fn job_of(alloc: Global, text: &str) -> Result<Job, Stop> {
     let Ok(value) = Value::from_str(alloc, text) else {
         return Err(Stop::Invalid);
     };
@@ -67,7 +66,7 @@ fn write_job(text: &mut String, draws: &mut Pcg32) -> Result<(), AllocError> {
         text,
         "{{\"args\":[{first},{second}],\"fuel\":{fuel},\"procs\":["
     )?;
-    let last = draws.random_range(0u8..5);
+    let last = draws.random_range(0i64..5);
     for number in 0..=last {
         if number > 0 {
             text.push(',')?;

@@ -54,18 +54,15 @@ fn kind_of_status(status: &Status) -> &'static str {
     }
 }
 
-/// The errors that a line or an arena may give, by their numbers.
+/// The errors that an arena may give, by their numbers.
 fn kind_of_error(error: &Error) -> &'static str {
     match error {
-        Error::LineTooLong => "error 1",
-        Error::BadJson => "error 2",
         Error::BadRequest => "error 3",
-        Error::BadProgram => "error 4",
         Error::UnknownJob => "error 6",
         Error::JobLimit => "error 7",
         Error::HistoryFull => "error 8",
         Error::TaskLimit => "error 10",
         Error::Busy => "error 12",
-        _ => "error of neither",
+        _ => "error of no arena",
     }
 }

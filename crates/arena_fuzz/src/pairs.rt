@@ -74,14 +74,26 @@ impl Pair {
                 self.kept = self.segment(slot);
                 Ok(None)
             }
-            Act::Commit(slot) => match self.kept.take() {
-                Some(segment) => Ok(Some(self.commit(slot, &segment)?)),
-                None => Ok(None),
-            },
-            Act::SeeAndCommit(slot) => match self.segment(slot) {
-                Some(segment) => Ok(Some(self.commit(slot, &segment)?)),
-                None => Ok(None),
-            },
+            Act::Commit(slot) => {
+                let kept = self.kept.take();
+                self.commit_some(slot, kept)
+            }
+            Act::SeeAndCommit(slot) => {
+                let seen = self.segment(slot);
+                self.commit_some(slot, seen)
+            }
+        }
+    }
+
+    /// Commits a private run if there is one.
+    fn commit_some(
+        &mut self,
+        slot: u8,
+        segment: Option<Segment>,
+    ) -> Result<Option<Both>, AllocError> {
+        match segment {
+            Some(segment) => Ok(Some(self.commit(slot, &segment)?)),
+            None => Ok(None),
         }
     }
 

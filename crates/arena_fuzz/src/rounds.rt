@@ -5,7 +5,7 @@ use crate::pairs::Pair;
 use crate::stops::Stop;
 use crate::tallies::Tally;
 use crate::tenants::draw_tenant;
-use job_language::{Answer, Job, Level, Reply, Request, Step};
+use job_language::{Answer, Job, Reply, Request, Step};
 use rand::RngExt;
 use rand_pcg::Pcg32;
 use std::alloc::Global;
@@ -99,7 +99,7 @@ impl Round {
         self.take(Act::Step(Step::Ask(Request::Retire)), tally)
     }
 
-    /// Moves slots until nothing is left to do, or for so long.
+    /// Moves slots until nothing is left to do, at most `MOVES` times.
     fn work_off(&mut self, tally: &mut Tally) -> Result<(), Stop> {
         for _ in 0..MOVES {
             if self.pair.is_at_rest() {
@@ -146,7 +146,7 @@ impl Round {
 /// Takes the round of a seed.
 pub(crate) fn run_round(alloc: Global, seed: u64, tally: &mut Tally) -> Result<(), Stop> {
     let mut draws = Pcg32::new(seed, 54);
-    let Some(config) = draw_tenant(&mut draws, "acme", Level::Normal) else {
+    let Some(config) = draw_tenant(&mut draws) else {
         return Err(Stop::Invalid);
     };
     let jobs = draw_jobs(alloc, &mut draws, 4)?;

@@ -22,18 +22,8 @@ impl Tally {
 
     /// Counts a step by its answer.
     pub(crate) fn add(&mut self, answer: &Answer) -> Result<(), AllocError> {
-        self.add_step(kind_of(answer))
-    }
-
-    /// Counts a step of that kind.
-    pub(crate) fn add_step(&mut self, kind: &'static str) -> Result<(), AllocError> {
         self.steps = self.steps.wrapping_add(1);
-        self.count(kind)
-    }
-
-    /// Counts what is no step of its own.
-    pub(crate) fn count(&mut self, kind: &'static str) -> Result<(), AllocError> {
-        let count = self.counts.entry(kind)?.or_insert(0);
+        let count = self.counts.entry(kind_of(answer))?.or_insert(0);
         *count = count.wrapping_add(1);
         Ok(())
     }

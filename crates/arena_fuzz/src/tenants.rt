@@ -3,13 +3,13 @@ use job_language::{Isolation, Level, MAX_SLOTS, MAX_STEPS, Tenant, TenantConfig,
 use rand::RngExt;
 use rand_pcg::Pcg32;
 
-/// A tenant of that name and priority with few slots in most cases, in either mode of isolation, and often
-/// with limits so low that its jobs meet them. There is one if the name is valid.
-pub(crate) fn draw_tenant(draws: &mut Pcg32, name: &str, priority: Level) -> Option<TenantConfig> {
+/// A tenant with few slots in most cases, in either mode of isolation, and often with limits so low that
+/// its jobs meet them.
+pub(crate) fn draw_tenant(draws: &mut Pcg32) -> Option<TenantConfig> {
     let slots = draw_slots(draws);
     let tenant = Tenant {
-        name: TenantName::new(name)?,
-        priority,
+        name: TenantName::new("acme")?,
+        priority: Level::Normal,
         isolation: draw_isolation(draws),
         slots,
         reserved: draws.random_range(0..=slots),
