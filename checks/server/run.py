@@ -416,6 +416,23 @@ def dump_is_the_history():
     assert server.end() == (["acme: closed, 4 entries"], "", 0)
 
 
+def dump_has_the_job_that_was_sent():
+    """A job of all instructions and the tenant's own settings, each at an end of its range, are dumped as they were given."""
+    sent = job([["set", 1, -(2**63)], ["add", 2, 0, 1], ["sub", 3, 0, 1], ["mul", 4, 0, 1], ["div", 5, 0, 1], ["lt", 6, 0, 1],
+                ["jz", 6, 7], ["jmp", 8], ["slot", 7], ["width", 0], ["spawn", 3, 1, 0, 1], ["post", 1, 0, 1],
+                ["wait", 2, 3, 3], ["cancel", 0], ["ask", 1], ["isolate", 2, 1, 0, 1], ["load", 3, 7], ["store", 0, 4],
+                ["sum", 5, 1], ["count", 6, 2], ["ret", 7]], [["ret", 0]], args=(2**63 - 1, -(2**63)), fuel=1000000)
+    config = {"isolation": "within", "name": "a-9", "priority": "high", "reserved": 0, "rows": 4096, "slots": 16, "steps": 1}
+    server = Server([config], 1, 1)
+    request = {"op": "submit", "job": sent}
+    assert server.ask({"op": "hello", "tenant": "a-9"}, request) == [{"tenant": "a-9"}, {"job": 1}]
+    assert server.process.wait(60) == 0
+    with open(os.path.join(server.dumps, "a-9.jsonl")) as dump:
+        lines = [{"tenant": config}, {"reply": {"job": 1}, "request": request, "step": "ask"}]
+        assert dump.read().splitlines() == [json.dumps(line, separators=(",", ":"), sort_keys=True) for line in lines]
+    assert server.end() == (["a-9: closed, 1 entries"], "", 0)
+
+
 def waiting_ends_at_a_full_history():
     server = Server([{**tenant("acme", 1, 0), "steps": 5}], 1, 1)
     assert server.ask(HELLO, {"op": "submit", "job": FIB}, {"op": "collect", "job": 1}) == [
@@ -519,7 +536,7 @@ CHECKS = [job_is_executed_and_polled, workers_share_a_job, each_job_has_its_end,
           job_stands_though_its_reply_is_lost, hostile_lines_have_their_errors,
           requests_have_exactly_their_members, client_that_never_reads,
           client_that_sends_without_end, clients_that_say_nothing, many_clients_at_once,
-          jobs_are_retired_round_after_round, dump_is_the_history, waiting_ends_at_a_full_history,
+          jobs_are_retired_round_after_round, dump_is_the_history, dump_has_the_job_that_was_sent, waiting_ends_at_a_full_history,
           executes_end_at_a_full_history, folder_of_dumps_is_missing, wrong_words_and_files_are_faults,
           socket_may_be_gone_at_the_end, worker_that_cannot_be_started_is_a_fault,
           session_that_cannot_be_started_costs_no_history]

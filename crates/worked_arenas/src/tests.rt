@@ -6,3 +6,14 @@ mod histories;
 mod tenants;
 mod waits;
 mod worlds;
+
+use std::test::Fail;
+
+/// Fails with what was written, unless that is what was wanted.
+fn expect_text(written: &[u8], wanted: &str) -> Result<(), Fail> {
+    match str::from_utf8(written) {
+        Ok(text) if text == wanted => Ok(()),
+        Ok(text) => Err(Fail::new(text)),
+        Err(_) => Err("no text")?,
+    }
+}

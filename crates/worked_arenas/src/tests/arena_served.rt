@@ -2,12 +2,14 @@
 mod faults;
 mod sessions;
 
+use super::expect_text;
 use super::tenants::tenant;
 use arena_core::Arena;
 use arena_sessions::{ArenaDoors, serve_arenas};
 use job_language::TenantConfig;
 use session_core::SessionEnd;
 use std::alloc::Global;
+use std::io::Read;
 use std::test::Fail;
 
 const HELLO: &str = "{\"op\":\"hello\",\"tenant\":\"acme\"}\n";
@@ -30,21 +32,38 @@ fn add_arena(alloc: Global, name: &str, steps: usize, doors: &mut ArenaDoors) ->
     Ok(())
 }
 
-/// Adds the arenas of `beta` and `acme`.
 fn add_both(alloc: Global, steps: usize, doors: &mut ArenaDoors) -> Result<(), Fail> {
     add_arena(alloc, "beta", steps, doors)?;
     add_arena(alloc, "acme", steps, doors)
 }
 
-/// What is written for some lines, and how the session ends.
+/// The arenas of `beta` and `acme`, each with room for `steps` entries.
+fn both(alloc: Global, steps: usize) -> Result<ArenaDoors, Fail> {
+    let mut doors = ArenaDoors::new(Vec::new(alloc));
+    add_both(alloc, steps, &mut doors)?;
+    Ok(doors)
+}
+
+/// How a session ends that has this reader, and has to write what is wanted.
+fn served_from<R: Read>(
+    alloc: Global,
+    reader: &mut R,
+    wanted: &str,
+    doors: &mut ArenaDoors,
+) -> Result<SessionEnd, Fail> {
+    let mut written = Vec::new(alloc);
+    let end = serve_arenas(alloc, reader, &mut written, doors)?;
+    expect_text(written.as_slice(), wanted)?;
+    Ok(end)
+}
+
+/// The same of a session that is sent these lines.
 fn served(
     alloc: Global,
     lines: &[&str],
+    wanted: &str,
     doors: &mut ArenaDoors,
-) -> Result<(String, SessionEnd), Fail> {
+) -> Result<SessionEnd, Fail> {
     let text = lines.concat(alloc)?;
-    let mut reader = text.as_bytes();
-    let mut written = Vec::new(alloc);
-    let end = serve_arenas(alloc, &mut reader, &mut written, doors)?;
-    Ok((String::from_utf8(written).map_err(|_| "no text")?, end))
+    served_from(alloc, &mut text.as_bytes(), wanted, doors)
 }

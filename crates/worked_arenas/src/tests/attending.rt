@@ -1,11 +1,12 @@
 // A job that is executed, and attended until its slot is free.
-use super::tenants::{FIB, tenant};
+ghost use Rattle.std.specs.Prelude.{◌≤◌};
+
+use super::tenants::{FIB, job_of, tenant};
 use arena_core::Arena;
 use arena_door::attend_slot;
-use job_language::{Came, Error, Moved, Reply, Request, Status, read_job};
+use job_language::{Came, Error, Moved, Reply, Request, Status};
 use job_step::{View, segment_of};
 use nested_wait::Attended;
-use serde_json::Value;
 use std::alloc::Global;
 use std::test::Fail;
 
@@ -13,15 +14,21 @@ use std::test::Fail;
 const ISOLATED: &str =
     r#"{"args":[0,0],"fuel":1000,"procs":[[["set",2,5],["store",0,2],["isolate",3,1,0,1],["load",5,0],["ret",5]],[["spawn",0,2,0,1],["wait",2,3,0],["ret",2]],[["ret",0]]]}"#;
 
+/// Executes a job, which is placed on the first slot.
+fn execute(alloc: Global, text: &str, arena: &mut Arena) -> Result<(), Fail> {
+    let job = job_of(alloc, text)?;
+    if arena.ask(Request::Execute(job)) == Reply::Placed(1, 0) {
+        Ok(())
+    } else {
+        Err("the job is placed")?
+    }
+}
+
 /// An arena with one reserved slot, on which the job is placed, and room for that many entries.
 fn executed(alloc: Global, text: &str, slots: u8, steps: usize) -> Result<Arena, Fail> {
     let config = tenant("acme", slots, 1, steps).ok_or("each number is in its range")?;
-    let value = Value::from_str(alloc, text)?;
-    let job = read_job(alloc, &value)?;
     let mut arena = Arena::new(alloc, config)?;
-    if arena.ask(Request::Execute(job)) != Reply::Placed(1, 0) {
-        return Err("the job is placed")?;
-    }
+    execute(alloc, text, &mut arena)?;
     Ok(arena)
 }
 
@@ -39,56 +46,68 @@ fn attended_within(alloc: Global, steps: usize) -> Result<(Attended, usize, Repl
 
 #[test]
 fn fibonacci_is_below_after_85_advances(rt: HostRuntime) -> Result<(), Fail> {
-    let (end, height, reply) = attended_within(rt.alloc(), 87)?;
-    assert_eq!(rt; (end, height), (Attended::Below, 0));
-    assert_eq!(rt; reply, Reply::Job(1, Status::Complete(8)));
-    let (end, height, reply) = attended_within(rt.alloc(), 86)?;
-    assert_eq!(rt; (end, height), (Attended::Below, 0));
-    assert_eq!(rt; reply, Reply::Refused(Error::HistoryFull));
-    let (end, height, reply) = attended_within(rt.alloc(), 85)?;
-    assert_eq!(rt; (end, height), (Attended::Full, 1));
-    assert_eq!(rt; reply, Reply::Refused(Error::HistoryFull));
+    let ends = [
+        attended_within(rt.alloc(), 87)?,
+        attended_within(rt.alloc(), 86)?,
+        attended_within(rt.alloc(), 85)?,
+    ];
+    let complete = Reply::Job(1, Status::Complete(8));
+    let full = Reply::Refused(Error::HistoryFull);
+    assert_eq!(rt;
+        ends,
+        [
+            (Attended::Below, 0, complete),
+            (Attended::Below, 0, full),
+            (Attended::Full, 1, full),
+        ]
+    );
     Ok(())
 }
 
-/// How a waiter is attended whose task is on the second slot, before and after that slot is: each end, with
-/// the height of the waiter's slot.
-fn attended_beside(arena: &mut Arena) -> Option<[(Attended, usize); 4]> {
+/// Starts the task that a waiter on the first slot waits for, on the second.
+fn start_beside(arena: &mut Arena) -> bool {
     for _ in 0..3 {
         if arena.advance(0) != Moved::Ran {
-            return None;
+            return false;
         }
     }
-    if arena.arrive(1) != Came::At(3) {
-        return None;
-    }
-    let stopped = (attend_slot(arena, 0, 1), arena.height(0));
-    let beside = (attend_slot(arena, 1, 1), arena.height(1));
-    let above = (attend_slot(arena, 0, 2), arena.height(0));
-    Some([
-        stopped,
-        beside,
-        above,
-        (attend_slot(arena, 0, 1), arena.height(0)),
-    ])
+    arena.arrive(1) == Came::At(3)
+}
+
+/// How attending a slot ends, and how high the slot is then.
+fn attended_slot(arena: &mut Arena, slot: u8, floor: usize) -> (Attended, usize)
+    requires { 1 ≤ floor }
+{
+    (attend_slot(arena, slot, floor), arena.height(slot))
+}
+
+/// How the waiter is attended before and after its task is, with the task between, and then to its end.
+fn attended_beside(arena: &mut Arena) -> ([(Attended, usize); 3], (Attended, usize, Reply)) {
+    let ends = [
+        attended_slot(arena, 0, 1),
+        attended_slot(arena, 1, 1),
+        attended_slot(arena, 0, 2),
+    ];
+    (ends, attended(arena))
 }
 
 #[test]
 fn a_waiter_whose_task_is_elsewhere_is_stopped(rt: HostRuntime) -> Result<(), Fail> {
     let mut arena = executed(rt.alloc(), ISOLATED, 2, 100)?;
-    let ends = attended_beside(&mut arena);
+    let is_started = start_beside(&mut arena);
     assert_eq!(rt;
-        ends,
-        Some([
-            (Attended::Stopped, 2),
-            (Attended::Below, 0),
-            (Attended::Below, 1),
-            (Attended::Below, 0),
-        ])
-    );
-    assert_eq!(rt;
-        arena.ask(Request::Collect(1)),
-        Reply::Job(1, Status::Complete(5))
+        (is_started, attended_beside(&mut arena)),
+        (
+            true,
+            (
+                [
+                    (Attended::Stopped, 2),
+                    (Attended::Below, 0),
+                    (Attended::Below, 1),
+                ],
+                (Attended::Below, 0, Reply::Job(1, Status::Complete(5)))
+            )
+        )
     );
     Ok(())
 }

@@ -1,5 +1,8 @@
-// Tenants of a few slots, and a job.
-use job_language::{Isolation, Level, Tenant, TenantConfig, TenantName};
+// Tenants of a few slots, and jobs.
+use job_language::{Isolation, Job, Level, Tenant, TenantConfig, TenantName, read_job};
+use serde_json::Value;
+use std::alloc::Global;
+use std::test::Fail;
 
 /// The sixth Fibonacci number, a task for each smaller one.
 pub(super) const FIB: &str =
@@ -16,4 +19,10 @@ pub(super) fn tenant(name: &str, slots: u8, reserved: u8, steps: usize) -> Optio
         rows: 200,
         steps,
     })
+}
+
+/// The job that a text spells.
+pub(super) fn job_of(alloc: Global, text: &str) -> Result<Job, Fail> {
+    let value = Value::from_str(alloc, text)?;
+    Ok(read_job(alloc, &value)?)
 }

@@ -1,7 +1,8 @@
 // A door in memory whose answers are given by a table.
 ghost use Rattle.std.specs.Prelude.{◌≤◌};
 
-use job_language::{Instr, Moved, Proc, Program, Register};
+use super::tenants::job_of;
+use job_language::{Moved, Program};
 use job_step::{Frame, Segment, Stop, Top, View};
 use nested_wait::{Attended, Door, MAX_HEIGHT, attend};
 use std::alloc::Global;
@@ -70,7 +71,7 @@ impl Door for Table<'_> {
 
     fn commit(&mut self, segment: Segment) -> Moved {
         let run = segment.run();
-        let is_whole = run.stop != Stop::Yield && run.count == 1;
+        let is_whole = !matches!(run.stop, Stop::Yield) && run.count == 1;
         if is_whole && run.end.registers[0] == i64::from(segment.top().slot) {
             self.commits = self.commits.wrapping_add(1);
         }
@@ -94,19 +95,51 @@ impl Door for Table<'_> {
     }
 }
 
-/// A door over a table. Each of its frames sets register 0 to the slot and then returns.
+/// A job that sets register 0 to its slot and then returns.
+const SETS_SLOT: &str = r#"{"args":[0,0],"fuel":1,"procs":[[["slot",0],["ret",0]]]}"#;
+
+/// A door over a table. Each of its frames runs that job's program.
 fn door_over(alloc: Global, rows: &[Row]) -> Result<Table<'_>, Fail> {
-    let a = Register::new(0).ok_or("a register")?;
-    let instrs = vec![in alloc; Instr::Slot(a), Instr::Ret(a)]?;
-    let procs = vec![in alloc; Proc::new(instrs)]?;
+    let job = job_of(alloc, SETS_SLOT)?;
     Ok(Table {
-        program: Program::new(alloc, procs)?,
+        program: job.program,
         rows,
         place: 0,
         commits: 0,
         advances: 0,
         pauses: 0,
     })
+}
+
+/// How attending ends, how many rows the slot went through by then, and how many commits, advances and
+/// pauses there were.
+fn attended(door: &mut Table<'_>, floor: usize) -> (Attended, usize, [u32; 3])
+    requires { 1 ≤ floor }
+{
+    let end = attend(door, floor);
+    (end, door.place, [door.commits, door.advances, door.pauses])
+}
+
+/// The same of a door over these rows.
+fn attended_over(
+    alloc: Global,
+    rows: &[Row],
+    floor: usize,
+) -> Result<(Attended, usize, [u32; 3]), Fail>
+    requires { 1 ≤ floor }
+{
+    let mut door = door_over(alloc, rows)?;
+    Ok(attended(&mut door, floor))
+}
+
+/// The same of a door that is attended to the floors 2, 1 and 1, one after the other.
+fn attended_thrice(alloc: Global, rows: &[Row]) -> Result<[(Attended, usize, [u32; 3]); 3], Fail> {
+    let mut door = door_over(alloc, rows)?;
+    Ok([
+        attended(&mut door, 2),
+        attended(&mut door, 1),
+        attended(&mut door, 1),
+    ])
 }
 
 #[test]
@@ -120,13 +153,9 @@ fn nested_rows_are_left_before_the_slot_is(rt: HostRuntime) -> Result<(), Fail> 
         (2, Seen::Top, Moved::Ran, false),
         (1, Seen::Top, Moved::Freed, false),
     ];
-    let mut door = door_over(rt.alloc(), &rows)?;
-    assert_eq!(rt; attend(&mut door, 2), Attended::Below);
-    assert_eq!(rt; door.commits, 6);
-    assert_eq!(rt; attend(&mut door, 1), Attended::Below);
-    assert_eq!(rt; door.commits, 7);
-    assert_eq!(rt; attend(&mut door, 1), Attended::Below);
-    assert_eq!(rt; (door.place, door.advances, door.pauses), (7, 0, 0));
+    let ends = attended_thrice(rt.alloc(), &rows)?;
+    let empty = (Attended::Below, 7, [7, 0, 0]);
+    assert_eq!(rt; ends, [(Attended::Below, 6, [6, 0, 0]), empty, empty]);
     Ok(())
 }
 
@@ -139,9 +168,8 @@ fn a_stale_segment_is_made_again(rt: HostRuntime) -> Result<(), Fail> {
         (1, Seen::Bare, Moved::Ran, false),
         (1, Seen::Top, Moved::Freed, false),
     ];
-    let mut door = door_over(rt.alloc(), &rows)?;
-    assert_eq!(rt; attend(&mut door, 1), Attended::Below);
-    assert_eq!(rt; (door.commits, door.advances), (3, 2));
+    let end = attended_over(rt.alloc(), &rows, 1)?;
+    assert_eq!(rt; end, (Attended::Below, 5, [3, 2, 0]));
     Ok(())
 }
 
@@ -153,9 +181,8 @@ fn a_full_history_ends_every_level(rt: HostRuntime) -> Result<(), Fail> {
         (3, Seen::Top, Moved::Full, false),
         (3, Seen::Top, Moved::Ran, false),
     ];
-    let mut door = door_over(rt.alloc(), &rows)?;
-    assert_eq!(rt; attend(&mut door, 1), Attended::Full);
-    assert_eq!(rt; (door.place, door.pauses), (3, 0));
+    let end = attended_over(rt.alloc(), &rows, 1)?;
+    assert_eq!(rt; end, (Attended::Full, 3, [3, 0, 0]));
     Ok(())
 }
 
@@ -168,8 +195,7 @@ fn only_a_pause_that_says_so_stops(rt: HostRuntime) -> Result<(), Fail> {
         (2, Seen::Top, Moved::Idle, true),
         (2, Seen::Top, Moved::Ran, true),
     ];
-    let mut door = door_over(rt.alloc(), &rows)?;
-    assert_eq!(rt; attend(&mut door, 1), Attended::Stopped);
-    assert_eq!(rt; (door.place, door.commits, door.pauses), (4, 4, 3));
+    let end = attended_over(rt.alloc(), &rows, 1)?;
+    assert_eq!(rt; end, (Attended::Stopped, 4, [4, 0, 3]));
     Ok(())
 }

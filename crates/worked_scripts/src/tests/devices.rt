@@ -1,6 +1,6 @@
 // Readers and writers that fail.
 use arena_script::{ScriptEnd, script};
-use std::alloc::{AllocError, Global};
+use std::alloc::Global;
 use std::io;
 use std::io::{ErrorKind, Read, Write};
 use std::test::Fail;
@@ -18,20 +18,14 @@ const STEPS: &str =
 {"request":{"job":1,"op":"poll"},"step":"ask"}
 "#;
 
+/// How long the first of them is, without its newline.
+const SUBMIT: usize = 93;
+
 const ANSWERS: &str = r#"{"job":1}
 {"moved":"arrived","row":1}
 {"moved":"ran"}
 {"job":1,"status":"complete","value":7}
 "#;
-
-/// The texts, one after another.
-fn joined(alloc: Global, texts: &[&str]) -> Result<String, AllocError> {
-    let mut whole = String::new(alloc);
-    for text in texts {
-        whole.push_str(text)?;
-    }
-    Ok(whole)
-}
 
 /// A reader that gives one byte at a call, and then fails.
 #[derive(Drop)]
@@ -97,64 +91,90 @@ impl Write for Narrow {
     }
 }
 
+/// How a script by that reader ends, whether it prints `want`, and how often the reader was called.
+fn ended(alloc: Global, mut reader: Bytewise<'_>, want: &str) -> (ScriptEnd, bool, u64) {
+    let mut printed = Vec::new(alloc);
+    let end = script(alloc, &[], &mut reader, &mut printed);
+    (end, printed.as_slice() == want.as_bytes(), reader.calls)
+}
+
+/// The same if the reader fails after that number of bytes of a text, with the number of calls that gave one.
+fn ended_after(
+    alloc: Global,
+    text: &str,
+    given: usize,
+    want: &str,
+) -> Option<(ScriptEnd, bool, u64)> {
+    let bytes = text.as_bytes().get(..given)?;
+    let reader = Bytewise::new(bytes, ErrorKind::TimedOut);
+    let (end, is_wanted, calls) = ended(alloc, reader, want);
+    Some((end, is_wanted, calls.checked_sub(1)?))
+}
+
+/// How many bytes of the tenant and the steps are given, and what is printed for them.
+const GIVEN: [(usize, &str); 7] = [
+    (0, ""),
+    (TENANT.len() - 1, ""),
+    (TENANT.len(), ""),
+    (TENANT.len() + SUBMIT, ""),
+    (TENANT.len() + SUBMIT + 1, "{\"job\":1}\n"),
+    (TENANT.len() + SUBMIT + 2, "{\"job\":1}\n"),
+    (TENANT.len() + STEPS.len(), ANSWERS),
+];
+
 #[test]
 fn a_reader_that_fails_ends_the_script(rt: HostRuntime) -> Result<(), Fail> {
-    let (submit, _) = STEPS.split_once('\n').ok_or("a step")?;
-    let table = [
-        ("", "", "", ""),
-        (TENANT.trim_end(), "", "", ""),
-        (TENANT, "", "", ""),
-        (TENANT, submit, "", ""),
-        (TENANT, submit, "\n", "{\"job\":1}\n"),
-        (TENANT, submit, "\n{", "{\"job\":1}\n"),
-        (TENANT, STEPS, "", ANSWERS),
-    ];
-    for (tenant, steps, more, want) in table {
-        let text = joined(rt.alloc(), &[tenant, steps, more])?;
-        let mut reader = Bytewise::new(text.as_bytes(), ErrorKind::TimedOut);
-        let mut printed = Vec::new(rt.alloc());
-        let end = script(rt.alloc(), &[], &mut reader, &mut printed);
-        assert_eq!(rt; end, ScriptEnd::Device, "{text}");
-        assert_eq!(rt; printed.as_slice(), want.as_bytes(), "{text}");
-        assert_eq!(rt;
-            reader.calls.checked_sub(1),
-            Some(text.len() as u64),
-            "{text}"
-        );
+    let text = [TENANT, STEPS].concat(rt.alloc())?;
+    for (given, want) in GIVEN {
+        let ended = ended_after(rt.alloc(), text.as_str(), given, want);
+        assert_eq!(rt; ended, Some((ScriptEnd::Device, true, given as u64)));
     }
     Ok(())
 }
 
 #[test]
 fn a_reader_that_is_always_interrupted_is_left(rt: HostRuntime) -> Result<(), Fail> {
-    let text = joined(rt.alloc(), &[TENANT, STEPS])?;
-    for (bytes, want) in [("", ""), (text.as_str(), ANSWERS)] {
-        let mut reader = Bytewise::new(bytes.as_bytes(), ErrorKind::Interrupted);
-        let mut printed = Vec::new(rt.alloc());
-        let end = script(rt.alloc(), &[], &mut reader, &mut printed);
-        assert_eq!(rt; end, ScriptEnd::Device);
-        assert_eq!(rt; printed.as_slice(), want.as_bytes());
-        assert_eq!(rt; reader.calls, 1_048_576);
-    }
+    let text = [TENANT, STEPS].concat(rt.alloc())?;
+    let after_none = Bytewise::new(&[], ErrorKind::Interrupted);
+    let after_all = Bytewise::new(text.as_bytes(), ErrorKind::Interrupted);
+    let ends = [
+        ended(rt.alloc(), after_none, ""),
+        ended(rt.alloc(), after_all, ANSWERS),
+    ];
+    let left = (ScriptEnd::Device, true, 1_048_576);
+    assert_eq!(rt; ends, [left, left]);
     Ok(())
+}
+
+/// How many bytes of the answers were taken; `None` if others were.
+fn count_of(taken: &[u8]) -> Option<usize> {
+    if ANSWERS.as_bytes().starts_with(taken) {
+        Some(taken.len())
+    } else {
+        None
+    }
+}
+
+/// How a script ends by a writer that has room for `room` bytes, and how many of the answers it takes.
+fn ended_within(alloc: Global, text: &str, room: usize) -> (ScriptEnd, Option<usize>) {
+    let mut reader = text.as_bytes();
+    let mut writer = Narrow::new(alloc, room);
+    let end = script(alloc, &[], &mut reader, &mut writer);
+    (end, count_of(writer.taken.as_slice()))
 }
 
 #[test]
 fn a_writer_that_fails_ends_the_script(rt: HostRuntime) -> Result<(), Fail> {
-    let text = joined(rt.alloc(), &[TENANT, STEPS])?;
-    for room in 0..ANSWERS.len() {
-        let mut reader = text.as_bytes();
-        let mut writer = Narrow::new(rt.alloc(), room);
-        let end = script(rt.alloc(), &[], &mut reader, &mut writer);
-        assert_eq!(rt; end, ScriptEnd::Device, "{room} bytes");
-        let want = ANSWERS.as_bytes().get(..room).ok_or("answers")?;
-        assert_eq!(rt; writer.taken.as_slice(), want, "{room} bytes");
+    let text = [TENANT, STEPS].concat(rt.alloc())?;
+    for room in 0..=ANSWERS.len() {
+        let end = if room < ANSWERS.len() {
+            ScriptEnd::Device
+        } else {
+            ScriptEnd::Done
+        };
+        let ended = ended_within(rt.alloc(), text.as_str(), room);
+        assert_eq!(rt; ended, (end, Some(room)));
     }
-    let mut reader = text.as_bytes();
-    let mut writer = Narrow::new(rt.alloc(), ANSWERS.len());
-    let end = script(rt.alloc(), &[], &mut reader, &mut writer);
-    assert_eq!(rt; end, ScriptEnd::Done);
-    assert_eq!(rt; writer.taken.as_slice(), ANSWERS.as_bytes());
     Ok(())
 }
 
@@ -167,18 +187,19 @@ fn a_writer_without_room_ends_a_check(rt: HostRuntime) {
     assert_eq!(rt; end, ScriptEnd::Device);
 }
 
+/// Each end, with its status and what it reports.
+const ENDS: [(ScriptEnd, u8, Option<&str>); 6] = [
+    (ScriptEnd::Done, 0, None),
+    (ScriptEnd::BadLine, 2, None),
+    (ScriptEnd::Words, 2, Some("arena-script: words")),
+    (ScriptEnd::Config, 2, Some("arena-script: config")),
+    (ScriptEnd::Device, 3, Some("arena-script: device")),
+    (ScriptEnd::Memory, 3, Some("arena-script: memory")),
+];
+
 #[test]
 fn each_end_has_its_status(rt: HostRuntime) {
-    let table = [
-        (ScriptEnd::Done, 0, None),
-        (ScriptEnd::BadLine, 2, None),
-        (ScriptEnd::Words, 2, Some("arena-script: words")),
-        (ScriptEnd::Config, 2, Some("arena-script: config")),
-        (ScriptEnd::Device, 3, Some("arena-script: device")),
-        (ScriptEnd::Memory, 3, Some("arena-script: memory")),
-    ];
-    for (end, status, fault) in table {
-        assert_eq!(rt; end.status(), status, "{end:?}");
-        assert!(rt; end.fault() == fault, "{end:?}");
+    for (end, status, fault) in ENDS {
+        assert_eq!(rt; (end, end.status(), end.fault()), (end, status, fault));
     }
 }

@@ -18,9 +18,12 @@ const SCHEDULES: u64 = 20;
 /// The steps that a schedule takes at most.
 const STEPS: u64 = 20_000;
 
-/// A loop of a few turns, at the start of a procedure.
+/// The start of a procedure with a loop of a few turns.
 const LOOP: &str =
-    r#"["set",7,3],["set",6,1],["add",2,2,0],["mul",3,2,1],["sub",7,7,6],["jz",7,7],["jmp",2],"#;
+    r#"[["set",7,3],["set",6,1],["add",2,2,0],["mul",3,2,1],["sub",7,7,6],["jz",7,7],["jmp",2],"#;
+
+/// A wait for each group.
+const WAITS: &str = r#"["wait",2,4,0],["wait",3,5,1],["wait",4,6,2],["wait",5,7,3],"#;
 
 /// Writes one instruction on the first eight registers that always has a value, or a division.
 fn write_arithmetic(text: &mut String, draws: &mut Pcg32) -> Result<(), AllocError> {
@@ -29,14 +32,15 @@ fn write_arithmetic(text: &mut String, draws: &mut Pcg32) -> Result<(), AllocErr
         draws.random_range(0u8..8),
         draws.random_range(0u8..8),
     );
-    match draws.random_range(0u8..16) {
-        0..=4 => write!(text, "[\"set\",{to},{}],", draws.random_range(-9i64..=9)),
-        5..=8 => write!(text, "[\"add\",{to},{left},{right}],"),
-        9..=11 => write!(text, "[\"sub\",{to},{left},{right}],"),
-        12..=13 => write!(text, "[\"mul\",{to},{left},{right}],"),
-        14 => write!(text, "[\"lt\",{to},{left},{right}],"),
-        _ => write!(text, "[\"div\",{to},{left},{right}],"),
-    }
+    let operation = match draws.random_range(0u8..16) {
+        0..=4 => return write!(text, "[\"set\",{to},{}],", draws.random_range(-9i64..=9)),
+        5..=8 => "add",
+        9..=11 => "sub",
+        12..=13 => "mul",
+        14 => "lt",
+        _ => "div",
+    };
+    write!(text, "[\"{operation}\",{to},{left},{right}],")
 }
 
 /// Writes what makes a row of a later procedure: in a group, in half of the cases waited for at once,
@@ -54,20 +58,13 @@ fn write_maker(text: &mut String, draws: &mut Pcg32, procedure: u8) -> Result<()
     }
 }
 
-/// Writes a procedure that makes rows of later procedures only, so that every job ends.
-fn write_procedure(
+/// Writes what makes some rows of later procedures.
+fn write_makers(
     text: &mut String,
     draws: &mut Pcg32,
     number: u8,
     last: u8,
 ) -> Result<(), AllocError> {
-    text.push('[')?;
-    if draws.random_range(0u8..2) == 0 {
-        text.push_str(LOOP)?;
-    }
-    for _ in 0..draws.random_range(1u8..4) {
-        write_arithmetic(text, draws)?;
-    }
     if number < last {
         for _ in 0..draws.random_range(1u8..4) {
             let procedure = draws.random_range(0..last - number) + number + 1;
@@ -75,17 +72,30 @@ fn write_procedure(
             write_arithmetic(text, draws)?;
         }
     }
-    for group in 0u8..4 {
-        write!(text, "[\"wait\",{},{},{group}],", group + 2, group + 4)?;
+    Ok(())
+}
+
+/// Writes a procedure that makes rows of later procedures only, so that every job ends.
+fn write_procedure(
+    text: &mut String,
+    draws: &mut Pcg32,
+    number: u8,
+    last: u8,
+) -> Result<(), AllocError> {
+    let has_loop = draws.random_range(0u8..2) == 0;
+    text.push_str(if has_loop { LOOP } else { "[" })?;
+    for _ in 0..draws.random_range(1u8..4) {
+        write_arithmetic(text, draws)?;
     }
+    write_makers(text, draws, number, last)?;
+    text.push_str(WAITS)?;
     write_arithmetic(text, draws)?;
     write!(text, "[\"ret\",{}]]", draws.random_range(2u8..8))
 }
 
-/// Makes a job of up to five procedures.
-fn random_job(alloc: Global, draws: &mut Pcg32) -> Result<Job, Fail> {
+/// Writes a job of up to five procedures.
+fn write_job(text: &mut String, draws: &mut Pcg32) -> Result<(), AllocError> {
     let (first, second) = (draws.random_range(-9i64..=9), draws.random_range(-9i64..=9));
-    let mut text = String::new(alloc);
     write!(
         text,
         "{{\"args\":[{first},{second}],\"fuel\":5000,\"procs\":["
@@ -95,16 +105,23 @@ fn random_job(alloc: Global, draws: &mut Pcg32) -> Result<Job, Fail> {
         if number > 0 {
             text.push(',')?;
         }
-        write_procedure(&mut text, draws, number, last)?;
+        write_procedure(text, draws, number, last)?;
     }
-    text.push_str("]}")?;
-    let Ok(value) = Value::from_str(alloc, text.as_str()) else {
-        return Err(format!(in alloc; "no JSON: {text}")?.into());
+    text.push_str("]}")
+}
+
+/// The job that a text spells; an error has the text.
+fn job_of(alloc: Global, text: &str) -> Result<Job, Fail> {
+    let Ok(value) = Value::from_str(alloc, text) else {
+        return Err(Fail::new(format_args!("no JSON: {text}")));
     };
-    match read_job(alloc, &value) {
-        Ok(job) => Ok(job),
-        Err(_) => Err(format!(in alloc; "no job: {text}")?.into()),
-    }
+    read_job(alloc, &value).map_err(|_| Fail::new(format_args!("no job: {text}")))
+}
+
+fn random_job(alloc: Global, draws: &mut Pcg32) -> Result<Job, Fail> {
+    let mut text = String::new(alloc);
+    write_job(&mut text, draws)?;
+    job_of(alloc, text.as_str())
 }
 
 /// Makes a tenant of one to four slots, some of them reserved, in either mode of isolation.
@@ -130,20 +147,29 @@ fn random_tenant(draws: &mut Pcg32) -> Option<TenantConfig> {
     })
 }
 
-/// Runs a job by random steps until it has an outcome.
-fn outcome_of(
-    alloc: Global,
-    config: TenantConfig,
+/// Asks for the job's execution, or where it may be a worker's, in half of the cases for its submission.
+fn ask_for(
+    solo: &mut Solo,
     job: Job,
+    config: &TenantConfig,
     draws: &mut Pcg32,
-) -> Result<Status, AllocError> {
-    let (slots, reserved) = (config.tenant().slots, config.tenant().reserved);
-    let mut solo = Solo::new(alloc, config);
-    if reserved == slots || draws.random_range(0u8..2) == 0 {
+) -> Result<(), AllocError> {
+    let tenant = config.tenant();
+    if tenant.reserved == tenant.slots || draws.random_range(0u8..2) == 0 {
         solo.ask(Request::Execute(job))?;
     } else {
         solo.ask(Request::Submit(job))?;
     }
+    Ok(())
+}
+
+/// Takes random steps until the job has an outcome.
+fn outcome_of(
+    solo: &mut Solo,
+    config: &TenantConfig,
+    draws: &mut Pcg32,
+) -> Result<Status, AllocError> {
+    let slots = config.tenant().slots;
     for _ in 0..STEPS {
         let slot = draws.random_range(0..slots);
         match draws.random_range(0u8..4) {
@@ -163,34 +189,57 @@ fn outcome_of(
     Ok(Status::Running)
 }
 
+/// The outcome of a job under a random schedule, on a random tenant.
+fn scheduled(alloc: Global, job: Job, draws: &mut Pcg32) -> Result<Status, Fail> {
+    let config = random_tenant(draws).ok_or("no tenant")?;
+    let mut solo = Solo::new(alloc, config);
+    ask_for(&mut solo, job, &config, draws)?;
+    Ok(outcome_of(&mut solo, &config, draws)?)
+}
+
+/// The first schedule of a job under which it goes on, or completes with another value than that, and its
+/// status then. Those under which it completes are counted.
+fn first_wrong(
+    alloc: Global,
+    job: &Job,
+    value: Option<i64>,
+    draws: &mut Pcg32,
+    completed: &mut u64,
+) -> Result<Option<(u64, Status)>, Fail> {
+    for schedule in 0..SCHEDULES {
+        let status = scheduled(alloc, job.try_clone()?, draws)?;
+        match status {
+            Status::Complete(got) if value == Some(got) => *completed = completed.wrapping_add(1),
+            Status::Complete(_) | Status::Running => return Ok(Some((schedule, status))),
+            Status::Cancelled | Status::Fault(_) => {}
+        }
+    }
+    Ok(None)
+}
+
+/// Whether a random job is serial, and its first schedule that goes wrong by its serial value.
+fn try_job(
+    alloc: Global,
+    draws: &mut Pcg32,
+    completed: &mut u64,
+) -> Result<(bool, Option<(u64, Status)>), Fail> {
+    let job = random_job(alloc, draws)?;
+    if !job.program.is_serial() {
+        return Ok((false, None));
+    }
+    let value = serial(alloc, &job.program, job.args, job.fuel.instructions())?;
+    Ok((true, first_wrong(alloc, &job, value, draws, completed)?))
+}
+
 #[test]
 fn a_completed_job_has_its_serial_value(rt: HostRuntime) -> Result<(), Fail> {
-    let alloc = rt.alloc();
     let mut draws = Pcg32::new(42, 54);
     let mut completed = 0u64;
     for number in 0..JOBS {
-        let job = random_job(alloc, &mut draws)?;
-        assert!(rt; job.program.is_serial(), "job {number} is not serial");
-        let value = serial(alloc, &job.program, job.args, job.fuel.instructions())?;
-        for schedule in 0..SCHEDULES {
-            let Some(config) = random_tenant(&mut draws) else {
-                return Err("no tenant".into());
-            };
-            let status = outcome_of(alloc, config, job.try_clone()?, &mut draws)?;
-            assert!(rt;
-                status != Status::Running,
-                "job {number} goes on under schedule {schedule}"
-            );
-            if let Status::Complete(got) = status {
-                completed = completed.wrapping_add(1);
-                assert!(rt;
-                    value == Some(got),
-                    "job {number} completed with {got} under schedule {schedule}"
-                );
-            }
-        }
+        let tried = try_job(rt.alloc(), &mut draws, &mut completed)?;
+        assert_eq!(rt; (number, tried), (number, (true, None)));
     }
     // So many that the comparison means something.
-    assert!(rt; completed >= JOBS * SCHEDULES / 2, "{completed} completed");
+    assert!(rt; completed >= JOBS * SCHEDULES / 2);
     Ok(())
 }

@@ -1,8 +1,13 @@
 // Lines of bytes, however they come.
+use super::assert_same;
 use super::readers::{Few, told};
-use request_reader::{LineRead, LineReader, MAX_TURNS, is_blank};
-use std::io::ErrorKind;
+use request_reader::{LineRead, LineReader, is_blank};
+use std::alloc::{AllocError, Global};
+use std::io::{ErrorKind, Read};
 use std::test::Fail;
+
+/// The last text of the table. A reader that gives a byte at a call is called 29 times for it.
+const LAST: (&str, &str) = ("abcdefghijkl\nx\nabcdefghi\n\ny\n", "#(x)#()(y)$");
 
 /// Texts, and what their lines of at most four bytes are.
 const TABLE: [(&str, &str); 13] = [
@@ -18,76 +23,95 @@ const TABLE: [(&str, &str); 13] = [
     ("abcde", "#$"),
     ("abc\r\nab\r\n", "(abc\r)(ab\r)$"),
     ("abcd\r\nx", "#(x)$"),
-    ("abcdefghijkl\nx\nabcdefghi\n\ny\n", "#(x)#()(y)$"),
+    LAST,
 ];
+
+/// Whether reading to the end gives what is wanted.
+fn is_told<R: Read>(alloc: Global, reader: &mut R, want: &str) -> Result<bool, AllocError> {
+    let told = told(alloc, 4, reader)?;
+    Ok(told.as_slice() == want.as_bytes())
+}
+
+/// The first text of the table whose lines are others, by a slice or by a reader that gives `at_a_call`
+/// bytes at a call.
+fn first_wrong(alloc: Global, at_a_call: usize) -> Result<Option<&'static str>, AllocError> {
+    for (text, want) in TABLE {
+        let mut slice = text.as_bytes();
+        let mut few = Few::new(slice, at_a_call);
+        if !is_told(alloc, &mut slice, want)? || !is_told(alloc, &mut few, want)? {
+            return Ok(Some(text));
+        }
+    }
+    Ok(None)
+}
 
 #[test]
 fn lines_are_told_however_they_come(rt: HostRuntime) -> Result<(), Fail> {
-    for (text, want) in TABLE {
-        for at_a_call in [1, 2, 3, 100] {
-            let mut reader = Few::new(text.as_bytes(), at_a_call);
-            let told = told(rt.alloc(), 4, &mut reader)?;
-            assert_eq!(rt;
-                told.as_slice(),
-                want.as_bytes(),
-                "{text:?}, {at_a_call} at a call"
-            );
-        }
-        let mut reader = text.as_bytes();
-        let told = told(rt.alloc(), 4, &mut reader)?;
-        assert_eq!(rt; told.as_slice(), want.as_bytes(), "{text:?}");
+    for at_a_call in [1, 2, 3, 100] {
+        assert_same(&rt, &first_wrong(rt.alloc(), at_a_call)?, &None);
     }
     Ok(())
+}
+
+/// How many faults there are, and whether all else is as wanted.
+fn faults_in(told: &[u8], want: &str) -> (usize, bool) {
+    let faults = told.iter().filter(|b| **b == b'!').count();
+    let others = told.iter().copied().filter(|b| *b != b'!');
+    (faults, others.eq(want.bytes()))
+}
+
+/// The same of the last text, where that call of the reader fails.
+fn faults_at(alloc: Global, call: u64) -> Result<(usize, bool), AllocError> {
+    let (text, want) = LAST;
+    let mut reader = Few::new(text.as_bytes(), 1).failing(ErrorKind::TimedOut, call, call);
+    let told = told(alloc, 4, &mut reader)?;
+    Ok(faults_in(told.as_slice(), want))
 }
 
 #[test]
 fn a_fault_is_told_once_and_loses_nothing(rt: HostRuntime) -> Result<(), Fail> {
-    let (text, want) = TABLE[12];
-    assert_eq!(rt; text.len(), 28);
-    for failing in 1..=29 {
-        let mut reader = Few::new(text.as_bytes(), 1);
-        reader.first_failing = failing;
-        reader.last_failing = failing;
-        let told = told(rt.alloc(), 4, &mut reader)?;
-        let faults = told.iter().filter(|b| **b == b'!').count();
-        assert_eq!(rt; faults, 1, "at call {failing}");
-        let others = told.iter().copied().filter(|b| *b != b'!');
-        assert!(rt; others.eq(want.bytes()), "at call {failing}");
+    for call in 1..=29 {
+        assert_same(&rt, &faults_at(rt.alloc(), call)?, &(1, true));
     }
     Ok(())
+}
+
+/// Whether reading the last text gives what is wanted if three calls of the reader are interrupted, from that
+/// one on; and how often it is called.
+fn interrupted_at(alloc: Global, call: u64) -> Result<(bool, u64), AllocError> {
+    let (text, want) = LAST;
+    let kind = ErrorKind::Interrupted;
+    let mut reader = Few::new(text.as_bytes(), 1).failing(kind, call, call.saturating_add(2));
+    let is_told = is_told(alloc, &mut reader, want)?;
+    Ok((is_told, reader.calls))
 }
 
 #[test]
 fn an_interrupted_read_is_tried_again(rt: HostRuntime) -> Result<(), Fail> {
-    let (text, want) = TABLE[12];
-    assert_eq!(rt; text.len(), 28);
-    for failing in 1..=29 {
-        let mut reader = Few::new(text.as_bytes(), 1);
-        reader.failure = ErrorKind::Interrupted;
-        reader.first_failing = failing;
-        reader.last_failing = failing + 2;
-        let told = told(rt.alloc(), 4, &mut reader)?;
-        assert_eq!(rt; told.as_slice(), want.as_bytes(), "at call {failing}");
-        assert_eq!(rt; reader.calls, 32, "at call {failing}");
+    for call in 1..=29 {
+        assert_same(&rt, &interrupted_at(rt.alloc(), call)?, &(true, 32));
     }
     Ok(())
 }
 
+/// What a read tells, how long its line is, and how often the reader was called by then.
+fn read(lines: &mut LineReader, reader: &mut Few<'_>) -> (LineRead, usize, u64) {
+    let told = lines.read_line(reader);
+    (told, lines.line().len(), reader.calls)
+}
+
 #[test]
 fn a_reader_that_is_always_interrupted_is_left(rt: HostRuntime) -> Result<(), Fail> {
-    let mut reader = Few::new(b"ab\ncd\n".as_slice(), 1);
-    reader.failure = ErrorKind::Interrupted;
-    reader.first_failing = 5;
-    reader.last_failing = u64::MAX;
+    let kind = ErrorKind::Interrupted;
+    let mut reader = Few::new(b"ab\ncd\n".as_slice(), 1).failing(kind, 5, u64::MAX);
     let mut lines = LineReader::new(rt.alloc(), 4)?;
-    assert_eq!(rt; lines.read_line(&mut reader), LineRead::Line);
-    assert_eq!(rt; lines.line(), b"ab".as_slice());
-    assert_eq!(rt; lines.read_line(&mut reader), LineRead::TurnLimit);
-    assert!(rt; lines.line().is_empty());
-    assert_eq!(rt; reader.calls, 1_048_576);
-    assert_eq!(rt; MAX_TURNS, 1_048_576);
-    assert_eq!(rt; lines.read_line(&mut reader), LineRead::TurnLimit);
-    assert_eq!(rt; reader.calls, 1_048_576);
+    let told = [
+        read(&mut lines, &mut reader),
+        read(&mut lines, &mut reader),
+        read(&mut lines, &mut reader),
+    ];
+    let left = (LineRead::TurnLimit, 0, 1_048_576);
+    assert_same(&rt, &told, &[(LineRead::Line, 2, 3), left, left]);
     Ok(())
 }
 
@@ -95,26 +119,32 @@ fn a_reader_that_is_always_interrupted_is_left(rt: HostRuntime) -> Result<(), Fa
 fn the_reader_is_not_called_after_its_end(rt: HostRuntime) -> Result<(), Fail> {
     let mut reader = Few::new(b"ab".as_slice(), 100);
     let mut lines = LineReader::new(rt.alloc(), 4)?;
-    assert_eq!(rt; lines.read_line(&mut reader), LineRead::Line);
-    assert_eq!(rt; lines.read_line(&mut reader), LineRead::End);
+    let first = read(&mut lines, &mut reader);
+    let second = read(&mut lines, &mut reader);
     reader.bytes = b"cd\n".as_slice();
-    let calls = reader.calls;
-    assert_eq!(rt; lines.read_line(&mut reader), LineRead::End);
-    assert_eq!(rt; reader.calls, calls);
+    let later = read(&mut lines, &mut reader);
+    let end = (LineRead::End, 0, 2);
+    assert_same(
+        &rt,
+        &[first, second, later],
+        &[(LineRead::Line, 2, 2), end, end],
+    );
     Ok(())
 }
 
+/// Lines, and whether they are blank.
+const BLANKS: [(&str, bool); 6] = [
+    ("", true),
+    (" ", true),
+    (" \t\r", true),
+    ("\x0b", false),
+    ("  .", false),
+    ("\u{a0}", false),
+];
+
 #[test]
 fn spaces_alone_are_blank(rt: HostRuntime) {
-    let table = [
-        ("", true),
-        (" ", true),
-        (" \t\r", true),
-        ("\x0b", false),
-        ("  .", false),
-        ("\u{a0}", false),
-    ];
-    for (line, want) in table {
-        assert_eq!(rt; is_blank(line.as_bytes()), want, "{line:?}");
+    for (line, want) in BLANKS {
+        assert_same(&rt, &(line, is_blank(line.as_bytes())), &(line, want));
     }
 }

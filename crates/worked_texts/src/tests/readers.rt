@@ -27,6 +27,16 @@ impl Few<'_> {
             calls: 0,
         }
     }
+
+    /// The same reader, where the calls from the first to the last of these fail.
+    pub(super) fn failing(self, failure: ErrorKind, first: u64, last: u64) -> Self {
+        Few {
+            failure,
+            first_failing: first,
+            last_failing: last,
+            ..self
+        }
+    }
 }
 
 impl Read for Few<'_> {
@@ -43,8 +53,27 @@ impl Read for Few<'_> {
     }
 }
 
-/// What reading to the end tells: each line in parentheses, `#` for one that is too long, `!` for a
-/// fault of the reader, and `$` for the end.
+/// Adds what a read tells: its line in parentheses, `#` for one that is too long, `!` for a fault of the
+/// reader, and `$` for the end. Returns whether no other read is made.
+fn tell(told: &mut Vec<u8>, read: LineRead, line: &[u8]) -> Result<bool, AllocError> {
+    match read {
+        LineRead::Line => {
+            told.push(b'(')?;
+            told.extend_from_slice(line)?;
+            told.push(b')')?;
+        }
+        LineRead::TooLong => told.push(b'#')?,
+        LineRead::ReadFault => told.push(b'!')?,
+        LineRead::TurnLimit => return Ok(true),
+        LineRead::End => {
+            told.push(b'$')?;
+            return Ok(true);
+        }
+    }
+    Ok(false)
+}
+
+/// What reading to the end tells, by lines of at most `limit` bytes.
 pub(super) fn told<R: Read>(
     alloc: Global,
     limit: u16,
@@ -53,19 +82,9 @@ pub(super) fn told<R: Read>(
     let mut lines = LineReader::new(alloc, usize::from(limit))?;
     let mut told = Vec::new(alloc);
     for _line in 0..1000u32 {
-        match lines.read_line(reader) {
-            LineRead::Line => {
-                told.push(b'(')?;
-                told.extend_from_slice(lines.line())?;
-                told.push(b')')?;
-            }
-            LineRead::TooLong => told.push(b'#')?,
-            LineRead::ReadFault => told.push(b'!')?,
-            LineRead::TurnLimit => return Ok(told),
-            LineRead::End => {
-                told.push(b'$')?;
-                return Ok(told);
-            }
+        let read = lines.read_line(reader);
+        if tell(&mut told, read, lines.line())? {
+            break;
         }
     }
     Ok(told)

@@ -3,6 +3,11 @@ use job_language::{Reply, Status, TenantName};
 use reply_writer::reply_line;
 use std::test::Fail;
 
+/// Whether a reply has that line.
+fn has_line(reply: &Reply, line: &str) -> bool {
+    *reply != Reply::Pending && reply_line(reply).line() == line.as_bytes()
+}
+
 #[test]
 fn the_longest_replies_have_their_lines(rt: HostRuntime) -> Result<(), Fail> {
     let longest = TenantName::new("abcdefghijklmnopqrstuvwxyz-01239").ok_or("a name")?;
@@ -21,10 +26,7 @@ fn the_longest_replies_have_their_lines(rt: HostRuntime) -> Result<(), Fail> {
         ),
     ];
     for (reply, line) in table {
-        if reply == Reply::Pending {
-            continue;
-        }
-        assert_eq!(rt; reply_line(&reply).line(), line.as_bytes(), "{line}");
+        assert!(rt; has_line(&reply, line));
     }
     Ok(())
 }

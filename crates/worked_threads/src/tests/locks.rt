@@ -1,18 +1,19 @@
 // A tenant behind its door, from a submitted job to the history.
 
+use super::assert_same;
 use history_check::{Verdict, check};
 use job_language::{
     Came, Fuel, Instr, Isolation, Job, Level, Moved, Proc, Program, Register, Reply, Request,
     Status, Tenant, TenantConfig, TenantName,
 };
 use job_step::{Segment, View, segment_of};
-use std::alloc::Global;
+use std::alloc::{AllocError, Global};
 use std::sync::Wait;
 use std::test::Fail;
 use std::thread;
 use std::thread::Threads;
-use tenant_lock::{CloseFault, TenantDoor};
-use tenant_record::{Advanced, Asked, Pass, Seat};
+use tenant_lock::{CloseFault, Closed, TenantDoor};
+use tenant_record::{Advanced, Pass, Seat};
 use world_model::Call;
 
 /// The call of the only slot for workers.
@@ -35,26 +36,43 @@ fn two_slots() -> Result<TenantConfig, Fail> {
 
 /// A job that returns its first argument, 7.
 fn returning_seven(alloc: Global) -> Option<Job> {
-    let a = Register::new(0)?;
-    let Ok(instrs) = vec![in alloc; Instr::Ret(a)] else {
-        return None;
-    };
-    let Ok(procs) = vec![in alloc; Proc::new(instrs)] else {
-        return None;
-    };
+    let fuel = Fuel::new(10)?;
     Some(Job {
-        program: Program::new(alloc, procs).ok()?,
+        program: returning(alloc, Register::new(0)?).ok()?,
         args: [7, 0],
-        fuel: Fuel::new(10)?,
+        fuel,
     })
 }
 
+/// A program that returns what a register has.
+fn returning(alloc: Global, register: Register) -> Result<Program, AllocError> {
+    let instrs = vec![in alloc; Instr::Ret(register)]?;
+    let procs = vec![in alloc; Proc::new(instrs)]?;
+    Program::new(alloc, procs)
+}
+
+/// What an ask is answered, and which slot it makes due.
+type Answer = (Reply, Option<u8>);
+
 /// Asks by a seat, if that is one of the door's.
-fn ask<R: Wait>(rt: &R, door: &TenantDoor, seat: &mut Seat, request: Request) -> Option<Asked> {
+fn ask<R: Wait>(rt: &R, door: &TenantDoor, seat: &mut Seat, request: Request) -> Option<Answer> {
     if seat.tenant() != door.tenant() {
         return None;
     }
-    Some(door.ask(rt, seat, request))
+    let asked = door.ask(rt, seat, request);
+    Some((asked.reply, asked.due))
+}
+
+/// Submits the job.
+fn submit<R: Wait>(rt: &R, alloc: Global, door: &TenantDoor, seat: &mut Seat) -> Option<Answer> {
+    let job = returning_seven(alloc)?;
+    ask(rt, door, seat, Request::Submit(job))
+}
+
+/// Polls a job.
+fn poll<R: Wait>(rt: &R, door: &TenantDoor, seat: &mut Seat, job: u64) -> Option<Reply> {
+    let (reply, _) = ask(rt, door, seat, Request::Poll(job))?;
+    Some(reply)
 }
 
 /// Advances the slot of a pass, if that is one of the door's.
@@ -66,27 +84,11 @@ fn advance<R: Wait>(rt: &R, door: &TenantDoor, pass: Option<Pass>) -> Option<Adv
     Some(door.advance(rt, pass))
 }
 
-/// Submits the job by the first seat.
-fn submit<R: Wait>(
-    rt: &R,
-    alloc: Global,
-    door: &TenantDoor,
-    seats: &mut [Seat],
-) -> Option<(Reply, Option<u8>)> {
-    let submit = Request::Submit(returning_seven(alloc)?);
-    let asked = ask(rt, door, seats.first_mut()?, submit)?;
-    Some((asked.reply, asked.due))
-}
+/// What two arrivals and two advances are answered, and whether the pass went home.
+type Worked = ([Came; 2], [Moved; 2], bool);
 
-/// Polls the first job by the first seat.
-fn poll<R: Wait>(rt: &R, door: &TenantDoor, seats: &mut [Seat]) -> Option<Reply> {
-    let asked = ask(rt, door, seats.first_mut()?, Request::Poll(1))?;
-    Some(asked.reply)
-}
-
-/// A worker arrives and advances twice, and another arrives between. Returns the answers, and whether the
-/// pass went home.
-fn work_and_leave<R: Wait>(rt: &R, door: &TenantDoor) -> Option<([Came; 2], [Moved; 2], bool)> {
+/// A worker arrives and advances twice, and another arrives between.
+fn work_and_leave<R: Wait>(rt: &R, door: &TenantDoor) -> Option<Worked> {
     let arrived = door.arrive(rt, CALL);
     let ran = advance(rt, door, arrived.pass)?;
     let other = door.arrive(rt, CALL);
@@ -98,20 +100,29 @@ fn work_and_leave<R: Wait>(rt: &R, door: &TenantDoor) -> Option<([Came; 2], [Mov
     ))
 }
 
+/// What is answered where the job is submitted, where a worker runs it, and where it is polled.
+type Answers = (Option<Answer>, Option<Worked>, Option<Reply>);
+
+/// Submits the job by the first seat, lets a worker run it, and polls it.
+fn run<R: Wait>(rt: &R, alloc: Global, door: &TenantDoor, seats: &mut [Seat]) -> Option<Answers> {
+    let seat = seats.first_mut()?;
+    let made = submit(rt, alloc, door, seat);
+    let worked = work_and_leave(rt, door);
+    Some((made, worked, poll(rt, door, seat, 1)))
+}
+
 #[test]
 fn a_job_runs_through_the_door(rt: HostRuntime) -> Result<(), Fail> {
     let (door, mut seats) = TenantDoor::new(rt.alloc(), 0, two_slots()?, 1)?;
-    let made = submit(&rt, rt.alloc(), &door, seats.as_mut_slice());
-    let worked = work_and_leave(&rt, &door);
-    let polled = poll(&rt, &door, seats.as_mut_slice());
-    let closed = door.close(seats)?;
-    assert_eq!(rt; made, Some((Reply::Made(1), Some(1))));
-    let (came, moved, is_home) = worked.ok_or("no pass came")?;
-    assert_eq!(rt; came, [Came::At(1), Came::Nothing]);
-    assert_eq!(rt; moved, [Moved::Ran, Moved::Left]);
-    assert!(rt; is_home);
-    assert_eq!(rt; polled, Some(Reply::Job(1, Status::Complete(7))));
-    assert_eq!(rt; closed.history.len(), 4);
+    let answers = run(&rt, rt.alloc(), &door, seats.as_mut_slice());
+    let seen = (answers, door.close(seats)?.history.len());
+    let made = Some((Reply::Made(1), Some(1)));
+    let came = [Came::At(1), Came::Nothing];
+    let moved = [Moved::Ran, Moved::Left];
+    let worked = Some((came, moved, true));
+    let polled = Some(Reply::Job(1, Status::Complete(7)));
+    let answers = Some((made, worked, polled));
+    assert_same(&rt, &seen, &(answers, 4));
     Ok(())
 }
 
@@ -159,28 +170,40 @@ fn give_home<R: Wait>(rt: &R, door: &TenantDoor, pass: Pass) {
     }
 }
 
+/// Submits the job by the first seat, and commits two segments of its first frame.
+fn submit_and_commit<R: Wait>(
+    rt: &R,
+    alloc: Global,
+    door: &TenantDoor,
+    seats: &mut [Seat],
+) -> Option<(Moved, Moved)> {
+    let _made = submit(rt, alloc, door, seats.first_mut()?);
+    commit_twice(rt, door)
+}
+
 #[test]
 fn a_private_run_is_committed_once(rt: HostRuntime) -> Result<(), Fail> {
     let (door, mut seats) = TenantDoor::new(rt.alloc(), 0, two_slots()?, 1)?;
-    let _made = submit(&rt, rt.alloc(), &door, seats.as_mut_slice());
-    let committed = commit_twice(&rt, &door);
-    let closed = door.close(seats)?;
-    let (first, second) = committed.ok_or("no frame")?;
-    assert_eq!(rt; (first, second), (Moved::Ran, Moved::Stale));
-    assert_eq!(rt; closed.history.len(), 3);
+    let committed = submit_and_commit(&rt, rt.alloc(), &door, seats.as_mut_slice());
+    let seen = (committed, door.close(seats)?.history.len());
+    let committed = Some((Moved::Ran, Moved::Stale));
+    assert_same(&rt, &seen, &(committed, 3));
     Ok(())
+}
+
+/// Whether a job that is submitted is running when it is polled.
+fn is_running<R: Wait>(rt: &R, alloc: Global, door: &TenantDoor, seat: &mut Seat) -> Option<bool> {
+    let (Reply::Made(job), _) = submit(rt, alloc, door, seat)? else {
+        return None;
+    };
+    let polled = poll(rt, door, seat, job)?;
+    Some(polled == Reply::Job(job, Status::Running))
 }
 
 /// Submits a job and polls it, 50 times. No worker is there, so each job is running.
 fn ask_often<R: Wait>(rt: &R, alloc: Global, door: &TenantDoor, mut seat: Seat) -> Option<Seat> {
     for _ in 0..50 {
-        let submit = Request::Submit(returning_seven(alloc)?);
-        let made = ask(rt, door, &mut seat, submit)?;
-        let Reply::Made(job) = made.reply else {
-            return None;
-        };
-        let polled = ask(rt, door, &mut seat, Request::Poll(job))?;
-        if polled.reply != Reply::Job(job, Status::Running) {
+        if is_running(rt, alloc, door, &mut seat) != Some(true) {
             return None;
         }
     }
@@ -201,19 +224,39 @@ fn in_two_threads<R: Threads + Wait + Sync>(
     )
 }
 
-#[test]
-fn two_threads_ask_and_the_history_replays(rt: HostRuntime) -> Result<(), Fail> {
-    let config = two_slots()?;
-    let (door, mut seats) = TenantDoor::new(rt.alloc(), 0, config, 2)?;
+/// Asks by each of two seats in a thread of its own. Both come back.
+fn ask_by_both<R: Threads + Wait + Sync>(
+    rt: &R,
+    alloc: Global,
+    door: &TenantDoor,
+    mut seats: Vec<Seat>,
+) -> Result<Vec<Seat>, Fail> {
     let two = seats.pop().ok_or("a seat")?;
     let one = seats.pop().ok_or("a seat")?;
-    let (one, two) = in_two_threads(&rt, rt.alloc(), &door, one, two);
+    put_back(seats, in_two_threads(rt, alloc, door, one, two))
+}
+
+/// Puts both seats back, in their order.
+fn put_back(mut seats: Vec<Seat>, both: (Option<Seat>, Option<Seat>)) -> Result<Vec<Seat>, Fail> {
+    let (one, two) = both;
     seats.push(one.ok_or("an ask failed")?)?;
     seats.push(two.ok_or("an ask failed")?)?;
-    let closed = door.close(seats)?;
-    assert_eq!(rt; closed.history.len(), 200);
-    let verdict = check(rt.alloc(), config, closed.history.as_slice())?;
-    assert_eq!(rt; verdict, Verdict::Yes);
+    Ok(seats)
+}
+
+/// The tenant that two threads asked, once its door is closed.
+fn closed_after_both<R: Threads + Wait + Sync>(rt: &R, alloc: Global) -> Result<Closed, Fail> {
+    let (door, seats) = TenantDoor::new(alloc, 0, two_slots()?, 2)?;
+    let seats = ask_by_both(rt, alloc, &door, seats)?;
+    Ok(door.close(seats)?)
+}
+
+#[test]
+fn two_threads_ask_and_the_history_replays(rt: HostRuntime) -> Result<(), Fail> {
+    let closed = closed_after_both(&rt, rt.alloc())?;
+    let verdict = check(rt.alloc(), two_slots()?, closed.history.as_slice())?;
+    let seen = (closed.history.len(), verdict);
+    assert_same(&rt, &seen, &(200, Verdict::Yes));
     Ok(())
 }
 
@@ -221,25 +264,27 @@ fn two_threads_ask_and_the_history_replays(rt: HostRuntime) -> Result<(), Fail> 
 fn a_door_without_its_seat_is_not_closed(rt: HostRuntime) -> Result<(), Fail> {
     let (door, mut seats) = TenantDoor::new(rt.alloc(), 0, two_slots()?, 1)?;
     let _seat = seats.pop().ok_or("a seat")?;
-    match door.close(seats) {
-        Ok(_closed) => Err(Fail::from("it was closed")),
-        Err(fault) => {
-            assert_eq!(rt; fault, CloseFault::SeatMissing);
-            Ok(())
-        }
-    }
+    let fault = door.close(seats).err();
+    assert_same(&rt, &fault, &Some(CloseFault::SeatMissing));
+    Ok(())
+}
+
+/// Submits the job by the first seat, and lets a worker arrive at it. The worker's pass.
+fn submit_and_arrive<R: Wait>(
+    rt: &R,
+    alloc: Global,
+    door: &TenantDoor,
+    seats: &mut [Seat],
+) -> Option<Pass> {
+    let _made = submit(rt, alloc, door, seats.first_mut()?);
+    door.arrive(rt, CALL).pass
 }
 
 #[test]
 fn a_pass_that_is_kept_is_missed(rt: HostRuntime) -> Result<(), Fail> {
     let (door, mut seats) = TenantDoor::new(rt.alloc(), 0, two_slots()?, 1)?;
-    let _made = submit(&rt, rt.alloc(), &door, seats.as_mut_slice());
-    let _arrived = door.arrive(&rt, CALL);
-    match door.close(seats) {
-        Ok(_closed) => Err(Fail::from("it was closed")),
-        Err(fault) => {
-            assert_eq!(rt; fault, CloseFault::PassLost(1));
-            Ok(())
-        }
-    }
+    let _pass = submit_and_arrive(&rt, rt.alloc(), &door, seats.as_mut_slice());
+    let fault = door.close(seats).err();
+    assert_same(&rt, &fault, &Some(CloseFault::PassLost(1)));
+    Ok(())
 }

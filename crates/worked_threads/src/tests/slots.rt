@@ -3,6 +3,7 @@ ghost use Rattle.std.specs.Prelude.{◌≡◌, ◌<◌, ℕ, IfOk, length, slice
 ghost use Rattle.call_queues.specs.Queues.{PassSeen, fresh};
 ghost use Rattle.tenant_slots.specs.Seen.{AreNumbered};
 
+use super::assert_same;
 use call_queues::{CallQueues, MarketConfig, MarketTenant, QueuePass};
 use job_language::{
     Isolation, Job, Level, Reply, Request, Status, Tenant, TenantConfig, TenantName, read_job,
@@ -180,9 +181,8 @@ fn shared_job<R: Threads + Wait + Sync>(rt: &R, alloc: Global) -> Result<Execute
 
 #[test]
 fn a_caller_and_a_worker_share_a_job(rt: HostRuntime) -> Result<(), Fail> {
-    let (reply, attended, outcome) = shared_job(&rt, rt.alloc())?;
-    assert_eq!(rt; reply, Reply::Placed(1, 0));
-    assert_eq!(rt; attended, Attended::Below);
-    assert_eq!(rt; outcome, Reply::Job(1, Status::Complete(8)));
+    let seen = shared_job(&rt, rt.alloc())?;
+    let outcome = Reply::Job(1, Status::Complete(8));
+    assert_same(&rt, &seen, &(Reply::Placed(1, 0), Attended::Below, outcome));
     Ok(())
 }

@@ -1,6 +1,5 @@
 // Sessions whose reader is interrupted at every call.
-use super::{BOUND, HELLO, add_both};
-use arena_sessions::{ArenaDoors, serve_arenas};
+use super::{BOUND, HELLO, both, served_from};
 use session_core::SessionEnd;
 use std::alloc::Global;
 use std::io;
@@ -26,29 +25,19 @@ impl Read for Bytewise<'_> {
     }
 }
 
-/// What is written where the reader gives these bytes, and how the session ends.
-fn served_until(alloc: Global, bytes: &[u8]) -> Result<(Vec<u8>, SessionEnd), Fail> {
-    let mut doors = ArenaDoors::new(Vec::new(alloc));
-    add_and_serve(alloc, Bytewise { bytes }, &mut doors)
-}
-
-fn add_and_serve(
-    alloc: Global,
-    mut reader: Bytewise<'_>,
-    doors: &mut ArenaDoors,
-) -> Result<(Vec<u8>, SessionEnd), Fail> {
-    add_both(alloc, 100, doors)?;
-    let mut written = Vec::new(alloc);
-    let end = serve_arenas(alloc, &mut reader, &mut written, doors)?;
-    Ok((written, end))
+/// How a session ends whose reader gives this text, and that has to write what is wanted.
+fn interrupted_after(alloc: Global, text: &str, wanted: &str) -> Result<SessionEnd, Fail> {
+    let mut doors = both(alloc, 100)?;
+    let bytes = text.as_bytes();
+    served_from(alloc, &mut Bytewise { bytes }, wanted, &mut doors)
 }
 
 #[test]
 fn a_reader_that_is_always_interrupted_is_left(rt: HostRuntime) -> Result<(), Fail> {
-    for (text, wanted) in [("", ""), (HELLO, BOUND)] {
-        let (written, end) = served_until(rt.alloc(), text.as_bytes())?;
-        assert_eq!(rt; end, SessionEnd::TurnLimit);
-        assert_eq!(rt; written.as_slice(), wanted.as_bytes());
-    }
+    let ends = [
+        interrupted_after(rt.alloc(), "", "")?,
+        interrupted_after(rt.alloc(), HELLO, BOUND)?,
+    ];
+    assert_eq!(rt; ends, [SessionEnd::TurnLimit, SessionEnd::TurnLimit]);
     Ok(())
 }

@@ -20,7 +20,7 @@ pub(super) struct Desk<'t> {
     pub turn: usize,
     /// How many pauses say to go on.
     pub pauses: u32,
-    pub bound: u32,
+    pub bound: usize,
 }
 
 impl Desk<'_> {
@@ -103,23 +103,19 @@ impl Doors for Desk<'_> {
 
     fn ask(&mut self, request: Request) -> Answered {
         let none = Reply::Refused(Error::UnknownJob);
-        if let Request::Collect(_) = request {
-            let reply = self.outcomes.get(self.collected).copied().unwrap_or(none);
+        let (reply, placed) = if let Request::Collect(_) = request {
+            let outcome = self.outcomes.get(self.collected).copied();
             self.collected = self.collected.wrapping_add(1);
-            return Answered {
-                reply,
-                placed: false,
-            };
-        }
-        let answer = self.replies.get(self.asked).copied();
-        self.asked = self.asked.wrapping_add(1);
-        match answer {
-            Some((Reply::Pending, _)) | None => Answered {
-                reply: none,
-                placed: false,
-            },
-            Some((reply, placed)) => Answered { reply, placed },
-        }
+            (outcome.unwrap_or(none), false)
+        } else {
+            let answer = self.replies.get(self.asked).copied();
+            self.asked = self.asked.wrapping_add(1);
+            match answer {
+                Some((Reply::Pending, _)) | None => (none, false),
+                Some(answer) => answer,
+            }
+        };
+        Answered { reply, placed }
     }
 
     fn pause_for(&mut self, _job: u64) -> bool {

@@ -2,6 +2,7 @@
 use super::desks::Desk;
 use super::devices::{Few, Full};
 use session_core::{SessionEnd, serve};
+use std::alloc::Global;
 use std::test::Fail;
 
 const LINES: &str = "{\"op\":\n\n{\"op\":\"arena\"}\n";
@@ -11,37 +12,66 @@ const WANTED: &str = "{\"code\":2,\"error\":\"bad_json\"}\n{\"code\":11,\"error\
 /// How long the first reply is, with its newline.
 const FIRST: usize = 30;
 
+/// How many bytes of the replies were written; `None` if others were.
+fn count_of(written: &[u8]) -> Option<usize> {
+    if WANTED.as_bytes().starts_with(written) {
+        Some(written.len())
+    } else {
+        None
+    }
+}
+
+/// How a session ends whose writer takes `room` bytes, and how many bytes of the replies it took.
+fn served_within(alloc: Global, room: usize) -> Result<(SessionEnd, Option<usize>), Fail> {
+    let mut reader = LINES.as_bytes();
+    let mut writer = Full {
+        taken: Vec::new(alloc),
+        room,
+    };
+    let mut desk = Desk::new(&[], &[], &[], 0);
+    let end = serve(alloc, &mut reader, &mut writer, &mut desk)?;
+    Ok((end, count_of(writer.taken.as_slice())))
+}
+
 #[test]
 fn a_writer_that_fails_ends_the_session(rt: HostRuntime) -> Result<(), Fail> {
     for room in 0..WANTED.len() {
-        let mut reader = LINES.as_bytes();
-        let mut writer = Full {
-            taken: Vec::new(rt.alloc()),
-            room,
-        };
-        let mut desk = Desk::new(&[], &[], &[], 0);
-        let end = serve(rt.alloc(), &mut reader, &mut writer, &mut desk)?;
         let sent = if room < FIRST { room } else { room - FIRST };
-        assert_eq!(rt; end, SessionEnd::WriteFault { sent }, "after {room}");
-        let went = WANTED.as_bytes().get(..room).ok_or("fewer bytes")?;
-        assert_eq!(rt; writer.taken.as_slice(), went, "after {room}");
+        let end = SessionEnd::WriteFault { sent };
+        assert_eq!(rt; served_within(rt.alloc(), room)?, (end, Some(room)));
     }
     Ok(())
+}
+
+/// How a session ends whose reader gives these bytes and then fails, and how many bytes of the replies are
+/// written.
+fn served_until(alloc: Global, mut reader: Few<'_>) -> Result<(SessionEnd, Option<usize>), Fail> {
+    let mut written = Vec::new(alloc);
+    let mut desk = Desk::new(&[], &[], &[], 0);
+    let end = serve(alloc, &mut reader, &mut written, &mut desk)?;
+    Ok((end, count_of(written.as_slice())))
+}
+
+/// How many bytes of the lines are given, and how many bytes of the replies are written for them.
+const GIVEN: [(usize, usize); 4] = [(6, 0), (7, FIRST), (20, FIRST), (23, WANTED.len())];
+
+/// The first of these after which a session ends or writes otherwise, by a reader that gives `at_a_call`
+/// bytes at a call.
+fn first_wrong(alloc: Global, at_a_call: usize) -> Result<Option<usize>, Fail> {
+    for (given, answered) in GIVEN {
+        let bytes = LINES.as_bytes().get(..given).ok_or("fewer bytes")?;
+        let served = served_until(alloc, Few { bytes, at_a_call })?;
+        if served != (SessionEnd::ReadFault, Some(answered)) {
+            return Ok(Some(given));
+        }
+    }
+    Ok(None)
 }
 
 #[test]
 fn a_reader_that_fails_ends_the_session(rt: HostRuntime) -> Result<(), Fail> {
     for at_a_call in [1, 7, 100] {
-        for (given, answered) in [(6, 0), (7, FIRST), (20, FIRST), (23, WANTED.len())] {
-            let bytes = LINES.as_bytes().get(..given).ok_or("fewer bytes")?;
-            let mut reader = Few { bytes, at_a_call };
-            let mut written = Vec::new(rt.alloc());
-            let mut desk = Desk::new(&[], &[], &[], 0);
-            let end = serve(rt.alloc(), &mut reader, &mut written, &mut desk)?;
-            assert_eq!(rt; end, SessionEnd::ReadFault, "{given} bytes");
-            let went = WANTED.as_bytes().get(..answered).ok_or("fewer bytes")?;
-            assert_eq!(rt; written.as_slice(), went, "{given} bytes");
-        }
+        assert_eq!(rt; first_wrong(rt.alloc(), at_a_call)?, None);
     }
     Ok(())
 }

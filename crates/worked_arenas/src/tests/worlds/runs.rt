@@ -16,59 +16,74 @@ const RETIRE: &str = "{\"op\":\"retire\"}";
 
 const HELLO: &str = "{\"op\":\"hello\",\"tenant\":\"acme\"}";
 
-// Two tenants, each with a slot for masters, a slot for workers and room for two entries; two workers.
-fn two_tenants(alloc: Global) -> Result<World<Jobless>, Fail> {
+/// Two tenants, each with a slot for masters, a slot for workers and room for two entries; two workers.
+fn two_tenants(alloc: Global) -> Result<Config, Fail> {
     let acme = tenant("acme", 2, 1, 2).ok_or("acme is valid")?;
     let beta = tenant("beta", 2, 1, 2).ok_or("beta is valid")?;
-    let config = Config::new(vec![in alloc; acme, beta]?, 2).ok_or("both are valid")?;
-    let world = World::new(alloc, config)?;
-    Ok(world)
+    Ok(Config::new(vec![in alloc; acme, beta]?, 2).ok_or("both are valid")?)
 }
 
-fn line(alloc: Global, tenant: usize, text: &str) -> Result<Raw, AllocError> {
-    Ok(Raw::Line(tenant, text.as_bytes().to_vec(alloc)?))
+fn world(alloc: Global) -> Result<World<Jobless>, Fail> {
+    Ok(World::new(alloc, two_tenants(alloc)?)?)
 }
 
-fn refused(error: Error) -> Outcome {
-    Outcome::Own(Answer::Replied(Reply::Refused(error)))
+/// The steps in which tenants are sent these lines.
+fn sent(alloc: Global, lines: &[(usize, &str)]) -> Result<Vec<Raw>, AllocError> {
+    let mut raws = Vec::new(alloc);
+    for (tenant, text) in lines {
+        raws.push(Raw::Line(*tenant, text.as_bytes().to_vec(alloc)?))?;
+    }
+    Ok(raws)
 }
+
+/// What two such tenants answer to lines, one after the other.
+fn answered(alloc: Global, lines: &[(usize, &str)]) -> Result<Vec<Outcome>, Fail> {
+    let raws = sent(alloc, lines)?;
+    let mut world = world(alloc)?;
+    Ok(world.run(alloc, raws.as_slice())?)
+}
+
+/// Lines, each with its tenant.
+const LINES: [(usize, &str); 9] = [
+    (0, SUBMIT),
+    (0, POLL),
+    (0, "{"),
+    (0, HELLO),
+    (0, RETIRE),
+    (0, POLL),
+    (1, POLL),
+    (0, " \t"),
+    (2, POLL),
+];
+
+/// What they are answered.
+const OUTCOMES: [Outcome; 9] = [
+    Outcome::Own(Answer::Replied(Reply::Refused(Error::NoMemory))),
+    Outcome::Own(Answer::Replied(Reply::Refused(Error::UnknownJob))),
+    Outcome::Own(Answer::Replied(Reply::Refused(Error::BadJson))),
+    Outcome::Own(Answer::Replied(Reply::Refused(Error::BadRequest))),
+    Outcome::Own(Answer::Replied(Reply::Epoch(1))),
+    Outcome::Own(Answer::Replied(Reply::Refused(Error::HistoryFull))),
+    Outcome::Own(Answer::Replied(Reply::Refused(Error::UnknownJob))),
+    Outcome::NotNow,
+    Outcome::NotNow,
+];
 
 #[test]
 fn a_line_is_answered_by_its_tenant(rt: HostRuntime) -> Result<(), Fail> {
-    let alloc = rt.alloc();
-    let mut world = two_tenants(alloc)?;
-    let raws = vec![in alloc;
-        line(alloc, 0, SUBMIT)?,
-        line(alloc, 0, POLL)?,
-        line(alloc, 0, "{")?,
-        line(alloc, 0, HELLO)?,
-        line(alloc, 0, RETIRE)?,
-        line(alloc, 0, POLL)?,
-        line(alloc, 1, POLL)?,
-        line(alloc, 0, " \t")?,
-        line(alloc, 2, POLL)?,
-    ]?;
-    let outcomes = world.run(alloc, raws.as_slice())?;
-    let retired = Outcome::Own(Answer::Replied(Reply::Epoch(1)));
-    let expected = [
-        refused(Error::NoMemory),
-        refused(Error::UnknownJob),
-        refused(Error::BadJson),
-        refused(Error::BadRequest),
-        retired,
-        refused(Error::HistoryFull),
-        refused(Error::UnknownJob),
-        Outcome::NotNow,
-        Outcome::NotNow,
-    ];
-    assert_eq!(rt; outcomes.as_slice(), expected.as_slice());
+    let outcomes = answered(rt.alloc(), &LINES)?;
+    assert_eq!(rt; outcomes.as_slice(), OUTCOMES.as_slice());
     Ok(())
+}
+
+/// What such tenants and their workers answer to steps, and then to the same steps again.
+fn outcomes_twice(alloc: Global, raws: &[Raw]) -> Result<(Vec<Outcome>, Vec<Outcome>), Fail> {
+    let mut world = world(alloc)?;
+    Ok((world.run(alloc, raws)?, world.run(alloc, raws)?))
 }
 
 #[test]
 fn a_step_that_is_not_allowed_now_changes_nothing(rt: HostRuntime) -> Result<(), Fail> {
-    let alloc = rt.alloc();
-    let mut world = two_tenants(alloc)?;
     let raws = [
         Raw::Master(1, 0),
         Raw::Master(1, 1),
@@ -79,8 +94,7 @@ fn a_step_that_is_not_allowed_now_changes_nothing(rt: HostRuntime) -> Result<(),
         Raw::Arrive(0),
         Raw::Advance(0),
     ];
-    let outcomes = world.run(alloc, raws.as_slice())?;
-    let again = world.run(alloc, raws.as_slice())?;
+    let outcomes = outcomes_twice(rt.alloc(), &raws)?;
     let expected = [
         Outcome::Own(Answer::Moved(Moved::Idle)),
         Outcome::NotNow,
@@ -91,7 +105,7 @@ fn a_step_that_is_not_allowed_now_changes_nothing(rt: HostRuntime) -> Result<(),
         Outcome::NotNow,
         Outcome::NotNow,
     ];
-    assert_eq!(rt; outcomes.as_slice(), expected.as_slice());
-    assert_eq!(rt; again.as_slice(), expected.as_slice());
+    let (first, second) = (outcomes.0.as_slice(), outcomes.1.as_slice());
+    assert_eq!(rt; (first, second), (expected.as_slice(), expected.as_slice()));
     Ok(())
 }

@@ -2,6 +2,7 @@
 ghost use Rattle.std.specs.Prelude.{◌≡◌, ◌<◌, length, IfOk};
 ghost use Rattle.std.specs.Arc.{arc_value};
 
+use crate::tests::assert_same;
 use call_queues::{CallQueues, MarketConfig, MarketTenant, QueuePass};
 use job_language::Level;
 use std::alloc::{AllocError, Global};
@@ -55,6 +56,21 @@ where
     Ok(child.join(&rt))
 }
 
+// The number of the pass that comes back, and the call that it pops.
+fn number_and_call<R>(
+    rt: R,
+    queues: &Arc<CallQueues>,
+    pass: QueuePass,
+) -> Result<(usize, Option<Call>), AllocError>
+where
+    R: Threads + Wait + Copy + Send + 'static,
+    requires pass { pass.queues ≡ (arc_value queues.now).queues }
+    requires tenant { 0 < length (arc_value queues.now).config }
+{
+    let mut pass = in_own_thread(rt, queues, pass)?;
+    Ok((pass.number(), queues.pop_call(&rt, &mut pass)))
+}
+
 fn one_tenant(alloc: Global) -> Result<MarketConfig, AllocError>
     ensures { IfOk result (λ c. length c ≡ 1) }
 {
@@ -70,8 +86,7 @@ fn one_tenant(alloc: Global) -> Result<MarketConfig, AllocError>
 fn a_pass_comes_back_from_its_thread(rt: HostRuntime) -> Result<(), Fail> {
     let (queues, mut passes) = CallQueues::new(rt.alloc(), one_tenant(rt.alloc())?, 2)?;
     let queues = Arc::new(rt.alloc(), queues)?;
-    let mut pass = in_own_thread(rt, &queues, passes.remove(1))?;
-    assert_eq!(rt; pass.number(), 1);
-    assert_eq!(rt; queues.pop_call(&rt, &mut pass), Some(FIRST));
+    let seen = number_and_call(rt, &queues, passes.remove(1))?;
+    assert_same(&rt, &seen, &(1, Some(FIRST)));
     Ok(())
 }

@@ -2,6 +2,7 @@
 ghost use Rattle.std.specs.Prelude.{◌≡◌, ◌+◌, ◌<◌, ◌≤◌, ℕ, length, slice_index_or, IfOk};
 ghost use Rattle.call_queues.specs.Queues.{PassSeen, fresh};
 
+use crate::tests::assert_same;
 use call_queues::{CallQueues, MarketConfig, MarketTenant, QueuePass};
 use job_language::Level;
 use std::alloc::{AllocError, Global};
@@ -47,13 +48,20 @@ impl Counts {
     }
 }
 
+// A pass, with the counts of the calls that were popped.
+type Popped = (QueuePass, Counts);
+
+// The sum of the counts of two threads, with the first one's pass.
+fn sum_of(both: (Popped, Popped)) -> Popped
+    ensures { result.0.queues ≡ both.0.0.queues }
+{
+    let ((pass, mut counts), (_pass, other)) = both;
+    counts.add_all(&other);
+    (pass, counts)
+}
+
 // Pushes the calls, and pops and counts one after each push.
-fn push_and_pop<R: Wait>(
-    rt: &R,
-    queues: &CallQueues,
-    mut pass: QueuePass,
-    tenant: usize,
-) -> (QueuePass, Counts)
+fn push_and_pop<R: Wait>(rt: &R, queues: &CallQueues, mut pass: QueuePass, tenant: usize) -> Popped
     requires pass { pass.queues ≡ queues.now.queues }
     requires tenant { tenant < length queues.now.config }
     ensures { result.0.queues ≡ queues.now.queues }
@@ -74,13 +82,13 @@ fn in_two_threads<R: Threads + Wait + Sync>(
     first: QueuePass,
     second: QueuePass,
     tenant: usize,
-) -> Pair
+) -> Popped
     requires passes { (first.queues ≡ queues.now.queues) × (second.queues ≡ queues.now.queues) }
     requires tenants { tenant + 1 < length queues.now.config }
     requires few { length queues.now.config ≡ 4 }
-    ensures { result.0.0.queues ≡ queues.now.queues }
+    ensures { result.0.queues ≡ queues.now.queues }
 {
-    thread::join(
+    sum_of(thread::join(
         rt,
         move ||
             requires { (first.queues ≡ queues.now.queues) × (tenant < length queues.now.config) }
@@ -90,10 +98,8 @@ fn in_two_threads<R: Threads + Wait + Sync>(
             requires { (second.queues ≡ queues.now.queues) × (tenant + 1 < length queues.now.config) × (length queues.now.config ≡ 4) }
             ensures { result.0.queues ≡ queues.entry.now.queues }
         { push_and_pop(rt, queues, second, tenant + 1) },
-    )
+    ))
 }
-
-type Pair = ((QueuePass, Counts), (QueuePass, Counts));
 
 type Passes = (QueuePass, QueuePass, QueuePass, QueuePass);
 
@@ -110,28 +116,24 @@ fn four_passes(queues: &CallQueues, mut passes: Vec<QueuePass>) -> Passes
     (first, second, third, fourth)
 }
 
-fn in_four_threads<R: Threads + Wait + Sync>(
-    rt: &R,
-    queues: &CallQueues,
-    passes: Passes,
-) -> (Pair, Pair)
+fn in_four_threads<R: Threads + Wait + Sync>(rt: &R, queues: &CallQueues, passes: Passes) -> Popped
     requires first { (passes.0.queues ≡ queues.now.queues) × (passes.1.queues ≡ queues.now.queues) }
     requires second { (passes.2.queues ≡ queues.now.queues) × (passes.3.queues ≡ queues.now.queues) }
     requires few { length queues.now.config ≡ 4 }
-    ensures { result.0.0.0.queues ≡ queues.now.queues }
+    ensures { result.0.queues ≡ queues.now.queues }
 {
     let (a, b, c, d) = passes;
-    thread::join(
+    sum_of(thread::join(
         rt,
         move ||
             requires { (a.queues ≡ queues.now.queues) × (b.queues ≡ queues.now.queues) × (length queues.now.config ≡ 4) }
-            ensures { result.0.0.queues ≡ queues.entry.now.queues }
+            ensures { result.0.queues ≡ queues.entry.now.queues }
         { in_two_threads(rt, queues, a, b, 0) },
         move ||
             requires { (c.queues ≡ queues.now.queues) × (d.queues ≡ queues.now.queues) × (length queues.now.config ≡ 4) }
-            ensures { result.0.0.queues ≡ queues.entry.now.queues }
+            ensures { result.0.queues ≡ queues.entry.now.queues }
         { in_two_threads(rt, queues, c, d, 2) },
-    )
+    ))
 }
 
 fn pushed() -> Counts {
@@ -172,11 +174,7 @@ fn popped<R: Threads + Wait + Sync>(rt: &R, queues: &CallQueues, passes: Passes)
     requires second { (passes.2.queues ≡ queues.now.queues) × (passes.3.queues ≡ queues.now.queues) }
     requires few { length queues.now.config ≡ 4 }
 {
-    let ((first, second), (third, fourth)) = in_four_threads(rt, queues, passes);
-    let (mut pass, mut counts) = first;
-    counts.add_all(&second.1);
-    counts.add_all(&third.1);
-    counts.add_all(&fourth.1);
+    let (mut pass, mut counts) = in_four_threads(rt, queues, passes);
     add_rest(rt, queues, &mut pass, &mut counts);
     counts
 }
@@ -186,6 +184,6 @@ fn each_call_comes_once(rt: HostRuntime) -> Result<(), Fail> {
     let alloc = rt.alloc();
     let (queues, passes) = CallQueues::new(alloc, four_tenants(alloc)?, 4)?;
     let counts = popped(&rt, &queues, four_passes(&queues, passes));
-    assert_eq!(rt; counts.each.as_slice(), pushed().each.as_slice());
+    assert_same(&rt, &counts.each.as_slice(), &pushed().each.as_slice());
     Ok(())
 }

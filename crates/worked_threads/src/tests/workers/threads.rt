@@ -3,6 +3,7 @@ ghost use Rattle.std.specs.Prelude.{◌≡◌, ◌<◌, ◌≤◌, ℕ, IfSome, 
 ghost use Rattle.call_queues.specs.Queues.{PassSeen, fresh};
 
 use super::tours::{due_of, frame_of, one_tenant, returns_its_slot};
+use crate::tests::assert_same;
 use call_queues::{CallQueues, QueuePass};
 use job_language::{Came, Moved, Program};
 use job_step::{Segment, View};
@@ -228,8 +229,8 @@ fn serve_chain<R: Threads + Wait + Sync, G: Gate + Sync>(
 #[test]
 fn two_workers_serve_all_calls(rt: HostRuntime) -> Result<(), Fail> {
     let (one, two, left) = visits_of(&rt, rt.alloc(), &NoGate, 10_000)?;
-    assert_eq!(rt; u64::from(one) + u64::from(two), 10_000);
-    assert_eq!(rt; left, None);
+    let visits = u64::from(one) + u64::from(two);
+    assert_same(&rt, &(visits, left), &(10_000, None));
     Ok(())
 }
 
@@ -237,7 +238,7 @@ fn two_workers_serve_all_calls(rt: HostRuntime) -> Result<(), Fail> {
 fn private_runs_of_two_workers_overlap(rt: HostRuntime) -> Result<(), Fail> {
     let two = Barrier::new(2);
     let gate = Together { rt: &rt, two: &two };
-    let (one, two, left) = visits_of(&rt, rt.alloc(), &gate, 2)?;
-    assert_eq!(rt; (one, two, left), (1, 1, None));
+    let seen = visits_of(&rt, rt.alloc(), &gate, 2)?;
+    assert_same(&rt, &seen, &(1, 1, None));
     Ok(())
 }

@@ -2,6 +2,7 @@
 ghost use Rattle.std.specs.Prelude.{◌≡◌, length};
 
 use super::tours::{Row, Tour, one_tenant, returns_its_slot};
+use crate::tests::assert_same;
 use call_queues::{CallQueues, QueuePass};
 use job_language::{Came, Moved, Program};
 use nested_wait::Door;
@@ -71,11 +72,16 @@ fn a_visit_goes_on_after_nested_and_ends_after_left(rt: HostRuntime) -> Result<(
         (0, Moved::Left, None),
     ];
     let counts = counts_of(&rt, rt.alloc(), &rows)?;
-    assert_eq!(rt; (counts.place, counts.commits, counts.advances), (4, 2, 2));
-    assert_eq!(rt;
-        (counts.homes, counts.is_out, counts.left),
-        (0, false, None)
-    );
+    let wanted = Counts {
+        place: 4,
+        commits: 2,
+        advances: 2,
+        pauses: 0,
+        homes: 0,
+        is_out: false,
+        left: None,
+    };
+    assert_same(&rt, &counts, &wanted);
     Ok(())
 }
 
@@ -83,8 +89,16 @@ fn a_visit_goes_on_after_nested_and_ends_after_left(rt: HostRuntime) -> Result<(
 fn a_slot_goes_home_at_a_full_history(rt: HostRuntime) -> Result<(), Fail> {
     let rows = [(1, Moved::Full, None), (0, Moved::Full, None)];
     let counts = counts_of(&rt, rt.alloc(), &rows)?;
-    assert_eq!(rt; (counts.commits, counts.advances, counts.pauses), (1, 1, 0));
-    assert_eq!(rt; (counts.homes, counts.is_out), (2, false));
+    let wanted = Counts {
+        place: 2,
+        commits: 1,
+        advances: 1,
+        pauses: 0,
+        homes: 2,
+        is_out: false,
+        left: None,
+    };
+    assert_same(&rt, &counts, &wanted);
     Ok(())
 }
 
@@ -98,8 +112,16 @@ fn calls_are_served_in_order_until_the_bell_tells_to_stop(rt: HostRuntime) -> Re
         (1, Moved::Ran, None),
     ];
     let counts = counts_of(&rt, rt.alloc(), &rows)?;
-    assert_eq!(rt; (counts.place, counts.homes), (4, 0));
-    assert_eq!(rt; counts.left, Some(DUE));
+    let wanted = Counts {
+        place: 4,
+        commits: 2,
+        advances: 2,
+        pauses: 0,
+        homes: 0,
+        is_out: false,
+        left: Some(DUE),
+    };
+    assert_same(&rt, &counts, &wanted);
     Ok(())
 }
 
@@ -151,8 +173,12 @@ fn arrive_and_advance<R: Wait>(
 #[test]
 fn the_bell_rings_for_a_slot_that_becomes_due(rt: HostRuntime) -> Result<(), Fail> {
     let rung = ring_for_due(&rt, rt.alloc())?;
-    assert_eq!(rt; (rung.came, rung.moved), (Came::At(1), Moved::Ran));
-    assert_eq!(rt; rung.heard, [Some(0), Some(1), None]);
-    assert_eq!(rt; rung.left, Some(DUE));
+    let wanted = Rung {
+        came: Came::At(1),
+        moved: Moved::Ran,
+        heard: [Some(0), Some(1), None],
+        left: Some(DUE),
+    };
+    assert_same(&rt, &rung, &wanted);
     Ok(())
 }
