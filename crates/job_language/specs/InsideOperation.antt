@@ -1,8 +1,13 @@
--- How the code finds an instruction by its name.
+-- How the code finds an instruction by its name, and makes it of its operands.
 use Rattle.std.specs.Prelude.{ℕ, List, Option, Some, None, if◌then◌else◌, codes}
 use Rattle.std.specs.Str.{bytes_eq}
+use Rattle.serde_json.specs.Data.{Data}
+use Rattle.job_language.specs.declared.instructions.Instr.{Instr}
+use Rattle.job_language.specs.declared.instructions.Instr.TheVariants as instr
 use Rattle.job_language.specs.declared.operations.Operation.{Operation}
 use Rattle.job_language.specs.declared.operations.Operation.TheVariants.{Set, Add, Sub, Mul, Div, Lt, Jz, Jmp, Slot, Width, Spawn, Post, Wait, Cancel, Ask, Isolate, Load, Store, Sum, Count, Ret}
+use Rattle.job_language.specs.Instruction.{register, group, key, below, one, two, three, four}
+use Rattle.job_language.specs.Json.{integer}
 
 abbrev pub operation_named : List ℕ → Option Operation
 operation_named name =
@@ -28,3 +33,27 @@ operation_named name =
     else if bytes_eq name (codes "count") then Some Count
     else if bytes_eq name (codes "ret") then Some Ret
     else None
+
+-- the instruction of an operation with these operands
+unfoldable pub made_of : Operation → (procs instrs : ℕ) → List Data → Option Instr
+made_of Set procs instrs ds = two register integer instr.Set ds
+made_of Add procs instrs ds = three register register register instr.Add ds
+made_of Sub procs instrs ds = three register register register instr.Sub ds
+made_of Mul procs instrs ds = three register register register instr.Mul ds
+made_of Div procs instrs ds = three register register register instr.Div ds
+made_of Lt procs instrs ds = three register register register instr.Lt ds
+made_of Jz procs instrs ds = two register (below instrs) instr.Jz ds
+made_of Jmp procs instrs ds = one (below instrs) instr.Jmp ds
+made_of Slot procs instrs ds = one register instr.Slot ds
+made_of Width procs instrs ds = one register instr.Width ds
+made_of Spawn procs instrs ds = four group (below procs) register register instr.Spawn ds
+made_of Post procs instrs ds = three (below procs) register register instr.Post ds
+made_of Wait procs instrs ds = three register register group instr.Wait ds
+made_of Cancel procs instrs ds = one group instr.Cancel ds
+made_of Ask procs instrs ds = one register instr.Ask ds
+made_of Isolate procs instrs ds = four register (below procs) register register instr.Isolate ds
+made_of Load procs instrs ds = two register key instr.Load ds
+made_of Store procs instrs ds = two key register instr.Store ds
+made_of Sum procs instrs ds = two register key instr.Sum ds
+made_of Count procs instrs ds = two register key instr.Count ds
+made_of Ret procs instrs ds = one register instr.Ret ds

@@ -121,7 +121,7 @@ impl Key {
 ///
 /// The first ten are private to a frame; the others are shared: they reach the tenant's groups,
 /// rows, cells and contexts, and `ret` ends the frame.
-#[derive(Clone, Copy, Debug, PartialEq, Eq)]
+#[derive(Clone, Copy)]
 pub enum Instr {
     /// `["set",d,n]`: register d becomes n.
     Set(Register, i64),

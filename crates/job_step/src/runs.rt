@@ -15,7 +15,7 @@ use job_language::{Instr, Program, REGISTERS};
 pub const RUN_LIMIT: u32 = 1_000;
 
 /// Why a private run ended.
-#[derive(Clone, Copy, Debug, PartialEq, Eq)]
+#[derive(Clone, Copy)]
 pub enum Stop {
     /// The next instruction is shared.
     Shared(Instr),
@@ -27,7 +27,7 @@ pub enum Stop {
 
 /// What a frame does by itself: `count` instructions lead from `start` to `end`. At a fault, which
 /// counts, `end` is the frame before it.
-#[derive(Clone, Copy, Debug, PartialEq, Eq)]
+#[derive(Clone, Copy)]
 pub struct Run {
     pub start: Frame,
     pub end: Frame,

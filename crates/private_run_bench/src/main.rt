@@ -31,7 +31,7 @@ fn executed_by(job: &Job) -> (u64, Frame) {
         let run = run_private(&job.program, frame, 0, 1);
         executed = executed.wrapping_add(u64::from(run.count));
         frame = run.end;
-        if run.stop != Stop::Yield {
+        if !matches!(run.stop, Stop::Yield) {
             break;
         }
     }

@@ -62,12 +62,13 @@ fn advance_value(alloc: Global, slot: u8, moved: Moved) -> Result<Option<Value>,
     ensures value { IfOk result (λ v. option_map view v ≡ advance_data slot moved) }
     ensures reads_back { IfOk result (λ v. IfSome v (λ v. said_in_value (view v) ≡ Some (said.Entry (record { step = step.Advance slot; answer = moved_answer moved })))) }
 {
-    match moved {
-        Moved::Ran => Ok(Some(bare_advance(alloc, "ran", slot)?)),
-        Moved::Freed => Ok(Some(bare_advance(alloc, "freed", slot)?)),
-        Moved::Nested(row) => Ok(Some(nested_advance(alloc, slot, row)?)),
-        Moved::Left | Moved::Idle | Moved::Stale | Moved::Full => Ok(None),
-    }
+    let value = match moved {
+        Moved::Ran => bare_advance(alloc, "ran", slot),
+        Moved::Freed => bare_advance(alloc, "freed", slot),
+        Moved::Nested(row) => nested_advance(alloc, slot, row),
+        Moved::Left | Moved::Idle | Moved::Stale | Moved::Full => return Ok(None),
+    };
+    Ok(Some(value?))
 }
 
 fn bare_advance(alloc: Global, word: &str, slot: u8) -> Result<Value, AllocError>

@@ -4,8 +4,8 @@ ghost use Rattle.std.specs.Int.{w64};
 ghost use Rattle.job_language.specs.Program.{IsInRange, Calls};
 ghost use Rattle.serde_json.specs.View.{view};
 ghost use Rattle.job_language.specs.Json.{items_of, integer};
-ghost use Rattle.job_language.specs.Instruction.{register, group, key, below, one, two, three, four, instr_from, instr_of};
-ghost use Rattle.job_language.specs.Operation.{name_of};
+ghost use Rattle.job_language.specs.Instruction.{register, group, key, below, one, two, three, four, instr_of};
+ghost use Rattle.job_language.specs.InsideOperation.{made_of};
 
 use crate::instructions::{GROUPS, Group, Instr, KEYS, Key, REGISTERS, Register};
 use crate::operations::Operation;
@@ -71,7 +71,7 @@ fn below(limit: usize, value: &Value) -> Option<u8>
 
 /// The instruction of that name with these operands, in a program of `procs` procedures and a
 /// procedure of `instrs` instructions.
-#[tactic(auto, using(crate::proofs::Operands::one_made, crate::proofs::Operands::two_made, crate::proofs::Operands::three_made, crate::proofs::Operands::four_made), unfolding(crate::specs::Instruction::instr_from))]
+#[tactic(auto, using(crate::proofs::Operands::one_made, crate::proofs::Operands::two_made, crate::proofs::Operands::three_made, crate::proofs::Operands::four_made), unfolding(crate::specs::InsideOperation::made_of))]
 fn instr_from(
     operation: Operation,
     procs: usize,
@@ -80,7 +80,7 @@ fn instr_from(
 ) -> Option<Instr>
     requires procs { procs ≤ MAX_PROCS }
     requires instrs { instrs ≤ MAX_INSTRS }
-    ensures value { result ≡ instr_from (name_of operation) procs instrs (map view operands.now) }
+    ensures value { result ≡ made_of operation procs instrs (map view operands.now) }
     ensures in_range { IfSome result (IsInRange instrs) }
     ensures calls { IfSome result (Calls procs) }
 {

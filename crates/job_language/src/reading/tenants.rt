@@ -2,6 +2,7 @@
 ghost use Rattle.std.specs.Prelude.{◌≡◌, option_map, Some};
 ghost use Rattle.std.specs.Option.{ok_or, option_map_or};
 ghost use Rattle.serde_json.specs.View.{view};
+ghost use Rattle.job_language.specs.Json.{get_as, number_in};
 ghost use Rattle.job_language.specs.declared.tenants.Isolation.TheVariants.{Exact};
 ghost use Rattle.job_language.specs.TenantOf.{name_of, level_of, isolation_of, tenant_of, tenant_of_members};
 
@@ -33,16 +34,23 @@ fn tenant_of(value: &Value) -> Option<TenantConfig>
 fn tenant_of_members(value: &Value) -> Option<TenantConfig>
     ensures { result ≡ tenant_of_members (view value.now) }
 {
-    let slots = number_in(1, u64::from(MAX_SLOTS), value.get("slots")?)?;
+    let slots = number_at(value, "slots", 1, u64::from(MAX_SLOTS))?;
     TenantConfig::new(Tenant {
         name: name_of(value.get("name")?)?,
         priority: level_of(value.get("priority")?)?,
         isolation: isolation_or_exact(value.get("isolation"))?,
         slots: slots as u8,
-        reserved: number_in(0, slots, value.get("reserved")?)? as u8,
-        rows: number_in(1, MAX_ROWS as u64, value.get("rows")?)? as usize,
-        steps: number_in(1, MAX_STEPS as u64, value.get("steps")?)? as usize,
+        reserved: number_at(value, "reserved", 0, slots)? as u8,
+        rows: number_at(value, "rows", 1, MAX_ROWS as u64)? as usize,
+        steps: number_at(value, "steps", 1, MAX_STEPS as u64)? as usize,
     })
+}
+
+/// The number from `least` to `most` of a member.
+fn number_at(value: &Value, key: &str, least: u64, most: u64) -> Option<u64>
+    ensures { result ≡ get_as key.now (number_in least most) (view value.now) }
+{
+    number_in(least, most, value.get(key)?)
 }
 
 fn name_of(value: &Value) -> Option<TenantName>
