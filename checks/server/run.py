@@ -536,9 +536,9 @@ CHECKS = [job_is_executed_and_polled, workers_share_a_job, each_job_has_its_end,
           job_stands_though_its_reply_is_lost, hostile_lines_have_their_errors,
           requests_have_exactly_their_members, client_that_never_reads,
           client_that_sends_without_end, clients_that_say_nothing, many_clients_at_once,
-          jobs_are_retired_round_after_round, dump_is_the_history, dump_has_the_job_that_was_sent, waiting_ends_at_a_full_history,
-          executes_end_at_a_full_history, folder_of_dumps_is_missing, wrong_words_and_files_are_faults,
-          socket_may_be_gone_at_the_end, worker_that_cannot_be_started_is_a_fault,
+          jobs_are_retired_round_after_round, dump_is_the_history, dump_has_the_job_that_was_sent,
+          waiting_ends_at_a_full_history, executes_end_at_a_full_history, folder_of_dumps_is_missing,
+          wrong_words_and_files_are_faults, socket_may_be_gone_at_the_end, worker_that_cannot_be_started_is_a_fault,
           session_that_cannot_be_started_costs_no_history]
 
 
