@@ -25,7 +25,7 @@ test: ## passes everything: examples, each proof, edit, test and program, stored
 	checks/evaluator/run.py
 	checks/ranges/run.py
 	checks/server/run.py
-	checks/failed_allocations/run.sh
+	checks/failed_allocations/run.py
 	checks/fuzz/run.py
 	@tail -n 1 out/gate.md
 

@@ -1,8 +1,7 @@
 // The calls of the evaluator, each made again if an allocation failed.
-use crate::jobs::{serial_job, status_of, steps, tenant};
+use crate::jobs::{status_of, steps, tenant};
 use history_check::{Verdict, check};
 use job_language::{Answer, Entry, Status, Step};
-use serial_eval::serial;
 use solo_eval::Solo;
 use std::alloc::{AllocError, Global};
 
@@ -67,16 +66,4 @@ fn entries(alloc: Global, steps: &[Step]) -> Result<Option<Vec<Entry>>, AllocErr
         })?;
     }
     Ok(Some(entries))
-}
-
-/// The serial value of the job's program.
-pub(crate) fn serial_value(alloc: Global) -> Option<i64> {
-    let job = serial_job(alloc)?;
-    if !job.program.is_serial() {
-        return None;
-    }
-    match serial(alloc, &job.program, job.args, 1000) {
-        Ok(value) => value,
-        Err(_) => serial(alloc, &job.program, job.args, 1000).ok()?,
-    }
 }

@@ -42,11 +42,6 @@ fn read_tenant_once(alloc: Global) -> Option<TenantConfig> {
     read_tenant(&value).ok()
 }
 
-/// The job that has a serial value.
-pub(crate) fn serial_job(alloc: Global) -> Option<Job> {
-    again(|| read(alloc, SERIAL))
-}
-
 /// The job with the regions and the posts.
 pub(crate) fn fibonacci(alloc: Global) -> Option<Job> {
     again(|| read(alloc, FIBONACCI))

@@ -1,5 +1,5 @@
-//! Makes the calls that take memory: of the readers and writers of texts, scripts, the evaluator, an arena,
-//! a world, a session, the queues of calls and a tenant's door. Each is made again if an allocation failed.
+//! Makes the calls that take memory: of the readers and writers of texts, the evaluator, an arena, a world, a
+//! session, the queues of calls and a tenant's door. Each is made again if an allocation failed.
 //! It prints the answers, which are the same whichever allocation was refused.
 #![tactic(auto)]
 
@@ -8,12 +8,11 @@ mod doors;
 mod evaluators;
 mod jobs;
 mod retries;
-mod scripts;
 mod sessions;
 mod texts;
 mod worlds;
 
-use evaluators::{checked, run_whole, serial_value, stepped};
+use evaluators::{checked, run_whole, stepped};
 use history_check::Verdict;
 use job_language::Status;
 use std::alloc::Global;
@@ -26,8 +25,7 @@ fn main(rt: HostRuntime) -> io::Result<()> {
     print_evaluator(&rt, alloc)?;
     print_eight(&rt, "arena, submit", arenas::submitted(alloc))?;
     print_eight(&rt, "arena, execute", arenas::executed(alloc))?;
-    print_eight(&rt, "world, submit", worlds::run_whole(alloc))?;
-    print_eight(&rt, "world, execute", worlds::applied(alloc))?;
+    print_eight(&rt, "world", worlds::run_whole(alloc))?;
     print_session(&rt, alloc)?;
     print_doors(&rt, alloc)
 }
@@ -42,9 +40,6 @@ fn print_texts<R: Print>(rt: &R, alloc: Global) -> io::Result<()> {
     if let Some(argument) = texts::argument_of_request(alloc) {
         println!(rt; "request: a job with argument {argument}")?;
     }
-    if scripts::are_answered(alloc) {
-        rt.println("scripts: answered")?;
-    }
     Ok(())
 }
 
@@ -53,9 +48,6 @@ fn print_evaluator<R: Print>(rt: &R, alloc: Global) -> io::Result<()> {
     print_eight(rt, "run", run_whole(alloc))?;
     if checked(alloc) == Some(Verdict::Yes) {
         rt.println("check: yes")?;
-    }
-    if serial_value(alloc) == Some(8) {
-        rt.println("serial: 8")?;
     }
     Ok(())
 }

@@ -16,7 +16,7 @@ pub(crate) fn run_whole(alloc: Global) -> Option<Status> {
 }
 
 fn run_job(alloc: Global, world: &mut World<Arena>) -> Option<Status> {
-    let line = again(|| job_line(alloc, "submit").ok())?;
+    let line = again(|| job_line(alloc).ok())?;
     let Reply::Made(1) = run_line(alloc, world, line)? else {
         return None;
     };
@@ -24,28 +24,6 @@ fn run_job(alloc: Global, world: &mut World<Arena>) -> Option<Status> {
     run(alloc, world, moves.as_slice())?;
     let collect = again(|| plain_line(alloc, COLLECT).ok())?;
     status_of(&run_line(alloc, world, collect)?)
-}
-
-/// The outcome of the job, if a line executes it and a master moves it, by calls of `apply`.
-pub(crate) fn applied(alloc: Global) -> Option<Status> {
-    let mut world = again(|| new_world(alloc))?;
-    apply_job(alloc, &mut world)
-}
-
-fn apply_job(alloc: Global, world: &mut World<Arena>) -> Option<Status> {
-    let line = again(|| job_line(alloc, "execute").ok())?;
-    let Reply::Placed(1, slot) = apply_line(alloc, world, &line)? else {
-        return None;
-    };
-    for _ in 0..MOVES {
-        world.apply(alloc, &Raw::Master(0, slot));
-    }
-    let moves = again(|| worker_moves(alloc).ok())?;
-    for raw in &moves {
-        world.apply(alloc, raw);
-    }
-    let collect = again(|| plain_line(alloc, COLLECT).ok())?;
-    status_of(&apply_line(alloc, world, &collect)?)
 }
 
 /// A world of the tenant and one worker.
@@ -61,8 +39,8 @@ fn config(alloc: Global) -> Option<Config> {
 }
 
 /// The line that brings the job.
-fn job_line(alloc: Global, op: &str) -> Result<Raw, AllocError> {
-    let text = format!(in alloc; "{{\"job\":{FIBONACCI},\"op\":\"{op}\"}}")?;
+fn job_line(alloc: Global) -> Result<Raw, AllocError> {
+    let text = format!(in alloc; "{{\"job\":{FIBONACCI},\"op\":\"submit\"}}")?;
     plain_line(alloc, text.as_str())
 }
 
@@ -93,14 +71,6 @@ fn run_line(alloc: Global, world: &mut World<Arena>, line: Raw) -> Option<Reply>
     let outcomes = run(alloc, world, &lines)?;
     match reply_in(outcomes.first()?)? {
         Reply::Refused(Error::NoMemory) => reply_in(run(alloc, world, &lines)?.first()?),
-        reply => Some(reply),
-    }
-}
-
-/// The reply to a line that is applied, again if it was refused for lack of memory.
-fn apply_line(alloc: Global, world: &mut World<Arena>, line: &Raw) -> Option<Reply> {
-    match reply_in(&world.apply(alloc, line))? {
-        Reply::Refused(Error::NoMemory) => reply_in(&world.apply(alloc, line)),
         reply => Some(reply),
     }
 }

@@ -1,4 +1,4 @@
-//! Worked examples and faults of arenas on one thread: attending, histories, sessions and worlds. They are tests
+//! Worked examples and faults of arenas on one thread: attending, histories and sessions. They are tests
 //! alone.
 #![tactic(auto)]
 

@@ -1,7 +1,6 @@
 // Tests by what they call.
 mod locks;
 mod queues;
-mod slots;
 mod workers;
 
 use std::fmt::Debug;

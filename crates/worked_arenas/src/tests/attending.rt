@@ -2,6 +2,7 @@
 ghost use Rattle.std.specs.Prelude.{◌≤◌};
 
 use super::tenants::{FIB, job_of, tenant};
+use crate::tests::assert_same;
 use arena_core::Arena;
 use arena_door::attend_slot;
 use job_language::{Came, Error, Moved, Reply, Request, Status};
@@ -53,13 +54,14 @@ fn fibonacci_is_below_after_85_advances(rt: HostRuntime) -> Result<(), Fail> {
     ];
     let complete = Reply::Job(1, Status::Complete(8));
     let full = Reply::Refused(Error::HistoryFull);
-    assert_eq!(rt;
-        ends,
-        [
+    assert_same(
+        &rt,
+        &ends,
+        &[
             (Attended::Below, 0, complete),
             (Attended::Below, 0, full),
             (Attended::Full, 1, full),
-        ]
+        ],
     );
     Ok(())
 }
@@ -95,9 +97,10 @@ fn attended_beside(arena: &mut Arena) -> ([(Attended, usize); 3], (Attended, usi
 fn a_waiter_whose_task_is_elsewhere_is_stopped(rt: HostRuntime) -> Result<(), Fail> {
     let mut arena = executed(rt.alloc(), ISOLATED, 2, 100)?;
     let is_started = start_beside(&mut arena);
-    assert_eq!(rt;
-        (is_started, attended_beside(&mut arena)),
-        (
+    assert_same(
+        &rt,
+        &(is_started, attended_beside(&mut arena)),
+        &(
             true,
             (
                 [
@@ -105,9 +108,9 @@ fn a_waiter_whose_task_is_elsewhere_is_stopped(rt: HostRuntime) -> Result<(), Fa
                     (Attended::Below, 0),
                     (Attended::Below, 1),
                 ],
-                (Attended::Below, 0, Reply::Job(1, Status::Complete(5)))
-            )
-        )
+                (Attended::Below, 0, Reply::Job(1, Status::Complete(5))),
+            ),
+        ),
     );
     Ok(())
 }
@@ -124,9 +127,10 @@ fn committed_twice(arena: &mut Arena) -> Option<(Moved, Moved)> {
 #[test]
 fn a_frame_that_is_seen_is_committed_once(rt: HostRuntime) -> Result<(), Fail> {
     let mut arena = executed(rt.alloc(), FIB, 1, 100)?;
-    assert_eq!(rt;
-        committed_twice(&mut arena),
-        Some((Moved::Ran, Moved::Stale))
+    assert_same(
+        &rt,
+        &committed_twice(&mut arena),
+        &Some((Moved::Ran, Moved::Stale)),
     );
     Ok(())
 }

@@ -1,5 +1,6 @@
 // The verdicts on a recorded history, by the arena and by the plain evaluator.
 use super::tenants::{FIB, job_of, tenant};
+use crate::tests::assert_same;
 use arena_check::check;
 use arena_core::Arena;
 use history_check::Verdict;
@@ -70,13 +71,13 @@ fn verdicts_with(alloc: Global, answer: Option<Moved>) -> Result<[Verdict; 2], F
 #[test]
 fn both_checks_pass_what_was_recorded(rt: HostRuntime) -> Result<(), Fail> {
     let verdicts = verdicts_with(rt.alloc(), None)?;
-    assert_eq!(rt; verdicts, [Verdict::Yes, Verdict::Yes]);
+    assert_same(&rt, &verdicts, &[Verdict::Yes, Verdict::Yes]);
     Ok(())
 }
 
 #[test]
 fn both_checks_refuse_one_more_advance(rt: HostRuntime) -> Result<(), Fail> {
     let verdicts = verdicts_with(rt.alloc(), Some(Moved::Ran))?;
-    assert_eq!(rt; verdicts, [Verdict::No(87), Verdict::No(87)]);
+    assert_same(&rt, &verdicts, &[Verdict::No(87), Verdict::No(87)]);
     Ok(())
 }

@@ -2,6 +2,7 @@
 ghost use Rattle.std.specs.Prelude.{◌≤◌};
 
 use super::tenants::job_of;
+use crate::tests::assert_same;
 use job_language::{Moved, Program};
 use job_step::{Frame, Segment, Stop, Top, View};
 use nested_wait::{Attended, Door, MAX_HEIGHT, attend};
@@ -155,7 +156,7 @@ fn nested_rows_are_left_before_the_slot_is(rt: HostRuntime) -> Result<(), Fail> 
     ];
     let ends = attended_thrice(rt.alloc(), &rows)?;
     let empty = (Attended::Below, 7, [7, 0, 0]);
-    assert_eq!(rt; ends, [(Attended::Below, 6, [6, 0, 0]), empty, empty]);
+    assert_same(&rt, &ends, &[(Attended::Below, 6, [6, 0, 0]), empty, empty]);
     Ok(())
 }
 
@@ -169,7 +170,7 @@ fn a_stale_segment_is_made_again(rt: HostRuntime) -> Result<(), Fail> {
         (1, Seen::Top, Moved::Freed, false),
     ];
     let end = attended_over(rt.alloc(), &rows, 1)?;
-    assert_eq!(rt; end, (Attended::Below, 5, [3, 2, 0]));
+    assert_same(&rt, &end, &(Attended::Below, 5, [3, 2, 0]));
     Ok(())
 }
 
@@ -182,7 +183,7 @@ fn a_full_history_ends_every_level(rt: HostRuntime) -> Result<(), Fail> {
         (3, Seen::Top, Moved::Ran, false),
     ];
     let end = attended_over(rt.alloc(), &rows, 1)?;
-    assert_eq!(rt; end, (Attended::Full, 3, [3, 0, 0]));
+    assert_same(&rt, &end, &(Attended::Full, 3, [3, 0, 0]));
     Ok(())
 }
 
@@ -196,6 +197,6 @@ fn only_a_pause_that_says_so_stops(rt: HostRuntime) -> Result<(), Fail> {
         (2, Seen::Top, Moved::Ran, true),
     ];
     let end = attended_over(rt.alloc(), &rows, 1)?;
-    assert_eq!(rt; end, (Attended::Stopped, 4, [4, 0, 3]));
+    assert_same(&rt, &end, &(Attended::Stopped, 4, [4, 0, 3]));
     Ok(())
 }

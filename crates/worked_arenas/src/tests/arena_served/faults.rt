@@ -1,5 +1,6 @@
 // Sessions whose reader is interrupted at every call.
 use super::{BOUND, HELLO, both, served_from};
+use crate::tests::assert_same;
 use session_core::SessionEnd;
 use std::alloc::Global;
 use std::io;
@@ -38,6 +39,6 @@ fn a_reader_that_is_always_interrupted_is_left(rt: HostRuntime) -> Result<(), Fa
         interrupted_after(rt.alloc(), "", "")?,
         interrupted_after(rt.alloc(), HELLO, BOUND)?,
     ];
-    assert_eq!(rt; ends, [SessionEnd::TurnLimit, SessionEnd::TurnLimit]);
+    assert_same(&rt, &ends, &[SessionEnd::TurnLimit, SessionEnd::TurnLimit]);
     Ok(())
 }

@@ -1,5 +1,6 @@
 // Worked examples of sessions over arenas.
 use super::{HELLO, RETURNS, both, served};
+use crate::tests::assert_same;
 use session_core::SessionEnd;
 use std::alloc::Global;
 use std::test::Fail;
@@ -48,7 +49,7 @@ fn jobs_are_executed(rt: HostRuntime) -> Result<(), Fail> {
 {"code":6,"error":"unknown_job"}
 "#;
     let ends = served_twice(rt.alloc(), (&first, wanted_first), (&second, wanted_second))?;
-    assert_eq!(rt; ends, [SessionEnd::Ended, SessionEnd::Ended]);
+    assert_same(&rt, &ends, &[SessionEnd::Ended, SessionEnd::Ended]);
     Ok(())
 }
 
@@ -58,7 +59,7 @@ fn a_history_that_is_full_is_error_8(rt: HostRuntime) -> Result<(), Fail> {
 {"code":8,"error":"history_full"}
 "#;
     let end = served_within(rt.alloc(), 85, &[HELLO, FIB], wanted)?;
-    assert_eq!(rt; end, SessionEnd::Ended);
+    assert_same(&rt, &end, &SessionEnd::Ended);
     Ok(())
 }
 
@@ -72,6 +73,6 @@ fn a_collect_that_is_pending_stops_the_session(rt: HostRuntime) -> Result<(), Fa
     ];
     let wanted = "{\"tenant\":\"acme\"}\n{\"job\":1}\n";
     let end = served_within(rt.alloc(), 10_000, &lines, wanted)?;
-    assert_eq!(rt; end, SessionEnd::Stopped);
+    assert_same(&rt, &end, &SessionEnd::Stopped);
     Ok(())
 }

@@ -1,6 +1,7 @@
 // Sessions whose reader or writer fails.
 use super::desks::Desk;
 use super::devices::{Few, Full};
+use crate::tests::assert_same;
 use session_core::{SessionEnd, serve};
 use std::alloc::Global;
 use std::test::Fail;
@@ -38,7 +39,7 @@ fn a_writer_that_fails_ends_the_session(rt: HostRuntime) -> Result<(), Fail> {
     for room in 0..WANTED.len() {
         let sent = if room < FIRST { room } else { room - FIRST };
         let end = SessionEnd::WriteFault { sent };
-        assert_eq!(rt; served_within(rt.alloc(), room)?, (end, Some(room)));
+        assert_same(&rt, &served_within(rt.alloc(), room)?, &(end, Some(room)));
     }
     Ok(())
 }
@@ -71,7 +72,7 @@ fn first_wrong(alloc: Global, at_a_call: usize) -> Result<Option<usize>, Fail> {
 #[test]
 fn a_reader_that_fails_ends_the_session(rt: HostRuntime) -> Result<(), Fail> {
     for at_a_call in [1, 7, 100] {
-        assert_eq!(rt; first_wrong(rt.alloc(), at_a_call)?, None);
+        assert_same(&rt, &first_wrong(rt.alloc(), at_a_call)?, &None);
     }
     Ok(())
 }

@@ -1,6 +1,7 @@
 // Worked examples of sessions.
 use super::super::expect_text;
 use super::desks::Desk;
+use crate::tests::assert_same;
 use job_language::{Error, JobFault, Key, Level, Moved, Reply, Status};
 use session_core::{SessionEnd, serve};
 use std::alloc::Global;
@@ -69,7 +70,7 @@ fn each_line_has_its_reply(rt: HostRuntime) -> Result<(), Fail> {
     ];
     let desk = Desk::new(&replies, &[], &[], 0);
     let served = served(rt.alloc(), desk, &LINES, REPLIES)?;
-    assert_eq!(rt; served, (SessionEnd::Ended, [1, 3, 0, 0]));
+    assert_same(&rt, &served, &(SessionEnd::Ended, [1, 3, 0, 0]));
     Ok(())
 }
 
@@ -82,7 +83,7 @@ fn a_line_that_is_too_long_is_dropped(rt: HostRuntime) -> Result<(), Fail> {
 {"tenant":"acme"}
 "#;
     let served = served(rt.alloc(), desk, &lines, wanted)?;
-    assert_eq!(rt; served, (SessionEnd::Ended, [1, 0, 0, 0]));
+    assert_same(&rt, &served, &(SessionEnd::Ended, [1, 0, 0, 0]));
     Ok(())
 }
 
@@ -99,7 +100,7 @@ fn an_execute_is_answered_once_its_job_has_ended(rt: HostRuntime) -> Result<(), 
 {"fault":2,"job":2,"status":"fault"}
 "#;
     let served = served(rt.alloc(), desk, &[HELLO, EXECUTE, EXECUTE], wanted)?;
-    assert_eq!(rt; served, (SessionEnd::Ended, [1, 2, 5, 4]));
+    assert_same(&rt, &served, &(SessionEnd::Ended, [1, 2, 5, 4]));
     Ok(())
 }
 
@@ -112,7 +113,7 @@ fn a_history_that_is_full_is_error_8(rt: HostRuntime) -> Result<(), Fail> {
 {"code":8,"error":"history_full"}
 "#;
     let served = served(rt.alloc(), desk, &[HELLO, EXECUTE], wanted)?;
-    assert_eq!(rt; served, (SessionEnd::Ended, [1, 1, 0, 2]));
+    assert_same(&rt, &served, &(SessionEnd::Ended, [1, 1, 0, 2]));
     Ok(())
 }
 
@@ -122,7 +123,7 @@ fn a_pause_stops_the_session_that_owes_a_reply(rt: HostRuntime) -> Result<(), Fa
     let turns = [Moved::Ran, Moved::Idle, Moved::Ran];
     let desk = Desk::new(&replies, &[], &turns, 0);
     let served = served(rt.alloc(), desk, &[HELLO, EXECUTE, HELLO], BOUND)?;
-    assert_eq!(rt; served, (SessionEnd::Stopped, [1, 1, 0, 2]));
+    assert_same(&rt, &served, &(SessionEnd::Stopped, [1, 1, 0, 2]));
     Ok(())
 }
 
@@ -132,6 +133,6 @@ fn a_pause_stops_a_session_whose_collect_is_pending(rt: HostRuntime) -> Result<(
     let desk = Desk::new(&[], &pending, &[], 1);
     let lines = [HELLO, "{\"job\":1,\"op\":\"collect\"}\n"];
     let served = served(rt.alloc(), desk, &lines, BOUND)?;
-    assert_eq!(rt; served, (SessionEnd::Stopped, [1, 0, 2, 0]));
+    assert_same(&rt, &served, &(SessionEnd::Stopped, [1, 0, 2, 0]));
     Ok(())
 }
