@@ -72,6 +72,7 @@ class Draws:
         return self.made_of([[*way, ["ret", 4]]])
 
     def made_of(self, procs):
+        """A job of these procedures, with enough fuel."""
         return {"args": self.random.choices(VALUES["number"], k=2), "fuel": 4000, "procs": procs}
 
     def making(self):

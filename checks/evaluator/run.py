@@ -22,8 +22,11 @@ PROGRAM = os.path.abspath("crates/script_program/out/script_program")
 NUMBERED = {"fault": "fault", "code": "error", "market": "market"}
 FINDS = ["ran", "freed", "nested", "arrived", "idle", "left", "none", "full", "pending", "bad_step", "complete",
          "canceled", *(f"fault {code}" for code in (1, 2, 3, 4, 5)),
-         *(f"error {code}" for code in (1, 2, 3, 4, 6, 8, 10, 12)),
-         *(f"market {word}" for word in ("queued", "held", "none", "not_now"))]
+         *(f"error {code}" for code in (3, 6, 8, 10, 12)),
+         # In worlds, by the steps that have these answers.
+         *(f"line: error {code}" for code in (1, 2, 3, 4)), "push: market queued", "pop: market held", "pop: market none",
+         "arrive: arrived", "arrive: none", "arrive: full", "advance: nested", "advance: left", "advance: full",
+         *(f"{step}: market not_now" for step in ("line", "master", "push", "pop", "arrive", "advance"))]
 
 
 def text(value):
@@ -77,7 +80,7 @@ def world_differs(draws, seen):
     for _ in range(draws.random.randint(100, 600)):
         steps.append(draws.world_step(world))
         wanted.append(world.answer(steps[-1]))
-    seen.update(kind(answered) for _, answered in wanted)
+    seen.update(f"{step['step']}: {kind(answered)}" for step, (_, answered) in zip(steps, wanted))
     if differs(["run"], config, steps, [answered for _, answered in wanted]):
         return True
     tenant = draws.random.choice(config["tenants"])
