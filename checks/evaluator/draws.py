@@ -71,6 +71,14 @@ class Draws:
         way = self.random.choice([[["isolate", 4, 0, 0, 1]], [["spawn", 0, 0, 0, 1], ["wait", 4, 5, 0]]])
         return self.made_of([[*way, ["ret", 4]]])
 
+    def tree(self):
+        """A job of rows that each make two rows, for the two smaller numbers: tasks, or a task and a region."""
+        second, adds = self.random.choice([(["spawn", 0, 0, 3, 1], []), (["isolate", 6, 0, 3, 1], [["add", 4, 4, 6]])])
+        leaf = [["set", 2, 2], ["lt", 3, 0, 2], ["jz", 3, 4], ["ret", 0]]
+        makes = [["set", 2, 1], ["sub", 3, 0, 2], ["spawn", 0, 0, 3, 1], ["sub", 3, 3, 2], second]
+        job = self.made_of([[*leaf, *makes, ["wait", 4, 5, 0], *adds, ["ret", 4]]])
+        return {**job, "args": [self.random.randint(2, 9), 0]}
+
     def made_of(self, procs):
         """A job of these procedures, with enough fuel."""
         return {"args": self.random.choices(VALUES["number"], k=2), "fuel": 4000, "procs": procs}
@@ -141,6 +149,16 @@ class Draws:
         if kind == "worker":
             return {"step": {"call": "arrive", "slot": "advance"}[has[0]] if has else "pop", "worker": worker}
         return self.stray_step([*world.tenants, "nobody"])
+
+    def order(self, job):
+        """A script of a tenant that makes one job, moves its slots in any order, and asks for the outcome."""
+        tenant = {**self.tenant(), "rows": 400, "steps": 10_000}
+        slots = tenant["slots"]
+        makings = ["execute"] if tenant["reserved"] == slots else ["execute", "submit"]
+        yield {"tenant": tenant}
+        yield {"step": "ask", "request": {"op": self.random.choice(makings), "job": job}}
+        yield from (self.move(slots) for _ in range(1_000))
+        yield {"step": "ask", "request": {"op": "poll", "job": 1}}
 
     def move(self, slots):
         return {"step": self.random.choice(["arrive"] + ["advance"] * 4), "slot": self.random.randrange(slots)}

@@ -1,7 +1,8 @@
 #!/usr/bin/env python3
 """Compares what arena-script answers to drawn scripts of tenants and of worlds, and to drawn jobs with the word
 `serial`, with what a second evaluator answers (`tenant.py`, `world.py`, `serial.py`), which shares nothing with the
-Rattle code. A tenant's own steps of a world must also be answered the same without its neighbours.
+Rattle code. A tenant's own steps of a world must also be answered the same without its neighbours, and a serial job
+that completes, whatever the order of arrivals and advances, must do so with its serial value.
 
 usage: checks/evaluator/run.py [SEED [SCRIPTS]], at the top of the repository, after `rt ci`, or `rt run` in
 crates/script_program. The seed is 1, and there are 300 scripts of each kind, if none is said.
@@ -26,7 +27,9 @@ FINDS = ["ran", "freed", "nested", "arrived", "idle", "left", "none", "full", "p
          # In worlds, by the steps that have these answers.
          *(f"line: error {code}" for code in (1, 2, 3, 4)), "push: market queued", "pop: market held", "pop: market none",
          "arrive: arrived", "arrive: none", "arrive: full", "advance: nested", "advance: left", "advance: full",
-         *(f"{step}: market not_now" for step in ("line", "master", "push", "pop", "arrive", "advance"))]
+         *(f"{step}: market not_now" for step in ("line", "master", "push", "pop", "arrive", "advance")),
+         # Of a job with a serial value, after moves in a drawn order.
+         "order: complete"]
 
 
 def text(value):
@@ -89,22 +92,35 @@ def world_differs(draws, seen):
     return differs(["run"], alone, [step for step, _ in own], [answered for _, answered in own])
 
 
-def serial_jobs_differ(draws, count):
-    """How many of the drawn jobs have another serial value."""
+def serial_jobs_differ(draws, seen, count):
+    """How many of the drawn jobs have another serial value, or complete with another value than that."""
     jobs = [draws.job(is_serial=draws.random.random() < 0.9) for _ in range(count)]
-    wanted = [text({"serial": serial_value(job)}) for job in jobs]
+    values = [serial_value(job) for job in jobs]
+    wanted = [text({"serial": value}) for value in values]
     pairs = list(zip(jobs, wanted, printed(["serial"], jobs), strict=True))
     for job, want, line in pairs:
         if want != line:
             print(f"{text(job)}: {line}, and not {want}")
-    return sum(want != line for _, want, line in pairs)
+    numbers = [(job, value) for job, value in zip(jobs, values) if isinstance(value, int)]
+    return sum(want != line for _, want, line in pairs) + sum(order_differs(draws, seen, *it) for it in numbers)
+
+
+def order_differs(draws, seen, job, value):
+    """Whether a job with this serial value completes with another one, after moves in a drawn order."""
+    steps = list(draws.order(job))
+    outcome = json.loads(printed([], steps)[-1])
+    seen.update([f"order: {outcome['status']}"])
+    if outcome.get("value", value) != value:
+        print(f"{text(job)}: {text(outcome)}, and its serial value is {value}, after {text(steps)}")
+        return True
+    return False
 
 
 def main(seed=1, scripts=300):
     sys.setrecursionlimit(100_000)
     draws, seen = Draws(random.Random(seed)), collections.Counter()
     differ = sum(script_differs(draws, seen) + world_differs(draws, seen) for _ in range(scripts))
-    differ += serial_jobs_differ(draws, scripts)
+    differ += serial_jobs_differ(draws, seen, scripts)
     missing = [it for it in FINDS if not seen[it]] if scripts >= 300 else []
     if missing:
         print(f"no answer is one of {missing}")

@@ -1,0 +1,115 @@
+// A job that is executed, and attended until its slot is free.
+ghost use Rattle.std.specs.Prelude.{◌≤◌};
+
+use super::tenants::{FIB, job_of, tenant};
+use crate::tests::assert_same;
+use arena_core::Arena;
+use arena_door::attend_slot;
+use job_language::{Came, Error, Moved, Reply, Request, Status};
+use nested_wait::Attended;
+use std::alloc::Global;
+use std::test::Fail;
+
+/// Waits inside a region for a task.
+const ISOLATED: &str =
+    r#"{"args":[0,0],"fuel":1000,"procs":[[["set",2,5],["store",0,2],["isolate",3,1,0,1],["load",5,0],["ret",5]],[["spawn",0,2,0,1],["wait",2,3,0],["ret",2]],[["ret",0]]]}"#;
+
+/// Executes a job, which is placed on the first slot.
+fn execute(alloc: Global, text: &str, arena: &mut Arena) -> Result<(), Fail> {
+    let job = job_of(alloc, text)?;
+    if arena.ask(Request::Execute(job)) == Reply::Placed(1, 0) {
+        Ok(())
+    } else {
+        Err("the job is placed")?
+    }
+}
+
+/// An arena with one reserved slot, on which the job is placed, and room for that many entries.
+fn executed(alloc: Global, text: &str, slots: u8, steps: usize) -> Result<Arena, Fail> {
+    let config = tenant("acme", slots, 1, steps).ok_or("each number is in its range")?;
+    let mut arena = Arena::new(alloc, config)?;
+    execute(alloc, text, &mut arena)?;
+    Ok(arena)
+}
+
+/// How attending the slot of a job ends, how high the slot is then, and what is reported of the job.
+fn attended(arena: &mut Arena) -> (Attended, usize, Reply) {
+    let end = attend_slot(arena, 0, 1);
+    (end, arena.height(0), arena.ask(Request::Collect(1)))
+}
+
+/// The same of the Fibonacci number on an arena with room for that many entries.
+fn attended_within(alloc: Global, steps: usize) -> Result<(Attended, usize, Reply), Fail> {
+    let mut arena = executed(alloc, FIB, 1, steps)?;
+    Ok(attended(&mut arena))
+}
+
+#[test]
+fn fibonacci_is_below_after_85_advances(rt: HostRuntime) -> Result<(), Fail> {
+    let ends = [
+        attended_within(rt.alloc(), 87)?,
+        attended_within(rt.alloc(), 86)?,
+        attended_within(rt.alloc(), 85)?,
+    ];
+    let complete = Reply::Job(1, Status::Complete(8));
+    let full = Reply::Refused(Error::HistoryFull);
+    assert_same(
+        &rt,
+        &ends,
+        &[
+            (Attended::Below, 0, complete),
+            (Attended::Below, 0, full),
+            (Attended::Full, 1, full),
+        ],
+    );
+    Ok(())
+}
+
+/// Starts the task that a waiter on the first slot waits for, on the second.
+fn start_beside(arena: &mut Arena) -> bool {
+    for _ in 0..3 {
+        if arena.advance(0) != Moved::Ran {
+            return false;
+        }
+    }
+    arena.arrive(1) == Came::At(3)
+}
+
+/// How attending a slot ends, and how high the slot is then.
+fn attended_slot(arena: &mut Arena, slot: u8, floor: usize) -> (Attended, usize)
+    requires { 1 ≤ floor }
+{
+    (attend_slot(arena, slot, floor), arena.height(slot))
+}
+
+/// How the waiter is attended before and after its task is, with the task between, and then to its end.
+fn attended_beside(arena: &mut Arena) -> ([(Attended, usize); 3], (Attended, usize, Reply)) {
+    let ends = [
+        attended_slot(arena, 0, 1),
+        attended_slot(arena, 1, 1),
+        attended_slot(arena, 0, 2),
+    ];
+    (ends, attended(arena))
+}
+
+#[test]
+fn a_waiter_whose_task_is_elsewhere_is_stopped(rt: HostRuntime) -> Result<(), Fail> {
+    let mut arena = executed(rt.alloc(), ISOLATED, 2, 100)?;
+    let is_started = start_beside(&mut arena);
+    assert_same(
+        &rt,
+        &(is_started, attended_beside(&mut arena)),
+        &(
+            true,
+            (
+                [
+                    (Attended::Stopped, 2),
+                    (Attended::Below, 0),
+                    (Attended::Below, 1),
+                ],
+                (Attended::Below, 0, Reply::Job(1, Status::Complete(5))),
+            ),
+        ),
+    );
+    Ok(())
+}

@@ -1,0 +1,8 @@
+// A short life of each part of the fast arena.
+mod cells;
+mod contexts;
+mod groups;
+mod nests;
+mod places;
+mod pools;
+mod regions;

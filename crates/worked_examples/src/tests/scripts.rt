@@ -1,0 +1,2 @@
+// Scripts by readers and writers that fail.
+mod devices;

@@ -1,0 +1,4 @@
+// What threads share: a tenant behind its door, queues of calls, and a worker.
+mod locks;
+mod queues;
+mod workers;

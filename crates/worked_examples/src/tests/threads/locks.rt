@@ -1,0 +1,218 @@
+// A tenant behind its door, from a submitted job to the history.
+
+use crate::tests::assert_same;
+use job_language::{
+    Came, Fuel, Instr, Isolation, Job, Level, Moved, Proc, Program, Register, Reply, Request,
+    Status, Tenant, TenantConfig, TenantName,
+};
+use job_step::{Segment, View, segment_of};
+use std::alloc::{AllocError, Global};
+use std::sync::Wait;
+use std::test::Fail;
+use tenant_lock::{CloseFault, TenantDoor};
+use tenant_record::{Advanced, Pass, Seat};
+use world_model::Call;
+
+/// The call of the only slot for workers.
+const CALL: Call = Call { tenant: 0, slot: 1 };
+
+/// A tenant of two slots, the first of them reserved.
+fn two_slots() -> Result<TenantConfig, Fail> {
+    let tenant = Tenant {
+        name: TenantName::new("acme").ok_or("a name")?,
+        priority: Level::Normal,
+        isolation: Isolation::Exact,
+        slots: 2,
+        reserved: 1,
+        rows: 128,
+        steps: 256,
+    };
+    let config = TenantConfig::new(tenant).ok_or("a tenant")?;
+    Ok(config)
+}
+
+/// A job that returns its first argument, 7.
+fn returning_seven(alloc: Global) -> Option<Job> {
+    let fuel = Fuel::new(10)?;
+    Some(Job {
+        program: returning(alloc, Register::new(0)?).ok()?,
+        args: [7, 0],
+        fuel,
+    })
+}
+
+/// A program that returns what a register has.
+fn returning(alloc: Global, register: Register) -> Result<Program, AllocError> {
+    let instrs = vec![in alloc; Instr::Ret(register)]?;
+    let procs = vec![in alloc; Proc::new(instrs)]?;
+    Program::new(alloc, procs)
+}
+
+/// What an ask is answered, and which slot it makes due.
+type Answer = (Reply, Option<u8>);
+
+/// Asks by a seat, if that is one of the door's.
+fn ask<R: Wait>(rt: &R, door: &TenantDoor, seat: &mut Seat, request: Request) -> Option<Answer> {
+    if seat.tenant() != door.tenant() {
+        return None;
+    }
+    let asked = door.ask(rt, seat, request);
+    Some((asked.reply, asked.due))
+}
+
+/// Submits the job.
+fn submit<R: Wait>(rt: &R, alloc: Global, door: &TenantDoor, seat: &mut Seat) -> Option<Answer> {
+    let job = returning_seven(alloc)?;
+    ask(rt, door, seat, Request::Submit(job))
+}
+
+/// Polls a job.
+fn poll<R: Wait>(rt: &R, door: &TenantDoor, seat: &mut Seat, job: u64) -> Option<Reply> {
+    let (reply, _) = ask(rt, door, seat, Request::Poll(job))?;
+    Some(reply)
+}
+
+/// Advances the slot of a pass, if that is one of the door's.
+fn advance<R: Wait>(rt: &R, door: &TenantDoor, pass: Option<Pass>) -> Option<Advanced> {
+    let pass = pass?;
+    if pass.tenant() != door.tenant() {
+        return None;
+    }
+    Some(door.advance(rt, pass))
+}
+
+/// What two arrivals and two advances are answered, and whether the pass went home.
+type Worked = ([Came; 2], [Moved; 2], bool);
+
+/// A worker arrives and advances twice, and another arrives between.
+fn work_and_leave<R: Wait>(rt: &R, door: &TenantDoor) -> Option<Worked> {
+    let arrived = door.arrive(rt, CALL);
+    let ran = advance(rt, door, arrived.pass)?;
+    let other = door.arrive(rt, CALL);
+    let left = advance(rt, door, ran.pass)?;
+    Some((
+        [arrived.came, other.came],
+        [ran.moved, left.moved],
+        left.pass.is_none(),
+    ))
+}
+
+/// What is answered where the job is submitted, where a worker runs it, and where it is polled.
+type Answers = (Option<Answer>, Option<Worked>, Option<Reply>);
+
+/// Submits the job by the first seat, lets a worker run it, and polls it.
+fn run<R: Wait>(rt: &R, alloc: Global, door: &TenantDoor, seats: &mut [Seat]) -> Option<Answers> {
+    let seat = seats.first_mut()?;
+    let made = submit(rt, alloc, door, seat);
+    let worked = work_and_leave(rt, door);
+    Some((made, worked, poll(rt, door, seat, 1)))
+}
+
+#[test]
+fn a_job_runs_through_the_door(rt: HostRuntime) -> Result<(), Fail> {
+    let (door, mut seats) = TenantDoor::new(rt.alloc(), 0, two_slots()?, 1)?;
+    let answers = run(&rt, rt.alloc(), &door, seats.as_mut_slice());
+    let seen = (answers, door.close(seats)?.history.len());
+    let made = Some((Reply::Made(1), Some(1)));
+    let came = [Came::At(1), Came::Nothing];
+    let moved = [Moved::Ran, Moved::Left];
+    let worked = Some((came, moved, true));
+    let polled = Some(Reply::Job(1, Status::Complete(7)));
+    let answers = Some((made, worked, polled));
+    assert_same(&rt, &seen, &(answers, 4));
+    Ok(())
+}
+
+/// The segment of the topmost frame of a pass's slot, if the pass is one of the door's.
+fn segment<R: Wait>(rt: &R, door: &TenantDoor, pass: &Option<Pass>) -> Option<Segment> {
+    let pass = pass.as_ref()?;
+    if pass.tenant() != door.tenant() {
+        return None;
+    }
+    match door.view(rt, pass) {
+        View::Top(top) => Some(segment_of(top)),
+        View::Bare | View::Unshared => None,
+    }
+}
+
+/// Commits a segment by a pass, if that is one of the door's.
+fn commit<R: Wait>(
+    rt: &R,
+    door: &TenantDoor,
+    pass: Option<Pass>,
+    segment: Segment,
+) -> Option<Advanced> {
+    let pass = pass?;
+    if pass.tenant() != door.tenant() {
+        return None;
+    }
+    Some(door.commit(rt, pass, segment))
+}
+
+/// Commits two segments of one frame, gives the pass home, and returns both answers.
+fn commit_twice<R: Wait>(rt: &R, door: &TenantDoor) -> Option<(Moved, Moved)> {
+    let arrived = door.arrive(rt, CALL);
+    let first = segment(rt, door, &arrived.pass)?;
+    let second = segment(rt, door, &arrived.pass)?;
+    let ran = commit(rt, door, arrived.pass, first)?;
+    let stale = commit(rt, door, ran.pass, second)?;
+    give_home(rt, door, stale.pass?);
+    Some((ran.moved, stale.moved))
+}
+
+/// Gives a pass home, if it is one of the door's.
+fn give_home<R: Wait>(rt: &R, door: &TenantDoor, pass: Pass) {
+    if pass.tenant() == door.tenant() {
+        door.give_home(rt, pass);
+    }
+}
+
+/// Submits the job by the first seat, and commits two segments of its first frame.
+fn submit_and_commit<R: Wait>(
+    rt: &R,
+    alloc: Global,
+    door: &TenantDoor,
+    seats: &mut [Seat],
+) -> Option<(Moved, Moved)> {
+    let _made = submit(rt, alloc, door, seats.first_mut()?);
+    commit_twice(rt, door)
+}
+
+#[test]
+fn a_private_run_is_committed_once(rt: HostRuntime) -> Result<(), Fail> {
+    let (door, mut seats) = TenantDoor::new(rt.alloc(), 0, two_slots()?, 1)?;
+    let committed = submit_and_commit(&rt, rt.alloc(), &door, seats.as_mut_slice());
+    let seen = (committed, door.close(seats)?.history.len());
+    let committed = Some((Moved::Ran, Moved::Stale));
+    assert_same(&rt, &seen, &(committed, 3));
+    Ok(())
+}
+
+#[test]
+fn a_door_without_its_seat_is_not_closed(rt: HostRuntime) -> Result<(), Fail> {
+    let (door, mut seats) = TenantDoor::new(rt.alloc(), 0, two_slots()?, 1)?;
+    let _seat = seats.pop().ok_or("a seat")?;
+    let fault = door.close(seats).err();
+    assert_same(&rt, &fault, &Some(CloseFault::SeatMissing));
+    Ok(())
+}
+
+/// Submits the job by the first seat, and lets a worker arrive at it. The worker's pass.
+fn submit_and_arrive<R: Wait>(
+    rt: &R,
+    alloc: Global,
+    door: &TenantDoor,
+    seats: &mut [Seat],
+) -> Option<Pass> {
+    let _made = submit(rt, alloc, door, seats.first_mut()?);
+    door.arrive(rt, CALL).pass
+}
+
+#[test]
+fn a_pass_that_is_kept_is_missed(rt: HostRuntime) -> Result<(), Fail> {
+    let (door, mut seats) = TenantDoor::new(rt.alloc(), 0, two_slots()?, 1)?;
+    let _pass = submit_and_arrive(&rt, rt.alloc(), &door, seats.as_mut_slice());
+    let fault = door.close(seats).err();
+    assert_same(&rt, &fault, &Some(CloseFault::PassLost(1)));
+    Ok(())
+}

@@ -1,0 +1,3 @@
+//! Worked examples, and a pass that goes to a thread and comes back.
+mod examples;
+mod spawned;

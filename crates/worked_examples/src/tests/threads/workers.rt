@@ -1,0 +1,3 @@
+//! Visits of one worker at doors in memory.
+mod tours;
+mod visits;

@@ -1,4 +1,0 @@
-//! Worked examples, and four threads at one market.
-mod examples;
-mod spawned;
-mod threads;
