@@ -1,20 +1,30 @@
 #!/usr/bin/env python3
-"""Runs `arena_fuzz` on drawn rounds: the arena and the plain evaluator must not differ, and every kind of answer,
-error and fault must have come up, or the comparison means little. The program is built first if a source is newer
-than it.
+"""Runs `arena_fuzz` on drawn rounds, with drawn jobs and the worked ones: the arena and the plain evaluator must not
+differ, and every kind of answer, error and fault must have come up, or the comparison means little. The program is
+built first if a source is newer than it. The jobs stay in out/fuzz_jobs, so that a round can be done again:
+crates/arena_fuzz/out/arena_fuzz ITS_SEED 1 < out/fuzz_jobs.
 
 usage: checks/fuzz/run.py [SEED [ROUNDS]]
 """
+import json
 import pathlib
+import random
 import subprocess
 import sys
 import time
 
 ROOT = pathlib.Path(__file__).resolve().parents[2]
+sys.path += [str(ROOT / "checks" / folder) for folder in ("evaluator", "scripts")]
+
+from draws import Draws
+from script import worked_jobs
+
 CRATE = ROOT / "crates/arena_fuzz"
 PROGRAM = CRATE / "out/arena_fuzz"
+JOBS = ROOT / "out/fuzz_jobs"
 
 SEED, ROUNDS = 1, 400
+MOST_JOBS = 10_000
 
 KINDS = [
     *(f"advance: {it}" for it in ("ran", "nested", "freed", "left", "idle", "stale", "full")),
@@ -33,18 +43,31 @@ def build():
         built = PROGRAM.stat().st_mtime
         if all(it.stat().st_mtime <= built for it in ROOT.glob("crates/*/src/**/*.rt")):
             return
-    run = subprocess.run(["rt", "run"], cwd=CRATE, stdin=subprocess.DEVNULL, capture_output=True, text=True)
+    with open(CRATE / "stdin") as few:
+        run = subprocess.run(["rt", "run"], cwd=CRATE, stdin=few, capture_output=True, text=True)
     if run.returncode:
         print(*run.stdout.splitlines()[-40:], run.stderr[-4000:], sep="\n")
         sys.exit(1)
+
+
+def jobs(seed, count):
+    """Yields the worked jobs, and as many drawn ones as are wanted."""
+    yield from (job for name, job in worked_jobs().items() if name != "NOT_VALID")
+    draws = Draws(random.Random(seed))
+    ways = [draws.job, lambda: draws.job(is_serial=True), draws.nest, draws.tower, draws.tree]
+    for draw in draws.random.choices(ways, [10, 2, 4, 1, 3], k=count):
+        yield draw()
 
 
 def main():
     given = [int(word) for word in sys.argv[1:3]]
     seed, rounds = given + [SEED, ROUNDS][len(given):]
     build()
+    JOBS.parent.mkdir(exist_ok=True)
+    JOBS.write_text("".join(json.dumps(job) + "\n" for job in jobs(seed, min(rounds, MOST_JOBS))))
     begun = time.monotonic()
-    run = subprocess.run([PROGRAM, str(seed), str(rounds)], capture_output=True, text=True)
+    with open(JOBS) as given_jobs:
+        run = subprocess.run([PROGRAM, str(seed), str(rounds)], stdin=given_jobs, capture_output=True, text=True)
     seconds = time.monotonic() - begun
     lines = run.stdout.splitlines()
     if run.returncode or f"{rounds} rounds from seed {seed}: no difference" not in lines:

@@ -2,6 +2,7 @@
 use crate::stops::Stop;
 use job_language::{Job, KEYS, Key, Request, Step};
 use rand::RngExt;
+use rand::seq::IndexedRandom;
 use rand_pcg::Pcg32;
 
 /// What is done to a tenant.
@@ -63,10 +64,10 @@ fn draw_request(draws: &mut Pcg32, hand: &Hand) -> Result<Request, Stop> {
 
 /// Draws one of the jobs.
 fn draw_one(draws: &mut Pcg32, jobs: &[Job]) -> Result<Job, Stop> {
-    if jobs.is_empty() {
-        return Err(Stop::Invalid);
+    match jobs.choose(draws) {
+        Some(job) => Ok(job.try_clone()?),
+        None => Err(Stop::NoJobs),
     }
-    Ok(jobs[draws.random_range(0..jobs.len())].try_clone()?)
 }
 
 /// Draws a request that brings no job.

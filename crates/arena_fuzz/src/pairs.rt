@@ -47,7 +47,8 @@ impl Both {
         if is_same_answer(&self.arena, &self.solo) {
             return None;
         }
-        Some(Difference::Answers(self.arena, self.solo))
+        let Both { arena, solo } = *self;
+        Some(Difference::Answers { arena, solo })
     }
 }
 
@@ -139,27 +140,38 @@ impl Pair {
 
     /// Whether the evaluator has no open row.
     pub(crate) fn is_at_rest(&self) -> bool {
-        !self.solo.has_unstarted() && (0..self.slots()).all(|slot| self.solo.height(slot) == 0)
+        for slot in 0..self.slots() {
+            if self.solo.height(slot) > 0 {
+                return false;
+            }
+        }
+        !self.solo.has_unstarted()
     }
 
     /// What is seen to differ between two steps, if anything is.
     pub(crate) fn difference(&self) -> Option<Difference> {
         let (arena, solo) = (self.arena.has_unstarted(), self.solo.has_unstarted());
         if arena != solo {
-            return Some(Difference::Unstarted(arena, solo));
+            return Some(Difference::Unstarted { arena, solo });
         }
-        (0..self.slots()).find_map(|slot| self.difference_at(slot))
+        for slot in 0..self.slots() {
+            let difference = self.difference_at(slot);
+            if difference.is_some() {
+                return difference;
+            }
+        }
+        None
     }
 
     /// What is seen to differ at a slot, if anything is.
     fn difference_at(&self, slot: u8) -> Option<Difference> {
         let (arena, solo) = (self.arena.height(slot) as u64, self.solo.height(slot));
         if arena != solo {
-            return Some(Difference::Heights(slot, arena, solo));
+            return Some(Difference::Heights { slot, arena, solo });
         }
         match (self.arena.view(slot), solo) {
             (View::Bare, 0) | (View::Unshared, _) => None,
-            (View::Bare, _) | (View::Top(_), 0) => Some(Difference::View(slot)),
+            (View::Bare, _) | (View::Top(_), 0) => Some(Difference::View { slot }),
             (View::Top(_), _) => None,
         }
     }

@@ -1,5 +1,6 @@
-// Rounds: a drawn tenant with drawn jobs takes drawn steps.
+// Rounds: a drawn tenant takes drawn steps, with jobs that are drawn from those given.
 use crate::acts::{Act, Hand, draw_act, draw_move};
+use crate::differences::Difference;
 use crate::jobs::draw_jobs;
 use crate::pairs::Pair;
 use crate::stops::Stop;
@@ -25,19 +26,30 @@ const COLLECTED: u64 = 12;
 /// How many times a job is submitted at the start of a turn if the tenant shall meet its limit of jobs.
 const FLOOD: u64 = 260;
 
+/// The rounds that are taken: the seed of the first one, and how many there are.
+#[derive(Clone, Copy)]
+pub(crate) struct Rounds {
+    pub(crate) seed: u64,
+    pub(crate) count: u64,
+}
+
 /// A round under way.
-pub(crate) struct Round {
+struct Round<'a> {
     alloc: Global,
+    seed: u64,
+    jobs: &'a [Job],
     pair: Pair,
     draws: Pcg32,
     made: u64,
 }
 
-impl Drop for Round {
+impl<'a> Drop for Round<'a> {
     // An owner drops it in one call, not part by part at each of its ways out.
     fn drop(self) {
         let Round {
             alloc: _alloc,
+            seed: _seed,
+            jobs: _jobs,
             pair: _pair,
             draws: _draws,
             made: _made,
@@ -45,19 +57,9 @@ impl Drop for Round {
     }
 }
 
-impl Round {
-    /// A round of a tenant that has done nothing yet.
-    pub(crate) fn new(alloc: Global, pair: Pair, draws: Pcg32) -> Round {
-        Round {
-            alloc,
-            pair,
-            draws,
-            made: 0,
-        }
-    }
-
+impl<'a> Round<'a> {
     /// Does something to both, and compares them.
-    pub(crate) fn take(&mut self, act: Act, tally: &mut Tally) -> Result<(), Stop> {
+    fn take(&mut self, act: Act, tally: &mut Tally) -> Result<(), Stop> {
         let Some(both) = self.pair.take(act)? else {
             return Ok(());
         };
@@ -66,15 +68,22 @@ impl Round {
             self.made = job;
         }
         match both.difference().or(self.pair.difference()) {
-            Some(difference) => Err(Stop::Differs(format!(in self.alloc; "{difference}")?)),
+            Some(difference) => self.stopped(difference),
             None => Ok(()),
         }
     }
 
+    /// The round's end by a difference.
+    fn stopped(&self, difference: Difference) -> Result<(), Stop> {
+        let seed = self.seed;
+        let text = format!(in self.alloc; "the round of seed {seed}: {difference:?}")?;
+        Err(Stop::Differs(text))
+    }
+
     /// Does anything that is drawn.
-    pub(crate) fn take_any(&mut self, jobs: &[Job], tally: &mut Tally) -> Result<(), Stop> {
+    fn take_any(&mut self, tally: &mut Tally) -> Result<(), Stop> {
         let hand = Hand {
-            jobs,
+            jobs: self.jobs,
             slots: self.pair.slots(),
             made: self.made,
         };
@@ -83,20 +92,14 @@ impl Round {
     }
 
     /// Moves a slot that is drawn.
-    pub(crate) fn move_any(&mut self, tally: &mut Tally) -> Result<(), Stop> {
+    fn move_any(&mut self, tally: &mut Tally) -> Result<(), Stop> {
         let act = draw_move(&mut self.draws, self.pair.slots());
         self.take(act, tally)
     }
 
-    /// Asks for the outcome of one of the last jobs, the last one being the first.
-    pub(crate) fn collect(&mut self, back: u64, tally: &mut Tally) -> Result<(), Stop> {
-        let request = Request::Collect(self.made.saturating_sub(back));
+    /// Asks for something.
+    fn ask(&mut self, request: Request, tally: &mut Tally) -> Result<(), Stop> {
         self.take(Act::Step(Step::Ask(request)), tally)
-    }
-
-    /// Retires all jobs.
-    pub(crate) fn retire(&mut self, tally: &mut Tally) -> Result<(), Stop> {
-        self.take(Act::Step(Step::Ask(Request::Retire)), tally)
     }
 
     /// Moves slots until nothing is left to do, at most `MOVES` times.
@@ -110,47 +113,79 @@ impl Round {
         Ok(())
     }
 
-    /// One turn: the tenant is asked for things, worked off and retired.
-    fn turn(&mut self, jobs: &[Job], tally: &mut Tally) -> Result<(), Stop> {
-        for _ in 0..ANY {
-            self.take_any(jobs, tally)?;
-        }
-        self.work_off(tally)?;
+    /// Asks for the outcomes of the last jobs.
+    fn collect(&mut self, tally: &mut Tally) -> Result<(), Stop> {
         for back in 0..COLLECTED {
-            self.collect(back, tally)?;
-        }
-        self.retire(tally)
-    }
-
-    /// All its turns. In a flood the tenant meets its limit of jobs.
-    fn take_turns(&mut self, jobs: &[Job], is_flood: bool, tally: &mut Tally) -> Result<(), Stop> {
-        for _ in 0..TURNS {
-            if let (true, Some(job)) = (is_flood, jobs.first()) {
-                self.submit_all(job, FLOOD, tally)?;
-            }
-            self.turn(jobs, tally)?;
+            self.ask(Request::Collect(self.made.saturating_sub(back)), tally)?;
         }
         Ok(())
     }
 
-    /// Submits a job `count` times.
+    /// Submits a job that often.
     fn submit_all(&mut self, job: &Job, count: u64, tally: &mut Tally) -> Result<(), Stop> {
         for _ in 0..count {
             let request = Request::Submit(job.try_clone()?);
-            self.take(Act::Step(Step::Ask(request)), tally)?;
+            self.ask(request, tally)?;
+        }
+        Ok(())
+    }
+
+    /// Does things of any kind.
+    fn take_some(&mut self, tally: &mut Tally) -> Result<(), Stop> {
+        for _ in 0..ANY {
+            self.take_any(tally)?;
+        }
+        Ok(())
+    }
+
+    /// One turn: the tenant is asked for things, worked off and retired.
+    fn turn(&mut self, tally: &mut Tally) -> Result<(), Stop> {
+        self.take_some(tally)?;
+        self.work_off(tally)?;
+        self.collect(tally)?;
+        self.ask(Request::Retire, tally)
+    }
+
+    /// All its turns. In a flood the tenant meets its limit of jobs.
+    fn take_turns(&mut self, is_flood: bool, tally: &mut Tally) -> Result<(), Stop> {
+        for _ in 0..TURNS {
+            if let (true, Some(job)) = (is_flood, self.jobs.first()) {
+                self.submit_all(job, FLOOD, tally)?;
+            }
+            self.turn(tally)?;
         }
         Ok(())
     }
 }
 
 /// Takes the round of a seed.
-pub(crate) fn run_round(alloc: Global, seed: u64, tally: &mut Tally) -> Result<(), Stop> {
+fn run_round(alloc: Global, seed: u64, given: &[Job], tally: &mut Tally) -> Result<(), Stop> {
     let mut draws = Pcg32::new(seed, 54);
     let Some(config) = draw_tenant(&mut draws) else {
-        return Err(Stop::Invalid);
+        return Err(Stop::NoTenant);
     };
-    let jobs = draw_jobs(alloc, &mut draws, 4)?;
+    let jobs = draw_jobs(&mut draws, given);
     let is_flood = draws.random_range(0u8..16) == 0;
-    let mut round = Round::new(alloc, Pair::new(alloc, config)?, draws);
-    round.take_turns(jobs.as_slice(), is_flood, tally)
+    let mut round = Round {
+        alloc,
+        seed,
+        jobs,
+        pair: Pair::new(alloc, config)?,
+        draws,
+        made: 0,
+    };
+    round.take_turns(is_flood, tally)
+}
+
+/// Takes rounds up to the first difference.
+pub(crate) fn run_rounds(
+    alloc: Global,
+    rounds: Rounds,
+    given: &[Job],
+    tally: &mut Tally,
+) -> Result<(), Stop> {
+    for number in 0..rounds.count {
+        run_round(alloc, rounds.seed.wrapping_add(number), given, tally)?;
+    }
+    Ok(())
 }

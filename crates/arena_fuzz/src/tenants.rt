@@ -1,5 +1,7 @@
 // Tenants that are drawn.
-use job_language::{Isolation, Level, MAX_SLOTS, MAX_STEPS, Tenant, TenantConfig, TenantName};
+use job_language::{
+    Isolation, Level, MAX_ROWS, MAX_SLOTS, MAX_STEPS, Tenant, TenantConfig, TenantName,
+};
 use rand::RngExt;
 use rand_pcg::Pcg32;
 
@@ -39,6 +41,7 @@ fn draw_rows(draws: &mut Pcg32) -> usize {
     match draws.random_range(0u8..8) {
         0 => draws.random_range(1usize..=8),
         1 => draws.random_range(9usize..=40),
+        2 => MAX_ROWS,
         _ => draws.random_range(300usize..=500),
     }
 }

@@ -159,26 +159,3 @@ pub const NOT_VALID: JobText = JobText {
     fuel: 1_000,
     procs: r#"[[["jmp",1]]]"#,
 };
-
-/// All of these that are valid.
-pub const VALID: [JobText; 19] = [
-    FIRST,
-    FIB,
-    UNUSED,
-    CANCEL_THEN_WAIT,
-    CLASSIC,
-    NINE,
-    ISOLATED,
-    PLAIN,
-    POSTED,
-    STOLEN,
-    UNWAITED,
-    CHAIN,
-    WRAP,
-    LEAST_BY_MINUS_ONE,
-    ZERO_DIVISOR,
-    HALF,
-    SLOT,
-    SPIN,
-    NESTED,
-];
