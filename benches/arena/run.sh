@@ -9,11 +9,11 @@
 set -e
 cd "$(dirname "$0")"
 jobs="${1:-1}"
-built=../../crates/arena_bench/out/arena_bench
-(cd ../../crates/arena_bench && rt run > /dev/null 2>&1)
+built=../../crates/benchmarks/out/benchmarks
+(cd ../../crates/benchmarks && rt run < stdin > /dev/null 2>&1)
 work=$(mktemp -d)
 trap 'rm -rf "$work"' EXIT
-rustc --edition 2021 -O -o "$work/plain" plain.rs
+rustc --edition 2021 -O -o "$work/plain.built" plain.rs
 
 # The microseconds of a run of a program, added to a file of its own; its last line stays in another.
 measure() {
@@ -36,15 +36,15 @@ printed() {
 
 for _ in 1 2 3 4 5 6 7 8 9 10; do
     for waiting in 0 64 4000; do
-        measure "fib.$waiting" "$built" fib 23 "$jobs" "$waiting"
-        measure "none.$waiting" "$built" fib 1 "$jobs" "$waiting"
+        measure "fib.$waiting" "$built" arena fib 23 "$jobs" "$waiting"
+        measure "none.$waiting" "$built" arena fib 1 "$jobs" "$waiting"
     done
-    measure plain "$work/plain" 23 "$jobs"
-    measure none.plain "$work/plain" 1 "$jobs"
-    measure recorded "$built" recorded 23 "$jobs"
-    measure none.recorded "$built" recorded 1 "$jobs"
-    measure cancels "$built" cancels "$((jobs * 50))"
-    measure none.cancels "$built" fib 1 "$((jobs * 50))" 0
+    measure plain "$work/plain.built" 23 "$jobs"
+    measure none.plain "$work/plain.built" 1 "$jobs"
+    measure recorded "$built" arena recorded 23 "$jobs"
+    measure none.recorded "$built" arena recorded 1 "$jobs"
+    measure cancels "$built" arena cancels "$((jobs * 50))"
+    measure none.cancels "$built" arena fib 1 "$((jobs * 50))" 0
 done
 grep -q 'value 28657$' "$work/fib.0.printed"
 grep -q 'value 28657$' "$work/plain.printed"

@@ -6,8 +6,8 @@
 set -e
 cd "$(dirname "$0")"
 rounds="${1:-2000000}"
-built=../../crates/leaf_bench/out/leaf_bench
-(cd ../../crates/leaf_bench && rt run > /dev/null 2>&1)
+built=../../crates/benchmarks/out/benchmarks
+(cd ../../crates/benchmarks && rt run < stdin > /dev/null 2>&1)
 work=$(mktemp -d)
 trap 'rm -rf "$work"' EXIT
 leaves="pool pool_region contexts regions nests groups cells"
@@ -15,7 +15,7 @@ leaves="pool pool_region contexts regions nests groups cells"
 # The nanoseconds of a run of a leaf with a number of rows and rounds, added to a file of their own.
 measure() {
     begun=$(date +%s%N)
-    printed=$("$built" "$1" "$2" "$3")
+    printed=$("$built" leaves "$1" "$2" "$3")
     ended=$(date +%s%N)
     case "$printed" in
     "$1, "*" rows, $3 rounds: "*) echo $((ended - begun)) >> "$work/$1.$2.$3" ;;

@@ -5,8 +5,8 @@
 set -e
 cd "$(dirname "$0")"
 events="${1:-1000000}"
-built=../../crates/lock_bench/out/lock_bench
-(cd ../../crates/lock_bench && rt run > /dev/null 2>&1)
+built=../../crates/benchmarks/out/benchmarks
+(cd ../../crates/benchmarks && rt run < stdin > /dev/null 2>&1)
 work=$(mktemp -d)
 trap 'rm -rf "$work"' EXIT
 
@@ -15,7 +15,7 @@ measure() {
     each=$((events / $1))
     total=$((each * $1))
     begun=$(date +%s%N)
-    printed=$("$built" steps "$each" "$1" "$2")
+    printed=$("$built" locks steps "$each" "$1" "$2")
     ended=$(date +%s%N)
     case "$printed" in
     *": $total events") echo $(((ended - begun) / total)) >> "$work/$1.$2" ;;

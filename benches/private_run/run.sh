@@ -6,8 +6,8 @@
 set -e
 cd "$(dirname "$0")"
 turns="${1:-100000000}"
-built=../../crates/private_run_bench/out/private_run_bench
-(cd ../../crates/private_run_bench && rt run > /dev/null 2>&1)
+built=../../crates/benchmarks/out/benchmarks
+(cd ../../crates/benchmarks && rt run < stdin > /dev/null 2>&1)
 work=$(mktemp -d)
 trap 'rm -rf "$work"' EXIT
 cc -O2 -o "$work/switch" switch.c
@@ -20,7 +20,7 @@ seconds() {
     echo "$ended $begun" | awk '{ printf "%.2f", $1 - $2 }'
 }
 
-ours=$(seconds "$built" < "$work/job.json")
+ours=$(seconds "$built" private_run < "$work/job.json")
 cp "$work/printed" "$work/ours"
 theirs=$(seconds "$work/switch" "$turns")
 cmp "$work/printed" "$work/ours"

@@ -6,8 +6,8 @@
 set -e
 cd "$(dirname "$0")"
 calls="${1:-4000000}"
-built=../../crates/queue_bench/out/queue_bench
-(cd ../../crates/queue_bench && rt run > /dev/null 2>&1)
+built=../../crates/benchmarks/out/benchmarks
+(cd ../../crates/benchmarks && rt run < stdin > /dev/null 2>&1)
 work=$(mktemp -d)
 trap 'rm -rf "$work"' EXIT
 
@@ -16,7 +16,7 @@ measure() {
     each=$((calls / $2))
     total=$((each * $2))
     begun=$(date +%s%N)
-    printed=$("$built" "$1" "$2" "$each")
+    printed=$("$built" queues "$1" "$2" "$each")
     ended=$(date +%s%N)
     case "$printed" in
     *": $total calls pushed, $total popped") echo $(((ended - begun) / total)) >> "$work/$1.$2" ;;

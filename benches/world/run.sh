@@ -6,8 +6,8 @@
 set -e
 cd "$(dirname "$0")"
 jobs="${1:-10}"
-built=../../crates/arena_bench/out/arena_bench
-(cd ../../crates/arena_bench && rt run > /dev/null 2>&1)
+built=../../crates/benchmarks/out/benchmarks
+(cd ../../crates/benchmarks && rt run < stdin > /dev/null 2>&1)
 work=$(mktemp -d)
 trap 'rm -rf "$work"' EXIT
 
@@ -16,7 +16,7 @@ measure() {
     name="$1"
     shift
     begun=$(date +%s%N)
-    "$built" "$@" > "$work/$name.printed"
+    "$built" arena world "$@" > "$work/$name.printed"
     ended=$(date +%s%N)
     echo $(((ended - begun) / 1000)) >> "$work/$name"
 }
@@ -27,8 +27,8 @@ fastest() {
 
 for _ in 1 2 3; do
     for tenants in 1 8 64; do
-        measure "world.$tenants" world "$tenants" "$((jobs * 64 / tenants))"
-        measure "none.$tenants" world "$tenants" 0
+        measure "world.$tenants" "$tenants" "$((jobs * 64 / tenants))"
+        measure "none.$tenants" "$tenants" 0
     done
 done
 

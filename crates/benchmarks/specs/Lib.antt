@@ -1,0 +1,6 @@
+pub mod Bound
+pub mod Entered
+pub mod Nested
+pub mod Places
+pub mod Shared
+pub mod Waiting

@@ -1,4 +1,0 @@
-pub mod Exited
-pub mod Popped
-pub mod Released
-pub mod Removed

@@ -1,4 +1,0 @@
-pub mod Bound
-pub mod Entered
-pub mod Nested
-pub mod Waiting
