@@ -3,6 +3,8 @@
 many processor minutes each crate took, for its proofs, for its tests, and for its must-fail edits, the dearest crate
 last, and then once more each line that tells of a fault. The end stays in out/gate.md.
 
+Each check gets one processor (RT_JOBS), since a check that three of them share takes an eighth more time of them in all.
+
 usage: checks/gate/run.py, at the top of the repository. It exits as `rt ci` does.
 """
 import os
@@ -74,8 +76,10 @@ def table(spent):
 
 def main():
     start, spent, is_over = time.monotonic(), {}, threading.Event()
+    processors = len(os.sched_getaffinity(0))
+    room = {"RT_JOBS": str(processors), **os.environ}
     last, faults = "", []
-    with subprocess.Popen(["rt", "ci"], stdout=subprocess.PIPE, stderr=subprocess.STDOUT, text=True, errors="replace") as run:
+    with subprocess.Popen(["rt", "ci"], env=room, stdout=subprocess.PIPE, stderr=subprocess.STDOUT, text=True, errors="replace") as run:
         watcher = threading.Thread(target=watch, args=(str(run.pid), spent, is_over))
         watcher.start()
         for line in run.stdout:
@@ -87,7 +91,7 @@ def main():
                 faults.append(last)
     is_over.set()
     watcher.join()
-    minutes = f"{(time.monotonic() - start) / 60:.1f} minutes on {len(os.sched_getaffinity(0))} processors"
+    minutes = f"{(time.monotonic() - start) / 60:.1f} minutes on {processors} processors"
     said = "\n".join([*table(spent), "", *faults, minutes, last])
     print(f"\n{said}")
     os.makedirs("out", exist_ok=True)
