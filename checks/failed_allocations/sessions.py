@@ -44,12 +44,10 @@ def refusal(number, at):
 NO_START = "it does not start, for lack of memory"
 NO_DEVICE = "it does not start, since a device failed"
 NO_LINE = "a session has no memory for its lines, and ends"
-NO_CLIENT = "the seats of a session are lost before it begins, and it ends"
 NO_MORE = "no more connections are accepted"
-NO_SEAT = "a seat is lost when its session ends"
 NO_CLOSE = "no tenant is closed"
-NO_DUMP = "a dump is not whole"
-EFFECTS = [NO_START, NO_DEVICE, NO_LINE, NO_CLIENT, NO_MORE, NO_SEAT, NO_CLOSE, NO_DUMP,
+NO_DUMP = "a dump is missing"
+EFFECTS = [NO_START, NO_DEVICE, NO_LINE, NO_MORE, NO_CLOSE, NO_DUMP,
            *(refusal(number, at) for number, lines in enumerate(SESSIONS) for at in range(len(lines)))]
 
 
@@ -118,20 +116,20 @@ def end_of_session(number, came):
 
 
 def end_of_tenant(name, line, dumps):
-    """Whether a tenant was `closed`, or was so with a dump that is `cut` or missing, or has its `seats lost`."""
+    """Whether a tenant was `closed`, or was so and has `no dump`."""
     path = os.path.join(dumps, name + ".jsonl")
     closed = re.fullmatch(f"{name}: closed, ([0-9]+) entries", line)
     if not closed:
-        return "seats lost" if line == f"{name}: close fault 4" and not os.path.exists(path) else f"wrong: {line}"
+        return f"wrong: {line}"
     if not os.path.exists(path):
-        return "cut"
+        return "no dump"
     with open(path) as dump:
         checked = subprocess.run([ARENA_SCRIPT, "check"], stdin=dump, capture_output=True, text=True, timeout=SECONDS)
         dump.seek(0)
         count = len(dump.readlines())
-    if count and (checked.stdout, checked.stderr, checked.returncode) != ("yes\n", "", 0):
+    if count != int(closed[1]) + 1 or (checked.stdout, checked.stderr, checked.returncode) != ("yes\n", "", 0):
         return f"wrong dump: {checked}"
-    return "closed" if count == int(closed[1]) + 1 else "cut"
+    return "closed"
 
 
 def ends_of_tenants(printed, dumps):
@@ -152,15 +150,11 @@ def effect_of(sessions, tenants, said, status):
             return refused
         case ["ended"], ["closed", "closed"], "", 0:
             return NO_LINE
-        case ["ended"], ["seats lost", "seats lost"], "", 4:
-            return NO_CLIENT
         case ["ended", *_], ["closed", "closed"], "arena-server: device\n", 3 if are_last(others, sessions):
             return NO_MORE
-        case [], ["closed", "seats lost"], "", 4:
-            return NO_SEAT
         case [], [], "arena-server: memory\n", 3:
             return NO_CLOSE
-        case [], ["closed", "cut"], "arena-server: memory\n", 3:
+        case [], ["closed", "no dump"], "arena-server: memory\n", 3:
             return NO_DUMP
     return None
 

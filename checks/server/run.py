@@ -459,6 +459,18 @@ def folder_of_dumps_is_missing():
     assert (out, err, server.process.returncode) == ("acme: closed, 0 entries\n", "arena-server: device\n", 3)
 
 
+def dump_that_fails_is_left_out():
+    """The device of acme's dump is full. beta has its dump all the same."""
+    server = Server([tenant("acme", 1, 1), tenant("beta", 1, 1)], 1, 1)
+    full = os.path.join(server.dumps, "acme.jsonl")
+    os.symlink("/dev/full", full)
+    server.ask(HELLO)
+    out, err = server.process.communicate(timeout=60)
+    assert out == "acme: closed, 0 entries\nbeta: closed, 0 entries\n"
+    assert (err, server.process.returncode) == ("arena-server: device\n", 3)
+    assert not os.path.lexists(full) and dump_lines(server.dumps, "beta") == 1
+
+
 def wrong_words_and_files_are_faults():
     def run(*words):
         done = subprocess.run([PROGRAM, *words], capture_output=True, text=True, timeout=60)
@@ -538,6 +550,7 @@ CHECKS = [job_is_executed_and_polled, workers_share_a_job, each_job_has_its_end,
           client_that_sends_without_end, clients_that_say_nothing, many_clients_at_once,
           jobs_are_retired_round_after_round, dump_is_the_history, dump_has_the_job_that_was_sent,
           waiting_ends_at_a_full_history, executes_end_at_a_full_history, folder_of_dumps_is_missing,
+          dump_that_fails_is_left_out,
           wrong_words_and_files_are_faults, socket_may_be_gone_at_the_end, worker_that_cannot_be_started_is_a_fault,
           session_that_cannot_be_started_costs_no_history]
 

@@ -101,9 +101,7 @@ where
     );
     // Somebody may have removed it before.
     let _ = fs::remove_file(rt, words.socket);
-    let Some(served) = served else {
-        return Err(ServerEnd::Device);
-    };
+    let served = served?;
     let end = close_tenants(rt, alloc, house, served.seats, config.tenants(), words.dump)?;
     if served.is_whole {
         Ok(end)
@@ -120,6 +118,7 @@ fn config_bytes<R: Files + AllocGlobal>(rt: &R, path: &str) -> Result<Vec<u8>, S
     };
     match file.take(MAX_CONFIG as u64 + 1).read_to_end(&mut bytes) {
         Ok(_) => Ok(bytes),
+        Err(fault) if fault.kind() == ErrorKind::OutOfMemory => Err(ServerEnd::Memory),
         Err(_) => Err(ServerEnd::Device),
     }
 }
@@ -181,7 +180,8 @@ fn tell_end<R: Files + Print>(
     }
 }
 
-/// Writes a history to the file of its tenant's name in the folder.
+/// Writes a history to the file of its tenant's name in the folder. At a fault the file is removed, since a part of
+/// a history would pass for a whole one.
 fn dump_history<R: Files>(
     rt: &R,
     alloc: Global,
@@ -194,10 +194,14 @@ fn dump_history<R: Files>(
     let Ok(mut file) = File::create(rt, path.as_str()) else {
         return Err(ServerEnd::Device);
     };
-    match write_dump(alloc, &mut file, config, history) {
-        Ok(()) => Ok(()),
-        Err(DumpFault::Memory) => Err(ServerEnd::Memory),
-        Err(DumpFault::Device | DumpFault::NoEntry) => Err(ServerEnd::Device),
+    let Err(fault) = write_dump(alloc, &mut file, config, history) else {
+        return Ok(());
+    };
+    // The end is the same if it can't be removed.
+    let _ = fs::remove_file(rt, path.as_str());
+    match fault {
+        DumpFault::Memory => Err(ServerEnd::Memory),
+        DumpFault::Device | DumpFault::NoEntry => Err(ServerEnd::Device),
     }
 }
 

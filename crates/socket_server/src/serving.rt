@@ -2,6 +2,7 @@
 ghost use Rattle.std.specs.Prelude.{◌≡◌};
 ghost use Rattle.socket_server.specs.Shared.{ArePassesOf};
 
+use crate::ends::ServerEnd;
 use crate::house::House;
 use crate::posts::{Client, Posts};
 use crate::sessions::{serve_calls, serve_client};
@@ -25,7 +26,8 @@ pub struct Served {
 
 /// Starts a thread for each of `workers` workers, prints `listening`, accepts `connections` connections,
 /// and serves each by a thread of its own. When all sessions have ended it tells the workers to stop,
-/// and waits for them. None if a worker can't be started: nothing was printed, and nobody served.
+/// and waits for them. `Device` if a worker can't be started, and `Memory` if an allocation fails first: nothing
+/// was printed, and nobody served.
 pub fn serve_connections<R: Threads + Wait + Sync + Print>(
     rt: &R,
     alloc: Global,
@@ -35,11 +37,13 @@ pub fn serve_connections<R: Threads + Wait + Sync + Print>(
     listener: &UnixListener,
     workers: usize,
     connections: u8,
-) -> Option<Served>
+) -> Result<Served, ServerEnd>
     requires { ArePassesOf house.now.queues.queues passes.items }
 {
     let posts = Posts::new(house, passes);
-    let returned = Mutex::new(Vec::new(alloc));
+    // With room for all, so that no seat is lost for lack of memory.
+    let returned = Mutex::new(Vec::with_capacity(alloc, seats.len())?);
+    let waiting = Mutex::new(Vec::with_capacity(alloc, usize::from(connections))?);
     let back = &returned;
     let is_whole = thread::scope(thread::scope_env(), rt, move |scope| {
         let mut posts = posts;
@@ -53,28 +57,40 @@ pub fn serve_connections<R: Threads + Wait + Sync + Print>(
             }
         }
         let is_told = println!(rt; "listening").is_ok();
-        let all_served = accept_all(rt, alloc, posts, seats, listener, connections, back);
+        let all_served = accept_all(
+            rt,
+            alloc,
+            posts,
+            seats,
+            listener,
+            connections,
+            waiting,
+            back,
+        );
         house.stop(rt);
         Some(is_told && all_served)
-    })?;
-    Some(Served {
-        seats: returned.into_inner(),
-        is_whole,
-    })
+    });
+    match is_whole {
+        Some(is_whole) => Ok(Served {
+            seats: returned.into_inner(),
+            is_whole,
+        }),
+        None => Err(ServerEnd::Device),
+    }
 }
 
 /// Accepts `connections` connections, waits until their sessions have ended, and says whether all
 /// were served. The seats that no session took come back too.
-fn accept_all<R: Threads + Wait + Sync>(
+fn accept_all<'h, R: Threads + Wait + Sync>(
     rt: &R,
     alloc: Global,
-    posts: Posts<'_>,
+    posts: Posts<'h>,
     seats: Vec<Seat>,
     listener: &UnixListener,
     connections: u8,
+    waiting: Mutex<Vec<Client<'h>>>,
     back: &Mutex<Vec<Seat>>,
 ) -> bool {
-    let waiting = Mutex::new(Vec::new(alloc));
     let desk = &waiting;
     let all_served = thread::scope(thread::scope_env(), rt, move |scope| {
         let mut posts = posts;
@@ -86,7 +102,7 @@ fn accept_all<R: Threads + Wait + Sync>(
                 all_served = false;
                 break;
             };
-            // A thread takes it from here, so its seats are not lost if no thread can be started.
+            // There is room. A thread takes it from here, so its seats are not lost if no thread can be started.
             let _ = desk.lock(rt).push(client);
             let session = move || serve_waiting(rt, alloc, desk, &stream, back);
             if scope.spawn(session).is_err() {
@@ -136,7 +152,7 @@ fn next_session<'h>(
 /// Keeps the seats that came back.
 fn give_back(back: &mut Vec<Seat>, own: Vec<Seat>) {
     for seat in own {
-        // Closing finds a seat that is lost.
+        // There is room for it. Closing finds a seat that is lost.
         let _ = back.push(seat);
     }
 }
