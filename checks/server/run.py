@@ -481,7 +481,8 @@ def wrong_words_and_files_are_faults():
     # A word that is no text.
     assert run("--config", "f", "--socket", "s", "--connections", "\udcff") == run("\udcff") == wrong_words
     for words in ["--config f --socket s --connections 65", "--config f --socket s --connections 0",
-                  "--config f --connections 2", "--config f --socket s --connections 2 now"]:
+                  "--config f --connections 2", "--config f --socket s --connections 2 now",
+                  "--config f --socket s --connections 2 --dump="]:
         assert run(*words.split()) == wrong_words, words
     # No file has these names, which is found out once the words are right.
     for words in ["--config f --socket s --connections 2", "--dump=d --connections=64 --socket=s --config=f"]:

@@ -71,6 +71,10 @@ where
         Err(WordsFault::Words) => return Err(ServerEnd::Words),
         Err(WordsFault::Memory) => return Err(ServerEnd::Memory),
     };
+    // Dumps in a folder without a name would go to the root.
+    if let Some("") = words.dump {
+        return Err(ServerEnd::Words);
+    }
     serve_tenants(rt, words)
 }
 
