@@ -1,12 +1,14 @@
 #!/usr/bin/env python3
-"""Fails each allocation in turn of `arena-script`, by each of its words, and of `arena-server` with three sessions.
+"""Fails each allocation in turn of `failed_allocations`, of `arena-script`, by each of its words, and of `arena-server`
+with three sessions.
 
-With one allocation failed, a script ends for lack of memory after a first part of its answers, or refuses one line
-and answers the others as if that were not there. The server does not start, or refuses one line, which is answered
-when it is sent again, or has one of the other effects of `sessions.py`. Each effect must come up.
+With one allocation failed, `failed_allocations` makes the call that failed again and prints the same. A script ends
+for lack of memory after a first part of its answers, or refuses one line and answers the others as if that were not
+there. The server does not start, or refuses one line, which is answered when it is sent again, or has one of the other
+effects of `sessions.py`. Each effect must come up.
 
-usage: checks/failed_allocations/run.py, after `rt ci`, or `rt run` in crates/script_program and in
-crates/server_program. It needs `cc` on the path.
+usage: checks/failed_allocations/run.py, after `rt ci`, or `rt run` in crates/failed_allocations, crates/script_program
+and crates/server_program. It needs `cc` on the path.
 """
 import collections
 import os
@@ -15,6 +17,7 @@ import subprocess
 import sys
 import tempfile
 
+from calls import Calls
 from scripts import scripts
 from sessions import Server
 
@@ -43,7 +46,7 @@ def main():
         failing = pathlib.Path(folder) / "fail.so"
         source = pathlib.Path(__file__).with_name("fail.c")
         subprocess.run(["cc", "-shared", "-fPIC", "-O2", "-o", failing, source], check=True)
-        for program in [*scripts(), Server()]:
+        for program in [Calls(), *scripts(), Server()]:
             failed, others = sweep(program, failing)
             print(f"{program.name}: {failed} allocations failed", flush=True)
             count, wrong = count + failed, wrong + others

@@ -3,7 +3,7 @@
 many processor minutes each crate took, for its proofs, for its tests, and for its must-fail edits, the dearest crate
 last, and then once more each line that tells of a fault. The end stays in out/gate.md.
 
-Each check gets one processor (RT_JOBS), since a check that three of them share takes an eighth more time of them in all.
+Each check gets one processor (RT_JOBS): on three, a check took an eighth more processor time.
 
 usage: checks/gate/run.py, at the top of the repository. It exits as `rt ci` does.
 """
@@ -79,7 +79,8 @@ def main():
     processors = len(os.sched_getaffinity(0))
     room = {"RT_JOBS": str(processors), **os.environ}
     last, faults = "", []
-    with subprocess.Popen(["rt", "ci"], env=room, stdout=subprocess.PIPE, stderr=subprocess.STDOUT, text=True, errors="replace") as run:
+    pipes = {"stdout": subprocess.PIPE, "stderr": subprocess.STDOUT, "text": True, "errors": "replace"}
+    with subprocess.Popen(["rt", "ci"], env=room, **pipes) as run:
         watcher = threading.Thread(target=watch, args=(str(run.pid), spent, is_over))
         watcher.start()
         for line in run.stdout:

@@ -11,6 +11,9 @@ use rand::RngExt;
 use rand_pcg::Pcg32;
 use std::alloc::Global;
 
+/// The stream of each generator.
+pub(crate) const STREAM: u64 = 54;
+
 /// How many turns a round has.
 const TURNS: u8 = 4;
 
@@ -34,7 +37,7 @@ pub(crate) struct Rounds {
 }
 
 /// A round under way.
-struct Round<'a> {
+pub(crate) struct Round<'a> {
     alloc: Global,
     seed: u64,
     jobs: &'a [Job],
@@ -58,6 +61,25 @@ impl<'a> Drop for Round<'a> {
 }
 
 impl<'a> Round<'a> {
+    /// A round with these jobs, of a tenant that has done nothing yet. What goes on is drawn by `draws`, which was
+    /// begun with the seed.
+    pub(crate) fn new(
+        alloc: Global,
+        seed: u64,
+        draws: Pcg32,
+        jobs: &'a [Job],
+        pair: Pair,
+    ) -> Round<'a> {
+        Round {
+            alloc,
+            seed,
+            jobs,
+            pair,
+            draws,
+            made: 0,
+        }
+    }
+
     /// Does something to both, and compares them.
     fn take(&mut self, act: Act, tally: &mut Tally) -> Result<(), Stop> {
         let Some(both) = self.pair.take(act)? else {
@@ -81,7 +103,7 @@ impl<'a> Round<'a> {
     }
 
     /// Does anything that is drawn.
-    fn take_any(&mut self, tally: &mut Tally) -> Result<(), Stop> {
+    pub(crate) fn take_any(&mut self, tally: &mut Tally) -> Result<(), Stop> {
         let hand = Hand {
             jobs: self.jobs,
             slots: self.pair.slots(),
@@ -92,13 +114,13 @@ impl<'a> Round<'a> {
     }
 
     /// Moves a slot that is drawn.
-    fn move_any(&mut self, tally: &mut Tally) -> Result<(), Stop> {
+    pub(crate) fn move_any(&mut self, tally: &mut Tally) -> Result<(), Stop> {
         let act = draw_move(&mut self.draws, self.pair.slots());
         self.take(act, tally)
     }
 
     /// Asks for something.
-    fn ask(&mut self, request: Request, tally: &mut Tally) -> Result<(), Stop> {
+    pub(crate) fn ask(&mut self, request: Request, tally: &mut Tally) -> Result<(), Stop> {
         self.take(Act::Step(Step::Ask(request)), tally)
     }
 
@@ -113,10 +135,15 @@ impl<'a> Round<'a> {
         Ok(())
     }
 
+    /// Asks for the outcome of one of the last jobs, the last one being the first.
+    pub(crate) fn collect_one(&mut self, back: u64, tally: &mut Tally) -> Result<(), Stop> {
+        self.ask(Request::Collect(self.made.saturating_sub(back)), tally)
+    }
+
     /// Asks for the outcomes of the last jobs.
     fn collect(&mut self, tally: &mut Tally) -> Result<(), Stop> {
         for back in 0..COLLECTED {
-            self.ask(Request::Collect(self.made.saturating_sub(back)), tally)?;
+            self.collect_one(back, tally)?;
         }
         Ok(())
     }
@@ -160,20 +187,13 @@ impl<'a> Round<'a> {
 
 /// Takes the round of a seed.
 fn run_round(alloc: Global, seed: u64, given: &[Job], tally: &mut Tally) -> Result<(), Stop> {
-    let mut draws = Pcg32::new(seed, 54);
+    let mut draws = Pcg32::new(seed, STREAM);
     let Some(config) = draw_tenant(&mut draws) else {
         return Err(Stop::NoTenant);
     };
     let jobs = draw_jobs(&mut draws, given);
     let is_flood = draws.random_range(0u8..16) == 0;
-    let mut round = Round {
-        alloc,
-        seed,
-        jobs,
-        pair: Pair::new(alloc, config)?,
-        draws,
-        made: 0,
-    };
+    let mut round = Round::new(alloc, seed, draws, jobs, Pair::new(alloc, config)?);
     round.take_turns(is_flood, tally)
 }
 

@@ -7,6 +7,8 @@ use std::{fmt, io};
 pub(crate) enum Stop {
     /// The arena and the evaluator differ, in the round and in the way that the text says.
     Differs(String),
+    /// The words are no seed and number of rounds.
+    Words,
     /// The input's line of that number is no job.
     Line(usize),
     /// The input has no line.
@@ -24,7 +26,7 @@ impl Stop {
     pub(crate) fn status(&self) -> u8 {
         match self {
             Stop::Differs(_) => 1,
-            Stop::Line(_) | Stop::NoJobs => 2,
+            Stop::Words | Stop::Line(_) | Stop::NoJobs => 2,
             Stop::NoTenant | Stop::Memory | Stop::Io => 3,
         }
     }
@@ -52,6 +54,7 @@ impl fmt::Display for Stop {
     fn fmt<W: fmt::Write>(&self, f: &mut fmt::Formatter<W>) -> fmt::Result {
         match self {
             Stop::Differs(text) => f.write_str(text.as_str()),
+            Stop::Words => f.write_str("usage: arena_fuzz [SEED ROUNDS] < JOBS"),
             Stop::Line(number) => write!(f, "line {number} is no job"),
             Stop::NoJobs => f.write_str("the input has no job"),
             Stop::NoTenant => f.write_str("what was drawn is no tenant"),

@@ -1,5 +1,6 @@
 // All threads of a server.
-ghost use Rattle.std.specs.Prelude.{◌≡◌};
+ghost use Rattle.std.specs.Prelude.{◌≡◌, ◌⊎◌, IfErr};
+ghost use Rattle.socket_server.specs.declared.ends.ServerEnd.TheVariants.{Device, Memory};
 ghost use Rattle.socket_server.specs.Shared.{ArePassesOf};
 
 use crate::ends::ServerEnd;
@@ -39,6 +40,7 @@ pub fn serve_connections<R: Threads + Wait + Sync + Print>(
     connections: u8,
 ) -> Result<Served, ServerEnd>
     requires { ArePassesOf house.now.queues.queues passes.items }
+    ensures { IfErr result (λ end. (end ≡ Device) ⊎ (end ≡ Memory)) }
 {
     let posts = Posts::new(house, passes);
     // With room for all, so that no seat is lost for lack of memory.
@@ -102,7 +104,8 @@ fn accept_all<'h, R: Threads + Wait + Sync>(
                 all_served = false;
                 break;
             };
-            // There is room. A thread takes it from here, so its seats are not lost if no thread can be started.
+            // There is room for it. A thread takes it from here, so its seats are not lost if no thread can be
+            // started.
             let _ = desk.lock(rt).push(client);
             let session = move || serve_waiting(rt, alloc, desk, &stream, back);
             if scope.spawn(session).is_err() {
@@ -152,7 +155,7 @@ fn next_session<'h>(
 /// Keeps the seats that came back.
 fn give_back(back: &mut Vec<Seat>, own: Vec<Seat>) {
     for seat in own {
-        // There is room for it. Closing finds a seat that is lost.
+        // There is room for all; closing would find a seat that is lost.
         let _ = back.push(seat);
     }
 }

@@ -42,7 +42,7 @@ pub(crate) fn run_world(alloc: Global, tenants: usize, jobs: usize) -> Result<Ra
     world.run_each(jobs)
 }
 
-/// So many tenants, and a worker.
+/// That many tenants, and a worker.
 fn config(alloc: Global, count: usize) -> Result<Config, Stop> {
     let mut tenants = Vec::new(alloc);
     for number in 0..count {

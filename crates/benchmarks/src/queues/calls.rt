@@ -10,6 +10,9 @@ use std::sync::Wait;
 use std::thread;
 use std::thread::Threads;
 
+/// How many threads share the queues.
+const THREADS: usize = 4;
+
 /// One thread pushes and pops `calls` calls of a tenant of that level.
 pub(crate) fn by_one<R: Wait>(
     rt: &R,
@@ -29,7 +32,7 @@ pub(crate) fn by_four<R: Threads + Wait + Sync>(
     level: Level,
     calls: usize,
 ) -> Result<Counts, AllocError> {
-    let (queues, passes) = CallQueues::new(alloc, one_tenant(alloc, level)?, 4)?;
+    let (queues, passes) = CallQueues::new(alloc, one_tenant(alloc, level)?, THREADS)?;
     let done = in_four_threads(rt, &queues, four_passes(&queues, passes), calls);
     Ok(with_rest(rt, &queues, done))
 }
@@ -50,8 +53,8 @@ fn one_tenant(alloc: Global, level: Level) -> Result<MarketConfig, AllocError>
 }
 
 fn four_passes(queues: &CallQueues, mut passes: Vec<QueuePass>) -> Passes
-    requires long { length passes.items ≡ 4 }
-    requires fresh { (k : ℕ) (d : PassSeen) → k < 4 → slice_index_or passes.items k d ≡ fresh queues.now.queues k }
+    requires long { length passes.items ≡ THREADS }
+    requires fresh { (k : ℕ) (d : PassSeen) → k < THREADS → slice_index_or passes.items k d ≡ fresh queues.now.queues k }
     ensures first { (result.0.queues ≡ queues.now.queues) × (result.1.queues ≡ queues.now.queues) }
     ensures second { (result.2.queues ≡ queues.now.queues) × (result.3.queues ≡ queues.now.queues) }
 {

@@ -36,7 +36,7 @@ pub(crate) enum Users {
 }
 
 impl Users {
-    /// So many threads, if that is one or four.
+    /// That many threads, if that is one or four.
     pub(crate) fn of(threads: usize) -> Option<Users> {
         match threads {
             1 => Some(Users::One),

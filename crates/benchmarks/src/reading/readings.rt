@@ -22,7 +22,7 @@ impl Read for Blocks<'_> {
     }
 }
 
-/// So many requests, each on a line.
+/// That many requests, each on a line.
 pub(crate) fn requests_of(alloc: Global, count: usize) -> Result<String, AllocError> {
     let mut text = String::new(alloc);
     for number in 0..count {

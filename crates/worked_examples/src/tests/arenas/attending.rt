@@ -6,6 +6,7 @@ use crate::tests::assert_same;
 use arena_core::Arena;
 use arena_door::attend_slot;
 use job_language::{Came, Error, Moved, Reply, Request, Status};
+use job_step::{View, segment_of};
 use nested_wait::Attended;
 use std::alloc::Global;
 use std::test::Fail;
@@ -110,6 +111,26 @@ fn a_waiter_whose_task_is_elsewhere_is_stopped(rt: HostRuntime) -> Result<(), Fa
                 (Attended::Below, 0, Reply::Job(1, Status::Complete(5))),
             ),
         ),
+    );
+    Ok(())
+}
+
+/// The answers to two commits of the topmost frame of the first slot.
+fn committed_twice(arena: &mut Arena) -> Option<(Moved, Moved)> {
+    let View::Top(top) = arena.view(0) else {
+        return None;
+    };
+    let segment = segment_of(top);
+    Some((arena.commit(0, &segment), arena.commit(0, &segment)))
+}
+
+#[test]
+fn a_frame_that_is_seen_is_committed_once(rt: HostRuntime) -> Result<(), Fail> {
+    let mut arena = executed(rt.alloc(), FIB, 1, 100)?;
+    assert_same(
+        &rt,
+        &committed_twice(&mut arena),
+        &Some((Moved::Ran, Moved::Stale)),
     );
     Ok(())
 }

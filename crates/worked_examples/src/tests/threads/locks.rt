@@ -1,6 +1,7 @@
 // A tenant behind its door, from a submitted job to the history.
 
 use crate::tests::assert_same;
+use history_check::{Verdict, check};
 use job_language::{
     Came, Fuel, Instr, Isolation, Job, Level, Moved, Proc, Program, Register, Reply, Request,
     Status, Tenant, TenantConfig, TenantName,
@@ -9,7 +10,9 @@ use job_step::{Segment, View, segment_of};
 use std::alloc::{AllocError, Global};
 use std::sync::Wait;
 use std::test::Fail;
-use tenant_lock::{CloseFault, TenantDoor};
+use std::thread;
+use std::thread::Threads;
+use tenant_lock::{CloseFault, Closed, TenantDoor};
 use tenant_record::{Advanced, Pass, Seat};
 use world_model::Call;
 
@@ -185,6 +188,75 @@ fn a_private_run_is_committed_once(rt: HostRuntime) -> Result<(), Fail> {
     let seen = (committed, door.close(seats)?.history.len());
     let committed = Some((Moved::Ran, Moved::Stale));
     assert_same(&rt, &seen, &(committed, 3));
+    Ok(())
+}
+
+/// Whether a job that is submitted is running when it is polled.
+fn is_running<R: Wait>(rt: &R, alloc: Global, door: &TenantDoor, seat: &mut Seat) -> Option<bool> {
+    let (Reply::Made(job), _) = submit(rt, alloc, door, seat)? else {
+        return None;
+    };
+    let polled = poll(rt, door, seat, job)?;
+    Some(polled == Reply::Job(job, Status::Running))
+}
+
+/// Submits a job and polls it, 50 times. No worker is there, so each job is running.
+fn ask_often<R: Wait>(rt: &R, alloc: Global, door: &TenantDoor, mut seat: Seat) -> Option<Seat> {
+    for _ in 0..50 {
+        if is_running(rt, alloc, door, &mut seat) != Some(true) {
+            return None;
+        }
+    }
+    Some(seat)
+}
+
+fn in_two_threads<R: Threads + Wait + Sync>(
+    rt: &R,
+    alloc: Global,
+    door: &TenantDoor,
+    one: Seat,
+    two: Seat,
+) -> (Option<Seat>, Option<Seat>) {
+    thread::join(
+        rt,
+        move || ask_often(rt, alloc, door, one),
+        move || ask_often(rt, alloc, door, two),
+    )
+}
+
+/// Asks by each of two seats in a thread of its own. Both come back.
+fn ask_by_both<R: Threads + Wait + Sync>(
+    rt: &R,
+    alloc: Global,
+    door: &TenantDoor,
+    mut seats: Vec<Seat>,
+) -> Result<Vec<Seat>, Fail> {
+    let two = seats.pop().ok_or("a seat")?;
+    let one = seats.pop().ok_or("a seat")?;
+    put_back(seats, in_two_threads(rt, alloc, door, one, two))
+}
+
+/// Puts both seats back, in their order.
+fn put_back(mut seats: Vec<Seat>, both: (Option<Seat>, Option<Seat>)) -> Result<Vec<Seat>, Fail> {
+    let (one, two) = both;
+    seats.push(one.ok_or("an ask failed")?)?;
+    seats.push(two.ok_or("an ask failed")?)?;
+    Ok(seats)
+}
+
+/// The tenant that two threads asked, once its door is closed.
+fn closed_after_both<R: Threads + Wait + Sync>(rt: &R, alloc: Global) -> Result<Closed, Fail> {
+    let (door, seats) = TenantDoor::new(alloc, 0, two_slots()?, 2)?;
+    let seats = ask_by_both(rt, alloc, &door, seats)?;
+    Ok(door.close(seats)?)
+}
+
+#[test]
+fn two_threads_ask_and_the_history_replays(rt: HostRuntime) -> Result<(), Fail> {
+    let closed = closed_after_both(&rt, rt.alloc())?;
+    let verdict = check(rt.alloc(), two_slots()?, closed.history.as_slice())?;
+    let seen = (closed.history.len(), verdict);
+    assert_same(&rt, &seen, &(200, Verdict::Yes));
     Ok(())
 }
 

@@ -1,0 +1,23 @@
+"""The program of the calls that take memory: it makes each again that failed, so it prints the same whatever fails."""
+import subprocess
+
+from scripts import ROOT, SECONDS
+
+CRATE = ROOT / "crates/failed_allocations"
+
+
+class Calls:
+    """The program, with what it prints."""
+
+    name, effects = "failed_allocations", []
+
+    def run(self, room):
+        """Returns whether an allocation failed, `nothing` or None, if that had an effect, and what was seen."""
+        pipes = {"capture_output": True, "text": True}
+        try:
+            done = subprocess.run([CRATE / "out/failed_allocations"], **pipes, env=room, timeout=SECONDS)
+        except subprocess.TimeoutExpired as hung:
+            return True, None, hung
+        said = done.stderr.removeprefix("failed\n")
+        is_same = (done.stdout, said, done.returncode) == ((CRATE / "stdout").read_text(), "", 0)
+        return said != done.stderr, "nothing" if is_same else None, done

@@ -1,0 +1,146 @@
+// The calls of a tenant's door, each made again if an allocation failed.
+use crate::jobs::{MOVES, fibonacci, status_of, tenant};
+use crate::retries::again;
+use job_language::{Error, Moved, Reply, Request, Status};
+use job_step::{Segment, View, segment_of};
+use std::alloc::Global;
+use std::sync::Wait;
+use tenant_lock::TenantDoor;
+use tenant_record::{Advanced, Asked, Pass, Seat};
+use world_model::Call;
+
+/// The call of the slot for workers.
+const CALL: Call = Call { tenant: 0, slot: 1 };
+
+/// The outcome of the job, if it is submitted and a worker moves it.
+pub(crate) fn submitted<R: Wait>(rt: &R, alloc: Global) -> Option<Status> {
+    let (door, mut seats) = again(|| new_door(alloc))?;
+    let status = submit(rt, alloc, &door, seats.as_mut_slice());
+    door.close(seats).ok()?;
+    status
+}
+
+fn submit<R: Wait>(rt: &R, alloc: Global, door: &TenantDoor, seats: &mut [Seat]) -> Option<Status> {
+    let seat = seats.first_mut()?;
+    let asked = ask_job(rt, door, seat, || Some(Request::Submit(fibonacci(alloc)?)))?;
+    let Reply::Made(job) = asked.reply else {
+        return None;
+    };
+    work(rt, door)?;
+    status_of(&ask(rt, door, seat, Request::Collect(job))?.reply)
+}
+
+/// The outcome of the job, if it is executed by private runs that are committed.
+pub(crate) fn executed<R: Wait>(rt: &R, alloc: Global) -> Option<Status> {
+    let (door, mut seats) = again(|| new_door(alloc))?;
+    let status = execute(rt, alloc, &door, seats.as_mut_slice());
+    door.close(seats).ok()?;
+    status
+}
+
+fn execute<R: Wait>(
+    rt: &R,
+    alloc: Global,
+    door: &TenantDoor,
+    seats: &mut [Seat],
+) -> Option<Status> {
+    let seat = seats.first_mut()?;
+    let asked = ask_job(rt, door, seat, || Some(Request::Execute(fibonacci(alloc)?)))?;
+    let Reply::Placed(job, _) = asked.reply else {
+        return None;
+    };
+    commit_all(rt, door, asked.pass?)?;
+    work(rt, door)?;
+    status_of(&ask(rt, door, seat, Request::Collect(job))?.reply)
+}
+
+/// The tenant's door, with one seat.
+fn new_door(alloc: Global) -> Option<(TenantDoor, Vec<Seat>)> {
+    TenantDoor::new(alloc, 0, tenant(alloc)?, 1).ok()
+}
+
+/// Asks by a seat.
+fn ask<R: Wait>(rt: &R, door: &TenantDoor, seat: &mut Seat, request: Request) -> Option<Asked> {
+    if seat.tenant() != door.tenant() {
+        return None;
+    }
+    Some(door.ask(rt, seat, request))
+}
+
+/// Asks for what brings the job, again if it was refused for lack of memory.
+fn ask_job<R: Wait, F: Fn() -> Option<Request>>(
+    rt: &R,
+    door: &TenantDoor,
+    seat: &mut Seat,
+    request: F,
+) -> Option<Asked>
+    requires { F.IsAlwaysCallable request }
+{
+    let asked = ask(rt, door, seat, request()?)?;
+    match asked.reply {
+        Reply::Refused(Error::NoMemory) => ask(rt, door, seat, request()?),
+        _ => Some(asked),
+    }
+}
+
+/// A worker arrives at the second slot, and advances it until its pass goes home.
+fn work<R: Wait>(rt: &R, door: &TenantDoor) -> Option<()> {
+    let mut pass = door.arrive(rt, CALL).pass?;
+    for _ in 0..MOVES {
+        let advanced = advance(rt, door, pass)?;
+        match advanced.pass {
+            Some(kept) => pass = kept,
+            None => return is_left(advanced.moved),
+        }
+    }
+    None
+}
+
+fn is_left(moved: Moved) -> Option<()> {
+    match moved {
+        Moved::Left => Some(()),
+        _ => None,
+    }
+}
+
+fn advance<R: Wait>(rt: &R, door: &TenantDoor, pass: Pass) -> Option<Advanced> {
+    if pass.tenant() != door.tenant() {
+        return None;
+    }
+    Some(door.advance(rt, pass))
+}
+
+/// Commits the private run of a slot's topmost frame until its pass goes home.
+fn commit_all<R: Wait>(rt: &R, door: &TenantDoor, first: Pass) -> Option<()> {
+    let mut pass = first;
+    for _ in 0..MOVES {
+        let segment = segment(rt, door, &pass)?;
+        match commit(rt, door, pass, segment)?.pass {
+            Some(kept) => pass = kept,
+            None => return Some(()),
+        }
+    }
+    None
+}
+
+fn commit<R: Wait>(rt: &R, door: &TenantDoor, pass: Pass, segment: Segment) -> Option<Advanced> {
+    if pass.tenant() != door.tenant() {
+        return None;
+    }
+    Some(door.commit(rt, pass, segment))
+}
+
+/// The private run of the topmost frame of a pass's slot.
+fn segment<R: Wait>(rt: &R, door: &TenantDoor, pass: &Pass) -> Option<Segment> {
+    again(|| seen(rt, door, pass))
+}
+
+fn seen<R: Wait>(rt: &R, door: &TenantDoor, pass: &Pass) -> Option<Segment> {
+    if pass.tenant() != door.tenant() {
+        return None;
+    }
+    match door.view(rt, pass) {
+        View::Top(top) => Some(segment_of(top)),
+        View::Bare | View::Unshared => None,
+    }
+}
