@@ -31,6 +31,9 @@ FINDS = ["ran", "freed", "nested", "arrived", "idle", "left", "none", "full", "p
          # Of a job with a serial value, after moves in a drawn order.
          "order: complete"]
 
+# In how many drawn orders a job with a serial value is run.
+ORDERS = 10
+
 
 def text(value):
     return json.dumps(value, separators=(",", ":"), sort_keys=True)
@@ -102,7 +105,8 @@ def serial_jobs_differ(draws, seen, count):
         if want != line:
             print(f"{text(job)}: {line}, and not {want}")
     numbers = [(job, value) for job, value in zip(jobs, values) if isinstance(value, int)]
-    return sum(want != line for _, want, line in pairs) + sum(order_differs(draws, seen, *it) for it in numbers)
+    orders = [order_differs(draws, seen, *it) for it in numbers for _ in range(ORDERS)]
+    return sum(want != line for _, want, line in pairs) + sum(orders)
 
 
 def order_differs(draws, seen, job, value):
