@@ -5,6 +5,7 @@ ghost use Rattle.tenant_model.specs.State.{State};
 ghost use Rattle.tenant_model.specs.declared.works.TheConstants.{MAX_JOBS};
 ghost use Rattle.tenant_model.specs.Changes.{entry};
 ghost use Rattle.tenant_model.specs.Asks.{ask, free_slot, reply_to, submit, submit_placed, unless_limit};
+ghost use Rattle.arena_rows.specs.Held.{HasFreePlace};
 ghost use Rattle.arena_rows.specs.Represents.{Rests, Gives};
 ghost use Rattle.arena_core.specs.Stands.{IsOfSomeState};
 
@@ -80,7 +81,7 @@ fn limit(parts: &Parts) -> Option<Error>
     ensures value { (s : State) (made : Reply × State) → Rests parts.now s
         → unless_limit s made ≡ option_map_or (λ error. (Reply.Refused error, entry s)) result made }
     ensures jobs { result ≡ None → length parts.now.jobs < MAX_JOBS }
-    ensures rows { result ≡ None → 0 < length parts.now.free }
+    ensures rows { result ≡ None → HasFreePlace parts.now }
 {
     if parts.is_job_limit_met() {
         return Some(Error::JobLimit);

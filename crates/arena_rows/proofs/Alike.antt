@@ -1,5 +1,5 @@
 -- Rows that differ in frames, and in phases that are open alike.
-use Rattle.std.proofs.Common.{◌≡◌, ℕ, zero, suc, ◌+◌, ◌-◌, ◌==◌, ◌<◌, ◌≤◌, ℤ, pos, List, [], ◌∷◌, ◌++◌, length, Option, Some, None, Bool, true, false, ◌&&◌, nat_lt, refl, sym, ap, ◌∙◌, arith, inl, inr, map, ◌⊎◌}
+use Rattle.std.proofs.Common.{◌≡◌, ℕ, zero, suc, ◌+◌, ◌≤◌, ℤ, pos, List, [], ◌∷◌, ◌++◌, length, Bool, false, ◌&&◌, nat_lt, refl, sym, ap, ◌∙◌, arith, inl, inr}
 use Rattle.std.specs.Prelude.{filter, fold, find, count_by, slice_index_or}
 use Rattle.std.specs.List.{enumerate_from}
 use Rattle.std.specs.Int.{int_wrapping_add, w64}
@@ -10,8 +10,8 @@ use Rattle.tenant_model.specs.declared.rows.Kind.{Kind}
 use Rattle.tenant_model.specs.declared.rows.Kind.TheVariants.{Root, Posted, Spawned, Region}
 use Rattle.tenant_model.specs.declared.rows.Mark.{Mark}
 use Rattle.tenant_model.specs.declared.rows.Row.{Row}
-use Rattle.tenant_model.specs.State.{State, row, with_at_number}
-use Rattle.tenant_model.specs.Walks.{NumberedRow, numbered_rows, is_open, is_region, value_in, is_spawned_by, mark, members, total, is_used, region_of, chain}
+use Rattle.tenant_model.specs.State.{row, with_at_number}
+use Rattle.tenant_model.specs.Walks.{NumberedRow, is_open, is_region, value_in, is_spawned_by, mark, is_used, region_of, chain}
 use Rattle.tenant_model.specs.Changes.{open_rows}
 use Rattle.tenant_model.proofs.Within.{either_way}
 use Rattle.tenant_model.proofs.Stacking.{one_if, count-cons}
@@ -20,7 +20,7 @@ use Rattle.tenant_model.proofs.Changed.{row-with_same, row-with_other}
 use Rattle.tenant_model.proofs.Linked.{SameSources-set}
 use Rattle.task_group.specs.Groups.{group}
 use Rattle.arena_rows.specs.declared.rows.OpenRow.{OpenRow}
-use Rattle.arena_rows.specs.Represents.{Places, id_of, tag_of, around_of, stage_of, IsGroup, IsRow, open_of}
+use Rattle.arena_rows.specs.Represents.{Places, tag_of, around_of, stage_of, IsGroup, IsRow, open_of}
 
 pub record Alike (a b : List Row) : Type 0 where
   pub contexts : SameContexts a b

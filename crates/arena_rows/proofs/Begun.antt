@@ -23,9 +23,9 @@ use Rattle.tenant_model.proofs.Steady.{steady_added, steady_placed}
 use Rattle.tenant_model.proofs.Within.{region_of-none}
 use Rattle.tenant_model.specs.Sound.{IsSteady}
 use Rattle.arena_rows.specs.declared.rows.Stage.TheVariants as stage
-use Rattle.arena_rows.specs.Held.{Held}
-use Rattle.arena_rows.specs.Represents.{id_of, nested_of, waiting, waiting_of, AreNests, Holds, Rests}
-use Rattle.arena_rows.specs.HeldChanges.{next_place, next_id, root_frame, job_begun, root_pushed, put}
+use Rattle.arena_rows.specs.Held.{Held, HasFreePlace}
+use Rattle.arena_rows.specs.Represents.{id_of, nested_of, waiting, waiting_of, AreNests, Holds, Rests, IsFree}
+use Rattle.arena_rows.specs.HeldChanges.{next_id, root_frame, job_begun, root_pushed, put}
 use Rattle.arena_rows.proofs.Making.{free_room}
 use Rattle.arena_rows.proofs.NewSettled.{added_settled}
 use Rattle.arena_rows.proofs.Placed.{IsPlaced, next_placed}
@@ -34,8 +34,8 @@ use Rattle.arena_rows.proofs.Pushing.{AreNests-waiting, waiting-none, waiting-on
 use Rattle.arena_rows.proofs.Submitted.{begun_holds, r}
 use Rattle.arena_rows.proofs.Tops.{height_is}
 
-module _ (a : Held) (s : State) (is : Holds a s) (placed : is.places (length s.rows + 1) ≡ next_place a) (j : Job) (c : ℕ)
-    (some : 0 < length a.free) (room : length a.jobs < MAX_JOBS) (free : binding a.contexts c ≡ None) (inside : c < length a.contexts) (count : held_count (with_bound a.contexts c None) ≡ held_count a.contexts + 1) where
+module _ (a : Held) (s : State) (is : Holds a s) (place : ℕ) (placed : is.places (length s.rows + 1) ≡ place) (j : Job) (c : ℕ)
+    (vacant : IsFree a.table place) (room : length a.jobs < MAX_JOBS) (free : binding a.contexts c ≡ None) (inside : c < length a.contexts) (count : held_count (with_bound a.contexts c None) ≡ held_count a.contexts + 1) where
   abbrev N : ℕ
   N = length s.rows + 1
 
@@ -50,10 +50,10 @@ module _ (a : Held) (s : State) (is : Holds a s) (placed : is.places (length s.r
 
   module _ (kept : IsSteady (add_job s j Unstarted)) where
     abbrev w : Waiting
-    w = record { row = next_id a; made_on = None; region = None }
+    w = record { row = next_id a place; made_on = None; region = None }
 
     abbrev new : Row
-    new = r a s is placed j Unstarted (stage.Waiting (root_frame j)) c refl refl refl kept some room free inside count
+    new = r a s is place placed j Unstarted (stage.Waiting (root_frame j)) c refl refl refl kept vacant room free inside count
 
     abbrev rows1 : List Row
     rows1 = s.rows ++ new ∷ []
@@ -66,16 +66,16 @@ module _ (a : Held) (s : State) (is : Holds a s) (placed : is.places (length s.r
         let here : row rows1 N ≡ new = row-push_new s.rows N new refl in
         let no_region : region_of rows1 N ≡ None = region_of-none rows1 precede1 N (omega arith) (omega (arith, length_push s.rows new)) (rw here refl) (rw here refl) in
         let waiting_at : ℕ → ℕ → Option ℕ → Waiting = λ k q region. record { row = record { number = k; place = q }; made_on = None; region = option_map (id_of is.places) region } in
-        let w_is : w ≡ waiting_at N (is.places N) (region_of rows1 N) = ap (λ k. waiting_at k (next_place a) None) number ∙ ap (λ q. waiting_at N q None) (sym placed) ∙ ap (waiting_at N (is.places N)) (sym no_region) in
+        let w_is : w ≡ waiting_at N (is.places N) (region_of rows1 N) = ap (λ k. waiting_at k place None) number ∙ ap (λ q. waiting_at N q None) (sym placed) ∙ ap (waiting_at N (is.places N)) (sym no_region) in
         ap (λ q. with_row q w) is.waiting ∙ ap pool_of (ap (λ v. map (waiting_of s.rows is.places) (waiting s.rows) ++ v ∷ []) w_is ∙ sym (waiting-one s.rows new precede precede1 is.places refl))
 
-    pub submitted_holds : Holds (put (job_begun a j (stage.Waiting (root_frame j)) c) w) (add_job s j Unstarted)
-    submitted_holds = begun_holds a s is placed j Unstarted (stage.Waiting (root_frame j)) c refl refl refl kept some room free inside count (with_row a.pool w) a.nests
+    pub submitted_holds : Holds (put (job_begun a place j (stage.Waiting (root_frame j)) c) w) (add_job s j Unstarted)
+    submitted_holds = begun_holds a s is place placed j Unstarted (stage.Waiting (root_frame j)) c refl refl refl kept vacant room free inside count (with_row a.pool w) a.nests
         (AreNests-waiting s.rows new precede precede1 is.places a.config.slots a.nests refl is.nests) pool
 
   module _ (slot : ℕ) (kept : IsSteady (add_job s j (Live slot 1))) (low : slot < a.config.slots) (bare : length (stack a.nests slot) ≡ 0) where
     abbrev new_live : Row
-    new_live = r a s is placed j (Live slot 1) (stage.Live slot 1) c refl refl refl kept some room free inside count
+    new_live = r a s is place placed j (Live slot 1) (stage.Live slot 1) c refl refl refl kept vacant room free inside count
 
     abbrev rows2 : List Row
     rows2 = s.rows ++ new_live ∷ []
@@ -92,12 +92,12 @@ module _ (a : Held) (s : State) (is : Holds a s) (placed : is.places (length s.r
       | inr before ↦ row-push_old s.rows m new_live (omega (arith, before))
     ]
 
-    nested_is : nested_of rows2 is.places N ≡ record { frame = root_frame j; row = next_id a; is_region = false }
+    nested_is : nested_of rows2 is.places N ≡ record { frame = root_frame j; row = next_id a place; is_region = false }
     nested_is =
         let at_number : ℕ → ℕ → Nested = λ k q. record { frame = root_frame j; row = record { number = k; place = q }; is_region = false } in
-        ap (λ (q : Row). let x : Nested = record { frame = q.frame; row = id_of is.places N; is_region = is_region q.kind } in x) here2 ∙ ap (at_number N) placed ∙ ap (λ k. at_number k (next_place a)) (sym number)
+        ap (λ (q : Row). let x : Nested = record { frame = q.frame; row = id_of is.places N; is_region = is_region q.kind } in x) here2 ∙ ap (at_number N) placed ∙ ap (λ k. at_number k place) (sym number)
 
-    nests : AreNests rows2 is.places a.config.slots (root_pushed a slot (root_frame j) (next_id a)).nests
+    nests : AreNests rows2 is.places a.config.slots (root_pushed a slot (root_frame j) (next_id a place)).nests
     nests =
         let first : length (stack a.nests slot) + 1 ≡ 1 = omega (arith, bare) in
         subst (λ x. AreNests rows2 is.places a.config.slots (with_stack a.nests slot (stack a.nests slot ++ x ∷ []))) nested_is
@@ -107,26 +107,26 @@ module _ (a : Held) (s : State) (is : Holds a s) (placed : is.places (length s.r
     live_pool : a.pool ≡ pool_of (map (waiting_of rows2 is.places) (waiting rows2))
     live_pool = is.waiting ∙ ap pool_of (sym (waiting-none s.rows new_live precede precede2 is.places refl))
 
-    pub placed_holds : Holds (root_pushed (job_begun a j (stage.Live slot 1) c) slot (root_frame j) (next_id a)) (add_job s j (Live slot 1))
-    placed_holds = begun_holds a s is placed j (Live slot 1) (stage.Live slot 1) c refl refl refl kept some room free inside count a.pool (root_pushed a slot (root_frame j) (next_id a)).nests nests live_pool
+    pub placed_holds : Holds (root_pushed (job_begun a place j (stage.Live slot 1) c) slot (root_frame j) (next_id a place)) (add_job s j (Live slot 1))
+    placed_holds = begun_holds a s is place placed j (Live slot 1) (stage.Live slot 1) c refl refl refl kept vacant room free inside count a.pool (root_pushed a slot (root_frame j) (next_id a place)).nests nests live_pool
 
-module _ (a : Held) (s : State) (rests : Rests a s) (j : Job) (c : ℕ)
-    (some : 0 < length a.free) (room : length a.jobs < MAX_JOBS) (free : binding a.contexts c ≡ None) (inside : c < length a.contexts) (count : held_count (with_bound a.contexts c None) ≡ held_count a.contexts + 1) where
-  next : IsPlaced a s rests.holds (next_place a)
-  next = next_placed a s rests.holds (next_place a)
+module _ (a : Held) (s : State) (rests : Rests a s) (place : ℕ) (j : Job) (c : ℕ)
+    (vacant : IsFree a.table place) (some : HasFreePlace a) (room : length a.jobs < MAX_JOBS) (free : binding a.contexts c ≡ None) (inside : c < length a.contexts) (count : held_count (with_bound a.contexts c None) ≡ held_count a.contexts + 1) where
+  next : IsPlaced a s rests.holds place
+  next = next_placed a s rests.holds place
 
   limit : a.config.rows ≡ s.config.rows
   limit = ap (λ (t : Tenant). t.rows) rests.holds.config
 
   -- what is held after a job was submitted
-  pub submitted_rests : Rests (put (job_begun a j (stage.Waiting (root_frame j)) c) (record { row = next_id a; made_on = None; region = None })) (add_job s j Unstarted)
+  pub submitted_rests : Rests (put (job_begun a place j (stage.Waiting (root_frame j)) c) (record { row = next_id a place; made_on = None; region = None })) (add_job s j Unstarted)
   submitted_rests =
       let is = rests.holds in
       let kept = steady_added s is.steady j (omega (arith, free_room a s is some, limit)) in
-      record { holds = submitted_holds a s next.holds next.placed j c some room free inside count kept; settled = added_settled s j Unstarted is.steady.formed.linked rests.settled }
+      record { holds = submitted_holds a s next.holds place next.placed j c vacant room free inside count kept; settled = added_settled s j Unstarted is.steady.formed.linked rests.settled }
 
   -- and after one was placed
-  pub placed_rests : (slot : ℕ) → slot < a.config.reserved → length (stack a.nests slot) ≡ 0 → Rests (root_pushed (job_begun a j (stage.Live slot 1) c) slot (root_frame j) (next_id a)) (add_job s j (Live slot 1))
+  pub placed_rests : (slot : ℕ) → slot < a.config.reserved → length (stack a.nests slot) ≡ 0 → Rests (root_pushed (job_begun a place j (stage.Live slot 1) c) slot (root_frame j) (next_id a place)) (add_job s j (Live slot 1))
   placed_rests slot low bare =
       let is = rests.holds in
       let reserved = ap (λ (t : Tenant). t.reserved) is.config in
@@ -134,6 +134,6 @@ module _ (a : Held) (s : State) (rests : Rests a s) (j : Job) (c : ℕ)
       let empty : height s.rows slot ≡ 0 = sym (height_is s.rows is.places a.config.slots a.nests is.steady.formed.stacked is.nests slot) ∙ bare in
       let kept = steady_placed s is.steady j slot (omega (arith, free_room a s is some, limit)) (omega (arith, low, reserved)) empty in
       record {
-        holds = placed_holds a s next.holds next.placed j c some room free inside count slot kept (omega (arith, low, reserved, slots, is.steady.tended.reserved)) bare;
+        holds = placed_holds a s next.holds place next.placed j c vacant room free inside count slot kept (omega (arith, low, reserved, slots, is.steady.tended.reserved)) bare;
         settled = added_settled s j (Live slot 1) is.steady.formed.linked rests.settled;
       }

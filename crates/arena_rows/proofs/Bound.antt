@@ -1,19 +1,18 @@
 -- A group of an open row has a context from now on, bound to the row's.
-use Rattle.std.proofs.Common.{◌≡◌, ◌≢◌, ℕ, zero, suc, ◌+◌, ◌-◌, ◌==◌, ◌<◌, ◌≤◌, List, [], ◌∷◌, length, Option, Some, None, Bool, true, false, ◌&&◌, ◌⊎◌, refl, sym, ap, ◌∙◌, arith, inl, inr, get_or, unwrap_or, length-set}
-use Rattle.std.specs.Prelude.{is_some, IsSome, slice_index_or, slice_set, sum_by, count_by, if◌then◌else◌, replicate}
+use Rattle.std.proofs.Common.{◌≡◌, ◌≢◌, ℕ, ◌+◌, ◌==◌, ◌<◌, List, length, Option, Some, None, true, false, ◌&&◌, refl, sym, ap, ◌∙◌, arith, inl, inr, unwrap_or}
+use Rattle.std.specs.Prelude.{is_some, slice_index_or, slice_set, count_by, if◌then◌else◌}
 use Rattle.std.proofs.lemmas.Bool.{cases_eq}
 use Rattle.std.proofs.lemmas.List.{get_or-set_same, get_or-set_other}
 use Rattle.std.proofs.lemmas.List.Sums.{sum_by-set}
 use Rattle.job_language.specs.declared.instructions.TheConstants.{GROUPS}
-use Rattle.cancel_context.specs.Forest.{Forest, Binding, binding, IsHeld, held_count, with_bound}
+use Rattle.cancel_context.specs.Forest.{Forest, Binding, binding, held_count, with_bound}
 use Rattle.tenant_model.specs.declared.rows.Kind.{Kind}
 use Rattle.tenant_model.specs.declared.rows.Kind.TheVariants.{Root, Posted, Spawned, Region}
-use Rattle.tenant_model.specs.declared.rows.Row.{Row}
-use Rattle.tenant_model.specs.State.{State, row, job}
-use Rattle.tenant_model.specs.Walks.{is_open, is_unstarted, mark, is_used}
+use Rattle.tenant_model.specs.State.{State, row}
+use Rattle.tenant_model.specs.Walks.{is_open, is_unstarted, mark}
 use Rattle.tenant_model.proofs.Within.{either_way}
 use Rattle.arena_rows.specs.declared.rows.OpenRow.{OpenRow}
-use Rattle.arena_rows.specs.Represents.{at_place, Assigned, Owner, Nobody, OfJob, OfRow, OfGroup, bound, orphan, IsRowContext, IsGroupContext, IsOwned, AreContexts, held_by, one_if, is_spawned}
+use Rattle.arena_rows.specs.Represents.{at_place, Assigned, Owner, Nobody, OfJob, OfRow, OfGroup, bound, IsRowContext, IsGroupContext, IsOwned, AreContexts, held_by, one_if}
 use Rattle.arena_rows.specs.HeldChanges.{with_group}
 
 -- one more of the contexts of an entry

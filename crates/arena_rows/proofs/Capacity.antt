@@ -1,22 +1,17 @@
 -- There is room for one more context.
-use Rattle.std.proofs.Common.{◌≡◌, ◌&&◌, nat_lt, ◌≢◌, ℕ, zero, suc, ◌+◌, ◌-◌, ◌*◌, ◌<◌, ◌≤◌, List, [], ◌∷◌, length, Option, Some, None, Bool, true, false, refl, sym, ap, ◌∙◌, arith, get_or}
+use Rattle.std.proofs.Common.{◌≡◌, ◌&&◌, nat_lt, ℕ, zero, suc, ◌*◌, ◌<◌, ◌≤◌, List, [], ◌∷◌, length, Option, Some, None, Bool, true, false, refl, sym, ap, ◌∙◌, arith, get_or}
 use Rattle.std.specs.Prelude.{sum_by, count_by, is_some, slice_index_or}
 use Rattle.std.proofs.lemmas.List.Sums.{sum_by-cons, count_by-le-length, length-filter}
 use Rattle.std.proofs.lemmas.List.FromFn.{length-enumerate_from}
 use Rattle.job_language.specs.declared.instructions.TheConstants.{GROUPS}
 use Rattle.cancel_context.specs.Forest.{held_count}
-use Rattle.cancel_context.specs.declared.contexts.TheConstants.{BASE_CONTEXTS, CONTEXTS_PER_ROW}
-use Rattle.tenant_model.specs.declared.works.TheConstants.{MAX_JOBS}
-use Rattle.tenant_model.specs.State.{State, row}
+use Rattle.tenant_model.specs.State.{State}
 use Rattle.tenant_model.specs.Walks.{NumberedRow, numbered_rows, members, mark, is_open, is_spawned_by}
 use Rattle.task_group.specs.Groups.{group}
 use Rattle.arena_rows.specs.declared.rows.OpenRow.{OpenRow}
-use Rattle.arena_rows.specs.declared.rows.Source.{Source}
-use Rattle.arena_rows.specs.declared.rows.Source.TheVariants as source
-use Rattle.arena_rows.specs.Held.{Held}
-use Rattle.arena_rows.specs.Represents.{at_place, one_if, is_spawned, held_by, Stands, IsRow, Holds}
-use Rattle.arena_rows.specs.HeldChanges.{next_place}
-use Rattle.arena_rows.proofs.Making.{has_next}
+use Rattle.arena_rows.specs.Held.{Held, HasFreePlace}
+use Rattle.arena_rows.specs.Represents.{at_place, one_if, is_spawned, held_by, IsRow, Holds}
+use Rattle.arena_rows.proofs.FreePlaces.{free_there}
 use Rattle.arena_rows.proofs.Started.{some_is}
 use Rattle.arena_rows.proofs.Alike.{count_cons}
 
@@ -76,12 +71,12 @@ group_room a s is p g e within there long few none =
     context_room a s is p within less
 
 -- while a place is free
-pub row_room : (a : Held) (s : State) (is : Holds a s) → 0 < length a.free → held_count a.contexts < length a.contexts
+pub row_room : (a : Held) (s : State) (is : Holds a s) → HasFreePlace a → held_count a.contexts < length a.contexts
 row_room a s is some =
-    let next = has_next a s is some in
-    let vacant = next.vacant in
-    let less : held_by (at_place a.table (next_place a)) < 5 = rw vacant (omega arith) in
-    context_room a s is (next_place a) next.within less
+    let found = free_there a.table some in
+    let vacant = found.1.vacant in
+    let less : held_by (at_place a.table found.0) < 5 = rw vacant (omega arith) in
+    context_room a s is found.0 found.1.within less
 
 -- The members of a group that are open are at most the rows.
 pub pending_most : (a : Held) (s : State) (is : Holds a s) (n g : ℕ) (e : OpenRow) → IsRow s.rows is.places n e → g < GROUPS → (group e.groups g).pending ≤ a.made

@@ -1,5 +1,5 @@
 -- What is held stands for the state with other cells.
-use Rattle.std.proofs.Common.{◌≡◌, ℕ, ℤ, refl, sym, ap}
+use Rattle.std.proofs.Common.{ℕ, ℤ, refl}
 use Rattle.tenant_model.specs.State.{State}
 use Rattle.thread_cells.specs.Cells.{Table, with_cell}
 use Rattle.tenant_model.specs.Changes.{with_cells}

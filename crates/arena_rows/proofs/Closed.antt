@@ -1,11 +1,10 @@
 -- A row that has ended: what the others, its group and its job have of it.
-use Rattle.std.proofs.Common.{◌≡◌, ◌≢◌, ℕ, zero, suc, ◌+◌, ◌-◌, ◌==◌, ◌<◌, ◌≤◌, nat_lt, ℤ, pos, List, [], ◌∷◌, length, Option, Some, None, Bool, true, false, ◌&&◌, refl, sym, ap, ◌∙◌, arith, inl, inr, get_or}
+use Rattle.std.proofs.Common.{◌≡◌, ◌≢◌, ℕ, zero, suc, ◌+◌, ◌-◌, ◌==◌, ◌<◌, ◌≤◌, nat_lt, pos, List, [], ◌∷◌, length, true, false, ◌&&◌, refl, sym, ap, ◌∙◌, arith, inl, inr, get_or}
 use Rattle.std.specs.Prelude.{filter, fold, find, count_by, slice_index_or, slice_set}
 use Rattle.std.specs.List.{enumerate_from}
 use Rattle.std.specs.Option.{option_map}
 use Rattle.std.specs.Int.{int_wrapping_add, w64}
 use Rattle.std.proofs.lemmas.Bool.{cases_eq}
-use Rattle.region_tag.specs.declared.row_id.RowId.{RowId}
 use Rattle.task_group.specs.Groups.{Group}
 use Rattle.tenant_model.specs.declared.rows.Kind.{Kind}
 use Rattle.tenant_model.specs.declared.rows.Kind.TheVariants.{Root, Posted, Spawned, Region}
@@ -14,7 +13,7 @@ use Rattle.tenant_model.specs.declared.rows.Phase.TheVariants.{Unstarted, Live, 
 use Rattle.tenant_model.specs.declared.rows.Mark.{Mark}
 use Rattle.tenant_model.specs.declared.rows.Row.{Row}
 use Rattle.tenant_model.specs.State.{row, with_at_number}
-use Rattle.tenant_model.specs.Walks.{NumberedRow, numbered_rows, is_open, is_region, is_spawned_by, members, mark, total, is_used, region_of, value_in, chain}
+use Rattle.tenant_model.specs.Walks.{NumberedRow, is_open, is_region, is_spawned_by, members, mark, is_used, value_in, chain}
 use Rattle.tenant_model.specs.Changes.{open_rows}
 use Rattle.tenant_model.proofs.Changed.{row-with_same, row-with_other, row-get_or, with_at_number-from}
 use Rattle.tenant_model.proofs.Contexts.{SameContexts, chain-same}

@@ -1,6 +1,6 @@
 -- What is held stands for the state with one row more that is not open.
 use Rattle.std.proofs.Common.{◌≡◌, ℕ, ◌+◌, ◌==◌, ◌&&◌, ◌<◌, ◌≤◌, ◌++◌, pos, List, [], ◌∷◌, length, Option, Some, None, Bool, true, false, refl, sym, ap, ◌∙◌, arith, inl, inr, get_or}
-use Rattle.std.specs.Prelude.{slice_index_or, sum_by}
+use Rattle.std.specs.Prelude.{slice_index_or, sum_by, count_by, is_some}
 use Rattle.std.specs.Option.{option_map}
 use Rattle.std.proofs.lemmas.Bool.{cases_eq}
 use Rattle.std.proofs.lemmas.List.{length_push}
@@ -62,7 +62,7 @@ module _ (s : State) (r : Row) where
 pub record IsTableAfter (a : Held) (s : State) (is : Holds a s) (r : Row) (table : List (Option OpenRow)) : Type 0 where
   pub long : length table ≡ length a.table
   pub rows : AreRows (s.rows ++ r ∷ []) is.places table
-  pub vacant : (q : ℕ) → at_place a.table q ≡ None → at_place table q ≡ None
+  pub taken : count_by is_some table ≡ count_by is_some a.table
   pub tags : (q : ℕ) → option_map (tagged_of s.rows is.places) (at_place table q) ≡ option_map (tagged_of s.rows is.places) (at_place a.table q)
   pub contexts : (q : ℕ) (x : OpenRow) → at_place table q ≡ Some x → (x.context ≡ is.assigned.of_row x.number) × ((h : ℕ) → h < GROUPS → slice_index_or x.group_contexts h None ≡ is.assigned.of_group x.number h)
   pub held : sum_by held_by table ≡ sum_by held_by a.table
@@ -81,12 +81,10 @@ module _ (a : Held) (s : State) (is : Holds a s) (r : Row) (closed : is_open r.p
   started : is_unstarted r.phase ≡ false
   started = not_waiting r.phase closed
 
-  free : AreFree t.rows a.config.rows table a.free
+  free : AreFree t.rows a.config.rows table
   free = record {
     long = after.long ∙ is.free.long;
-    each = λ i below. let its = is.free.each i below in (its.0, after.vacant (get_or a.free i 0) its.1);
-    apart = is.free.apart;
-    count = let nothing : one_if (is_open r.phase) ≡ 0 = rw closed refl in omega (arith, is.free.count, count-push (λ (q : Row). is_open q.phase) s.rows r, nothing);
+    count = let nothing : one_if (is_open r.phase) ≡ 0 = rw closed refl in omega (arith, is.free.count, after.taken, count-push (λ (q : Row). is_open q.phase) s.rows r, nothing);
   }
 
   nests : AreNests t.rows is.places a.config.slots a.nests

@@ -1,24 +1,21 @@
 -- The context of a row is cancelled where the definition says so.
-use Rattle.std.proofs.Common.{◌≡◌, ◌≢◌, ℕ, zero, suc, ◌+◌, ◌-◌, ◌==◌, ◌<◌, ◌≤◌, List, [], ◌∷◌, length, Option, Some, None, Bool, true, false, ◌⊎◌, ◌||◌, refl, sym, ap, ◌∙◌, arith, inl, inr}
+use Rattle.std.proofs.Common.{◌≡◌, ℕ, zero, suc, ◌<◌, ◌≤◌, List, length, Option, Some, None, Bool, true, false, ◌||◌, refl, ◌∙◌, arith, inl, inr}
 use Rattle.std.specs.Prelude.{IfSome, is_some, IsSome}
-use Rattle.std.specs.List.{list_any}
 use Rattle.std.specs.Option.{option_map_or}
 use Rattle.job_language.specs.declared.errors.JobFault.{JobFault}
 use Rattle.job_language.specs.declared.instructions.TheConstants.{GROUPS}
-use Rattle.cancel_context.specs.Forest.{Forest, Binding, binding, IsHeld, is_cancelled, asks_in, parent, parent_in, is_cancelled_above, IsForest}
+use Rattle.cancel_context.specs.Forest.{Forest, Binding, binding, is_cancelled, asks_in, IsForest}
 use Rattle.tenant_model.specs.declared.rows.Kind.{Kind}
 use Rattle.tenant_model.specs.declared.rows.Kind.TheVariants.{Root, Posted, Spawned, Region}
 use Rattle.tenant_model.specs.declared.rows.Phase.{Phase}
 use Rattle.tenant_model.specs.declared.rows.Phase.TheVariants.{Unstarted, Live, Done, Dropped, Faulted}
-use Rattle.tenant_model.specs.declared.rows.Row.{Row}
 use Rattle.tenant_model.specs.State.{State, row, job}
-use Rattle.tenant_model.specs.Walks.{maker_of, is_open, is_unstarted, is_job_cancelled, is_group_cancelled, is_context_cancelled, mark, chain}
+use Rattle.tenant_model.specs.Walks.{maker_of, is_open, is_unstarted, is_job_cancelled, is_group_cancelled, is_context_cancelled, mark}
 use Rattle.tenant_model.specs.Linked.{MakersPrecede}
 use Rattle.tenant_model.specs.Sound.{IsSteady}
 use Rattle.tenant_model.proofs.Chains.{chain_goes_on, chain_ends}
 use Rattle.arena_rows.specs.declared.rows.OpenRow.{OpenRow}
-use Rattle.arena_rows.specs.declared.rows.CurrentJob.{CurrentJob}
-use Rattle.arena_rows.specs.Represents.{Places, Assigned, bound, IsRowContext, IsGroupContext, AreContexts}
+use Rattle.arena_rows.specs.Represents.{Assigned, IsRowContext, IsGroupContext, AreContexts}
 
 pub has_fault : (o : Option JobFault) → IsSome o → is_some o ≡ true
 has_fault None some = grind (arith, some)

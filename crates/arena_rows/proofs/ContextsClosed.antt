@@ -1,22 +1,21 @@
 -- The contexts of an arena after a row has ended: those that it held are released.
-use Rattle.std.proofs.Common.{◌≡◌, ◌≢◌, ℕ, zero, suc, ◌+◌, ◌-◌, ◌==◌, ◌<◌, ◌≤◌, List, [], ◌∷◌, length, Option, Some, None, Bool, true, false, ◌⊎◌, refl, sym, ap, ◌∙◌, arith, inl, inr}
+use Rattle.std.proofs.Common.{◌≡◌, ◌≢◌, ℕ, ◌+◌, ◌<◌, ◌≤◌, List, length, Option, Some, None, true, false, ◌⊎◌, refl, sym, ap, ◌∙◌, arith, inl, inr}
 use Rattle.std.specs.Prelude.{is_some, slice_index_or, sum_by}
 use Rattle.std.proofs.lemmas.Bool.{cases_eq}
 use Rattle.job_language.specs.declared.instructions.TheConstants.{GROUPS}
-use Rattle.cancel_context.specs.Forest.{Forest, Binding, binding, IsHeld, held_count, parent, parent_in}
+use Rattle.cancel_context.specs.Forest.{Forest, binding, parent_in}
 use Rattle.tenant_model.specs.declared.rows.Kind.{Kind}
 use Rattle.tenant_model.specs.declared.rows.Kind.TheVariants.{Root, Posted, Spawned, Region}
-use Rattle.tenant_model.specs.declared.rows.Phase.{Phase}
 use Rattle.tenant_model.specs.declared.rows.Row.{Row}
 use Rattle.tenant_model.specs.State.{State, row, job, with_at_number}
-use Rattle.tenant_model.specs.Walks.{is_open, is_unstarted, is_job_cancelled, mark}
+use Rattle.tenant_model.specs.Walks.{is_open, is_unstarted, is_job_cancelled}
 use Rattle.tenant_model.specs.Sound.{IsSteady}
 use Rattle.tenant_model.proofs.Tended.{unstarted_open}
 use Rattle.tenant_model.proofs.Within.{either_way}
 use Rattle.arena_rows.specs.declared.rows.OpenRow.{OpenRow}
-use Rattle.arena_rows.specs.Represents.{at_place, Assigned, Owner, Nobody, OfJob, OfRow, OfGroup, bound, orphan, IsRowContext, IsGroupContext, IsOwned, AreContexts, held_by}
-use Rattle.arena_rows.proofs.Closed.{row_old, kinds_same, jobs_same, mark_same, used_same, still}
-use Rattle.arena_rows.proofs.Ends.{is_job, row_in}
+use Rattle.arena_rows.specs.Represents.{at_place, Assigned, Owner, Nobody, OfJob, OfRow, OfGroup, bound, IsRowContext, IsGroupContext, IsOwned, AreContexts, held_by}
+use Rattle.arena_rows.proofs.Closed.{row_old, kinds_same, mark_same, used_same, still}
+use Rattle.arena_rows.proofs.Ends.{row_in}
 use Rattle.arena_rows.specs.Endings.{is_in, Left}
 use Rattle.arena_rows.proofs.Left.{held_before}
 use Rattle.arena_rows.proofs.Started.{some_is, some_none}

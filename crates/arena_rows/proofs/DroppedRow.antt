@@ -22,6 +22,7 @@ use Rattle.arena_rows.specs.Held.{Held}
 use Rattle.arena_rows.specs.MarkedGroups.{with_ended_member}
 use Rattle.arena_rows.specs.HeldChanges.{with_entry}
 use Rattle.arena_rows.specs.Represents.{at_place, source_of, stage_of, tagged_of, IsGroup, IsRow, AreRows, held_by, Holds}
+use Rattle.arena_rows.proofs.FreePlaces.{same_taken}
 use Rattle.arena_rows.proofs.ClosedRow.{IsTableAfter, was, still, closed_holds, closed_settled}
 use Rattle.arena_rows.proofs.Grouped.{IsEntry}
 use Rattle.arena_rows.proofs.Pushing.{IsRow-pushed}
@@ -140,9 +141,7 @@ module _ (a : Held) (s : State) (is : Holds a s) (slot n g c : ℕ) (f : Frame) 
   after = record {
     long = length-set a.table p (Some me');
     rows = rows;
-    vacant = λ q none.
-        let apart : q ≢ p = λ same. some_none me (sym entry.there ∙ ap (at_place a.table) (sym same) ∙ none) in
-        at_other a.table p (Some me') entry.within q apart ∙ none;
+    taken = same_taken a.table p me me' entry.within entry.there;
     tags = λ q. elim (cases_eq q p) [
       | inl same ↦
           ap (λ k. option_map (tagged_of s.rows is.places) (at_place table' k)) same ∙ ap (option_map (tagged_of s.rows is.places)) (at_same a.table p (Some me') entry.within) ∙

@@ -1,14 +1,14 @@
 -- Settling by dropping rows one at a time, in any order.
-use Rattle.std.proofs.Common.{◌≡◌, ◌≢◌, ℕ, ◌+◌, ◌<◌, ◌≤◌, length, Bool, true, false, ◌⊎◌, refl, sym, ap, ◌∙◌, arith, inl, inr}
-use Rattle.std.proofs.lemmas.Bool.{cases_eq, cases_lt}
+use Rattle.std.proofs.Common.{◌≡◌, ℕ, ◌≤◌, length, true, false, ◌⊎◌, refl, sym, ap, ◌∙◌, arith, inl, inr}
+use Rattle.std.proofs.lemmas.Bool.{cases_eq}
 use Rattle.tenant_model.specs.declared.rows.Phase.TheVariants.{Dropped}
 use Rattle.tenant_model.specs.declared.rows.Row.{Row}
 use Rattle.tenant_model.specs.State.{State, row, with_at_number}
-use Rattle.tenant_model.specs.Walks.{is_unstarted, is_context_cancelled, settled_row, settle}
+use Rattle.tenant_model.specs.Walks.{is_unstarted, is_context_cancelled, settle}
 use Rattle.tenant_model.specs.Changes.{on_row}
 use Rattle.tenant_model.proofs.Changed.{row-with_same, row-with_other, row-past, length-with}
 use Rattle.tenant_model.proofs.Within.{either_way}
-use Rattle.tenant_model.proofs.Settling.{SettledUpTo, settled_at, settle-from}
+use Rattle.tenant_model.proofs.Settling.{settled_at, settle-from}
 
 -- t is s with some of its rows settled
 pub record Drops (s t : State) : Type 0 where

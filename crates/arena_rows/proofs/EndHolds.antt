@@ -1,11 +1,10 @@
 -- A row that ended, taken off its slot or out of the pool: what is held stands for the state without it.
-use Rattle.std.proofs.Common.{◌≡◌, ◌≢◌, ℕ, ◌+◌, ◌-◌, ◌<◌, ◌≤◌, ℤ, pos, List, length, Option, Some, None, IsSome, Bool, true, false, refl, sym, ap, ◌∙◌, arith, subst, map}
+use Rattle.std.proofs.Common.{◌≡◌, ℕ, ◌≤◌, ℤ, pos, List, length, Some, IsSome, true, false, refl, sym, ap, ◌∙◌, arith, subst, map}
 use Rattle.job_step.specs.declared.frames.Frame.{Frame}
 use Rattle.ready_pool.specs.declared.pool.Waiting.{Waiting}
 use Rattle.ready_pool.specs.Ready.{Ready}
 use Rattle.ready_pool.specs.Ready as ready
-use Rattle.nest_stack.specs.Nest.{stack}
-use Rattle.tenant_model.specs.declared.rows.Phase.TheVariants.{Unstarted, Live, Done, Dropped, Faulted}
+use Rattle.tenant_model.specs.declared.rows.Phase.TheVariants.{Live, Done, Dropped, Faulted}
 use Rattle.tenant_model.specs.declared.rows.Row.{Row}
 use Rattle.tenant_model.specs.State.{State, row, job, with_at_number}
 use Rattle.tenant_model.specs.Walks.{is_open, is_unstarted, value_in, top, height}

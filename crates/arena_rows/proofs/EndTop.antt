@@ -1,5 +1,5 @@
 -- The topmost row of a slot as it ends.
-use Rattle.std.proofs.Common.{◌≡◌, ℕ, ◌+◌, ◌-◌, ◌<◌, ◌≤◌, ℤ, List, [], length, Option, Some, sym, ap, ◌∙◌, arith, subst}
+use Rattle.std.proofs.Common.{◌≡◌, ℕ, ◌+◌, ◌-◌, ◌<◌, ℤ, List, [], length, Some, ap, ◌∙◌, arith, subst}
 use Rattle.std.proofs.lemmas.List.{length-take-le, get_or-set_same}
 use Rattle.region_tag.specs.declared.row_id.RowId.{RowId}
 use Rattle.nest_stack.specs.declared.stack.Nested.{Nested}

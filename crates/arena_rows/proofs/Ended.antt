@@ -1,6 +1,6 @@
 -- What is held after a row has ended stands for the state without it.
-use Rattle.std.proofs.Common.{◌≡◌, ◌≢◌, ℕ, zero, suc, ◌+◌, ◌-◌, ◌==◌, ◌<◌, ◌≤◌, ℤ, List, [], ◌∷◌, ◌++◌, length, Option, Some, None, Bool, true, false, ◌⊎◌, refl, sym, ap, ◌∙◌, arith, inl, inr, length-set, subst, map, get_or}
-use Rattle.std.specs.Prelude.{slice_index_or, slice_set, sum_by, count_by, is_some, if◌then◌else◌}
+use Rattle.std.proofs.Common.{◌≡◌, ◌≢◌, ℕ, ◌+◌, ◌-◌, ◌==◌, ◌<◌, ◌≤◌, ℤ, List, length, Option, Some, None, Bool, true, false, refl, sym, ap, ◌∙◌, arith, inl, inr, length-set, subst, map, get_or}
+use Rattle.std.specs.Prelude.{slice_index_or, slice_set, if◌then◌else◌}
 use Rattle.std.proofs.lemmas.Bool.{cases_eq}
 use Rattle.std.proofs.lemmas.List.Sums.{sum_by-set}
 use Rattle.job_language.specs.declared.instructions.TheConstants.{GROUPS}
@@ -16,11 +16,9 @@ use Rattle.tenant_model.proofs.AttendedSteps.{open_there}
 use Rattle.tenant_model.proofs.Within.{either_way}
 use Rattle.arena_rows.specs.declared.rows.OpenRow.{OpenRow}
 use Rattle.arena_rows.specs.declared.rows.CurrentJob.{CurrentJob}
-use Rattle.arena_rows.specs.declared.rows.Source.{Source}
-use Rattle.arena_rows.specs.declared.rows.Source.TheVariants as source
 use Rattle.arena_rows.specs.Held.{Held}
 use Rattle.arena_rows.specs.HeldChanges.{index_of, no_job}
-use Rattle.arena_rows.specs.Represents.{at_place, id_of, source_of, is_spawned, waiting, waiting_of, held_by, OfGroup, IsGroupContext, AreNests, Assigned, Holds}
+use Rattle.arena_rows.specs.Represents.{at_place, id_of, source_of, is_spawned, waiting, waiting_of, held_by, IsGroupContext, AreNests, Assigned, Holds}
 use Rattle.arena_rows.specs.Endings.{is_in, below, own_context, contexts_of, parted, with_ended, ended, HasEnded, IsLoose}
 use Rattle.arena_rows.proofs.Closed.{row_new, row_old}
 use Rattle.arena_rows.proofs.ContextsClosed.{IsOf, IsSpawned, AreContexts-closed}
@@ -169,14 +167,13 @@ module _ (a b : Held) (s : State) (is : Holds a s) (n : ℕ) (e : OpenRow) (entr
       let P : Held → Type 0 = λ x. Holds (record x { pool = pool; nests = nests }) t in
       let jobs_is : held.jobs ≡ slice_set a.jobs i (with_ended n v it) = ap (λ k. slice_set a.jobs (index_of a k) (with_ended n v (slice_index_or a.jobs (index_of a k) no_job))) its_job in
       let jobs_long : length held.jobs ≡ length a.jobs = length-set a.jobs (index_of a e.job) _ in
-      let taken : at_place a.table p ≡ None → ⊥ = λ none. some_none e (sym entry.there ∙ none) in
       subst P (sym over.rest) (record {
         config = is.config;
         places = is.places;
         assigned = at;
         made = is.made ∙ sym (length-with s.rows n r);
         table = AreRows-closed s.rows is.places n r there.0 there.1 kind same_job marks entry.opened closed a.table table1 e entry.within part.parted;
-        free = AreFree-closed s.rows is.places n r there.0 there.1 kind same_job marks entry.opened closed a.table table1 e entry.within part.parted a.config.rows a.free taken is.free;
+        free = AreFree-closed s.rows is.places n r there.0 there.1 kind same_job marks entry.opened closed a.table table1 e entry.within part.parted a.config.rows is.free;
         nests = are_nests;
         tags = AreTagged-closed s.rows is.places n r there.0 there.1 kind same_job marks entry.opened closed a.table table1 e entry.within part.parted a.regions is.tags;
         waiting = are_waiting;

@@ -1,19 +1,16 @@
 -- What is asked before a row ends.
-use Rattle.std.proofs.Common.{◌≡◌, ◌≢◌, ℕ, zero, suc, ◌+◌, ◌-◌, ◌==◌, ◌<◌, ◌≤◌, nat_lt, ℤ, pos, List, length, Option, Some, None, Bool, true, false, ◌⊎◌, refl, sym, ap, ◌∙◌, arith, inl, inr, get_or, subst, unwrap_or}
-use Rattle.std.specs.Prelude.{IsSome, is_some, slice_index_or, count_by, if◌then◌else◌}
-use Rattle.std.specs.Option.{option_and_then}
+use Rattle.std.proofs.Common.{◌≡◌, ℕ, ◌+◌, ◌-◌, ◌==◌, ◌<◌, ◌≤◌, nat_lt, length, Option, Some, None, true, false, refl, sym, ap, ◌∙◌, arith, inl, inr, get_or, subst, unwrap_or}
+use Rattle.std.specs.Prelude.{IsSome, is_some, slice_index_or, if◌then◌else◌}
 use Rattle.std.proofs.lemmas.Bool.{cases_eq, cases_lt}
 use Rattle.job_language.specs.declared.instructions.TheConstants.{GROUPS}
-use Rattle.region_tag.specs.declared.row_id.RowId.{RowId}
-use Rattle.region_tag.specs.Region.{IsEntered}
 use Rattle.task_group.specs.Groups.{group}
-use Rattle.cancel_context.specs.Forest.{IsHeld, parent, binding}
+use Rattle.cancel_context.specs.Forest.{parent, binding}
 use Rattle.tenant_model.specs.declared.rows.Kind.{Kind}
 use Rattle.tenant_model.specs.declared.rows.Kind.TheVariants.{Root, Posted, Spawned, Region}
 use Rattle.tenant_model.specs.declared.rows.Phase.TheVariants.{Dropped}
 use Rattle.tenant_model.specs.declared.rows.Row.{Row}
-use Rattle.tenant_model.specs.State.{State, row, job, with_at_number}
-use Rattle.tenant_model.specs.Walks.{NumberedRow, is_open, is_spawned_by, is_job_cancelled, mark}
+use Rattle.tenant_model.specs.State.{State, row, job}
+use Rattle.tenant_model.specs.Walks.{is_open, is_job_cancelled, mark}
 use Rattle.tenant_model.proofs.AttendedSteps.{open_there}
 use Rattle.tenant_model.proofs.Changed.{row-get_or}
 use Rattle.tenant_model.proofs.Within.{either_way}
@@ -21,10 +18,10 @@ use Rattle.arena_rows.specs.declared.rows.OpenRow.{OpenRow}
 use Rattle.arena_rows.specs.declared.rows.CurrentJob.{CurrentJob}
 use Rattle.arena_rows.specs.Held.{Held}
 use Rattle.arena_rows.specs.HeldChanges.{index_of}
-use Rattle.arena_rows.specs.Represents.{at_place, id_of, source_of, is_spawned, Owner, Nobody, OfJob, OfRow, OfGroup, bound, orphan, IsRowContext, IsGroupContext, IsOwned, Holds, open_of}
-use Rattle.arena_rows.specs.Endings.{is_in, below, own_context, is_of_row, open_maker, IsLoose, MayLeave, MayEnd}
+use Rattle.arena_rows.specs.Represents.{at_place, source_of, is_spawned, Owner, Nobody, OfJob, OfRow, OfGroup, bound, orphan, IsRowContext, IsGroupContext, IsOwned, Holds, open_of}
+use Rattle.arena_rows.specs.Endings.{is_in, below, own_context, is_of_row, open_maker, IsLoose, MayEnd}
 use Rattle.arena_rows.proofs.Alike.{member}
-use Rattle.arena_rows.proofs.Closed.{open_fewer, open_of_fewer}
+use Rattle.arena_rows.proofs.Closed.{open_of_fewer}
 use Rattle.arena_rows.proofs.Ended.{own_some, spawned_is}
 use Rattle.arena_rows.proofs.Ends.{is_group, group_in, held_child, not_group, parent_of}
 use Rattle.arena_rows.proofs.Grouped.{IsEntry, is_entry}
@@ -160,11 +157,6 @@ module _ (a : Held) (s : State) (is : Holds a s) (n : ℕ) (e : OpenRow) (entry 
 
   pub can_leave : (p : ℕ × ℕ) → open_maker a.table e.source ≡ Some p → CanLeave p
   can_leave p found = by_kind (row s.rows n).kind refl p (ap (open_maker a.table) (sym entry.its.source) ∙ found)
-
-  pub room_for_place : length a.free < length a.table
-  room_for_place =
-      let fewer = open_fewer s.rows n over there.0 there.1 refl refl refl entry.opened refl in
-      omega (arith, fewer, is.free.count, is.free.long)
 
   pub its_job : (a.retired < e.job) × (e.job - a.retired ≤ length a.jobs)
   its_job =

@@ -1,17 +1,14 @@
 -- What is bound to a context that is to be released.
-use Rattle.std.proofs.Common.{◌≡◌, ◌≢◌, ℕ, zero, suc, ◌+◌, ◌<◌, ◌≤◌, List, length, Option, Some, None, Bool, true, false, ◌⊎◌, refl, sym, ap, ◌∙◌, arith, inl, inr, unwrap_or}
-use Rattle.std.specs.Prelude.{IfSome, IsSome, is_some}
+use Rattle.std.proofs.Common.{◌≡◌, ℕ, zero, suc, ◌<◌, ◌≤◌, List, length, Option, Some, None, Bool, true, false, ◌⊎◌, refl, sym, ap, ◌∙◌, arith, inl, inr, unwrap_or}
+use Rattle.std.specs.Prelude.{IfSome, is_some}
 use Rattle.cancel_context.specs.Forest.{Forest, Binding, binding, IsHeld, parent, parent_in}
 use Rattle.tenant_model.specs.declared.rows.Kind.{Kind}
 use Rattle.tenant_model.specs.declared.rows.Kind.TheVariants.{Root, Posted, Spawned, Region}
-use Rattle.tenant_model.specs.declared.rows.Row.{Row}
 use Rattle.tenant_model.specs.State.{State, row, job}
 use Rattle.tenant_model.specs.Walks.{maker_of, is_open, is_unstarted, is_job_cancelled}
-use Rattle.tenant_model.specs.Linked.{MakersPrecede}
 use Rattle.tenant_model.specs.Sound.{IsSteady}
 use Rattle.arena_rows.specs.declared.rows.OpenRow.{OpenRow}
-use Rattle.arena_rows.specs.declared.rows.CurrentJob.{CurrentJob}
-use Rattle.arena_rows.specs.Represents.{Places, Assigned, Owner, Nobody, OfJob, OfRow, OfGroup, bound, orphan, IsRowContext, IsGroupContext, IsOwned, AreContexts}
+use Rattle.arena_rows.specs.Represents.{Assigned, Owner, Nobody, OfJob, OfRow, OfGroup, bound, orphan, IsRowContext, IsGroupContext, IsOwned, AreContexts}
 use Rattle.arena_rows.proofs.Contexts.{live_open}
 
 abbrev pub is_job : Owner → Bool

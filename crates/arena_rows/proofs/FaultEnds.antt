@@ -1,5 +1,5 @@
 -- A fault of a slot's job, from which its rows go down.
-use Rattle.std.proofs.Common.{◌≡◌, ℕ, ◌+◌, ◌-◌, ◌==◌, ◌&&◌, ◌<◌, ◌≤◌, nat_lt, length, Option, Some, None, IsSome, Bool, true, refl, sym, ap, ◌∙◌, arith}
+use Rattle.std.proofs.Common.{◌≡◌, ℕ, ◌==◌, ◌&&◌, ◌<◌, nat_lt, length, Option, Some, None, IsSome, true, refl, sym, ap, ◌∙◌, arith}
 use Rattle.std.specs.Prelude.{is_some}
 use Rattle.job_language.specs.declared.errors.JobFault.{JobFault}
 use Rattle.nest_stack.specs.Nest.{stack}

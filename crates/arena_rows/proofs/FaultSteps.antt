@@ -1,11 +1,11 @@
 -- A slot's topmost row has faulted, and the one below it follows where it was a region.
-use Rattle.std.proofs.Common.{◌≡◌, ◌≢◌, ℕ, ◌+◌, ◌-◌, ◌<◌, ◌≤◌, length, Option, Some, IsSome, Bool, true, false, refl, sym, ap, ◌∙◌, arith, map, subst}
+use Rattle.std.proofs.Common.{◌≡◌, ◌≢◌, ℕ, ◌-◌, ◌<◌, ◌≤◌, length, Some, IsSome, true, false, refl, sym, ap, ◌∙◌, arith, map, subst}
 use Rattle.std.specs.Prelude.{IfSome}
 use Rattle.tenant_model.specs.declared.rows.Kind.{Kind}
 use Rattle.tenant_model.specs.declared.rows.Kind.TheVariants.{Root, Posted, Spawned, Region}
 use Rattle.tenant_model.specs.declared.rows.Phase.TheVariants.{Live, Faulted}
 use Rattle.tenant_model.specs.declared.rows.Row.{Row}
-use Rattle.tenant_model.specs.State.{State, row, job, with_at_number}
+use Rattle.tenant_model.specs.State.{State, row, job}
 use Rattle.tenant_model.specs.Walks.{maker_of, is_region, height, top}
 use Rattle.tenant_model.specs.Changes.{on_row, task_height, faulted_row}
 use Rattle.tenant_model.proofs.Changed.{row-with_other}

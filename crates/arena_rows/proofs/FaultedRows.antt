@@ -2,9 +2,8 @@
 use Rattle.std.proofs.Common.{◌≡◌, ◌≢◌, ℕ, zero, suc, ◌+◌, ◌-◌, ◌==◌, ◌<◌, ◌≤◌, nat_le, List, [], ◌∷◌, length, length-set, Option, Some, None, Bool, true, false, ◌&&◌, not, refl, sym, ap, ◌∙◌, arith, inl, inr, get_or, map}
 use Rattle.std.specs.Prelude.{fold, max, slice_set, if◌then◌else◌}
 use Rattle.std.proofs.Math.Nat.{le-max_left, le-max_right, max-le}
-use Rattle.std.proofs.lemmas.Bool.{cases_eq, cases_lt}
+use Rattle.std.proofs.lemmas.Bool.{cases_eq}
 use Rattle.std.proofs.lemmas.List.{ext_get_or, length-map, map-set, set-get_or, get_or-map, get_or-set_same, get_or-set_other}
-use Rattle.tenant_model.specs.declared.rows.Kind.TheVariants.{Region}
 use Rattle.tenant_model.specs.declared.rows.Phase.{Phase}
 use Rattle.tenant_model.specs.declared.rows.Phase.TheVariants.{Unstarted, Live, Done, Dropped, Faulted}
 use Rattle.tenant_model.specs.declared.rows.Row.{Row}
@@ -18,7 +17,6 @@ use Rattle.tenant_model.proofs.Picks.{top_is, top_none}
 use Rattle.tenant_model.proofs.Stacking.{one_if, count-with}
 use Rattle.tenant_model.proofs.Together.{one_there}
 use Rattle.tenant_model.proofs.Within.{either_way}
-use Rattle.arena_rows.proofs.Started.{some_is}
 
 module _ (slot : ℕ) where
   abbrev most : ℕ → List Row → ℕ

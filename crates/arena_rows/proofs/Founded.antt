@@ -1,10 +1,8 @@
 -- What is held at first stands for a tenant that has done nothing yet.
-use Rattle.std.proofs.Common.{◌≡◌, ℕ, zero, suc, ◌+◌, ◌*◌, ◌<◌, List, [], ◌∷◌, ◌++◌, length, Option, Some, None, true, false, refl, sym, ap, ◌∙◌, arith, get_or, replicate}
-use Rattle.std.specs.Prelude.{sum_by, is_some}
-use Rattle.std.specs.List.{range_with_len}
+use Rattle.std.proofs.Common.{◌≡◌, ℕ, zero, suc, ◌+◌, ◌*◌, List, [], length, Option, Some, None, true, false, refl, sym, ap, ◌∙◌, arith, get_or, replicate}
+use Rattle.std.specs.Prelude.{count_by, sum_by, is_some}
 use Rattle.std.specs.Option.{option_map}
 use Rattle.std.proofs.lemmas.List.{length-replicate, get_or_default}
-use Rattle.std.proofs.lemmas.List.FromFn.{length-range_with_len, get_or-range_with_len}
 use Rattle.job_language.specs.Tenant.{IsValidTenant}
 use Rattle.job_language.specs.declared.tenants.Tenant.{Tenant}
 use Rattle.cancel_context.specs.Forest.{Binding, IsHeld, binding, held_count}
@@ -23,14 +21,6 @@ use Rattle.arena_rows.proofs.Picking.{unstarted_open}
 use Rattle.arena_rows.proofs.Retired.{nothing_summed}
 use Rattle.arena_rows.proofs.Started.{some_none}
 
-range_suc : (a n j : ℕ) → a + n ≡ j → range_with_len a (suc n) ≡ range_with_len a n ++ j ∷ []
-range_suc a zero j is = let same : a ≡ j = omega (arith, is) in ap (λ k. k ∷ []) same
-range_suc a (suc n) j is = ap (λ xs. a ∷ xs) (range_suc (a + 1) n j (omega (arith, is)))
-
--- a range with one number more
-pub range_more : (a n j : ℕ) → a + n ≡ j → range_with_len a (n + 1) ≡ range_with_len a n ++ j ∷ []
-range_more a n j is = let more : n + 1 ≡ suc n = omega arith in ap (range_with_len a) more ∙ range_suc a n j is
-
 same_there : {A : Type 0} (n i : ℕ) (x : A) → get_or (replicate n x) i x ≡ x
 same_there zero i x = refl
 same_there (suc n) zero x = refl
@@ -43,12 +33,6 @@ module _ (c : Tenant) where
   no_entry : (p : ℕ) (e : OpenRow) → at_place (founded c).table p ≡ Some e → ⊥
   no_entry p e here = some_none e (sym here ∙ same_there c.rows p None)
 
-  low : (i : ℕ) → i < length (founded c).free → i < c.rows
-  low i below = omega (arith, below, length-range_with_len 0 c.rows)
-
-  place_is : (i : ℕ) → i < length (founded c).free → get_or (founded c).free i 0 ≡ i
-  place_is i below = omega (arith, get_or-range_with_len 0 c.rows i 0 (low i below))
-
   no_row : (slot : ℕ) → length (stack (founded c).nests slot) ≡ 0
   no_row slot = ap (λ (xs : List Nested). length xs) (same_there c.slots slot [])
 
@@ -59,6 +43,9 @@ module _ (c : Tenant) where
 
   none_held : held_count (founded c).contexts ≡ 0
   none_held = nothing_counted (λ (b : Option Binding). is_some b) (founded c).contexts (λ i d below. ap is_some (get_or_default (founded c).contexts i d None below ∙ same_there (BASE_CONTEXTS + CONTEXTS_PER_ROW * c.rows) i None))
+
+  none_taken : count_by is_some (founded c).table ≡ 0
+  none_taken = nothing_counted (λ (o : Option OpenRow). is_some o) (founded c).table (λ i d below. ap is_some (get_or_default (founded c).table i d None below ∙ same_there c.rows i None))
 
   none_owned : sum_by held_by (founded c).table ≡ 0
   none_owned = nothing_summed held_by (founded c).table None (λ i below. ap held_by (same_there c.rows i None))
@@ -73,9 +60,7 @@ module _ (c : Tenant) where
       table = record { each = λ n opened. absurd (none_there n opened); only = λ p e here. absurd (no_entry p e here) };
       free = record {
         long = length-replicate c.rows None;
-        each = λ i below. (omega (arith, place_is i below, low i below), same_there c.rows (get_or (founded c).free i 0) None);
-        apart = λ i j order below same. omega (arith, order, same, place_is i (omega (arith, order, below)), place_is j below);
-        count = omega (arith, length-range_with_len 0 c.rows);
+        count = sym none_taken;
       };
       nests = record {
         long = length-replicate c.slots [];

@@ -1,28 +1,20 @@
 -- The frame of a slot's topmost row moves on.
-use Rattle.std.proofs.Common.{◌≡◌, ◌≢◌, ℕ, zero, suc, ◌+◌, ◌-◌, ◌==◌, ◌<◌, ◌≤◌, nat_lt, List, [], ◌∷◌, length, Option, Some, None, Bool, true, false, ◌&&◌, refl, sym, ap, ◌∙◌, arith, inl, inr, get_or, length-set, unwrap_or, map}
-use Rattle.std.specs.Prelude.{slice_index_or, slice_set, slice_get, if◌then◌else◌}
-use Rattle.std.specs.Option.{option_map, option_map_or}
+use Rattle.std.proofs.Common.{◌≡◌, ◌≢◌, ℕ, zero, suc, ◌-◌, ◌<◌, ◌≤◌, List, [], ◌∷◌, length, Option, Some, refl, sym, ap, ◌∙◌, arith, inl, inr, length-set, unwrap_or}
+use Rattle.std.specs.Prelude.{slice_set, slice_get}
 use Rattle.std.proofs.lemmas.Bool.{cases_eq}
-use Rattle.std.proofs.lemmas.Option.{slice_get_within}
 use Rattle.job_step.specs.declared.frames.Frame.{Frame}
-use Rattle.region_tag.specs.declared.row_id.RowId.{RowId}
-use Rattle.ready_pool.specs.Ready.{Ready}
 use Rattle.nest_stack.specs.declared.stack.Nested.{Nested}
 use Rattle.nest_stack.specs.Nest.{stack, with_stack, at_height, with_top_frame}
 use Rattle.nest_stack.specs.Nest as nest
-use Rattle.tenant_model.specs.declared.rows.Phase.{Phase}
 use Rattle.tenant_model.specs.declared.rows.Phase.TheVariants.{Live}
 use Rattle.tenant_model.specs.declared.rows.Row.{Row}
-use Rattle.tenant_model.specs.State.{State, row, with_at_number}
-use Rattle.tenant_model.specs.Walks.{is_open, is_unstarted, height, top}
-use Rattle.tenant_model.specs.Changes.{with_frame}
+use Rattle.tenant_model.specs.State.{row}
+use Rattle.tenant_model.specs.Walks.{height, top}
 use Rattle.tenant_model.specs.WellFormed.{AreStacked}
-use Rattle.tenant_model.proofs.Changed.{row-with_same, row-with_other}
 use Rattle.tenant_model.proofs.Parts.{same_place}
 use Rattle.tenant_model.proofs.Picks.{top_is}
-use Rattle.arena_rows.specs.declared.rows.OpenRow.{OpenRow}
-use Rattle.arena_rows.specs.Represents.{Places, id_of, at_place, stage_of, nested_of, AreNests}
-use Rattle.arena_rows.proofs.Tops.{height_is, top_of_stack}
+use Rattle.arena_rows.specs.Represents.{Places, nested_of, AreNests}
+use Rattle.arena_rows.proofs.Tops.{height_is}
 use Rattle.arena_rows.proofs.Pushed.{stack_same, stack_other}
 
 get-set_same : {A : Type 0} (xs : List A) (i : ℕ) (x : A) → i < length xs → slice_get (slice_set xs i x) i ≡ Some x

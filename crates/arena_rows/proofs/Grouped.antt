@@ -1,16 +1,14 @@
 -- What is held stands for the same state where a group has a context from now on.
-use Rattle.std.proofs.Common.{◌≡◌, ◌≢◌, ℕ, ◌+◌, ◌*◌, ◌<◌, ◌≤◌, List, length, Option, Some, None, Bool, true, false, refl, sym, ap, ◌∙◌, arith, inl, inr, length-set, subst, unwrap_or}
+use Rattle.std.proofs.Common.{◌≡◌, ℕ, ◌+◌, ◌<◌, List, length, Some, None, true, false, refl, sym, ap, ◌∙◌, length-set, subst}
 use Rattle.std.specs.Prelude.{slice_index_or, slice_set}
-use Rattle.std.proofs.lemmas.Bool.{cases_eq}
 use Rattle.job_language.specs.declared.instructions.TheConstants.{GROUPS}
 use Rattle.cancel_context.specs.Forest.{Forest, binding, held_count, with_bound}
-use Rattle.task_group.specs.Groups.{Group, group}
 use Rattle.tenant_model.specs.declared.rows.Row.{Row}
 use Rattle.tenant_model.specs.State.{State, row}
-use Rattle.tenant_model.specs.Walks.{is_open, is_unstarted, is_spawned_by, mark}
+use Rattle.tenant_model.specs.Walks.{is_open, is_unstarted}
 use Rattle.arena_rows.specs.declared.rows.OpenRow.{OpenRow}
 use Rattle.arena_rows.specs.Held.{Held}
-use Rattle.arena_rows.specs.Represents.{Places, Assigned, at_place, IsRow, Stands, AreRows, AreContexts, Holds}
+use Rattle.arena_rows.specs.Represents.{Assigned, at_place, IsRow, AreContexts, Holds}
 use Rattle.arena_rows.specs.HeldChanges.{with_entry, bound_to, with_group}
 use Rattle.arena_rows.proofs.Alike.{Alike}
 use Rattle.arena_rows.proofs.Started.{some_is, AreRows-set, AreFree-set, AreTagged-set}
@@ -56,7 +54,7 @@ module _ (a : Held) (s : State) (is : Holds a s) (n : ℕ) where
         assigned = at;
         made = is.made;
         table = AreRows-set s.rows s.rows is.places a.table n e e' same entry.opened is.table entry.there its.number its (λ m other. refl);
-        free = AreFree-set s.rows s.rows is.places a.table n e e' same entry.opened is.table entry.there its.number its (λ m other. refl) a.config.rows a.free is.free;
+        free = AreFree-set s.rows s.rows is.places a.table n e e' same entry.opened is.table entry.there its.number its (λ m other. refl) a.config.rows is.free;
         nests = is.nests;
         tags = AreTagged-set s.rows s.rows is.places a.table n e e' same entry.opened is.table entry.there its.number its (λ m other. refl) a.regions is.tags;
         waiting = is.waiting;

@@ -1,15 +1,14 @@
 -- What is held stands for the state with one job changed.
-use Rattle.std.proofs.Common.{◌≡◌, ◌≢◌, ℕ, zero, suc, ◌+◌, ◌-◌, ◌<◌, ◌≤◌, List, [], ◌∷◌, ◌++◌, length, Option, Some, None, Bool, true, false, refl, sym, ap, ◌∙◌, arith, inl, inr, get_or, map, length-set, subst}
-use Rattle.std.specs.Prelude.{slice_index_or, slice_set, is_some, IsSome}
+use Rattle.std.proofs.Common.{◌≡◌, ◌≢◌, ℕ, ◌+◌, ◌-◌, ◌<◌, ◌≤◌, List, [], ◌++◌, length, Option, Some, None, Bool, true, false, refl, sym, ap, ◌∙◌, arith, inl, inr, get_or, map, length-set, subst}
+use Rattle.std.specs.Prelude.{slice_set, is_some}
 use Rattle.std.proofs.lemmas.Bool.{cases_eq}
-use Rattle.std.proofs.lemmas.List.{get_or-set_same, get_or-set_other, get_or-append_right, get_or-map, get_or_default, set-append_right, map-set, length-append, length-map}
-use Rattle.job_language.specs.declared.instructions.TheConstants.{GROUPS}
+use Rattle.std.proofs.lemmas.List.{get_or-set_same, get_or-set_other, get_or-append_right, get_or-map, set-append_right, map-set, length-append, length-map}
 use Rattle.cancel_context.specs.Forest.{Forest, Binding, binding, IsHeld, held_count}
 use Rattle.tenant_model.specs.declared.rows.Kind.{Kind}
 use Rattle.tenant_model.specs.declared.rows.Kind.TheVariants.{Root, Posted, Spawned, Region}
 use Rattle.tenant_model.specs.declared.works.Work.{Work}
 use Rattle.tenant_model.specs.State.{State, row, job}
-use Rattle.tenant_model.specs.Walks.{is_open, is_unstarted, is_job_cancelled, value_in}
+use Rattle.tenant_model.specs.Walks.{is_job_cancelled, value_in}
 use Rattle.tenant_model.specs.Changes.{on_job}
 use Rattle.tenant_model.specs.Sound.{IsSteady}
 use Rattle.tenant_model.proofs.Changed.{numbered_or, at_number-with_same, at_number-with_other, length-with, with_at_number-from}

@@ -1,18 +1,15 @@
 -- What stays where rows change alike.
-use Rattle.std.proofs.Common.{◌≡◌, ◌≢◌, ℕ, zero, suc, ◌+◌, ◌-◌, ◌==◌, ◌<◌, ◌≤◌, List, [], ◌∷◌, ◌++◌, length, Option, Some, None, Bool, true, false, ◌⊎◌, refl, sym, ap, ◌∙◌, arith, inl, inr, get_or, map}
-use Rattle.std.specs.Prelude.{slice_index_or, slice_set, slice_get, sum_by, count_by, is_some, nat_lt, IsSome, if◌then◌else◌}
-use Rattle.std.proofs.lemmas.Bool.{cases_eq}
-use Rattle.cancel_context.specs.Forest.{Forest, Binding, binding, IsHeld, held_count}
+use Rattle.std.proofs.Common.{◌≡◌, ℕ, ◌+◌, ◌<◌, List, Option, Some, None, true, refl, sym, ◌∙◌, get_or}
+use Rattle.std.specs.Prelude.{slice_index_or, sum_by}
+use Rattle.cancel_context.specs.Forest.{Forest}
 use Rattle.tenant_model.specs.declared.rows.Kind.{Kind}
 use Rattle.tenant_model.specs.declared.rows.Kind.TheVariants.{Root, Posted, Spawned, Region}
-use Rattle.tenant_model.specs.declared.rows.Phase.{Phase}
-use Rattle.tenant_model.specs.declared.rows.Row.{Row}
-use Rattle.tenant_model.specs.State.{State, row, job, with_at_number}
-use Rattle.tenant_model.specs.Walks.{is_open, is_unstarted, is_used, mark, is_context_cancelled, value_in}
+use Rattle.tenant_model.specs.State.{State, row}
+use Rattle.tenant_model.specs.Walks.{is_open, is_unstarted}
 use Rattle.tenant_model.proofs.Contexts.{is_context_cancelled-same}
 use Rattle.arena_rows.specs.declared.rows.OpenRow.{OpenRow}
 use Rattle.arena_rows.specs.declared.rows.CurrentJob.{CurrentJob}
-use Rattle.arena_rows.specs.Represents.{Places, at_place, Assigned, Owner, Nobody, OfJob, OfRow, OfGroup, bound, IsRowContext, IsGroupContext, IsOwned, AreContexts, held_by, IsJob, AreJobs, open_of}
+use Rattle.arena_rows.specs.Represents.{at_place, Assigned, Owner, Nobody, OfJob, OfRow, OfGroup, IsRowContext, IsGroupContext, IsOwned, AreContexts, held_by, IsJob, AreJobs}
 use Rattle.job_language.specs.declared.instructions.TheConstants.{GROUPS}
 use Rattle.tenant_model.specs.Sound.{IsSettled}
 use Rattle.arena_rows.proofs.Alike.{Alike, mark-same, used-same, open_of-alike}

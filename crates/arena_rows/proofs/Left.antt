@@ -1,8 +1,7 @@
 -- Contexts that are released, one after another.
-use Rattle.std.proofs.Common.{◌≡◌, ◌≢◌, ℕ, zero, suc, ◌+◌, ◌-◌, ◌==◌, ◌<◌, ◌≤◌, List, [], ◌∷◌, length, Option, Some, None, Bool, true, false, ◌||◌, ◌⊎◌, refl, sym, ap, ◌∙◌, arith, inl, inr, unwrap_or, map, subst}
-use Rattle.std.specs.Prelude.{IsSome, is_some, slice_index_or, slice_set, count_by, if◌then◌else◌}
-use Rattle.std.specs.List.{list_any}
-use Rattle.std.proofs.lemmas.Bool.{cases_eq, cases_lt}
+use Rattle.std.proofs.Common.{◌≡◌, ◌≢◌, ℕ, zero, suc, ◌+◌, ◌==◌, ◌<◌, List, [], ◌∷◌, length, Option, Some, None, Bool, true, false, ◌⊎◌, refl, sym, ap, ◌∙◌, arith, inl, inr, map, subst}
+use Rattle.std.specs.Prelude.{is_some, slice_index_or, count_by}
+use Rattle.std.proofs.lemmas.Bool.{cases_eq}
 use Rattle.std.proofs.lemmas.List.{get_or-set_same, get_or-set_other, length-map}
 use Rattle.std.proofs.Common.{length-set}
 use Rattle.cancel_context.specs.Forest.{Forest, Binding, binding, IsHeld, IsForest, held_count, is_cancelled, parent, parent_in, leaving, without_parent, without}
@@ -10,7 +9,7 @@ use Rattle.tenant_model.proofs.Within.{either_way}
 use Rattle.cancel_context.proofs.Chains.{IsHeld-within}
 use Rattle.arena_rows.specs.declared.rows.OpenRow.{OpenRow}
 use Rattle.arena_rows.specs.Represents.{is_spawned}
-use Rattle.arena_rows.specs.Endings.{is_in, orphaned, Left, with_some, below, own_context, contexts_of, MayLeave, MayEnd}
+use Rattle.arena_rows.specs.Endings.{is_in, Left, with_some, below, own_context, contexts_of, MayLeave, MayEnd}
 use Rattle.job_language.specs.declared.instructions.TheConstants.{GROUPS}
 use Rattle.tenant_model.proofs.Stacking.{one_if}
 use Rattle.arena_rows.proofs.Alike.{count_cons}

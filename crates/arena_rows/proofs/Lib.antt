@@ -1,5 +1,6 @@
 pub mod Picked
 pub mod Alike
+pub mod FreePlaces
 pub mod Started
 pub mod Pushed
 pub mod Tops

@@ -1,9 +1,9 @@
 -- Which rows' contexts can be released.
-use Rattle.std.proofs.Common.{◌≡◌, ◌≢◌, ℕ, zero, suc, ◌+◌, ◌-◌, ◌<◌, ◌≤◌, length, Option, Some, None, Bool, true, false, ◌||◌, refl, sym, ap, ◌∙◌, arith, inl, inr}
-use Rattle.std.specs.Prelude.{IfSome, IsSome, is_some}
+use Rattle.std.proofs.Common.{◌≡◌, ◌≢◌, ℕ, zero, suc, ◌-◌, ◌<◌, ◌≤◌, length, Some, true, false, refl, sym, ap, ◌∙◌, arith, inl, inr}
+use Rattle.std.specs.Prelude.{IfSome, IsSome}
 use Rattle.std.proofs.lemmas.Bool.{cases_eq, cases_lt}
 use Rattle.job_language.specs.declared.instructions.TheConstants.{GROUPS}
-use Rattle.cancel_context.specs.Forest.{IsForest, parent, is_cancelled}
+use Rattle.cancel_context.specs.Forest.{IsForest}
 use Rattle.tenant_model.specs.declared.rows.Kind.{Kind}
 use Rattle.tenant_model.specs.declared.rows.Kind.TheVariants.{Root, Posted, Spawned, Region}
 use Rattle.tenant_model.specs.declared.rows.Phase.TheVariants.{Live}
@@ -16,7 +16,7 @@ use Rattle.tenant_model.proofs.Insides.{live_low}
 use Rattle.tenant_model.proofs.Parts.{same_place}
 use Rattle.tenant_model.proofs.Picks.{top_is}
 use Rattle.arena_rows.specs.Held.{Held}
-use Rattle.arena_rows.specs.Represents.{OfJob, OfRow, IsRowContext, IsGroupContext, Holds}
+use Rattle.arena_rows.specs.Represents.{OfRow, IsRowContext, IsGroupContext, Holds}
 use Rattle.arena_rows.specs.Endings.{IsLoose}
 use Rattle.arena_rows.proofs.Contexts.{live_open, has_fault, context_is, group_is}
 use Rattle.arena_rows.proofs.Ends.{is_job, row_in, HasContext, go, nothing_bound}

@@ -1,5 +1,5 @@
 -- What is held stands for the state with another mark of a group.
-use Rattle.std.proofs.Common.{◌≡◌, ◌≢◌, ℕ, ◌+◌, ◌<◌, ◌≤◌, List, length, length-set, Option, Some, None, false, refl, sym, ap, ◌∙◌, arith, inl, inr, get_or, subst}
+use Rattle.std.proofs.Common.{◌≡◌, ◌≢◌, ℕ, ◌<◌, ◌≤◌, List, length, length-set, Option, Some, None, false, refl, sym, ap, ◌∙◌, arith, inl, inr, subst}
 use Rattle.std.specs.Prelude.{slice_index_or, slice_set}
 use Rattle.std.specs.Option.{option_map}
 use Rattle.std.proofs.lemmas.Bool.{cases_eq}
@@ -19,10 +19,11 @@ use Rattle.arena_rows.specs.declared.rows.OpenRow.{OpenRow}
 use Rattle.arena_rows.specs.Held.{Held}
 use Rattle.arena_rows.specs.MarkedGroups.{marked}
 use Rattle.arena_rows.specs.Represents.{at_place, tag_of, around_of, tagged_of, IsGroup, IsRow, AreRows, AreFree, AreNests, AreTagged, held_by, Holds}
+use Rattle.arena_rows.proofs.FreePlaces.{same_taken}
 use Rattle.arena_rows.proofs.Grouped.{IsEntry}
 use Rattle.arena_rows.proofs.MarkedContexts.{IsRequested, AreContexts-marked, AreJobs-marked}
 use Rattle.arena_rows.proofs.MarkedRows.{part, opens, sources, open_rows-marked, tagged_of-marked, nested_of-marked, waiting-marked, IsRow-marked, IsRow-other}
-use Rattle.arena_rows.proofs.Started.{at_same, at_other, some_is, some_none, option-same}
+use Rattle.arena_rows.proofs.Started.{at_same, at_other, some_is, option-same}
 
 -- an entry that differs in its groups alone
 pub record IsRegrouped (e e' : OpenRow) : Type 0 where
@@ -77,15 +78,10 @@ module _ (a : Held) (s : State) (is : Holds a s) (n g : ℕ) (m : Mark) (e e' : 
       ];
     }
 
-    free : AreFree t.rows a.config.rows table' a.free
+    free : AreFree t.rows a.config.rows table'
     free = record {
       long = length-set a.table p (Some e') ∙ is.free.long;
-      each = λ i below.
-          let its = is.free.each i below in
-          let apart : get_or a.free i 0 ≢ p = λ same. some_none e (sym entry.there ∙ ap (at_place a.table) (sym same) ∙ its.1) in
-          (its.0, at_other a.table p (Some e') entry.within (get_or a.free i 0) apart ∙ its.1);
-      apart = is.free.apart;
-      count = ap (λ k. k + length a.free) (open_rows-marked s.rows n g m from to few) ∙ is.free.count;
+      count = open_rows-marked s.rows n g m from to few ∙ is.free.count ∙ sym (same_taken a.table p e e' entry.within entry.there);
     }
 
     nests : AreNests t.rows is.places a.config.slots a.nests

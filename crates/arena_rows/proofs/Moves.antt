@@ -1,33 +1,23 @@
 -- Steps of a slot's topmost row.
-use Rattle.std.proofs.Common.{◌≡◌, ◌≢◌, ℕ, zero, suc, ◌+◌, ◌-◌, ◌==◌, ◌<◌, ◌≤◌, nat_lt, List, [], ◌∷◌, length, Option, Some, None, Bool, true, false, ◌&&◌, refl, sym, ap, ◌∙◌, arith, inl, inr, get_or, map, ℤ}
-use Rattle.std.specs.Prelude.{slice_index_or, slice_set, if◌then◌else◌, filter}
+use Rattle.std.proofs.Common.{◌≡◌, ◌≢◌, ℕ, zero, suc, ◌+◌, ◌-◌, ◌<◌, ◌≤◌, List, [], ◌∷◌, length, Option, Some, true, false, refl, sym, ap, ◌∙◌, arith, inl, inr, get_or, map}
+use Rattle.std.specs.Prelude.{slice_set, filter}
 use Rattle.std.specs.List.{enumerate_from}
-use Rattle.std.specs.Option.{option_map}
 use Rattle.std.proofs.lemmas.Bool.{cases_eq}
-use Rattle.job_language.specs.declared.answers.Moved.{Moved}
-use Rattle.job_language.specs.declared.answers.Moved.TheVariants.{Ran, Freed}
 use Rattle.job_step.specs.declared.frames.Frame.{Frame}
-use Rattle.job_step.specs.Frame.{write_and_step}
 use Rattle.ready_pool.specs.Ready.{Ready}
-use Rattle.region_tag.specs.declared.regions.Tagged.{Tagged}
-use Rattle.nest_stack.specs.Nest.{stack, with_stack, with_top_frame}
-use Rattle.tenant_model.specs.declared.rows.Phase.{Phase}
-use Rattle.tenant_model.specs.declared.rows.Phase.TheVariants.{Unstarted, Live}
+use Rattle.tenant_model.specs.declared.rows.Phase.TheVariants.{Live}
 use Rattle.tenant_model.specs.declared.rows.Row.{Row}
 use Rattle.tenant_model.specs.State.{State, row, with_at_number}
-use Rattle.tenant_model.specs.Walks.{NumberedRow, numbered_rows, is_open, is_unstarted, height, top}
-use Rattle.tenant_model.specs.Changes.{with_frame, finish_step, entry}
-use Rattle.tenant_model.specs.Shared.{write_register}
+use Rattle.tenant_model.specs.Walks.{is_unstarted, height, top}
+use Rattle.tenant_model.specs.Changes.{with_frame}
 use Rattle.tenant_model.specs.Sound.{IsSteady, IsSettled}
 use Rattle.tenant_model.proofs.Changed.{row-with_same, row-with_other, row-get_or, with_at_number-from}
 use Rattle.tenant_model.proofs.Within.{either_way}
 use Rattle.tenant_model.proofs.Picks.{top_is}
-use Rattle.tenant_model.proofs.Insides.{live_low}
-use Rattle.tenant_model.proofs.Stacked.{AreSame-set}
 use Rattle.arena_rows.specs.declared.rows.OpenRow.{OpenRow}
 use Rattle.arena_rows.specs.Held.{Held}
-use Rattle.arena_rows.specs.Represents.{Places, id_of, at_place, stage_of, tag_of, tagged_of, around_of, nested_of, waiting, waiting_of, Stands, AreRows, AreTagged, Holds}
-use Rattle.arena_rows.specs.HeldChanges.{counted, framed}
+use Rattle.arena_rows.specs.Represents.{Places, at_place, stage_of, tagged_of, waiting, waiting_of, AreRows, Holds}
+use Rattle.arena_rows.specs.HeldChanges.{framed}
 use Rattle.arena_rows.proofs.Alike.{Alike, Alike-set, IsRow-alike, open_rows-alike, tag_of-alike, around_of-alike}
 use Rattle.arena_rows.proofs.Started.{option-same, waits, map-same}
 use Rattle.arena_rows.proofs.Framed.{AreNests-framed}
@@ -102,7 +92,7 @@ module _ (a : Held) (s : State) (is : Holds a s) (slot n : ℕ) (f : Frame) (wit
     assigned = is.assigned;
     made = is.made ∙ sym alike.contexts.sources.long;
     table = AreRows-alike s.rows rows' is.places a.table alike stages is.table;
-    free = record { long = is.free.long; each = is.free.each; apart = is.free.apart; count = ap (λ k. k + length a.free) (open_rows-alike s.rows rows' alike) ∙ is.free.count };
+    free = record { long = is.free.long; count = open_rows-alike s.rows rows' alike ∙ is.free.count };
     nests = AreNests-framed s.rows rows' is.places a.config.slots a.nests is.steady.formed.stacked n slot f is.nests within on_top phases here others;
     tags = record { long = is.tags.long; each = λ p. is.tags.each p ∙ sym (option-same (tagged_of rows' is.places) (tagged_of s.rows is.places) (at_place a.table p) (λ x. rw (tag_of-alike s.rows rows' alike is.places x.number, around_of-alike s.rows rows' alike is.places x.number) refl)) };
     waiting = is.waiting ∙ ap (λ ws. let p : Ready = record { isolation = a.config.isolation; limit = a.config.rows; slots = a.config.slots; rows = ws } in p)

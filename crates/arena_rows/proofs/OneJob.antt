@@ -1,9 +1,9 @@
 -- A job that changes.
-use Rattle.std.proofs.Common.{◌≡◌, ◌||◌, ℕ, ◌+◌, ◌-◌, ◌<◌, ◌≤◌, List, length, Option, Some, Bool, true, false, refl, sym, ap, ◌∙◌, arith, get_or, length-set, subst, inl, inr}
+use Rattle.std.proofs.Common.{◌≡◌, ◌||◌, ℕ, ◌+◌, ◌-◌, ◌<◌, ◌≤◌, length, Some, true, false, refl, sym, ap, ◌∙◌, arith, length-set, subst, inl, inr}
 use Rattle.cancel_context.proofs.Chains.{IsHeld-within}
 use Rattle.std.specs.Prelude.{slice_index_or, IsSome, None}
 use Rattle.std.proofs.lemmas.List.{get_or-set_same, get_or-set_other}
-use Rattle.cancel_context.specs.Forest.{Forest, binding, IsHeld, held_count, with_request, asking}
+use Rattle.cancel_context.specs.Forest.{binding, IsHeld, held_count, with_request, asking}
 use Rattle.tenant_model.specs.State.{State, row, job}
 use Rattle.tenant_model.specs.declared.works.Work.{Work}
 use Rattle.std.specs.List.{list_any}

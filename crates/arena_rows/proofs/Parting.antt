@@ -1,5 +1,5 @@
 -- The table after a member of a group has ended.
-use Rattle.std.proofs.Common.{◌≡◌, ◌≢◌, ℕ, zero, suc, ◌+◌, ◌-◌, ◌==◌, ◌<◌, ◌≤◌, ℤ, pos, List, [], ◌∷◌, length, Option, Some, None, Bool, true, false, ◌&&◌, refl, sym, ap, ◌∙◌, arith, inl, inr, length-set, subst}
+use Rattle.std.proofs.Common.{◌≡◌, ◌≢◌, ℕ, ◌-◌, ◌==◌, ◌<◌, ◌≤◌, ℤ, List, length, Option, Some, None, true, false, refl, sym, ap, ◌∙◌, arith, inl, inr, length-set, subst}
 use Rattle.std.specs.Prelude.{IfSome, slice_index_or, slice_set, sum_by, if◌then◌else◌}
 use Rattle.std.specs.Option.{option_map}
 use Rattle.std.specs.Int.{int_wrapping_add, w64}
@@ -7,7 +7,6 @@ use Rattle.std.proofs.lemmas.Bool.{cases_eq, cases_lt}
 use Rattle.std.proofs.lemmas.List.{get_or-set_same, get_or-set_other, set_past}
 use Rattle.std.proofs.lemmas.List.Sums.{sum_by-set}
 use Rattle.job_language.specs.declared.instructions.TheConstants.{GROUPS}
-use Rattle.region_tag.specs.declared.regions.Tagged.{Tagged}
 use Rattle.task_group.specs.Groups.{Group, group, unused}
 use Rattle.tenant_model.specs.declared.rows.Kind.{Kind}
 use Rattle.tenant_model.specs.declared.rows.Kind.TheVariants.{Root, Posted, Spawned, Region}
@@ -15,13 +14,13 @@ use Rattle.tenant_model.specs.declared.rows.Row.{Row}
 use Rattle.tenant_model.specs.State.{State, row, with_at_number}
 use Rattle.tenant_model.specs.Walks.{maker_of, is_open, is_spawned_by, mark, value_in}
 use Rattle.tenant_model.proofs.AttendedSteps.{open_there}
-use Rattle.tenant_model.proofs.Within.{either_way}
 use Rattle.arena_rows.specs.declared.rows.OpenRow.{OpenRow}
 use Rattle.arena_rows.specs.declared.rows.Source.{Source}
 use Rattle.arena_rows.specs.Held.{Held}
-use Rattle.arena_rows.specs.Represents.{Places, at_place, id_of, source_of, stage_of, tag_of, around_of, tagged_of, IsGroup, IsRow, Stands, held_by, Holds}
+use Rattle.arena_rows.specs.Represents.{at_place, source_of, stage_of, tagged_of, IsGroup, IsRow, held_by, Holds}
 use Rattle.arena_rows.specs.Endings.{member_left, is_of_row, open_maker, parted_by, parted, number_at}
 use Rattle.arena_rows.proofs.Closed.{row_old, IsGroup-other, IsGroup-left}
+use Rattle.arena_rows.proofs.FreePlaces.{same_taken}
 use Rattle.arena_rows.proofs.Grouped.{IsEntry, is_entry}
 use Rattle.arena_rows.proofs.Started.{at_same, at_other, some_is, some_none}
 use Rattle.arena_rows.proofs.TableClosed.{IsParted}
@@ -67,7 +66,7 @@ module _ (a : Held) (s : State) (is : Holds a s) (n : ℕ) (e : OpenRow) (entry 
           record { within = its.within; entry = its.entry; there = its.there; is = is_row m its.entry other its.is (λ g few. group_other m g (group its.entry.groups g) (alone m g opened_m) (its.is.groups g few)) };
       only = is.table.only;
       tags = λ q. refl;
-      vacant = λ q none. none;
+      taken = refl;
       there = entry.there;
       number = entry.its.number;
     };
@@ -177,9 +176,7 @@ module _ (a : Held) (s : State) (is : Holds a s) (n : ℕ) (e : OpenRow) (entry 
           | inl same ↦ ap (λ k. option_map (tagged_of s.rows is.places) (at_place table1 k)) same ∙ ap (option_map (tagged_of s.rows is.places)) (at_same a.table p (Some em') maker.within) ∙ sym (ap (λ k. option_map (tagged_of s.rows is.places) (at_place a.table k)) same ∙ ap (option_map (tagged_of s.rows is.places)) at_maker)
           | inr other ↦ ap (option_map (tagged_of s.rows is.places)) (at_other a.table p (Some em') maker.within q other)
         ];
-        vacant = λ q none.
-            let apart : q ≢ p = λ same. some_none em (sym at_maker ∙ ap (at_place a.table) (sym same) ∙ none) in
-            at_other a.table p (Some em') maker.within q apart ∙ none;
+        taken = same_taken a.table p em em' maker.within at_maker;
         there = at_other a.table p (Some em') maker.within (is.places n) places_apart ∙ entry.there;
         number = entry.its.number;
       };

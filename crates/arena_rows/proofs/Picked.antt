@@ -1,17 +1,15 @@
 -- The row that a slot takes next.
-use Rattle.std.proofs.Common.{◌≡◌, ℕ, zero, suc, ◌+◌, ◌-◌, ◌==◌, ◌<◌, ◌≤◌, List, [], ◌∷◌, length, Option, Some, None, Bool, true, false, ◌&&◌, refl, sym, ap, ◌∙◌, arith, inl, inr, map, get_or}
-use Rattle.std.specs.Prelude.{All, filter, option_and_then}
+use Rattle.std.proofs.Common.{◌≡◌, ℕ, suc, ◌==◌, List, [], ◌∷◌, Option, Some, None, Bool, true, ◌&&◌, refl, ap, ◌∙◌, arith, inl, inr, map, get_or}
+use Rattle.std.specs.Prelude.{All, filter}
 use Rattle.std.specs.Option.{option_map}
 use Rattle.job_language.specs.declared.tenants.Isolation.{Isolation}
 use Rattle.job_language.specs.declared.tenants.Isolation.TheVariants.{Exact, Within}
-use Rattle.region_tag.specs.declared.row_id.RowId.{RowId}
 use Rattle.region_tag.specs.declared.regions.Tagged.{Tagged}
 use Rattle.region_tag.specs.Region as tags
 use Rattle.ready_pool.specs.declared.pool.Waiting.{Waiting}
 use Rattle.ready_pool.specs.Ready as ready
 use Rattle.tenant_model.specs.declared.rows.Row.{Row}
-use Rattle.tenant_model.specs.State.{row}
-use Rattle.tenant_model.specs.Walks.{NumberedRow, numbered_rows, is_unstarted, is_open, region_of, region_on, same_region, is_within, is_allowed, eligible, is_made_on, first_of, last_or, pick_of, top}
+use Rattle.tenant_model.specs.Walks.{NumberedRow, numbered_rows, region_of, region_on, same_region, is_within, is_allowed, eligible, is_made_on, first_of, last_or, pick_of, top}
 use Rattle.tenant_model.proofs.Within.{either_way}
 use Rattle.arena_rows.specs.Represents.{Places, id_of, tag_of, waiting, waiting_of}
 

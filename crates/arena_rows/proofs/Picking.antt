@@ -1,35 +1,27 @@
 -- The row that a slot takes next is the definition's.
-use Rattle.std.proofs.Common.{◌≡◌, ◌≢◌, ℕ, zero, suc, ◌+◌, ◌-◌, ◌==◌, ◌<◌, ◌≤◌, List, [], ◌∷◌, length, Option, Some, None, Bool, true, false, ◌||◌, refl, sym, ap, ◌∙◌, arith, inl, inr, get_or, map}
-use Rattle.std.specs.Prelude.{All, IfSome, is_some, option_and_then, find, slice_index_or}
+use Rattle.std.proofs.Common.{◌≡◌, ℕ, zero, suc, ◌<◌, ◌≤◌, [], length, Option, Some, None, true, false, refl, ap, ◌∙◌, arith, inl, inr, get_or}
+use Rattle.std.specs.Prelude.{All, IfSome, is_some, option_and_then}
 use Rattle.std.specs.Option.{option_map}
 use Rattle.std.proofs.lemmas.Bool.{cases_eq, cases_lt}
 use Rattle.std.proofs.lemmas.List.Elements.{All-filter, filter_passes, All-from_get_or}
 use Rattle.job_language.specs.declared.errors.JobFault.{JobFault}
-use Rattle.job_language.specs.declared.tenants.Isolation.{Isolation}
-use Rattle.region_tag.specs.declared.row_id.RowId.{RowId}
-use Rattle.region_tag.specs.declared.regions.Tagged.{Tagged}
 use Rattle.region_tag.specs.Region as tags
 use Rattle.region_tag.specs.Region.{IsAroundEarlier, IsNested}
-use Rattle.ready_pool.specs.Ready.{Ready}
-use Rattle.ready_pool.specs.Ready as ready
 use Rattle.nest_stack.specs.declared.stack.Nested.{Nested}
-use Rattle.nest_stack.specs.Nest.{stack}
-use Rattle.nest_stack.specs.Nest as nests
 use Rattle.tenant_model.specs.declared.rows.Kind.{Kind}
 use Rattle.tenant_model.specs.declared.rows.Kind.TheVariants.{Root, Posted, Spawned, Region}
 use Rattle.tenant_model.specs.declared.rows.Phase.{Phase}
 use Rattle.tenant_model.specs.declared.rows.Phase.TheVariants.{Unstarted, Live, Done, Dropped, Faulted}
-use Rattle.tenant_model.specs.declared.rows.Row.{Row}
 use Rattle.tenant_model.specs.State.{State, row, job}
-use Rattle.tenant_model.specs.Walks.{NumberedRow, numbered_rows, is_open, is_unstarted, is_region, is_within, is_job_cancelled, region_of, region_on, chain, height, top, pick, pick_of}
+use Rattle.tenant_model.specs.Walks.{NumberedRow, numbered_rows, is_open, is_unstarted, is_region, region_of, region_on, chain, top, pick, pick_of}
 use Rattle.tenant_model.specs.Linked.{MakersPrecede}
 use Rattle.job_language.specs.declared.tenants.Tenant.{Tenant}
 use Rattle.tenant_model.proofs.Changed.{row-past}
-use Rattle.tenant_model.proofs.Within.{region_within, within_above, either_way}
+use Rattle.tenant_model.proofs.Within.{region_within, within_above}
 use Rattle.tenant_model.proofs.Picks.{IsNumbered, numbered_all, found_holds, top_is}
 use Rattle.arena_rows.specs.declared.rows.OpenRow.{OpenRow}
 use Rattle.arena_rows.specs.Held.{Held}
-use Rattle.arena_rows.specs.Represents.{Places, id_of, at_place, tag_of, around_of, tagged_of, nested_of, waiting, waiting_of, AreRows, AreTagged, Rests}
+use Rattle.arena_rows.specs.Represents.{id_of, at_place, around_of, tagged_of, nested_of, waiting, Rests}
 use Rattle.arena_rows.specs.HeldChanges.{picked}
 use Rattle.arena_rows.proofs.Tops.{top_of_stack, region_there}
 use Rattle.arena_rows.proofs.Picked.{pick-same}

@@ -1,29 +1,24 @@
 -- A place for the next row: what is held stands for the state with it as well.
-use Rattle.std.proofs.Common.{◌≡◌, ◌≢◌, ℕ, zero, suc, ◌+◌, ◌==◌, ◌<◌, ◌≤◌, List, [], ◌∷◌, length, Option, Some, None, Bool, true, false, refl, sym, ap, ◌∙◌, arith, inl, inr, map, get_or}
-use Rattle.std.specs.Prelude.{IfSome, if◌then◌else◌, is_some, find, slice_index_or, filter, All}
+use Rattle.std.proofs.Common.{◌≡◌, ◌≢◌, ℕ, zero, suc, ◌+◌, ◌==◌, ◌<◌, ◌≤◌, List, [], ◌∷◌, length, Option, Some, None, true, false, refl, sym, ap, ◌∙◌, arith, map}
+use Rattle.std.specs.Prelude.{if◌then◌else◌, is_some, All}
 use Rattle.std.specs.Option.{option_map}
-use Rattle.std.proofs.lemmas.Bool.{cases_eq, cases_lt}
 use Rattle.std.proofs.lemmas.List.Elements.{All-filter}
 use Rattle.region_tag.specs.declared.row_id.RowId.{RowId}
 use Rattle.region_tag.specs.declared.regions.Tagged.{Tagged}
-use Rattle.ready_pool.specs.declared.pool.Waiting.{Waiting}
 use Rattle.ready_pool.specs.Ready.{Ready}
 use Rattle.nest_stack.specs.declared.stack.Nested.{Nested}
 use Rattle.tenant_model.specs.declared.rows.Kind.{Kind}
 use Rattle.tenant_model.specs.declared.rows.Kind.TheVariants.{Root, Posted, Spawned, Region}
-use Rattle.tenant_model.specs.declared.rows.Phase.{Phase}
-use Rattle.tenant_model.specs.declared.rows.Phase.TheVariants.{Live}
 use Rattle.tenant_model.specs.declared.rows.Row.{Row}
 use Rattle.tenant_model.specs.State.{State, row}
-use Rattle.tenant_model.specs.Walks.{NumberedRow, numbered_rows, maker_of, is_open, is_region, region_of}
+use Rattle.tenant_model.specs.Walks.{NumberedRow, numbered_rows, maker_of, region_of}
 use Rattle.tenant_model.specs.Linked.{MakersPrecede}
 use Rattle.tenant_model.proofs.Within.{region_within, within_above}
 use Rattle.tenant_model.proofs.Insides.{live_there}
 use Rattle.tenant_model.proofs.Picks.{IsNumbered, numbered_all}
 use Rattle.arena_rows.specs.declared.rows.OpenRow.{OpenRow}
 use Rattle.arena_rows.specs.Held.{Held}
-use Rattle.arena_rows.specs.Represents.{Places, id_of, at_place, source_of, tag_of, around_of, tagged_of, nested_of, waiting, waiting_of, IsRow, Stands, AreRows, AreNests, AreTagged, Holds}
-use Rattle.arena_rows.proofs.Started.{option-same}
+use Rattle.arena_rows.specs.Represents.{Places, id_of, at_place, source_of, tag_of, around_of, tagged_of, waiting, waiting_of, IsRow, AreRows, AreNests, AreTagged, Holds}
 use Rattle.tenant_model.proofs.AttendedSteps.{open_there}
 
 module _ (rows : List Row) (precede : MakersPrecede rows) (places places' : Places) (same : (m : ℕ) → m ≤ length rows → places' m ≡ places m) where

@@ -30,7 +30,7 @@ module _ (a : Held) (s : State) (rests : Rests a s) (j : ℕ) (f : Frame) (kept 
           record { within = its.within; entry = its.entry; there = its.there; is = IsRow-pushed s.rows r is.steady.formed.linked.makers kept.formed.linked.makers is.places x its.entry old.1 (λ h few. refl) its.is };
       only = λ q x here. let its = is.table.only q x here in (still s r x.number its.0, its.1);
     };
-    vacant = λ q none. none;
+    taken = refl;
     tags = λ q. refl;
     contexts = is.contexts.in_table;
     held = refl;

@@ -1,17 +1,15 @@
 -- A row that was posted: of a job, in no group and no region.
-use Rattle.std.proofs.Common.{◌≡◌, ◌≢◌, ◌&&◌, ℕ, zero, suc, ◌+◌, ◌-◌, ◌==◌, ◌<◌, ◌≤◌, List, [], ◌∷◌, ◌++◌, length, Option, Some, None, Bool, true, false, refl, sym, ap, ◌∙◌, arith, inl, inr, get_or, map, subst, ℤ, pos}
+use Rattle.std.proofs.Common.{◌≡◌, ◌&&◌, ℕ, zero, suc, ◌+◌, ◌-◌, ◌==◌, ◌<◌, ◌≤◌, List, [], ◌∷◌, ◌++◌, length, Option, Some, None, Bool, true, false, refl, sym, ap, ◌∙◌, arith, map, subst}
 use Rattle.std.specs.Prelude.{slice_index_or, slice_set, replicate}
 use Rattle.job_language.specs.declared.instructions.TheConstants.{GROUPS}
 use Rattle.job_step.specs.declared.frames.Frame.{Frame}
 use Rattle.ready_pool.specs.declared.pool.Waiting.{Waiting}
 use Rattle.ready_pool.specs.Ready.{Ready, with_row}
-use Rattle.task_group.specs.Groups.{no_members}
-use Rattle.tenant_model.specs.declared.rows.Kind.{Kind}
 use Rattle.tenant_model.specs.declared.rows.Kind.TheVariants as kind
 use Rattle.tenant_model.specs.declared.rows.Phase.TheVariants.{Unstarted}
 use Rattle.tenant_model.specs.declared.rows.Row.{Row}
 use Rattle.tenant_model.specs.State.{State, row}
-use Rattle.tenant_model.specs.Walks.{is_open, is_unstarted, region_of}
+use Rattle.tenant_model.specs.Walks.{is_open, region_of}
 use Rattle.tenant_model.specs.Changes.{new_row, add_row, open_rows}
 use Rattle.tenant_model.specs.Linked.{MakersPrecede}
 use Rattle.tenant_model.specs.Sound.{IsSteady}
@@ -23,15 +21,12 @@ use Rattle.tenant_model.proofs.Within.{region_of-none}
 use Rattle.tenant_model.proofs.AttendedSteps.{open_there}
 use Rattle.arena_rows.specs.declared.rows.OpenRow.{OpenRow}
 use Rattle.arena_rows.specs.declared.rows.CurrentJob.{CurrentJob}
-use Rattle.arena_rows.specs.declared.rows.Source.TheVariants as source
-use Rattle.arena_rows.specs.declared.rows.Stage.TheVariants as stage
-use Rattle.arena_rows.specs.Held.{Held}
-use Rattle.arena_rows.specs.Represents.{Places, at_place, id_of, tag_of, waiting, waiting_of, Stands, AreNests, Assigned, IsRowContext, AreContexts, open_of, Holds}
-use Rattle.arena_rows.specs.HeldChanges.{next_place, next_id, index_of, entered, job_counted, posted_entry, put}
-use Rattle.arena_rows.proofs.Making.{HasNext, has_next}
+use Rattle.arena_rows.specs.Held.{Held, HasFreePlace}
+use Rattle.arena_rows.specs.Represents.{id_of, waiting, waiting_of, Assigned, IsRowContext, AreContexts, open_of, Holds, IsFree}
+use Rattle.arena_rows.specs.HeldChanges.{next_id, index_of, entered, job_counted, posted_entry, put}
+use Rattle.arena_rows.proofs.Making.{IsNext, is_next}
 use Rattle.arena_rows.proofs.Made.{IsFresh, IsJoined, made_holds}
 use Rattle.arena_rows.proofs.Pushing.{IsRow-pushed, AreNests-waiting, waiting-one}
-use Rattle.arena_rows.proofs.PushedRows.{tag_of-push}
 use Rattle.arena_rows.proofs.Spawned.{joined, AreContexts-joined}
 
 abbrev no_group_contexts : List (Option ℕ)
@@ -44,7 +39,7 @@ no_contexts (suc (suc zero)) = refl
 no_contexts (suc (suc (suc zero))) = refl
 no_contexts (suc (suc (suc (suc h)))) = refl
 
-module _ (a : Held) (s : State) (is : Holds a s) (placed : is.places (length s.rows + 1) ≡ next_place a) (j ctx : ℕ) (f : Frame) (kept : IsSteady (add_row s (new_row kind.Posted j None f Unstarted))) (some : 0 < length a.free) (above : a.retired < j) (below : j - a.retired ≤ length a.jobs) (context : ctx ≡ is.assigned.of_job j) where
+module _ (a : Held) (s : State) (is : Holds a s) (place : ℕ) (placed : is.places (length s.rows + 1) ≡ place) (j ctx : ℕ) (f : Frame) (kept : IsSteady (add_row s (new_row kind.Posted j None f Unstarted))) (vacant : IsFree a.table place) (above : a.retired < j) (below : j - a.retired ≤ length a.jobs) (context : ctx ≡ is.assigned.of_job j) where
   abbrev r : Row
   r = new_row kind.Posted j None f Unstarted
 
@@ -57,8 +52,8 @@ module _ (a : Held) (s : State) (is : Holds a s) (placed : is.places (length s.r
   precede' : MakersPrecede (s.rows ++ r ∷ [])
   precede' = kept.formed.linked.makers
 
-  next : HasNext a
-  next = has_next a s is some
+  next : IsNext a place
+  next = is_next a s is place vacant
 
   fresh : IsFresh a is.places r e
   fresh = record { number = refl; source = refl; job = refl; made_on = refl; stage = refl; groups = refl; contexts = refl }
@@ -73,10 +68,11 @@ module _ (a : Held) (s : State) (is : Holds a s) (placed : is.places (length s.r
     only = is.table.only;
     tags = λ q. refl;
     vacant = λ q none. none;
+    taken = refl;
   }
 
   abbrev at : Assigned
-  at = joined s a.retired (length a.jobs) a.table a.contexts is.assigned ctx (next_place a) r e precede precede' is.contexts refl refl (λ m h. refl)
+  at = joined s a.retired (length a.jobs) a.table a.contexts is.assigned ctx place r e precede precede' is.contexts refl refl (λ m h. refl)
 
   new_context : IsRowContext (add_row s r) a.contexts at (length s.rows + 1) (row (add_row s r).rows (length s.rows + 1)).kind
   new_context =
@@ -86,12 +82,12 @@ module _ (a : Held) (s : State) (is : Holds a s) (placed : is.places (length s.r
       let its : at.of_row N ≡ at.of_job (row (add_row s r).rows N).job = rw it (context ∙ ap is.assigned.of_job (sym (ap (λ (q : Row). q.job) here))) in
       subst (λ k. IsRowContext (add_row s r) a.contexts at N k) (sym (ap (λ (q : Row). q.kind) here)) its
 
-  contexts : AreContexts (add_row s r) a.retired (length a.jobs) (slice_set a.table (next_place a) (Some e)) a.contexts at
-  contexts = AreContexts-joined s a.retired (length a.jobs) a.table a.contexts is.assigned ctx (next_place a) r e precede precede' is.contexts refl refl (λ m h. refl) new_context
+  contexts : AreContexts (add_row s r) a.retired (length a.jobs) (slice_set a.table place (Some e)) a.contexts at
+  contexts = AreContexts-joined s a.retired (length a.jobs) a.table a.contexts is.assigned ctx place r e precede precede' is.contexts refl refl (λ m h. refl) new_context
       (λ q x here. (open_there s.rows x.number (is.table.only q x here).0).1) refl (ap (λ k. k + 1) is.made) no_contexts refl next.within next.vacant
 
   abbrev w : Waiting
-  w = record { row = next_id a; made_on = None; region = None }
+  w = record { row = next_id a place; made_on = None; region = None }
 
   pool : with_row a.pool w ≡ record { isolation = a.config.isolation; limit = a.config.rows; slots = a.config.slots; rows = map (waiting_of (s.rows ++ r ∷ []) is.places) (waiting (s.rows ++ r ∷ [])) }
   pool =
@@ -101,12 +97,12 @@ module _ (a : Held) (s : State) (is : Holds a s) (placed : is.places (length s.r
       let no_region : region_of rows' N ≡ None = region_of-none rows' precede' N (omega arith) (omega (arith, length_push s.rows r)) (rw here refl) (rw here refl) in
       let number : a.made + 1 ≡ N = ap (λ k. k + 1) is.made in
       let waiting_at : ℕ → ℕ → Option ℕ → Waiting = λ k p region. record { row = record { number = k; place = p }; made_on = None; region = option_map (id_of is.places) region } in
-      let w_is : w ≡ waiting_at N (is.places N) (region_of rows' N) = ap (λ k. waiting_at k (next_place a) None) number ∙ ap (λ p. waiting_at N p None) (sym placed) ∙ ap (waiting_at N (is.places N)) (sym no_region) in
+      let w_is : w ≡ waiting_at N (is.places N) (region_of rows' N) = ap (λ k. waiting_at k place None) number ∙ ap (λ p. waiting_at N p None) (sym placed) ∙ ap (waiting_at N (is.places N)) (sym no_region) in
       let p : List Waiting → Ready = λ ws. record { isolation = a.config.isolation; limit = a.config.rows; slots = a.config.slots; rows = ws } in
       ap (λ q. with_row q w) is.waiting ∙ ap p (ap (λ v. map (waiting_of s.rows is.places) (waiting s.rows) ++ v ∷ []) w_is ∙ sym (waiting-one s.rows r precede precede' is.places refl))
 
-  pub posted_holds : (d : CurrentJob) → Holds (put (job_counted (entered a e) j d) w) (add_row s r)
-  posted_holds d = made_holds a s is r e kept some placed refl refl fresh a.table table_joined a.contexts at d (index_of a j) (with_row a.pool w) a.nests (omega (arith, above)) (omega (arith, above, below)) refl (λ k. refl) tt (λ none. refl) contexts (AreNests-waiting s.rows r precede precede' is.places a.config.slots a.nests refl is.nests) pool
+  pub posted_holds : (d : CurrentJob) → Holds (put (job_counted (entered a place e) j d) w) (add_row s r)
+  posted_holds d = made_holds a s is place r e kept vacant placed refl refl fresh a.table table_joined a.contexts at d (index_of a j) (with_row a.pool w) a.nests (omega (arith, above)) (omega (arith, above, below)) refl (λ k. refl) tt (λ none. refl) contexts (AreNests-waiting s.rows r precede precede' is.places a.config.slots a.nests refl is.nests) pool
 
 one_both : (p q : Bool) → one_if (p && q) ≤ one_if q
 one_both true q = omega arith
@@ -117,7 +113,7 @@ open_of_le j [] = omega arith
 open_of_le j (x ∷ rows) = omega (arith, open_of_le j rows, one_both (x.job == j) (is_open x.phase), count-cons (λ (r : Row). (r.job == j) && is_open r.phase) x rows, count-cons (λ (r : Row). is_open r.phase) x rows)
 
 -- While a place is free, a job has fewer open rows than there are places.
-pub few_open : (a : Held) (s : State) (is : Holds a s) (j : ℕ) → a.retired < j → j - a.retired ≤ length a.jobs → 0 < length a.free → (d : CurrentJob) → (slice_index_or a.jobs (index_of a j) d).open_rows < length a.table
+pub few_open : (a : Held) (s : State) (is : Holds a s) (j : ℕ) → a.retired < j → j - a.retired ≤ length a.jobs → HasFreePlace a → (d : CurrentJob) → (slice_index_or a.jobs (index_of a j) d).open_rows < length a.table
 few_open a s is j above below some d =
     let number : a.retired + index_of a j + 1 ≡ j = omega (arith, above) in
     let its = (is.jobs.each (index_of a j) d (omega (arith, above, below))).opened in

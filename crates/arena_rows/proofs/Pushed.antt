@@ -1,16 +1,14 @@
 -- A row more on top of a stack.
-use Rattle.std.proofs.Common.{◌≡◌, ◌≢◌, ℕ, zero, suc, ◌+◌, ◌-◌, ◌==◌, ◌<◌, ◌≤◌, List, [], ◌∷◌, ◌++◌, length, Option, Some, None, Bool, true, false, refl, sym, ap, ◌∙◌, arith, inl, inr, get_or, length-set}
-use Rattle.std.specs.Prelude.{slice_index_or, slice_set, slice_get}
-use Rattle.std.proofs.lemmas.Bool.{cases_eq, cases_lt}
-use Rattle.std.proofs.lemmas.List.{get_or-set_same, get_or-set_other, get_or_append_left, get_or_push, length_push}
-use Rattle.std.proofs.lemmas.Option.{slice_get_within, slice_get-get_or, get_or_from_slice_get}
+use Rattle.std.proofs.Common.{◌≡◌, ◌≢◌, ℕ, zero, suc, ◌+◌, ◌-◌, ◌<◌, ◌≤◌, List, [], ◌∷◌, ◌++◌, length, Some, refl, sym, ap, ◌∙◌, arith, inl, inr, length-set}
+use Rattle.std.specs.Prelude.{slice_get}
+use Rattle.std.proofs.lemmas.Bool.{cases_eq}
+use Rattle.std.proofs.lemmas.List.{get_or-set_same, get_or-set_other, length_push}
+use Rattle.std.proofs.lemmas.Option.{slice_get_within}
 use Rattle.nest_stack.specs.declared.stack.Nested.{Nested}
 use Rattle.nest_stack.specs.Nest.{stack, with_stack, at_height}
-use Rattle.tenant_model.specs.declared.rows.Phase.{Phase}
 use Rattle.tenant_model.specs.declared.rows.Phase.TheVariants.{Live}
 use Rattle.tenant_model.specs.declared.rows.Row.{Row}
 use Rattle.tenant_model.specs.State.{row}
-use Rattle.tenant_model.specs.Walks.{is_unstarted}
 use Rattle.tenant_model.proofs.Parts.{same_place}
 use Rattle.arena_rows.specs.Represents.{Places, nested_of, AreNests}
 

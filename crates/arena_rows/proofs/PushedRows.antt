@@ -1,24 +1,20 @@
 -- What a new row changes: its maker's group, and nothing else of the rows before it.
-use Rattle.std.proofs.Common.{◌≡◌, ◌≢◌, ℕ, zero, suc, ◌+◌, ◌-◌, ◌==◌, ◌<◌, ◌≤◌, nat_lt, ℤ, pos, List, [], ◌∷◌, ◌++◌, length, Option, Some, None, Bool, true, false, ◌&&◌, refl, sym, ap, ◌∙◌, arith, inl, inr, get_or, map}
-use Rattle.std.specs.Prelude.{IfSome, filter, fold, count_by, slice_index_or, find}
+use Rattle.std.proofs.Common.{◌≡◌, ℕ, zero, suc, ◌+◌, ◌==◌, ◌<◌, ◌≤◌, nat_lt, pos, List, [], ◌∷◌, ◌++◌, length, Bool, true, false, refl, sym, ap, ◌∙◌, arith, inl, inr, get_or}
+use Rattle.std.specs.Prelude.{IfSome, fold, count_by, slice_index_or}
 use Rattle.std.specs.Option.{option_map}
 use Rattle.std.specs.Int.{int_wrapping_add, w64}
-use Rattle.std.proofs.lemmas.Bool.{cases_eq, cases_lt}
 use Rattle.std.proofs.lemmas.Option.{IfSome_then}
 use Rattle.std.proofs.lemmas.List.{length_push}
 use Rattle.std.proofs.lemmas.List.Sums.{fold-append}
-use Rattle.job_language.specs.declared.instructions.TheConstants.{GROUPS}
 use Rattle.task_group.specs.Groups.{Group, unused}
 use Rattle.tenant_model.specs.declared.rows.Kind.{Kind}
 use Rattle.tenant_model.specs.declared.rows.Kind.TheVariants.{Root, Posted, Spawned, Region}
-use Rattle.tenant_model.specs.declared.rows.Phase.{Phase}
-use Rattle.tenant_model.specs.declared.rows.Phase.TheVariants.{Unstarted, Live, Done, Dropped, Faulted}
 use Rattle.tenant_model.specs.declared.rows.Mark.{Mark}
 use Rattle.tenant_model.specs.declared.rows.Row.{Row}
-use Rattle.tenant_model.specs.State.{row, no_marks}
-use Rattle.tenant_model.specs.Walks.{NumberedRow, numbered_rows, maker_of, is_open, is_region, is_spawned_by, members, mark, total, is_used, region_of, value_in}
+use Rattle.tenant_model.specs.State.{row}
+use Rattle.tenant_model.specs.Walks.{NumberedRow, maker_of, is_open, is_region, is_spawned_by, members, mark, total, region_of, value_in}
 use Rattle.tenant_model.specs.Linked.{MakersPrecede}
-use Rattle.tenant_model.proofs.Changed.{row-push_old, row-push_new, row-get_or}
+use Rattle.tenant_model.proofs.Changed.{row-push_old, row-get_or}
 use Rattle.tenant_model.proofs.Within.{maker_cases, either_way, region_of-here, region_of-above, region_of-none, maker_before}
 use Rattle.tenant_model.proofs.Stacking.{one_if}
 use Rattle.arena_rows.specs.Represents.{Places, id_of, tag_of, IsGroup}

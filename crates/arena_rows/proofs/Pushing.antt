@@ -1,10 +1,9 @@
 -- What is held with one row more.
-use Rattle.std.proofs.Common.{◌≡◌, ◌≢◌, ℕ, zero, suc, ◌+◌, ◌-◌, ◌*◌, ◌==◌, ◌<◌, ◌≤◌, List, [], ◌∷◌, ◌++◌, length, Option, Some, None, Bool, true, false, ◌&&◌, refl, sym, ap, ◌∙◌, arith, inl, inr, ◌⊎◌, get_or, take, map, length-set, unwrap_or, subst, ℤ, pos}
-use Rattle.std.specs.Prelude.{IfSome, slice_index_or, slice_set, filter, count_by, is_some, if◌then◌else◌, All}
-use Rattle.std.specs.List.{enumerate_from}
+use Rattle.std.proofs.Common.{◌≡◌, ◌≢◌, ℕ, zero, suc, ◌+◌, ◌==◌, ◌<◌, ◌≤◌, List, [], ◌∷◌, ◌++◌, length, Option, Some, None, Bool, true, false, ◌&&◌, refl, sym, ap, ◌∙◌, arith, inl, inr, ◌⊎◌, get_or, map, length-set, pos}
+use Rattle.std.specs.Prelude.{IfSome, slice_index_or, slice_set, filter, count_by, is_some, All}
 use Rattle.std.specs.Option.{option_map}
 use Rattle.std.proofs.lemmas.Bool.{cases_eq, cases_lt}
-use Rattle.std.proofs.lemmas.List.{length_push, length-take-le, get_or-take, get_or-set_same, get_or-set_other, map-set, set-get_or, get_or-map, get_or_default}
+use Rattle.std.proofs.lemmas.List.{length_push, get_or-set_same, get_or-set_other, map-set, set-get_or, get_or-map, get_or_default}
 use Rattle.std.proofs.lemmas.List.Elements.{filter-append, All-filter}
 use Rattle.job_language.specs.declared.instructions.TheConstants.{GROUPS}
 use Rattle.region_tag.specs.declared.row_id.RowId.{RowId}
@@ -12,28 +11,26 @@ use Rattle.region_tag.specs.declared.regions.Tagged.{Tagged}
 use Rattle.region_tag.specs.Region.{tagged}
 use Rattle.ready_pool.specs.declared.pool.Waiting.{Waiting}
 use Rattle.nest_stack.specs.declared.stack.Nested.{Nested}
-use Rattle.task_group.specs.Groups.{Group, group}
+use Rattle.task_group.specs.Groups.{group}
 use Rattle.tenant_model.specs.declared.rows.Kind.{Kind}
 use Rattle.tenant_model.specs.declared.rows.Kind.TheVariants.{Root, Posted, Spawned, Region}
-use Rattle.tenant_model.specs.declared.rows.Phase.{Phase}
-use Rattle.tenant_model.specs.declared.rows.Phase.TheVariants.{Unstarted, Live, Done, Dropped, Faulted}
 use Rattle.tenant_model.specs.declared.rows.Row.{Row}
 use Rattle.tenant_model.specs.declared.works.Work.{Work}
-use Rattle.tenant_model.specs.State.{State, row, job}
-use Rattle.tenant_model.specs.Walks.{NumberedRow, numbered_rows, maker_of, is_open, is_unstarted, is_region, is_live_at, is_spawned_by, region_of, value_in}
-use Rattle.tenant_model.specs.Changes.{add_row, open_rows}
+use Rattle.tenant_model.specs.State.{State, row}
+use Rattle.tenant_model.specs.Walks.{NumberedRow, numbered_rows, maker_of, is_open, is_unstarted, is_region, is_spawned_by, region_of, value_in}
+use Rattle.tenant_model.specs.Changes.{add_row}
 use Rattle.tenant_model.specs.Linked.{MakersPrecede}
 use Rattle.tenant_model.proofs.Changed.{row-push_old, row-push_new, row-past}
-use Rattle.tenant_model.proofs.Within.{either_way, region_of-here, region_of-above, region_of-none}
+use Rattle.tenant_model.proofs.Within.{region_of-here, region_of-above, region_of-none}
 use Rattle.tenant_model.proofs.Stacking.{one_if, count-push}
 use Rattle.tenant_model.proofs.AttendedSteps.{open_there}
 use Rattle.tenant_model.proofs.Picks.{IsNumbered, numbered_all}
 use Rattle.arena_rows.specs.declared.rows.OpenRow.{OpenRow}
 use Rattle.arena_rows.specs.declared.rows.CurrentJob.{CurrentJob}
-use Rattle.arena_rows.specs.Represents.{Places, id_of, at_place, source_of, stage_of, tag_of, around_of, tagged_of, nested_of, waiting, waiting_of, IsGroup, IsRow, Stands, AreRows, AreFree, AreNests, AreTagged, open_of, Assigned, IsJob, AreJobs}
-use Rattle.arena_rows.proofs.Started.{some_is, some_none, option-same, map-same}
+use Rattle.arena_rows.specs.Represents.{Places, id_of, at_place, source_of, stage_of, tag_of, around_of, tagged_of, nested_of, waiting, waiting_of, IsRow, Stands, AreRows, AreFree, AreNests, AreTagged, open_of, Assigned, IsJob, AreJobs}
+use Rattle.arena_rows.proofs.Started.{some_is, some_none}
 use Rattle.arena_rows.proofs.PushedRows.{tag_of-push, region_of-push, IsGroup-same}
-use Rattle.arena_rows.proofs.Spawned.{append_none, members_push, numbered_push}
+use Rattle.arena_rows.proofs.Spawned.{append_none, numbered_push}
 
 nothing_valued : (n : ℕ) → value_in (row [] n).phase ≡ pos 0
 nothing_valued zero = refl
@@ -103,23 +100,11 @@ module _ (rows : List Row) (r : Row) (precede : MakersPrecede rows) (precede' : 
     ];
   }
 
-  -- The place that it took was the last of the free ones.
-  pub AreFree-pushed : (limit : ℕ) (table table' : List (Option OpenRow)) (free : List ℕ) → 0 < length free → length table' ≡ length table → ((q : ℕ) → q ≢ get_or free (length free - 1) 0 → at_place table q ≡ None → at_place table' q ≡ None) → is_open r.phase ≡ true → AreFree rows limit table free → AreFree rows' limit table' (take (length free - 1) free)
-  AreFree-pushed limit table table' free some long same opened are =
-      let fewer : length (take (length free - 1) free) ≡ length free - 1 = length-take-le (length free - 1) free (omega arith) in
-      let item : (i : ℕ) → i < length free - 1 → get_or (take (length free - 1) free) i 0 ≡ get_or free i 0 = λ i below. get_or-take (length free - 1) free i 0 below in
-      record {
-        long = long ∙ are.long;
-        each = λ i below.
-            let low : i < length free - 1 = omega (arith, below, fewer) in
-            let its = are.each i (omega (arith, low)) in
-            let e = item i low in
-            (omega (arith, e, its.0), same (get_or (take (length free - 1) free) i 0) (λ is. are.apart i (length free - 1) low (omega (arith, some)) (sym e ∙ is)) (ap (at_place table) e ∙ its.1));
-        apart = λ i j order below is.
-            let low : j < length free - 1 = omega (arith, below, fewer) in
-            are.apart i j order (omega (arith, low)) (sym (item i (omega (arith, order, low))) ∙ is ∙ item j low);
-        count = let one : one_if (is_open r.phase) ≡ 1 = rw opened refl in omega (arith, fewer, some, are.count, count-push (λ (q : Row). is_open q.phase) rows r, one);
-      }
+  -- One place less is free.
+  pub AreFree-pushed : (limit : ℕ) (table table' : List (Option OpenRow)) → length table' ≡ length table → count_by is_some table' ≡ count_by is_some table + 1 → is_open r.phase ≡ true → AreFree rows limit table → AreFree rows' limit table'
+  AreFree-pushed limit table table' long more opened are =
+      let one : one_if (is_open r.phase) ≡ 1 = rw opened refl in
+      record { long = long ∙ are.long; count = omega (arith, are.count, more, count-push (λ (q : Row). is_open q.phase) rows r, one) }
 
   pub nested_old : (m : ℕ) → m ≤ length rows → nested_of rows' places m ≡ nested_of rows places m
   nested_old m to = ap (λ (q : Row). let n : Nested = record { frame = q.frame; row = id_of places m; is_region = is_region q.kind } in n) (old m to)

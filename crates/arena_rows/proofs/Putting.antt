@@ -1,33 +1,25 @@
 -- What a pool asks of a row that is put into it.
-use Rattle.std.proofs.Common.{◌≡◌, ◌≢◌, ℕ, zero, suc, ◌+◌, ◌-◌, ◌==◌, ◌<◌, ◌≤◌, List, [], ◌∷◌, ◌++◌, length, Option, Some, None, Bool, true, false, refl, sym, ap, ◌∙◌, arith, inl, inr, get_or, map, unwrap_or}
-use Rattle.std.specs.Prelude.{All, IfSome, is_some, IsSome, slice_index_or, slice_set, filter, count_by, option_and_then}
+use Rattle.std.proofs.Common.{◌≡◌, ◌≢◌, ℕ, zero, suc, ◌+◌, ◌==◌, ◌<◌, ◌≤◌, List, [], ◌∷◌, length, Option, Some, None, true, refl, sym, ap, ◌∙◌, arith, inl, inr, get_or, unwrap_or}
+use Rattle.std.specs.Prelude.{All, IfSome, is_some, filter, count_by}
 use Rattle.std.specs.List.{enumerate_from}
-use Rattle.std.specs.Option.{option_map, ForSome}
-use Rattle.std.proofs.lemmas.Bool.{cases_eq}
+use Rattle.std.specs.Option.{option_map}
 use Rattle.std.proofs.lemmas.List.Elements.{All-map}
-use Rattle.std.proofs.lemmas.List.{length-map, get_or-map, get_or-set_other}
-use Rattle.region_tag.specs.declared.row_id.RowId.{RowId}
-use Rattle.region_tag.specs.declared.regions.Tagged.{Tagged}
-use Rattle.region_tag.specs.Region as tags
+use Rattle.std.proofs.lemmas.List.{length-map}
 use Rattle.region_tag.specs.Region.{IsEntered}
 use Rattle.ready_pool.specs.declared.pool.Waiting.{Waiting}
 use Rattle.ready_pool.specs.Ready.{IsRegionEntered}
 use Rattle.tenant_model.specs.declared.rows.Kind.{Kind}
 use Rattle.tenant_model.specs.declared.rows.Kind.TheVariants.{Root, Posted, Spawned, Region}
-use Rattle.tenant_model.specs.declared.rows.Phase.{Phase}
-use Rattle.tenant_model.specs.declared.rows.Phase.TheVariants.{Unstarted, Live, Done, Dropped, Faulted}
 use Rattle.tenant_model.specs.declared.rows.Row.{Row}
 use Rattle.tenant_model.specs.State.{State, row}
-use Rattle.tenant_model.specs.Walks.{NumberedRow, numbered_rows, maker_of, is_open, is_unstarted, is_region, region_of}
+use Rattle.tenant_model.specs.Walks.{NumberedRow, maker_of, is_open, is_unstarted, region_of}
 use Rattle.tenant_model.specs.Changes.{open_rows}
 use Rattle.tenant_model.specs.Linked.{MakersPrecede}
 use Rattle.tenant_model.proofs.Chains.{chain_goes_on, chain_ends}
-use Rattle.tenant_model.proofs.Picks.{IsNumbered}
 use Rattle.tenant_model.proofs.Within.{either_way}
 use Rattle.tenant_model.proofs.Stacking.{one_if, count-cons}
-use Rattle.arena_rows.specs.declared.rows.OpenRow.{OpenRow}
 use Rattle.arena_rows.specs.Held.{Held}
-use Rattle.arena_rows.specs.Represents.{Places, id_of, at_place, tag_of, tagged_of, waiting, waiting_of, AreRows, AreTagged, Stands, Holds, Rests}
+use Rattle.arena_rows.specs.Represents.{id_of, at_place, waiting, waiting_of, Rests}
 use Rattle.arena_rows.proofs.Started.{some_none}
 use Rattle.arena_rows.proofs.Regions.{HasNoFault, maker_open}
 use Rattle.arena_rows.proofs.Picking.{unstarted_open, all_waiting, waits_fine, tags_nested}

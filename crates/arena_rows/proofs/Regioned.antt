@@ -1,22 +1,17 @@
 -- A region on top of its maker.
-use Rattle.std.proofs.Common.{◌≡◌, ◌≢◌, ℕ, zero, suc, ◌+◌, ◌-◌, ◌==◌, ◌<◌, ◌≤◌, List, [], ◌∷◌, ◌++◌, length, Option, Some, None, Bool, true, false, refl, sym, ap, ◌∙◌, arith, inl, inr, get_or, map, subst, ℤ, pos}
-use Rattle.std.specs.Prelude.{slice_index_or, slice_set, IfSome}
-use Rattle.std.specs.Option.{option_map}
-use Rattle.std.proofs.lemmas.Bool.{cases_eq, cases_lt}
+use Rattle.std.proofs.Common.{◌≡◌, ◌≢◌, ℕ, ◌+◌, ◌-◌, ◌==◌, ◌<◌, ◌≤◌, List, [], ◌∷◌, ◌++◌, length, Some, true, false, refl, sym, ap, ◌∙◌, arith, inl, inr, map, subst}
+use Rattle.std.specs.Prelude.{slice_set}
+use Rattle.std.proofs.lemmas.Bool.{cases_lt}
 use Rattle.std.proofs.lemmas.List.{length_push}
 use Rattle.job_step.specs.declared.frames.Frame.{Frame}
-use Rattle.region_tag.specs.declared.row_id.RowId.{RowId}
-use Rattle.region_tag.specs.Region as tags
 use Rattle.ready_pool.specs.Ready.{Ready}
-use Rattle.ready_pool.specs.declared.pool.Waiting.{Waiting}
 use Rattle.nest_stack.specs.declared.stack.Nested.{Nested}
 use Rattle.nest_stack.specs.Nest.{stack, with_stack}
-use Rattle.tenant_model.specs.declared.rows.Kind.{Kind}
 use Rattle.tenant_model.specs.declared.rows.Kind.TheVariants as kind
 use Rattle.tenant_model.specs.declared.rows.Phase.TheVariants.{Live}
 use Rattle.tenant_model.specs.declared.rows.Row.{Row}
 use Rattle.tenant_model.specs.State.{State, row}
-use Rattle.tenant_model.specs.Walks.{is_open, is_region, region_of, height, top}
+use Rattle.tenant_model.specs.Walks.{is_open, is_region, height, top}
 use Rattle.tenant_model.specs.Changes.{new_row, add_row}
 use Rattle.tenant_model.specs.Linked.{MakersPrecede}
 use Rattle.tenant_model.specs.Sound.{IsSteady}
@@ -25,9 +20,9 @@ use Rattle.tenant_model.proofs.AttendedSteps.{open_there}
 use Rattle.arena_rows.specs.declared.rows.OpenRow.{OpenRow}
 use Rattle.arena_rows.specs.declared.rows.CurrentJob.{CurrentJob}
 use Rattle.arena_rows.specs.Held.{Held}
-use Rattle.arena_rows.specs.Represents.{Places, at_place, id_of, tag_of, nested_of, waiting, waiting_of, AreNests, Assigned, IsRowContext, AreContexts, Holds}
-use Rattle.arena_rows.specs.HeldChanges.{next_place, next_id, outer_of, index_of, entered, job_counted, region_entry, region_pushed}
-use Rattle.arena_rows.proofs.Making.{HasNext, has_next, tag_there}
+use Rattle.arena_rows.specs.Represents.{id_of, tag_of, nested_of, waiting, waiting_of, AreNests, Assigned, IsRowContext, AreContexts, Holds, IsFree}
+use Rattle.arena_rows.specs.HeldChanges.{next_id, outer_of, index_of, entered, job_counted, region_entry, region_pushed}
+use Rattle.arena_rows.proofs.Making.{IsNext, is_next, tag_there}
 use Rattle.arena_rows.proofs.Made.{IsFresh, IsJoined, made_holds}
 use Rattle.arena_rows.proofs.Pushing.{IsRow-pushed, waiting-none}
 use Rattle.arena_rows.proofs.Pushed.{AreNests-pushed}
@@ -37,8 +32,8 @@ use Rattle.arena_rows.proofs.TopRows.{top_open, top_there, on_slot, top_job}
 use Rattle.arena_rows.proofs.Spawned.{joined, AreContexts-joined}
 use Rattle.arena_rows.proofs.Posted.{no_contexts}
 
-module _ (a : Held) (s : State) (is : Holds a s) (placed : is.places (length s.rows + 1) ≡ next_place a) (slot n ctx : ℕ) (f : Frame) (on_top : top s.rows slot ≡ Some n)
-    (kept : IsSteady (add_row s (new_row (kind.Region n) (row s.rows n).job (Some slot) f (Live slot (height s.rows slot + 1))))) (some : 0 < length a.free) (context : ctx ≡ is.assigned.of_row n) where
+module _ (a : Held) (s : State) (is : Holds a s) (place : ℕ) (placed : is.places (length s.rows + 1) ≡ place) (slot n ctx : ℕ) (f : Frame) (on_top : top s.rows slot ≡ Some n)
+    (kept : IsSteady (add_row s (new_row (kind.Region n) (row s.rows n).job (Some slot) f (Live slot (height s.rows slot + 1))))) (vacant : IsFree a.table place) (context : ctx ≡ is.assigned.of_row n) where
   abbrev r : Row
   r = new_row (kind.Region n) (row s.rows n).job (Some slot) f (Live slot (height s.rows slot + 1))
 
@@ -57,8 +52,8 @@ module _ (a : Held) (s : State) (is : Holds a s) (placed : is.places (length s.r
   precede' : MakersPrecede rows'
   precede' = kept.formed.linked.makers
 
-  next : HasNext a
-  next = has_next a s is some
+  next : IsNext a place
+  next = is_next a s is place vacant
 
   high : length (stack a.nests slot) ≡ height s.rows slot
   high = height_is s.rows is.places a.config.slots a.nests is.steady.formed.stacked is.nests slot
@@ -94,10 +89,11 @@ module _ (a : Held) (s : State) (is : Holds a s) (placed : is.places (length s.r
     only = is.table.only;
     tags = λ q. refl;
     vacant = λ q none. none;
+    taken = refl;
   }
 
   abbrev at : Assigned
-  at = joined s a.retired (length a.jobs) a.table a.contexts is.assigned ctx (next_place a) r e precede precede' is.contexts refl refl (λ m h. refl)
+  at = joined s a.retired (length a.jobs) a.table a.contexts is.assigned ctx place r e precede precede' is.contexts refl refl (λ m h. refl)
 
   new_context : IsRowContext (add_row s r) a.contexts at N (row (add_row s r).rows N).kind
   new_context =
@@ -106,16 +102,16 @@ module _ (a : Held) (s : State) (is : Holds a s) (placed : is.places (length s.r
       let its : at.of_row N ≡ at.of_row n = rw (it, older) context in
       subst (λ k. IsRowContext (add_row s r) a.contexts at N k) (sym (ap (λ (q : Row). q.kind) here)) its
 
-  contexts : AreContexts (add_row s r) a.retired (length a.jobs) (slice_set a.table (next_place a) (Some e)) a.contexts at
-  contexts = AreContexts-joined s a.retired (length a.jobs) a.table a.contexts is.assigned ctx (next_place a) r e precede precede' is.contexts refl refl (λ m h. refl) new_context
+  contexts : AreContexts (add_row s r) a.retired (length a.jobs) (slice_set a.table place (Some e)) a.contexts at
+  contexts = AreContexts-joined s a.retired (length a.jobs) a.table a.contexts is.assigned ctx place r e precede precede' is.contexts refl refl (λ m h. refl) new_context
       (λ q x there. (open_there s.rows x.number (is.table.only q x there).0).1) refl (ap (λ k. k + 1) is.made) no_contexts refl next.within next.vacant
 
-  nested_is : nested_of rows' is.places N ≡ record { frame = f; row = next_id a; is_region = true }
+  nested_is : nested_of rows' is.places N ≡ record { frame = f; row = next_id a place; is_region = true }
   nested_is =
       let at_number : ℕ → ℕ → Nested = λ k p. record { frame = f; row = record { number = k; place = p }; is_region = true } in
-      ap (λ (q : Row). let x : Nested = record { frame = q.frame; row = id_of is.places N; is_region = is_region q.kind } in x) here ∙ ap (at_number N) placed ∙ ap (λ k. at_number k (next_place a)) (sym (ap (λ k. k + 1) is.made))
+      ap (λ (q : Row). let x : Nested = record { frame = q.frame; row = id_of is.places N; is_region = is_region q.kind } in x) here ∙ ap (at_number N) placed ∙ ap (λ k. at_number k place) (sym (ap (λ k. k + 1) is.made))
 
-  nests : AreNests rows' is.places a.config.slots (region_pushed a slot f (next_id a)).nests
+  nests : AreNests rows' is.places a.config.slots (region_pushed a slot f (next_id a place)).nests
   nests = subst (λ x. AreNests rows' is.places a.config.slots (with_stack a.nests slot (stack a.nests slot ++ x ∷ []))) nested_is
       (AreNests-pushed s.rows rows' is.places a.config.slots a.nests N slot is.nests (on_slot a s is slot n on_top)
       (λ t h live. absurd (let opened : is_open (row s.rows N).phase ≡ true = rw live refl in omega (arith, open_there s.rows N opened))) (rw (here, high) refl) others)
@@ -126,6 +122,6 @@ module _ (a : Held) (s : State) (is : Holds a s) (placed : is.places (length s.r
   outer_is : outer_of a.regions e.source ≡ tag_of s.rows is.places n
   outer_is = tag_there a s is n maker_open
 
-  pub region_holds : (d : CurrentJob) → Holds (region_pushed (job_counted (entered a e) (row s.rows n).job d) slot f (next_id a)) (add_row s r)
-  region_holds d = made_holds a s is r e kept some placed refl refl fresh a.table table_joined a.contexts at d (index_of a (row s.rows n).job) a.pool (region_pushed a slot f (next_id a)).nests (omega (arith, current)) (omega (arith, current)) refl (λ k. refl)
+  pub region_holds : (d : CurrentJob) → Holds (region_pushed (job_counted (entered a place e) (row s.rows n).job d) slot f (next_id a place)) (add_row s r)
+  region_holds d = made_holds a s is place r e kept vacant placed refl refl fresh a.table table_joined a.contexts at d (index_of a (row s.rows n).job) a.pool (region_pushed a slot f (next_id a place)).nests (omega (arith, current)) (omega (arith, current)) refl (λ k. refl)
       (maker_there.1, outer_is) (λ none. absurd (some_none n none)) contexts nests pool

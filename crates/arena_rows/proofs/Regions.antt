@@ -1,11 +1,7 @@
 -- The regions around a row that waits are those on its chain.
-use Rattle.std.proofs.Common.{◌≡◌, ◌≢◌, ℕ, zero, suc, ◌+◌, ◌-◌, ◌==◌, ◌<◌, ◌≤◌, List, [], ◌∷◌, length, Option, Some, None, Bool, true, false, ◌⊎◌, ◌||◌, refl, sym, ap, ◌∙◌, arith, inl, inr, get_or, unwrap_or}
-use Rattle.std.specs.Prelude.{slice_index_or, IfSome, is_some, IsSome, All, find}
+use Rattle.std.proofs.Common.{◌≡◌, ℕ, zero, suc, ◌==◌, ◌<◌, ◌≤◌, List, length, Option, Some, None, true, false, ◌||◌, refl, sym, ap, ◌∙◌, arith, inl, inr}
+use Rattle.std.specs.Prelude.{IfSome, is_some, IsSome}
 use Rattle.std.specs.List.{list_any}
-use Rattle.std.specs.Option.{option_map, option_and_then}
-use Rattle.std.proofs.lemmas.Bool.{cases_eq}
-use Rattle.std.proofs.lemmas.Option.{IfSome_then}
-use Rattle.region_tag.specs.declared.row_id.RowId.{RowId}
 use Rattle.region_tag.specs.declared.regions.Tagged.{Tagged}
 use Rattle.region_tag.specs.Region as tags
 use Rattle.region_tag.specs.Region.{is_same, IsAroundEarlier, IsNested}
@@ -13,14 +9,13 @@ use Rattle.region_tag.proofs.Around.{goes_on}
 use Rattle.job_language.specs.declared.errors.JobFault.{JobFault}
 use Rattle.tenant_model.specs.declared.rows.Kind.{Kind}
 use Rattle.tenant_model.specs.declared.rows.Kind.TheVariants.{Root, Posted, Spawned, Region}
-use Rattle.tenant_model.specs.declared.rows.Row.{Row}
 use Rattle.tenant_model.specs.State.{State, row, job}
-use Rattle.tenant_model.specs.Walks.{maker_of, is_open, is_region, is_within, region_of, chain}
+use Rattle.tenant_model.specs.Walks.{maker_of, is_open, is_region, is_within}
 use Rattle.tenant_model.specs.Linked.{MakersPrecede}
 use Rattle.tenant_model.proofs.Chains.{chain_goes_on, chain_ends}
-use Rattle.tenant_model.proofs.Within.{either_way, region_within, within_above}
+use Rattle.tenant_model.proofs.Within.{either_way}
 use Rattle.arena_rows.specs.declared.rows.OpenRow.{OpenRow}
-use Rattle.arena_rows.specs.Represents.{Places, id_of, at_place, tag_of, around_of, tagged_of, AreRows, AreTagged}
+use Rattle.arena_rows.specs.Represents.{Places, id_of, tag_of, AreRows, AreTagged}
 use Rattle.tenant_model.specs.Sound.{IsSteady}
 use Rattle.arena_rows.proofs.Started.{same_id}
 

@@ -1,6 +1,6 @@
 -- All jobs retired, where no row is open.
 use Rattle.std.proofs.Common.{◌≡◌, ◌≢◌, ℕ, zero, suc, ◌+◌, ◌-◌, ◌<◌, nat_lt, List, [], ◌∷◌, length, Option, Some, None, true, false, refl, sym, ap, ◌∙◌, arith, inl, inr, get_or, map}
-use Rattle.std.specs.Prelude.{All, is_some, sum_by}
+use Rattle.std.specs.Prelude.{All, count_by, is_some, sum_by}
 use Rattle.std.proofs.Math.ListN.{get_or-map}
 use Rattle.std.proofs.lemmas.Bool.{cases_eq}
 use Rattle.std.proofs.lemmas.List.{append-nil, length-map, get_or-set_other, get_or_default}
@@ -79,9 +79,9 @@ hold-released forest after jobs from it item within hold released keeps count =
       count = omega (arith, count, hold.count);
     }
 
-module _ (a : Held) (s : State) (is : Holds a s) (idle : length a.free ≡ length a.table) where
+module _ (a : Held) (s : State) (is : Holds a s) (idle : count_by is_some a.table ≡ 0) where
   none_counted : open_rows s.rows ≡ 0
-  none_counted = omega (arith, is.free.count, is.free.long, idle)
+  none_counted = omega (arith, is.free.count, idle)
 
   none_open : (n : ℕ) → is_open (row s.rows n).phase ≡ true → ⊥
   none_open n opened =
@@ -187,9 +187,9 @@ module _ (a : Held) (s : State) (is : Holds a s) (idle : length a.free ≡ lengt
     ended_rests = rw (settled_entry more settled) (record { holds = ended_holds; settled = settled })
 
 -- While nothing is open, all places are free.
-pub all_free : (a : Held) → IsIdle a → length a.free ≡ length a.table
+pub all_free : (a : Held) → IsIdle a → count_by is_some a.table ≡ 0
 all_free a idle =
     let is = idle.1.holds in
     let none : nat_lt 0 (open_rows idle.0.rows) ≡ false = sym (any_counted (λ (r : Row). is_open r.phase) idle.0.rows) ∙ idle.2 in
     let zero_open : open_rows idle.0.rows ≡ 0 = grind (arith, none) in
-    omega (arith, is.free.count, is.free.long, zero_open)
+    omega (arith, is.free.count, zero_open)

@@ -4,7 +4,7 @@ use Rattle.std.specs.Option.{option_eq}
 use lib.Dec.{eqb}
 use Rattle.std.specs.Prelude.{Contains, nat_lt, option_map, slice_index_or, slice_set}
 use Rattle.std.proofs.lemmas.Bool.Decides.{eqb_tells, leb_tells}
-use Rattle.std.proofs.lemmas.List.{get_or-set_same, get_or-set_other, get_or_default, get_or_past, length-set}
+use Rattle.std.proofs.lemmas.List.{get_or-set_same, get_or-set_other, get_or_past, length-set}
 use Rattle.cancel_context.specs.Forest.{Forest, binding, IsForest, IsHeld, is_cancelled, without}
 use Rattle.cancel_context.proofs.Noted.{unheld-fine}
 use Rattle.cancel_context.proofs.Released.{binding-without}
@@ -93,10 +93,6 @@ doomed_by forest (Some x) e =
                 ]
           ]
     ]
-
--- a place has the row that a look at it finds
-pub found_at : (table : List (Option OpenRow)) (p : ℕ) (o : Option OpenRow) (e : OpenRow) → p < length table → o ≡ slice_index_or table p o → o ≡ Some e → slice_index_or table p None ≡ Some e
-found_at table p o e within found is = get_or_default table p None o within ∙ sym found ∙ is
 
 -- the open rows after the row at a place has changed
 pub changed_rows : (now : OpenRows) (table : List (Option OpenRow)) (forest : Forest) (p : ℕ) (f : OpenRow → OpenRow) (e : OpenRow) → (let old : OpenRows = record { table = table; contexts = forest } in old) ≡ now → slice_index_or table p None ≡ Some e

@@ -1,5 +1,5 @@
 -- Settling row by row.
-use Rattle.std.proofs.Common.{◌≡◌, ℕ, ◌<◌, ◌≤◌, ◌&&◌, length, Some, Bool, true, false, refl, sym, ap, ◌∙◌, arith, inl, inr, subst}
+use Rattle.std.proofs.Common.{◌≡◌, ℕ, ◌≤◌, ◌&&◌, length, Some, Bool, true, false, refl, sym, ap, ◌∙◌, arith, inl, inr, subst}
 use Rattle.cancel_context.specs.Forest.{IsForest, is_cancelled}
 use Rattle.region_tag.specs.declared.row_id.RowId.{RowId}
 use Rattle.job_step.specs.declared.frames.Frame.{Frame}
@@ -19,8 +19,7 @@ use Rattle.arena_rows.specs.Represents.{at_place, id_of, stage_of, Holds, HoldsS
 use Rattle.arena_rows.specs.Endings.{rows_of, IsCancelled, IsWaiting}
 use Rattle.arena_rows.proofs.Contexts.{context_is, live_open}
 use Rattle.arena_rows.proofs.Dropping.{Drops, Drops-none, Drops-more, Drops-all, dropped}
-use Rattle.arena_rows.proofs.Ending.{room_for_place}
-use Rattle.arena_rows.proofs.Grouped.{IsEntry, is_entry, entry_of}
+use Rattle.arena_rows.proofs.Grouped.{IsEntry, is_entry}
 use Rattle.arena_rows.proofs.Starts.{unstarted_is}
 
 waiting_frame : (s : Stage) → is_waiting s ≡ true → (f : Frame) × (s ≡ stage.Waiting f)
@@ -115,12 +114,6 @@ module _ (a : Held) (id : RowId) (sound : IsForest a.contexts) (cancelled : IsCa
   -- waits in each state that is held,
   pub cancelled_waits : HoldsSomehow a → IsWaiting a id
   cancelled_waits h = (h.0, e.number, h.1, waits_in h.0 h.1, its_id h.0 h.1)
-
-  pub room_left : HoldsSomehow a → length a.free < length a.table
-  room_left h =
-      let opened = unstarted_open (row h.0.rows e.number).phase (waits_in h.0 h.1) in
-      let found = entry_of a h.0 h.1 e.number opened in
-      room_for_place a h.0 h.1 e.number found.0 found.1
 
   -- and can be dropped.
   module _ (b : Held) (drop : (t : State) (n : ℕ) (is : Holds a t) → is_unstarted (row t.rows n).phase ≡ true → id ≡ id_of is.places n → Holds b (dropped t n)) where

@@ -1,30 +1,26 @@
 -- A row more, spawned into a group: members and contexts.
-use Rattle.std.proofs.Common.{◌≡◌, ◌≢◌, ℕ, zero, suc, ◌+◌, ◌-◌, ◌==◌, ◌<◌, ◌≤◌, nat_lt, ℤ, pos, List, [], ◌∷◌, ◌++◌, length, Option, Some, None, Bool, true, false, ◌&&◌, ◌||◌, ◌⊎◌, refl, sym, ap, ◌∙◌, arith, inl, inr, get_or, map, unwrap_or, subst}
-use Rattle.std.specs.Prelude.{filter, fold, count_by, if◌then◌else◌, is_some, IsSome, IfSome, slice_index_or, slice_set, sum_by}
+use Rattle.std.proofs.Common.{◌≡◌, ◌≢◌, ℕ, zero, suc, ◌+◌, ◌==◌, ◌<◌, ◌≤◌, nat_lt, List, [], ◌∷◌, ◌++◌, length, Option, Some, None, true, false, ◌&&◌, ◌⊎◌, refl, sym, ap, ◌∙◌, arith, inl, inr, get_or, unwrap_or, subst}
+use Rattle.std.specs.Prelude.{filter, if◌then◌else◌, is_some, IfSome, slice_index_or, slice_set}
 use Rattle.std.specs.List.{enumerate_from}
 use Rattle.std.proofs.lemmas.Bool.{cases_eq, cases_lt}
 use Rattle.std.proofs.lemmas.Option.{IfSome_then}
 use Rattle.std.proofs.lemmas.List.{length_push, get_or-set_same, get_or-set_other}
 use Rattle.std.proofs.lemmas.List.Elements.{filter-append}
 use Rattle.std.proofs.lemmas.List.Sums.{sum_by-set}
-use Rattle.job_language.specs.declared.instructions.TheConstants.{GROUPS}
 use Rattle.cancel_context.specs.Forest.{Forest, Binding, binding, IsHeld, held_count, with_bound}
 use Rattle.tenant_model.specs.declared.rows.Kind.{Kind}
 use Rattle.tenant_model.specs.declared.rows.Kind.TheVariants.{Root, Posted, Spawned, Region}
-use Rattle.tenant_model.specs.declared.rows.Phase.{Phase}
-use Rattle.tenant_model.specs.declared.rows.Phase.TheVariants.{Unstarted, Live, Done, Dropped, Faulted}
 use Rattle.tenant_model.specs.declared.rows.Mark.{Mark}
 use Rattle.tenant_model.specs.declared.rows.Row.{Row}
-use Rattle.tenant_model.specs.State.{State, row, job, no_marks}
-use Rattle.tenant_model.specs.Walks.{NumberedRow, numbered_rows, is_open, is_unstarted, is_spawned_by, members, mark, is_used, value_in, is_job_cancelled, maker_of}
+use Rattle.tenant_model.specs.State.{State, row, no_marks}
+use Rattle.tenant_model.specs.Walks.{numbered_rows, is_open, is_unstarted, is_spawned_by, members, mark, is_used, maker_of}
 use Rattle.tenant_model.specs.Changes.{add_row}
 use Rattle.tenant_model.specs.Linked.{MakersPrecede}
 use Rattle.tenant_model.proofs.AttendedSteps.{open_there}
-use Rattle.tenant_model.proofs.Changed.{row-push_old, row-push_new, row-past, row-get_or}
+use Rattle.tenant_model.proofs.Changed.{row-push_old, row-push_new, row-get_or}
 use Rattle.tenant_model.proofs.Within.{either_way}
 use Rattle.arena_rows.specs.declared.rows.OpenRow.{OpenRow}
-use Rattle.arena_rows.specs.declared.rows.CurrentJob.{CurrentJob}
-use Rattle.arena_rows.specs.Represents.{Places, at_place, Assigned, Owner, Nobody, OfJob, OfRow, OfGroup, bound, IsRowContext, IsGroupContext, IsOwned, AreContexts, held_by}
+use Rattle.arena_rows.specs.Represents.{at_place, Assigned, Owner, Nobody, OfJob, OfRow, OfGroup, bound, IsRowContext, IsGroupContext, IsOwned, AreContexts, held_by}
 use Rattle.arena_rows.proofs.Alike.{member}
 use Rattle.arena_rows.proofs.Picking.{unstarted_open}
 

@@ -1,22 +1,22 @@
 -- A row that was spawned into a group whose context is there.
-use Rattle.std.proofs.Common.{◌≡◌, ◌≢◌, ℕ, zero, suc, ◌+◌, ◌-◌, ◌==◌, ◌&&◌, ◌<◌, ◌≤◌, List, [], ◌∷◌, ◌++◌, length, length-set, Option, Some, None, Bool, true, false, refl, sym, ap, ◌∙◌, arith, inl, inr, get_or, map, subst, ℤ, pos}
-use Rattle.std.specs.Prelude.{slice_index_or, slice_set, sum_by}
+use Rattle.std.proofs.Common.{◌≡◌, ◌≢◌, ℕ, ◌+◌, ◌-◌, ◌==◌, ◌<◌, ◌≤◌, List, [], ◌∷◌, ◌++◌, length, length-set, Option, Some, None, true, false, refl, sym, ap, ◌∙◌, arith, inl, inr, map}
+use Rattle.std.specs.Prelude.{slice_set}
 use Rattle.std.specs.Option.{option_map}
 use Rattle.std.proofs.lemmas.Bool.{cases_eq}
 use Rattle.std.proofs.lemmas.List.{length_push, get_or-set_same, get_or-set_other}
 use Rattle.std.proofs.lemmas.List.Sums.{sum_by-set}
 use Rattle.job_language.specs.declared.instructions.TheConstants.{GROUPS}
 use Rattle.job_step.specs.declared.frames.Frame.{Frame}
-use Rattle.cancel_context.specs.Forest.{Forest, binding, held_count, with_bound}
+use Rattle.cancel_context.specs.Forest.{binding, held_count, with_bound}
 use Rattle.region_tag.specs.declared.row_id.RowId.{RowId}
 use Rattle.ready_pool.specs.declared.pool.Waiting.{Waiting}
 use Rattle.ready_pool.specs.Ready.{Ready, with_row}
-use Rattle.task_group.specs.Groups.{Group, group, unused}
+use Rattle.task_group.specs.Groups.{group, unused}
 use Rattle.tenant_model.specs.declared.rows.Kind.TheVariants as kind
 use Rattle.tenant_model.specs.declared.rows.Phase.TheVariants.{Unstarted}
 use Rattle.tenant_model.specs.declared.rows.Row.{Row}
 use Rattle.tenant_model.specs.State.{State, row}
-use Rattle.tenant_model.specs.Walks.{is_open, is_spawned_by, region_of, top}
+use Rattle.tenant_model.specs.Walks.{is_spawned_by, region_of, top}
 use Rattle.tenant_model.specs.Changes.{new_row, add_row}
 use Rattle.tenant_model.specs.Linked.{MakersPrecede}
 use Rattle.tenant_model.specs.Sound.{IsSteady}
@@ -26,20 +26,21 @@ use Rattle.tenant_model.proofs.Within.{region_of-above}
 use Rattle.arena_rows.specs.declared.rows.OpenRow.{OpenRow}
 use Rattle.arena_rows.specs.declared.rows.CurrentJob.{CurrentJob}
 use Rattle.arena_rows.specs.Held.{Held}
-use Rattle.arena_rows.specs.Represents.{Places, at_place, id_of, source_of, stage_of, tag_of, tagged_of, waiting, waiting_of, IsGroup, IsRow, Stands, AreContexts, held_by, Assigned, Holds}
-use Rattle.arena_rows.specs.HeldChanges.{next_place, next_id, outer_of, index_of, entered, job_counted, with_member, with_entry, spawned_entry, put}
+use Rattle.arena_rows.specs.Represents.{at_place, id_of, source_of, stage_of, tag_of, tagged_of, waiting, waiting_of, IsGroup, IsRow, AreContexts, held_by, Assigned, Holds, IsFree}
+use Rattle.arena_rows.specs.HeldChanges.{next_id, outer_of, index_of, entered, job_counted, with_member, with_entry, spawned_entry, put}
+use Rattle.arena_rows.proofs.FreePlaces.{same_taken}
 use Rattle.arena_rows.proofs.Started.{at_same, at_other, some_is, some_none}
-use Rattle.arena_rows.proofs.Making.{HasNext, has_next, tag_there}
+use Rattle.arena_rows.proofs.Making.{IsNext, is_next, tag_there}
 use Rattle.arena_rows.proofs.Made.{IsFresh, IsJoined, made_holds}
 use Rattle.arena_rows.proofs.Pushing.{IsRow-pushed, AreNests-waiting, waiting-one}
 use Rattle.arena_rows.proofs.PushedRows.{IsGroup-same, IsGroup-joined, tag_of-push}
-use Rattle.arena_rows.proofs.TopRows.{top_open, top_there, top_job}
+use Rattle.arena_rows.proofs.TopRows.{top_there, top_job}
 use Rattle.arena_rows.proofs.Grouped.{IsEntry}
-use Rattle.arena_rows.proofs.Spawned.{spawned, bound_forest, AreContexts-spawned}
+use Rattle.arena_rows.proofs.Spawned.{spawned, AreContexts-spawned}
 use Rattle.arena_rows.proofs.Posted.{no_contexts}
 
-module _ (a : Held) (s : State) (is : Holds a s) (placed : is.places (length s.rows + 1) ≡ next_place a) (slot n g gc c : ℕ) (f : Frame) (me : OpenRow) (on_top : top s.rows slot ≡ Some n) (entry : IsEntry a s is n me)
-    (kept : IsSteady (add_row s (new_row (kind.Spawned n g) (row s.rows n).job (Some slot) f Unstarted))) (some : 0 < length a.free) (few : g < GROUPS) (given : is.assigned.of_group n g ≡ Some gc) (free : binding a.contexts c ≡ None) (room : c < length a.contexts)
+module _ (a : Held) (s : State) (is : Holds a s) (place : ℕ) (placed : is.places (length s.rows + 1) ≡ place) (slot n g gc c : ℕ) (f : Frame) (me : OpenRow) (on_top : top s.rows slot ≡ Some n) (entry : IsEntry a s is n me)
+    (kept : IsSteady (add_row s (new_row (kind.Spawned n g) (row s.rows n).job (Some slot) f Unstarted))) (vacant : IsFree a.table place) (few : g < GROUPS) (given : is.assigned.of_group n g ≡ Some gc) (free : binding a.contexts c ≡ None) (room : c < length a.contexts)
     (count : held_count (with_bound a.contexts c (Some gc)) ≡ held_count a.contexts + 1) where
   abbrev r : Row
   r = new_row (kind.Spawned n g) (row s.rows n).job (Some slot) f Unstarted
@@ -68,8 +69,8 @@ module _ (a : Held) (s : State) (is : Holds a s) (placed : is.places (length s.r
   precede' : MakersPrecede rows'
   precede' = kept.formed.linked.makers
 
-  next : HasNext a
-  next = has_next a s is some
+  next : IsNext a place
+  next = is_next a s is place vacant
 
   maker_there : (1 ≤ n) × (n ≤ length s.rows)
   maker_there = top_there a s is slot n on_top
@@ -150,6 +151,7 @@ module _ (a : Held) (s : State) (is : Holds a s) (placed : is.places (length s.r
     vacant = λ q none.
         let apart : q ≢ p = λ same. some_none me (sym entry.there ∙ ap (at_place a.table) (sym same) ∙ none) in
         at_other a.table p (Some me') entry.within q apart ∙ none;
+    taken = same_taken a.table p me me' entry.within entry.there;
   }
 
   contexts_joined : AreContexts s a.retired (length a.jobs) table a.contexts is.assigned
@@ -170,17 +172,17 @@ module _ (a : Held) (s : State) (is : Holds a s) (placed : is.places (length s.r
   kind_is = refl
 
   abbrev at : Assigned
-  at = spawned s a.retired (length a.jobs) table a.contexts is.assigned c (next_place a) n g gc r e precede precede' contexts_joined refl refl maker_there.1 entry.opened kind_is given free room
+  at = spawned s a.retired (length a.jobs) table a.contexts is.assigned c place n g gc r e precede precede' contexts_joined refl refl maker_there.1 entry.opened kind_is given free room
 
-  contexts : AreContexts (add_row s r) a.retired (length a.jobs) (slice_set table (next_place a) (Some e)) (with_bound a.contexts c (Some gc)) at
-  contexts = AreContexts-spawned s a.retired (length a.jobs) table a.contexts is.assigned c (next_place a) n g gc r e precede precede' contexts_joined refl refl maker_there.1 entry.opened kind_is given free room
-      (λ q x there. (open_there s.rows x.number (table_joined.only q x there).0).1) refl (ap (λ k. k + 1) is.made) no_contexts refl (omega (arith, next.within, table_joined.long)) (table_joined.vacant (next_place a) next.vacant) count
+  contexts : AreContexts (add_row s r) a.retired (length a.jobs) (slice_set table place (Some e)) (with_bound a.contexts c (Some gc)) at
+  contexts = AreContexts-spawned s a.retired (length a.jobs) table a.contexts is.assigned c place n g gc r e precede precede' contexts_joined refl refl maker_there.1 entry.opened kind_is given free room
+      (λ q x there. (open_there s.rows x.number (table_joined.only q x there).0).1) refl (ap (λ k. k + 1) is.made) no_contexts refl (omega (arith, next.within, table_joined.long)) (table_joined.vacant place next.vacant) count
 
   outer_is : outer_of a.regions e.source ≡ tag_of s.rows is.places n
   outer_is = tag_there a s is n entry.opened
 
   abbrev w : Waiting
-  w = record { row = next_id a; made_on = Some slot; region = tag_of s.rows is.places n }
+  w = record { row = next_id a place; made_on = Some slot; region = tag_of s.rows is.places n }
 
   pool : with_row a.pool w ≡ record { isolation = a.config.isolation; limit = a.config.rows; slots = a.config.slots; rows = map (waiting_of rows' is.places) (waiting rows') }
   pool =
@@ -188,10 +190,10 @@ module _ (a : Held) (s : State) (is : Holds a s) (placed : is.places (length s.r
       let tag : tag_of rows' is.places N ≡ tag_of s.rows is.places n = ap (option_map (id_of is.places)) region ∙ tag_of-push s.rows r precede precede' is.places n maker_there.1 in
       let number : a.made + 1 ≡ N = ap (λ k. k + 1) is.made in
       let waiting_at : ℕ → ℕ → Option RowId → Waiting = λ k q t. record { row = record { number = k; place = q }; made_on = Some slot; region = t } in
-      let w_is : w ≡ waiting_at N (is.places N) (tag_of rows' is.places N) = ap (λ k. waiting_at k (next_place a) (tag_of s.rows is.places n)) number ∙ ap (λ q. waiting_at N q (tag_of s.rows is.places n)) (sym placed) ∙ ap (waiting_at N (is.places N)) (sym tag) in
+      let w_is : w ≡ waiting_at N (is.places N) (tag_of rows' is.places N) = ap (λ k. waiting_at k place (tag_of s.rows is.places n)) number ∙ ap (λ q. waiting_at N q (tag_of s.rows is.places n)) (sym placed) ∙ ap (waiting_at N (is.places N)) (sym tag) in
       let p : List Waiting → Ready = λ ws. record { isolation = a.config.isolation; limit = a.config.rows; slots = a.config.slots; rows = ws } in
       ap (λ q. with_row q w) is.waiting ∙ ap p (ap (λ v. map (waiting_of s.rows is.places) (waiting s.rows) ++ v ∷ []) w_is ∙ sym (waiting-one s.rows r precede precede' is.places refl))
 
-  pub spawned_holds : (d : CurrentJob) → Holds (put (job_counted (entered (record (with_entry a p me') { contexts = with_bound a.contexts c (Some gc) }) e) (row s.rows n).job d) w) (add_row s r)
-  spawned_holds d = made_holds a s is r e kept some placed refl refl fresh table table_joined (with_bound a.contexts c (Some gc)) at d (index_of a (row s.rows n).job) (with_row a.pool w) a.nests (omega (arith, current)) (omega (arith, current)) (length-set a.contexts c _) (λ k. refl)
+  pub spawned_holds : (d : CurrentJob) → Holds (put (job_counted (entered (record (with_entry a p me') { contexts = with_bound a.contexts c (Some gc) }) place e) (row s.rows n).job d) w) (add_row s r)
+  spawned_holds d = made_holds a s is place r e kept vacant placed refl refl fresh table table_joined (with_bound a.contexts c (Some gc)) at d (index_of a (row s.rows n).job) (with_row a.pool w) a.nests (omega (arith, current)) (omega (arith, current)) (length-set a.contexts c _) (λ k. refl)
       (maker_there.1, outer_is) (λ none. absurd (some_none n none)) contexts (AreNests-waiting s.rows r precede precede' is.places a.config.slots a.nests refl is.nests) pool

@@ -1,32 +1,22 @@
 -- A row that waits goes live on top of a slot.
-use Rattle.std.proofs.Common.{◌≡◌, ◌≢◌, ℕ, zero, suc, ◌+◌, ◌-◌, ◌==◌, ◌<◌, ◌≤◌, List, [], ◌∷◌, ◌++◌, length, Option, Some, None, Bool, true, false, ◌&&◌, not, refl, sym, ap, ◌∙◌, arith, inl, inr, map, get_or, length-set, unwrap_or}
-use Rattle.std.specs.Prelude.{filter, slice_index_or, slice_set, slice_get, is_some}
+use Rattle.std.proofs.Common.{◌≡◌, ◌≢◌, ℕ, zero, suc, ◌+◌, ◌-◌, ◌==◌, ◌<◌, ◌≤◌, List, [], ◌∷◌, length, Option, Some, None, Bool, true, false, not, refl, sym, ap, ◌∙◌, arith, inl, inr, map, length-set, unwrap_or}
+use Rattle.std.specs.Prelude.{filter, slice_set, is_some}
 use Rattle.std.specs.Option.{option_map}
 use Rattle.std.specs.List.{enumerate_from}
-use Rattle.std.proofs.lemmas.Bool.{cases_eq, cases_lt}
-use Rattle.std.proofs.lemmas.List.{get_or-set_same, get_or-set_other, get_or_append_left, get_or_push, length_push}
-use Rattle.std.proofs.lemmas.Option.{slice_get_within, slice_get-get_or, slice_get_read, get_or_from_slice_get}
-use Rattle.job_step.specs.declared.frames.Frame.{Frame}
-use Rattle.region_tag.specs.declared.row_id.RowId.{RowId}
+use Rattle.std.proofs.lemmas.Bool.{cases_eq}
+use Rattle.std.proofs.lemmas.List.{get_or-set_same, get_or-set_other}
 use Rattle.region_tag.specs.declared.regions.Tagged.{Tagged}
 use Rattle.region_tag.specs.Region.{is_same}
-use Rattle.ready_pool.specs.declared.pool.Waiting.{Waiting}
 use Rattle.ready_pool.specs.Ready as ready
-use Rattle.nest_stack.specs.declared.stack.Nested.{Nested}
-use Rattle.nest_stack.specs.Nest.{stack, with_stack, at_height}
-use Rattle.tenant_model.specs.declared.rows.Kind.{Kind}
-use Rattle.tenant_model.specs.declared.rows.Phase.{Phase}
-use Rattle.tenant_model.specs.declared.rows.Phase.TheVariants.{Unstarted, Live, Done, Dropped, Faulted}
 use Rattle.tenant_model.specs.declared.rows.Row.{Row}
-use Rattle.tenant_model.specs.State.{State, row, with_at_number}
-use Rattle.tenant_model.specs.Walks.{NumberedRow, numbered_rows, is_open, is_unstarted, is_region, value_in, height}
-use Rattle.tenant_model.specs.Changes.{open_rows}
-use Rattle.tenant_model.proofs.Changed.{row-with_same, row-with_other, with_at_number-from}
+use Rattle.tenant_model.specs.State.{row, with_at_number}
+use Rattle.tenant_model.specs.Walks.{NumberedRow, is_open, is_unstarted}
+use Rattle.tenant_model.proofs.Changed.{with_at_number-from}
 use Rattle.tenant_model.proofs.Within.{either_way}
 use Rattle.arena_rows.specs.declared.rows.OpenRow.{OpenRow}
-use Rattle.arena_rows.specs.declared.rows.Stage.TheVariants as stage
-use Rattle.arena_rows.specs.Represents.{Places, id_of, at_place, stage_of, tag_of, tagged_of, around_of, nested_of, waiting, waiting_of, IsRow, Stands, AreRows, AreFree, AreNests, AreTagged}
-use Rattle.arena_rows.proofs.Alike.{Alike, Alike-set, IsRow-alike, open_rows-alike, tag_of-alike, around_of-alike}
+use Rattle.arena_rows.specs.Represents.{Places, id_of, at_place, stage_of, tag_of, tagged_of, around_of, waiting, waiting_of, IsRow, Stands, AreRows, AreFree, AreTagged}
+use Rattle.arena_rows.proofs.Alike.{Alike, IsRow-alike, open_rows-alike, tag_of-alike, around_of-alike}
+use Rattle.arena_rows.proofs.FreePlaces.{same_taken}
 use Rattle.arena_rows.proofs.Picked.{filter-map, filter-same}
 
 pub some_is : {A : Type 0} (x y : A) → Some x ≡ Some y → x ≡ y
@@ -95,15 +85,10 @@ module _ (rows rows' : List Row) (places : Places) (table : List (Option OpenRow
     ];
   }
 
-  pub AreFree-set : (limit : ℕ) (free : List ℕ) → AreFree rows limit table free → AreFree rows' limit (slice_set table (places n) (Some e')) free
-  AreFree-set limit free are_free = record {
+  pub AreFree-set : (limit : ℕ) → AreFree rows limit table → AreFree rows' limit (slice_set table (places n) (Some e'))
+  AreFree-set limit are_free = record {
     long = length-set table (places n) (Some e') ∙ are_free.long;
-    each = λ i below.
-        let old = are_free.each i below in
-        let other : get_or free i 0 ≢ places n = λ same. some_none e (sym there ∙ rw (← same) old.1) in
-        (old.0, at_other table (places n) (Some e') within (get_or free i 0) other ∙ old.1);
-    apart = are_free.apart;
-    count = ap (λ k. k + length free) (open_rows-alike rows rows' alike) ∙ are_free.count;
+    count = open_rows-alike rows rows' alike ∙ are_free.count ∙ sym (same_taken table (places n) e e' within there);
   }
 
   -- Tags stay, where the entry has the same number.

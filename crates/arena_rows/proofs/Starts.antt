@@ -1,42 +1,30 @@
 -- Steps that keep what an arena stands for.
-use Rattle.std.proofs.Common.{◌≡◌, ◌≢◌, ℕ, zero, suc, ◌+◌, ◌-◌, ◌==◌, ◌<◌, ◌≤◌, List, [], ◌∷◌, ◌++◌, length, Option, Some, None, Bool, true, false, ◌&&◌, refl, sym, ap, ◌∙◌, arith, inl, inr, get_or, map, unwrap_or, subst}
-use Rattle.std.specs.Prelude.{slice_index_or, slice_set, sum_by, option_and_then, if◌then◌else◌, filter}
-use Rattle.std.specs.Option.{option_map}
+use Rattle.std.proofs.Common.{◌≡◌, ◌≢◌, ℕ, ◌+◌, ◌<◌, ◌≤◌, length, Some, None, true, false, refl, sym, ap, ◌∙◌, arith, inl, inr, subst}
 use Rattle.std.proofs.lemmas.Bool.{cases_eq}
 use Rattle.std.proofs.lemmas.List.Sums.{sum_by-set}
-use Rattle.std.proofs.lemmas.List.{get_or-set_same, get_or-set_other}
 use Rattle.job_step.specs.declared.frames.Frame.{Frame}
-use Rattle.job_language.specs.declared.tenants.Isolation.{Isolation}
-use Rattle.region_tag.specs.declared.row_id.RowId.{RowId}
-use Rattle.region_tag.specs.Region as tags
-use Rattle.ready_pool.specs.declared.pool.Waiting.{Waiting}
 use Rattle.ready_pool.specs.Ready.{Ready}
-use Rattle.ready_pool.specs.Ready as ready
-use Rattle.nest_stack.specs.declared.stack.Nested.{Nested}
-use Rattle.nest_stack.specs.Nest.{stack, with_stack}
-use Rattle.nest_stack.specs.Nest as nests
+use Rattle.nest_stack.specs.Nest.{stack}
 use Rattle.tenant_model.specs.declared.rows.Kind.{Kind}
 use Rattle.tenant_model.specs.declared.rows.Kind.TheVariants.{Root, Posted, Spawned, Region}
 use Rattle.tenant_model.specs.declared.rows.Phase.{Phase}
 use Rattle.tenant_model.specs.declared.rows.Phase.TheVariants.{Unstarted, Live, Done, Dropped, Faulted}
 use Rattle.tenant_model.specs.declared.rows.Row.{Row}
 use Rattle.tenant_model.specs.State.{State, row, with_at_number}
-use Rattle.tenant_model.specs.Walks.{NumberedRow, is_open, is_unstarted, is_region, is_within, value_in, height, top, region_on, pick, settled_row, settle, is_context_cancelled}
+use Rattle.tenant_model.specs.Walks.{is_open, is_unstarted, is_region, height, settle, is_context_cancelled}
 use Rattle.tenant_model.specs.Changes.{nest, entry}
 use Rattle.tenant_model.specs.Sound.{IsSteady, IsSettled}
 use Rattle.tenant_model.proofs.Changed.{row-with_same, row-with_other}
 use Rattle.tenant_model.proofs.Within.{either_way}
-use Rattle.tenant_model.proofs.Picks.{top_is, pick_is}
 use Rattle.tenant_model.proofs.Steady.{steady_entries}
-use Rattle.tenant_model.proofs.Settling.{SettledUpTo, settle-from}
+use Rattle.tenant_model.proofs.Settling.{settle-from}
 use Rattle.arena_rows.specs.declared.rows.OpenRow.{OpenRow}
 use Rattle.arena_rows.specs.declared.rows.Stage.{Stage}
 use Rattle.arena_rows.specs.declared.rows.Stage.TheVariants as stage
 use Rattle.arena_rows.specs.Held.{Held}
-use Rattle.arena_rows.specs.Represents.{Places, id_of, at_place, stage_of, tag_of, nested_of, waiting, waiting_of, IsRow, Stands, held_by, Holds, Rests}
-use Rattle.arena_rows.specs.HeldChanges.{started, counted, picked}
-use Rattle.arena_rows.proofs.Tops.{height_is, top_of_stack, region_there}
-use Rattle.arena_rows.proofs.Picked.{pick-same}
+use Rattle.arena_rows.specs.Represents.{id_of, at_place, nested_of, IsRow, Stands, held_by, Holds, Rests}
+use Rattle.arena_rows.specs.HeldChanges.{started, counted}
+use Rattle.arena_rows.proofs.Tops.{height_is}
 use Rattle.arena_rows.proofs.Alike.{Alike, Alike-set, IsGroup-alike}
 use Rattle.arena_rows.proofs.Started.{at_same, at_other, some_is, AreRows-set, AreFree-set, AreTagged-set, waiting-with, pool-without}
 use Rattle.arena_rows.proofs.Pushed.{AreNests-pushed}
@@ -132,7 +120,7 @@ module _ (a : Held) (s : State) (is : Holds a s) (slot n : ℕ) (e : OpenRow) (f
     assigned = is.assigned;
     made = is.made ∙ sym alike.contexts.sources.long;
     table = AreRows-set s.rows (with_at_number s.rows n r) is.places a.table n e e' alike opened is.table there is_row.number is_row' (λ m other. rw (others m other) refl);
-    free = AreFree-set s.rows (with_at_number s.rows n r) is.places a.table n e e' alike opened is.table there is_row.number is_row' (λ m other. rw (others m other) refl) a.config.rows a.free is.free;
+    free = AreFree-set s.rows (with_at_number s.rows n r) is.places a.table n e e' alike opened is.table there is_row.number is_row' (λ m other. rw (others m other) refl) a.config.rows is.free;
     nests = rw (← pushed_is) (AreNests-pushed s.rows (with_at_number s.rows n r) is.places a.config.slots a.nests n slot is.nests within (λ t h live. absurd (let started : is_unstarted (row s.rows n).phase ≡ false = rw live refl in grind (arith, started, off))) (rw (here, high) refl) others);
     tags = AreTagged-set s.rows (with_at_number s.rows n r) is.places a.table n e e' alike opened is.table there is_row.number is_row' (λ m other. rw (others m other) refl) a.regions is.tags;
     waiting = rw is.waiting (ap (λ rows. let p : Ready = record { isolation = a.config.isolation; limit = a.config.rows; slots = a.config.slots; rows = rows } in p) (pool-without s.rows (with_at_number s.rows n r) is.places n alike (waiting-with s.rows n r from to started_phase)));

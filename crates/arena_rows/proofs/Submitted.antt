@@ -1,7 +1,7 @@
 -- What is held stands for the state with one job more, and its root.
 use Rattle.std.proofs.Common.{◌≡◌, ℕ, ◌+◌, ◌==◌, ◌<◌, List, [], ◌∷◌, ◌++◌, length, Option, Some, None, true, false, refl, sym, ap, ◌∙◌, arith, get_or, map, length-set, pos, subst}
 use Rattle.std.specs.Prelude.{slice_set}
-use Rattle.std.proofs.lemmas.List.{length_push, get_or-set_other, get_or_push, set_at}
+use Rattle.std.proofs.lemmas.List.{length_push, get_or_push, set_at}
 use Rattle.job_language.specs.declared.jobs.Job.{Job}
 use Rattle.region_tag.specs.declared.row_id.RowId.{RowId}
 use Rattle.region_tag.specs.Region.{tagged}
@@ -25,10 +25,11 @@ use Rattle.arena_rows.specs.declared.rows.OpenRow.{OpenRow}
 use Rattle.arena_rows.specs.declared.rows.CurrentJob.{CurrentJob}
 use Rattle.arena_rows.specs.declared.rows.Stage.{Stage}
 use Rattle.arena_rows.specs.Held.{Held}
-use Rattle.arena_rows.specs.Represents.{id_of, source_of, stage_of, waiting, waiting_of, IsRow, AreRows, AreFree, AreNests, AreTagged, Assigned, IsRowContext, AreContexts, AreJobs, Holds}
-use Rattle.arena_rows.specs.HeldChanges.{next_place, next_id, new_current, root_frame, root_entry, job_begun, with_open}
+use Rattle.arena_rows.specs.Represents.{id_of, source_of, stage_of, waiting, waiting_of, IsRow, AreRows, AreFree, AreNests, AreTagged, Assigned, IsRowContext, AreContexts, AreJobs, Holds, IsFree}
+use Rattle.arena_rows.specs.HeldChanges.{next_id, new_current, root_frame, root_entry, job_begun, with_open}
 use Rattle.arena_rows.proofs.Made.{no_group}
-use Rattle.arena_rows.proofs.Making.{HasNext, has_next}
+use Rattle.arena_rows.proofs.FreePlaces.{one_taken}
+use Rattle.arena_rows.proofs.Making.{IsNext, is_next}
 use Rattle.arena_rows.proofs.NewJob.{with_job, AreContexts-job, AreJobs-job}
 use Rattle.arena_rows.proofs.Posted.{no_contexts}
 use Rattle.arena_rows.proofs.Pushing.{IsRow-pushed, AreRows-pushed, AreFree-pushed, AreTagged-pushed, AreJobs-pushed}
@@ -36,8 +37,8 @@ use Rattle.arena_rows.proofs.PushedRows.{IsGroup-new}
 use Rattle.arena_rows.proofs.Spawned.{joined, AreContexts-joined}
 use Rattle.arena_rows.proofs.TopRows.{job_count}
 
-module _ (a : Held) (s : State) (is : Holds a s) (placed : is.places (length s.rows + 1) ≡ next_place a) (j : Job) (p : Phase) (st : Stage) (c : ℕ) (staged : st ≡ stage_of (root_frame j) p) (opened : is_open p ≡ true) (none : value_in p ≡ pos 0) (kept : IsSteady (add_job s j p))
-    (some : 0 < length a.free) (room : length a.jobs < MAX_JOBS) (free : binding a.contexts c ≡ None) (inside : c < length a.contexts) (count : held_count (with_bound a.contexts c None) ≡ held_count a.contexts + 1) where
+module _ (a : Held) (s : State) (is : Holds a s) (place : ℕ) (placed : is.places (length s.rows + 1) ≡ place) (j : Job) (p : Phase) (st : Stage) (c : ℕ) (staged : st ≡ stage_of (root_frame j) p) (opened : is_open p ≡ true) (none : value_in p ≡ pos 0) (kept : IsSteady (add_job s j p))
+    (vacant : IsFree a.table place) (room : length a.jobs < MAX_JOBS) (free : binding a.contexts c ≡ None) (inside : c < length a.contexts) (count : held_count (with_bound a.contexts c None) ≡ held_count a.contexts + 1) where
   abbrev pub N : ℕ
   N = length s.rows + 1
 
@@ -65,8 +66,8 @@ module _ (a : Held) (s : State) (is : Holds a s) (placed : is.places (length s.r
   precede' : MakersPrecede rows'
   precede' = kept.formed.linked.makers
 
-  next : HasNext a
-  next = has_next a s is some
+  next : IsNext a place
+  next = is_next a s is place vacant
 
   many : length s.jobs ≡ a.retired + length a.jobs
   many = job_count a s is
@@ -93,33 +94,32 @@ module _ (a : Held) (s : State) (is : Holds a s) (placed : is.places (length s.r
   }
 
   abbrev table : List (Option OpenRow)
-  table = slice_set a.table (next_place a) (Some e)
+  table = slice_set a.table place (Some e)
 
   rows_are : AreRows rows' is.places table
-  rows_are = AreRows-pushed s.rows r precede precede' is.places a.table (next_place a) e
+  rows_are = AreRows-pushed s.rows r precede precede' is.places a.table place e
       (λ m opened_m.
       let its = is.table.each m opened_m in
       let there = open_there s.rows m opened_m in
       record { within = its.within; entry = its.entry; there = its.there; is = IsRow-pushed s.rows r precede precede' is.places m its.entry there.1 (λ g few. refl) its.is })
       is.table.only placed next.vacant next.within opened number is_row
 
-  free_are : AreFree rows' a.config.rows table (job_begun a j st c).free
-  free_are = AreFree-pushed s.rows r precede precede' is.places a.config.rows a.table table a.free some (length-set a.table (next_place a) (Some e))
-      (λ q other vacant. get_or-set_other a.table (next_place a) q (Some e) None other ∙ vacant) opened is.free
+  free_are : AreFree rows' a.config.rows table
+  free_are = AreFree-pushed s.rows r precede precede' is.places a.config.rows a.table table (length-set a.table place (Some e)) (one_taken a.table place e vacant) opened is.free
 
-  id : next_id a ≡ id_of is.places N
-  id = let f : ℕ → ℕ → RowId = λ k q. record { number = k; place = q } in ap (λ k. f k (next_place a)) number ∙ ap (f N) (sym placed)
+  id : next_id a place ≡ id_of is.places N
+  id = let f : ℕ → ℕ → RowId = λ k q. record { number = k; place = q } in ap (λ k. f k place) number ∙ ap (f N) (sym placed)
 
-  tags_are : AreTagged rows' is.places table (job_begun a j st c).regions
-  tags_are = subst (λ x. AreTagged rows' is.places table (slice_set a.regions (next_place a) (Some x))) (ap (λ x. tagged x None false) (sym id))
-      (AreTagged-pushed s.rows r precede precede' is.places a.table a.table a.regions (next_place a) e None is.table is.tags next.within placed number refl (λ q. refl)
+  tags_are : AreTagged rows' is.places table (job_begun a place j st c).regions
+  tags_are = subst (λ x. AreTagged rows' is.places table (slice_set a.regions place (Some x))) (ap (λ x. tagged x None false) (sym id))
+      (AreTagged-pushed s.rows r precede precede' is.places a.table a.table a.regions place e None is.table is.tags next.within placed number refl (λ q. refl)
       (λ q x there. open_there s.rows x.number (is.table.only q x there).0) tt (λ nothing. refl))
 
   contexts1 : AreContexts s1 a.retired (length a.jobs + 1) a.table forest (with_job s is.assigned w c is.steady.formed.linked.jobs)
   contexts1 = AreContexts-job s is.assigned w c is.steady.formed.linked.jobs a.retired (length a.jobs) a.table a.contexts is.contexts (omega (arith, many)) refl free inside count
 
   abbrev at : Assigned
-  at = joined s1 a.retired (length a.jobs + 1) a.table forest (with_job s is.assigned w c is.steady.formed.linked.jobs) c (next_place a) r e precede precede' contexts1 opened refl (λ m h. refl)
+  at = joined s1 a.retired (length a.jobs + 1) a.table forest (with_job s is.assigned w c is.steady.formed.linked.jobs) c place r e precede precede' contexts1 opened refl (λ m h. refl)
 
   contexts_are : AreContexts (add_job s j p) a.retired (length a.jobs + 1) table forest at
   contexts_are =
@@ -127,13 +127,13 @@ module _ (a : Held) (s : State) (is : Holds a s) (placed : is.places (length s.r
       let job : ((length s.jobs + 1) == (length s.jobs + 1)) ≡ true = grind arith in
       let its : at.of_row N ≡ at.of_job (row rows' N).job = rw (it, here, job) refl in
       let new_context : IsRowContext (add_job s j p) forest at N (row rows' N).kind = subst (λ k. IsRowContext (add_job s j p) forest at N k) (sym (ap (λ (q : Row). q.kind) here)) its in
-      AreContexts-joined s1 a.retired (length a.jobs + 1) a.table forest (with_job s is.assigned w c is.steady.formed.linked.jobs) c (next_place a) r e precede precede' contexts1 opened refl (λ m h. refl) new_context
+      AreContexts-joined s1 a.retired (length a.jobs + 1) a.table forest (with_job s is.assigned w c is.steady.formed.linked.jobs) c place r e precede precede' contexts1 opened refl (λ m h. refl) new_context
       (λ q x there. (open_there s.rows x.number (is.table.only q x there).0).1) refl number no_contexts refl next.within next.vacant
 
   abbrev unopened : CurrentJob
   unopened = new_current a j c 0
 
-  jobs_are : AreJobs (add_job s j p) at a.retired (job_begun a j st c).jobs
+  jobs_are : AreJobs (add_job s j p) at a.retired (job_begun a place j st c).jobs
   jobs_are =
       let linked = is.steady.formed.linked.jobs in
       let f : ℕ → Work = λ k. record { program = j.program; fuel = j.fuel; root = k; cancelled = false; fault = None; retired = false } in
@@ -147,7 +147,7 @@ module _ (a : Held) (s : State) (is : Holds a s) (placed : is.places (length s.r
 
   pub begun_holds : (pool : Ready) (nests : List (List Nested)) → AreNests rows' is.places a.config.slots nests →
       pool ≡ record { isolation = a.config.isolation; limit = a.config.rows; slots = a.config.slots; rows = map (waiting_of rows' is.places) (waiting rows') } →
-      Holds (record (job_begun a j st c) { pool = pool; nests = nests }) (add_job s j p)
+      Holds (record (job_begun a place j st c) { pool = pool; nests = nests }) (add_job s j p)
   begun_holds pool nests are_nests are_waiting =
       let long : length (a.jobs ++ new_current a j c 1 ∷ []) ≡ length a.jobs + 1 = length_push a.jobs (new_current a j c 1) in
       record {

@@ -1,12 +1,12 @@
 -- Wrapping sums.
-use Rattle.std.proofs.Common.{◌≡◌, ℕ, zero, suc, ◌+◌, ◌-◌, ◌%◌, ◌^◌, ◌<◌, ◌≤◌, ℤ, pos, List, [], ◌∷◌, Bool, true, false, ◌&&◌, nat_lt, refl, sym, ap, ◌∙◌, arith, inl, inr, length, get_or, lit<}
+use Rattle.std.proofs.Common.{◌≡◌, ℕ, zero, suc, ◌+◌, ◌%◌, ◌^◌, ◌<◌, ℤ, pos, List, [], ◌∷◌, true, false, refl, sym, ap, ◌∙◌, arith, inl, inr, length, get_or, lit<}
 use Rattle.std.specs.Prelude.{fold, filter, slice_set, count_by}
 use Rattle.std.specs.List.{enumerate_from}
 use Rattle.std.specs.Int.{int_wrapping_add, w64, cast_signed, cast_unsigned}
 use Rattle.std.proofs.lemmas.Int.{of_z-to_z}
-use Rattle.std.proofs.Math.Nat.{mod-add-mod, add-mod-mod, mod-lt}
+use Rattle.std.proofs.Math.Nat.{mod-add-mod, mod-lt}
 use Rattle.tenant_model.specs.declared.rows.Row.{Row}
-use Rattle.tenant_model.specs.Walks.{NumberedRow, is_open, is_spawned_by, value_in}
+use Rattle.tenant_model.specs.Walks.{NumberedRow, is_open, value_in}
 use Rattle.tenant_model.proofs.Within.{either_way}
 use Rattle.tenant_model.proofs.Stacking.{one_if}
 use Rattle.arena_rows.proofs.Alike.{member, count_cons}

@@ -1,24 +1,24 @@
 -- The table, the free places, the tags and the jobs after a row has ended.
-use Rattle.std.proofs.Common.{◌≡◌, ◌≢◌, ℕ, zero, suc, ◌+◌, ◌-◌, ◌==◌, ◌<◌, ◌≤◌, ℤ, pos, List, [], ◌∷◌, ◌++◌, length, Option, Some, None, Bool, true, false, ◌&&◌, not, refl, sym, ap, ◌∙◌, arith, inl, inr, get_or, map, length-set}
-use Rattle.std.specs.Prelude.{filter, slice_index_or, slice_set}
+use Rattle.std.proofs.Common.{◌≡◌, ◌≢◌, ℕ, zero, suc, ◌+◌, ◌-◌, ◌==◌, ◌<◌, ◌≤◌, ℤ, List, [], ◌∷◌, ◌++◌, length, Option, Some, None, Bool, true, false, not, refl, sym, ap, ◌∙◌, arith, inl, inr, get_or, map, length-set}
+use Rattle.std.specs.Prelude.{filter, slice_index_or, slice_set, count_by, is_some}
 use Rattle.std.specs.List.{enumerate_from}
 use Rattle.std.specs.Option.{option_map}
-use Rattle.std.proofs.lemmas.Bool.{cases_eq, cases_lt}
-use Rattle.std.proofs.lemmas.List.{get_or-set_same, get_or-set_other, get_or_append_left, get_or_push, length_push, map-set, set-get_or, get_or-map, get_or_default}
+use Rattle.std.proofs.lemmas.Bool.{cases_eq}
+use Rattle.std.proofs.lemmas.List.{get_or-set_same, get_or-set_other, map-set, set-get_or, get_or-map, get_or_default}
 use Rattle.region_tag.specs.declared.regions.Tagged.{Tagged}
-use Rattle.ready_pool.specs.declared.pool.Waiting.{Waiting}
 use Rattle.ready_pool.specs.Ready as ready
 use Rattle.tenant_model.specs.declared.rows.Row.{Row}
 use Rattle.tenant_model.specs.declared.works.Work.{Work}
-use Rattle.tenant_model.specs.State.{State, row, job, with_at_number}
-use Rattle.tenant_model.specs.Walks.{NumberedRow, numbered_rows, is_open, is_unstarted, is_spawned_by, value_in}
+use Rattle.tenant_model.specs.State.{State, row, with_at_number}
+use Rattle.tenant_model.specs.Walks.{NumberedRow, is_open, is_unstarted, value_in}
 use Rattle.tenant_model.proofs.Changed.{row-get_or, with_at_number-from}
 use Rattle.tenant_model.proofs.Tended.{unstarted_open}
 use Rattle.tenant_model.proofs.Within.{either_way}
 use Rattle.arena_rows.specs.declared.rows.OpenRow.{OpenRow}
 use Rattle.arena_rows.specs.declared.rows.CurrentJob.{CurrentJob}
-use Rattle.arena_rows.specs.Represents.{Places, id_of, at_place, tag_of, tagged_of, around_of, waiting, waiting_of, Stands, AreRows, AreFree, AreTagged, Assigned, IsJob, AreJobs, open_of}
-use Rattle.arena_rows.proofs.Closed.{row_old, row_new, tag_same, around_same, still, open_fewer, open_of_fewer, open_of_other}
+use Rattle.arena_rows.specs.Represents.{Places, id_of, at_place, tagged_of, waiting, waiting_of, Stands, AreRows, AreFree, AreTagged, Assigned, IsJob, AreJobs, open_of}
+use Rattle.arena_rows.proofs.FreePlaces.{one_freed}
+use Rattle.arena_rows.proofs.Closed.{row_old, tag_same, around_same, still, open_fewer, open_of_fewer, open_of_other}
 use Rattle.arena_rows.proofs.Picked.{filter-map, filter-same}
 use Rattle.arena_rows.proofs.Started.{at_same, at_other, some_is, some_none, option-same, map-same, same_id, waits, waiting-with}
 
@@ -28,7 +28,7 @@ pub record IsParted (rows rows' : List Row) (places : Places) (n : ℕ) (e : Ope
   pub each : (m : ℕ) → m ≢ n → is_open (row rows m).phase ≡ true → Stands rows' places table1 m
   pub only : (q : ℕ) (x : OpenRow) → at_place table1 q ≡ Some x → (is_open (row rows x.number).phase ≡ true) × (places x.number ≡ q)
   pub tags : (q : ℕ) → option_map (tagged_of rows places) (at_place table1 q) ≡ option_map (tagged_of rows places) (at_place table q)
-  pub vacant : (q : ℕ) → at_place table q ≡ None → at_place table1 q ≡ None
+  pub taken : count_by is_some table1 ≡ count_by is_some table
   pub there : at_place table1 (places n) ≡ Some e
   pub number : e.number ≡ n
 
@@ -84,31 +84,11 @@ module _ (rows : List Row) (places : Places) (n : ℕ) (r : Row) (from : 1 ≤ n
       ];
     }
 
-    pub AreFree-closed : (limit : ℕ) (free : List ℕ) → (at_place table (places n) ≡ None → ⊥) → AreFree rows limit table free → AreFree rows' limit table' (free ++ places n ∷ [])
-    AreFree-closed limit free taken are =
-        let apart_from : (i : ℕ) → i < length free → get_or free i 0 ≢ places n = λ i low same. taken (ap (at_place table) (sym same) ∙ (are.each i low).1) in
-        let before : (i : ℕ) → i < length free → get_or (free ++ places n ∷ []) i 0 ≡ get_or free i 0 = λ i low. get_or_append_left free (places n ∷ []) 0 i low in
-        let last : (i : ℕ) → i ≡ length free → get_or (free ++ places n ∷ []) i 0 ≡ places n = λ i same. ap (λ k. get_or (free ++ places n ∷ []) k 0) same ∙ get_or_push free (places n) 0 (length free) refl in
-        record {
-          long = length-set table1 (places n) None ∙ parted.long ∙ are.long;
-          each = λ i low. elim (cases_lt i (length free)) [
-            | inl earlier ↦
-                let its = are.each i earlier in
-                let e_is = before i earlier in
-                (omega (arith, e_is, its.0), ap (at_place table') e_is ∙ at_other table1 (places n) None inside (get_or free i 0) (apart_from i earlier) ∙ parted.vacant (get_or free i 0) its.1)
-            | inr late ↦
-                let e_is = last i (omega (arith, late, low, length_push free (places n))) in
-                (omega (arith, e_is, within, are.long), ap (at_place table') e_is ∙ at_same table1 (places n) None inside)
-          ];
-          apart = λ i j order low same. elim (cases_lt j (length free)) [
-            | inl earlier ↦ are.apart i j order earlier (sym (before i (omega (arith, order, earlier))) ∙ same ∙ before j earlier)
-            | inr late ↦
-                let j_is : j ≡ length free = omega (arith, late, low, length_push free (places n)) in
-                let i_low : i < length free = omega (arith, order, j_is) in
-                apart_from i i_low (sym (before i i_low) ∙ same ∙ last j j_is)
-          ];
-          count = omega (arith, open_fewer rows n r from to kind same_job marks opened closed, are.count, length_push free (places n));
-        }
+    pub AreFree-closed : (limit : ℕ) → AreFree rows limit table → AreFree rows' limit table'
+    AreFree-closed limit are = record {
+      long = length-set table1 (places n) None ∙ parted.long ∙ are.long;
+      count = omega (arith, open_fewer rows n r from to kind same_job marks opened closed, are.count, one_freed table1 (places n) e inside parted.there, parted.taken);
+    }
 
     pub AreTagged-closed : (regions : List (Option Tagged)) → AreTagged rows places table regions → AreTagged rows' places table' (slice_set regions (places n) None)
     AreTagged-closed regions tags = record {

@@ -1,14 +1,12 @@
 -- The row that a slot takes next goes live on top of it.
-use Rattle.std.proofs.Common.{◌≡◌, ℕ, ◌+◌, ◌<◌, ◌≤◌, length, Option, Some, None, Bool, true, refl, sym, ap, ◌∙◌, arith, subst}
+use Rattle.std.proofs.Common.{◌≡◌, ℕ, ◌<◌, ◌≤◌, length, Option, Some, None, true, refl, sym, ap, ◌∙◌, subst}
 use Rattle.std.specs.Option.{option_map}
 use Rattle.job_step.specs.declared.frames.Frame.{Frame}
 use Rattle.region_tag.specs.declared.row_id.RowId.{RowId}
 use Rattle.nest_stack.specs.Nest.{stack}
 use Rattle.tenant_model.specs.declared.rows.Phase.{Phase}
-use Rattle.tenant_model.specs.declared.rows.Phase.TheVariants.{Unstarted}
-use Rattle.tenant_model.specs.declared.rows.TheConstants.{MAX_HEIGHT}
 use Rattle.tenant_model.specs.State.{State, row}
-use Rattle.tenant_model.specs.Walks.{is_unstarted, is_open, height, pick}
+use Rattle.tenant_model.specs.Walks.{is_unstarted, height, pick}
 use Rattle.tenant_model.specs.Changes.{nest}
 use Rattle.tenant_model.proofs.Picks.{pick_is}
 use Rattle.tenant_model.specs.Sound.{IsSteady}

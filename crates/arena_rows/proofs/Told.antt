@@ -1,9 +1,10 @@
 -- What the rows and cells that are held tell of the state.
-use Rattle.std.proofs.Common.{◌≡◌, ℕ, zero, suc, ◌+◌, ◌==◌, ◌<◌, ◌≤◌, nat_lt, ◌-◌, not, List, [], ◌∷◌, length, Some, Bool, true, false, ◌||◌, refl, sym, ap, ◌∙◌, arith, inl, inr, map}
+use Rattle.std.proofs.Common.{◌≡◌, ℕ, zero, suc, ◌+◌, ◌==◌, ◌<◌, ◌≤◌, nat_lt, ◌-◌, not, List, [], ◌∷◌, length, Option, Some, is_some, Bool, true, false, refl, sym, ap, ◌∙◌, arith, inl, inr, map}
 use Rattle.std.specs.Prelude.{filter, find, count_by}
 use Rattle.std.specs.List.{enumerate_from, list_any, range_with_len}
 use Rattle.std.proofs.lemmas.Grind.{common_steps}
 use Rattle.std.proofs.lemmas.List.{length-map}
+use Rattle.std.proofs.lemmas.List.Sums.{count_by-le-length}
 use Rattle.job_language.specs.declared.tenants.Tenant.{Tenant}
 use Rattle.ready_pool.specs.declared.pool.Waiting.{Waiting}
 use Rattle.ready_pool.specs.Ready.{Ready}
@@ -15,7 +16,7 @@ use Rattle.tenant_model.specs.Changes.{open_rows, is_row_limit_met}
 use Rattle.thread_cells.specs.Cells.{Table, cell_sum, cell_count}
 use Rattle.tenant_model.specs.Asks.{free_slot}
 use Rattle.tenant_model.proofs.Within.{either_way}
-use Rattle.tenant_model.proofs.Stacking.{one_if}
+use Rattle.arena_rows.specs.declared.rows.OpenRow.{OpenRow}
 use Rattle.arena_rows.specs.Held.{Held}
 use Rattle.arena_rows.specs.Represents.{waiting, waiting_of, Holds}
 use Rattle.arena_rows.specs.HeldReads.{least_empty}
@@ -70,15 +71,15 @@ module _ (a : Held) (s : State) (is : Holds a s) where
   limit : a.config.rows ≡ s.config.rows
   limit = ap (λ (t : Tenant). t.rows) is.config
 
-  pub limit_told : (length a.free == 0) ≡ is_row_limit_met s
-  limit_told = let count = is.free.count in grind (arith, count, limit)
-
-  pub busy_told : nat_lt (length a.free) (length a.table) ≡ list_any (λ (r : Row). is_open r.phase) s.rows
-  busy_told =
+  pub limit_told : (count_by is_some a.table == length a.table) ≡ is_row_limit_met s
+  limit_told =
       let count = is.free.count in
       let long = is.free.long in
-      let same : nat_lt (length a.free) (length a.table) ≡ nat_lt 0 (open_rows s.rows) = grind (arith, count, long) in
-      same ∙ sym (any_counted (λ (r : Row). is_open r.phase) s.rows)
+      let most = count_by-le-length (λ (o : Option OpenRow). is_some o) a.table in
+      grind (arith, count, long, most, limit)
+
+  pub busy_told : not (count_by is_some a.table == 0) ≡ list_any (λ (r : Row). is_open r.phase) s.rows
+  busy_told = ap (λ n. not (n == 0)) (sym is.free.count) ∙ sym (some_left (open_rows s.rows)) ∙ sym (any_counted (λ (r : Row). is_open r.phase) s.rows)
 
   pub unstarted_told : not (length a.pool.rows == 0) ≡ has_unstarted s
   unstarted_told =

@@ -1,18 +1,18 @@
 -- The topmost row of a slot among what is held.
-use Rattle.std.proofs.Common.{◌≡◌, ℕ, ◌+◌, ◌-◌, ◌<◌, ◌≤◌, List, length, Option, Some, None, Bool, true, refl, sym, ap, ◌∙◌, arith, map}
+use Rattle.std.proofs.Common.{◌≡◌, ℕ, ◌+◌, ◌-◌, ◌<◌, ◌≤◌, length, Option, Some, None, true, refl, sym, ap, ◌∙◌, arith, map}
 use Rattle.std.proofs.lemmas.List.{length-append, length-map}
 use Rattle.nest_stack.specs.Nest as nest
 use Rattle.nest_stack.specs.Nest.{stack}
+use Rattle.region_tag.specs.declared.row_id.RowId.{RowId}
 use Rattle.tenant_model.specs.declared.rows.Phase.TheVariants.{Live}
 use Rattle.tenant_model.specs.State.{State, row}
 use Rattle.tenant_model.specs.Walks.{is_open, height, top}
 use Rattle.tenant_model.proofs.Picks.{top_is}
 use Rattle.tenant_model.proofs.Invariance.{IsAt}
-use Rattle.tenant_model.proofs.AttendedSteps.{open_there}
 use Rattle.std.specs.Option.{option_map}
 use Rattle.arena_rows.specs.Held.{Held}
 use Rattle.nest_stack.specs.declared.stack.Nested.{Nested}
-use Rattle.arena_rows.specs.Represents.{nested_of, Stands, Holds, HasTop}
+use Rattle.arena_rows.specs.Represents.{id_of, nested_of, Stands, Holds, HasTop}
 use Rattle.arena_rows.proofs.Started.{some_is, some_none}
 use Rattle.arena_rows.proofs.Tops.{height_is, top_of_stack}
 use Rattle.arena_rows.proofs.JobChanged.{work_of}
@@ -42,6 +42,9 @@ module _ (a : Held) (s : State) (is : Holds a s) where
 
     pub top_stands : Stands s.rows is.places a.table n
     top_stands = is.table.each n top_open
+
+    pub maker_within : (id : RowId) → id ≡ id_of is.places n → id.place < length a.table
+    maker_within id same = rw same top_stands.within
 
     pub top_nested : nest.top (stack a.nests slot) ≡ Some (nested_of s.rows is.places n)
     top_nested = top_of_stack s.rows is.places a.config.slots a.nests is.steady.formed.stacked is.nests slot ∙ ap (option_map (nested_of s.rows is.places)) on_top

@@ -1,10 +1,8 @@
 -- The top of a slot's stack.
-use Rattle.std.proofs.Common.{◌≡◌, ℕ, zero, suc, ◌+◌, ◌-◌, ◌==◌, ◌<◌, ◌≤◌, List, [], ◌∷◌, length, Option, Some, None, Bool, true, false, refl, sym, ap, ◌∙◌, arith, inl, inr, unwrap_or}
-use Rattle.std.specs.Prelude.{slice_get, slice_index_or, option_and_then}
+use Rattle.std.proofs.Common.{◌≡◌, ℕ, ◌-◌, ◌==◌, ◌≤◌, List, length, Option, Some, None, true, refl, ◌∙◌, arith, inl, inr}
 use Rattle.std.specs.Option.{option_map}
-use Rattle.std.proofs.lemmas.Bool.{cases_eq, cases_lt}
+use Rattle.std.proofs.lemmas.Bool.{cases_lt}
 use Rattle.std.proofs.lemmas.Option.{slice_get_within, slice_get_past}
-use Rattle.region_tag.specs.declared.row_id.RowId.{RowId}
 use Rattle.region_tag.specs.declared.regions.Tagged.{Tagged}
 use Rattle.region_tag.specs.Region as tags
 use Rattle.nest_stack.specs.declared.stack.Nested.{Nested}
@@ -14,12 +12,12 @@ use Rattle.tenant_model.specs.declared.rows.Phase.{Phase}
 use Rattle.tenant_model.specs.declared.rows.Phase.TheVariants.{Live}
 use Rattle.tenant_model.specs.declared.rows.Row.{Row}
 use Rattle.tenant_model.specs.State.{row}
-use Rattle.tenant_model.specs.Walks.{is_open, is_region, height, top, region_of, region_on}
+use Rattle.tenant_model.specs.Walks.{is_open, height, top}
 use Rattle.tenant_model.specs.WellFormed.{AreStacked}
 use Rattle.tenant_model.proofs.Insides.{live_low}
 use Rattle.tenant_model.proofs.Picks.{top_is, top_none}
 use Rattle.arena_rows.specs.declared.rows.OpenRow.{OpenRow}
-use Rattle.arena_rows.specs.Represents.{Places, id_of, at_place, AreRows, Stands, AreNests, nested_of, AreTagged, tagged_of, tag_of}
+use Rattle.arena_rows.specs.Represents.{Places, id_of, AreRows, AreNests, nested_of, AreTagged, tag_of}
 
 module _ (rows : List Row) (places : Places) (slots : ℕ) (nests : List (List Nested)) (stacked : AreStacked rows) (are : AreNests rows places slots nests) where
   low_of : (slot : ℕ) (o : Option ℕ) → top rows slot ≡ o → height rows slot ≤ length (stack nests slot)

@@ -1,5 +1,5 @@
 -- What the parts of an arena are after a row has ended.
-use Rattle.std.specs.Prelude.{◌≡◌, ◌≢◌, ℕ, zero, suc, ◌+◌, ◌-◌, ◌<◌, ◌==◌, ℤ, Bool, true, false, if◌then◌else◌, List, [], ◌∷◌, ◌++◌, Option, Some, None, slice_index_or, slice_set, length, map, IsSome}
+use Rattle.std.specs.Prelude.{◌≡◌, ◌≢◌, ℕ, zero, suc, ◌+◌, ◌-◌, ◌<◌, ◌==◌, ℤ, Bool, true, false, if◌then◌else◌, List, [], ◌∷◌, Option, Some, None, slice_index_or, slice_set, length, map, IsSome}
 use Rattle.std.specs.List.{list_any}
 use Rattle.std.specs.Option.{option_map}
 use Rattle.std.specs.Int.{int_wrapping_add, w64}
@@ -101,7 +101,6 @@ with_ended n v it = record it { value = if it.work.root == n then v else it.valu
 abbrev pub ended : Held → RowId → OpenRow → ℤ → Held
 ended a id e v = record a {
   table = slice_set (parted a.table e.source v) id.place None;
-  free = a.free ++ id.place ∷ [];
   regions = slice_set a.regions id.place None;
   jobs = slice_set a.jobs (index_of a e.job) (with_ended id.number v (slice_index_or a.jobs (index_of a e.job) no_job));
 }

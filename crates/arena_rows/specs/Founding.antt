@@ -1,6 +1,5 @@
 -- What an arena holds at first.
 use Rattle.std.specs.Prelude.{◌+◌, ◌*◌, [], None, replicate}
-use Rattle.std.specs.List.{range_with_len}
 use Rattle.job_language.specs.declared.tenants.Tenant.{Tenant}
 use Rattle.cancel_context.specs.declared.contexts.TheConstants.{BASE_CONTEXTS, CONTEXTS_PER_ROW}
 use Rattle.ready_pool.specs.Ready as ready
@@ -12,7 +11,6 @@ abbrev pub founded : Tenant → Held
 founded c = record {
   config = c;
   table = replicate c.rows None;
-  free = range_with_len 0 c.rows;
   made = 0;
   jobs = [];
   retired = 0;

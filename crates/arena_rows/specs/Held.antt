@@ -1,5 +1,5 @@
 -- What an arena holds.
-use Rattle.std.specs.Prelude.{ℕ, ◌≤◌, List, Option, vec_capacity, length}
+use Rattle.std.specs.Prelude.{ℕ, ◌<◌, ◌≤◌, List, Option, count_by, is_some, length, vec_capacity}
 use Rattle.job_language.specs.declared.tenants.Tenant.{Tenant}
 use Rattle.cancel_context.specs.Forest.{Forest}
 use Rattle.nest_stack.specs.Nest.{Stacks}
@@ -15,7 +15,6 @@ use Rattle.arena_rows.specs.declared.parts.Parts.TheInside.{Inside}
 pub record Held : Type 0 where
   pub config : Tenant
   pub table : List (Option OpenRow)
-  pub free : List ℕ
   pub made : ℕ
   pub jobs : List CurrentJob
   pub retired : ℕ
@@ -31,7 +30,6 @@ abbrev pub shown : Inside → Held
 shown p = record {
   config = p.config;
   table = p.rows.table;
-  free = p.free.items;
   made = p.made;
   jobs = p.jobs.items;
   retired = p.retired;
@@ -44,7 +42,10 @@ shown p = record {
   nests = p.nests;
 }
 
--- A place or a job more needs no memory.
-pub record IsRoomy (p : Inside) : Type 0 where
-  pub places : length p.rows.table ≤ vec_capacity p.free
-  pub jobs : MAX_JOBS ≤ vec_capacity p.jobs
+-- A job more needs no memory.
+abbrev pub IsRoomy : Inside → Type 0
+IsRoomy p = MAX_JOBS ≤ vec_capacity p.jobs
+
+-- Some place is free.
+abbrev pub HasFreePlace : Held → Type 0
+HasFreePlace a = count_by is_some a.table < length a.table

@@ -1,5 +1,5 @@
 -- What the changes of an arena's parts do to what they hold.
-use Rattle.std.specs.Prelude.{ℕ, pos, ◌≡◌, ◌≢◌, ◌<◌, ◌+◌, ◌-◌, All, Bool, true, false, List, [], ◌∷◌, ◌++◌, Option, Some, None, slice_index_or, slice_set, replicate, length, take, option_and_then}
+use Rattle.std.specs.Prelude.{ℕ, pos, ◌≡◌, ◌≢◌, ◌<◌, ◌+◌, ◌-◌, All, Bool, true, false, [], ◌∷◌, ◌++◌, Option, Some, None, slice_index_or, slice_set, replicate, length, option_and_then}
 use Rattle.job_step.specs.declared.frames.Frame.{Frame}
 use Rattle.job_step.specs.Frame.{new_frame}
 use Rattle.job_language.specs.declared.jobs.Job.{Job}
@@ -49,16 +49,9 @@ counted a = record a { entries = a.entries + 1 }
 abbrev pub with_cells_held : Held → cells.Table → Held
 with_cells_held a t = record a { cells = t }
 
--- the place that the next row takes, and the others that are free
-abbrev pub next_place : Held → ℕ
-next_place a = slice_index_or a.free (length a.free - 1) 0
-
-abbrev pub other_places : Held → List ℕ
-other_places a = take (length a.free - 1) a.free
-
--- the next row
-abbrev pub next_id : Held → RowId
-next_id a = record { number = a.made + 1; place = next_place a }
+-- the next row, at a place
+abbrev pub next_id : Held → (place : ℕ) → RowId
+next_id a p = record { number = a.made + 1; place = p }
 
 -- where a job that is not retired stands among those that are not
 abbrev pub index_of : Held → (job : ℕ) → ℕ
@@ -75,44 +68,38 @@ abbrev pub is_region_source : Source → Bool
 is_region_source (Region m) = true
 is_region_source s = false
 
--- the next row in the table and among the regions
-abbrev pub entered : Held → OpenRow → Held
-entered a e = record a {
-  table = slice_set a.table (next_place a) (Some e);
-  free = other_places a;
+-- the next row in the table, at a place, and among the regions
+abbrev pub entered : Held → (place : ℕ) → OpenRow → Held
+entered a p e = record a {
+  table = slice_set a.table p (Some e);
   made = a.made + 1;
-  regions = slice_set a.regions (next_place a) (Some (tagged (next_id a) (outer_of a.regions e.source) (is_region_source e.source)));
+  regions = slice_set a.regions p (Some (tagged (next_id a p) (outer_of a.regions e.source) (is_region_source e.source)));
 }
 
--- the entry of a row that was posted
+-- the entry of a row that was just made
+abbrev pub new_entry : (number : ℕ) → Source → (job : ℕ) → (made_on : Option ℕ) → Stage → (context : ℕ) → OpenRow
+new_entry n source j made_on stage c = record {
+  number = n;
+  source = source;
+  job = j;
+  made_on = made_on;
+  stage = stage;
+  groups = no_members;
+  group_contexts = replicate GROUPS None;
+  context = c;
+}
+
+-- of one that was posted
 abbrev pub posted_entry : Held → (job context : ℕ) → Frame → OpenRow
-posted_entry a j c f = record { number = a.made + 1; source = Posted; job = j; made_on = None; stage = stage.Waiting f; groups = no_members; group_contexts = replicate GROUPS None; context = c }
+posted_entry a j c f = new_entry (a.made + 1) Posted j None (stage.Waiting f) c
 
--- the entry of a row that was spawned
+-- of one that was spawned
 abbrev pub spawned_entry : Held → (maker : RowId) → (group job context slot : ℕ) → Frame → OpenRow
-spawned_entry a m g j c slot f = record {
-  number = a.made + 1;
-  source = Spawned m g;
-  job = j;
-  made_on = Some slot;
-  stage = stage.Waiting f;
-  groups = no_members;
-  group_contexts = replicate GROUPS None;
-  context = c;
-}
+spawned_entry a m g j c slot f = new_entry (a.made + 1) (Spawned m g) j (Some slot) (stage.Waiting f) c
 
--- the entry of a region on top of its maker
+-- and of a region on top of its maker
 abbrev pub region_entry : Held → (maker : RowId) → (job context slot : ℕ) → OpenRow
-region_entry a m j c slot = record {
-  number = a.made + 1;
-  source = Region m;
-  job = j;
-  made_on = Some slot;
-  stage = stage.Live slot (length (stack a.nests slot) + 1);
-  groups = no_members;
-  group_contexts = replicate GROUPS None;
-  context = c;
-}
+region_entry a m j c slot = new_entry (a.made + 1) (Region m) j (Some slot) (stage.Live slot (length (stack a.nests slot) + 1)) c
 
 -- a region on top of a slot
 abbrev pub region_pushed : Held → (slot : ℕ) → Frame → RowId → Held
@@ -195,19 +182,19 @@ new_current a j c opened = record { work = record { program = j.program; fuel = 
 
 -- the entry of a root
 abbrev pub root_entry : Held → (stage : Stage) → (context : ℕ) → OpenRow
-root_entry a stage c = record { number = a.made + 1; source = Root; job = next_job a; made_on = None; stage = stage; groups = no_members; group_contexts = replicate GROUPS None; context = c }
+root_entry a stage c = new_entry (a.made + 1) Root (next_job a) None stage c
 
--- a job more, and its root in the table
-abbrev pub job_begun : Held → Job → (stage : Stage) → (context : ℕ) → Held
-job_begun a j stage c = entered (record a { contexts = with_bound a.contexts c None; jobs = a.jobs ++ new_current a j c 1 ∷ [] }) (root_entry a stage c)
+-- a job more, and its root in the table, at a place
+abbrev pub job_begun : Held → (place : ℕ) → Job → (stage : Stage) → (context : ℕ) → Held
+job_begun a p j stage c = entered (record a { contexts = with_bound a.contexts c None; jobs = a.jobs ++ new_current a j c 1 ∷ [] }) p (root_entry a stage c)
 
--- a job more, with a context that nothing held
-pub record IsBegun (a b : Held) (j : Job) (stage : Stage) : Type 0 where
+-- a job more, with a context that nothing held, and its root at a place
+pub record IsBegun (a b : Held) (place : ℕ) (j : Job) (stage : Stage) : Type 0 where
   pub context : ℕ
   pub free : binding a.contexts context ≡ None
   pub within : context < length a.contexts
   pub count : held_count (with_bound a.contexts context None) ≡ held_count a.contexts + 1
-  pub held : b ≡ job_begun a j stage context
+  pub held : b ≡ job_begun a place j stage context
 
 -- a root on a slot
 abbrev pub root_pushed : Held → (slot : ℕ) → Frame → RowId → Held

@@ -1,5 +1,5 @@
 -- Which states an arena stands for.
-use Rattle.std.specs.Prelude.{◌≡◌, ◌≢◌, ℕ, ◌+◌, ◌*◌, ◌<◌, ◌≤◌, ◌==◌, ◌&&◌, not, ◌⊎◌, ℤ, Bool, true, false, if◌then◌else◌, List, [], ◌∷◌, ◌++◌, Option, Some, None, IsSome, is_some, slice_index_or, get_or, All, map, filter, length, count_by, sum_by}
+use Rattle.std.specs.Prelude.{◌≡◌, ℕ, ◌+◌, ◌*◌, ◌<◌, ◌≤◌, ◌==◌, ◌&&◌, ◌⊎◌, Bool, true, false, if◌then◌else◌, List, ◌++◌, Option, Some, None, is_some, slice_index_or, get_or, All, map, filter, length, count_by, sum_by}
 use Rattle.std.specs.Option.{option_map}
 use Rattle.job_language.specs.declared.instructions.TheConstants.{GROUPS}
 use Rattle.job_step.specs.declared.frames.Frame.{Frame}
@@ -81,12 +81,15 @@ pub record AreRows (rows : List Row) (places : Places) (table : List (Option Ope
   pub each : (n : ℕ) → is_open (row rows n).phase ≡ true → Stands rows places table n
   pub only : (p : ℕ) (e : OpenRow) → at_place table p ≡ Some e → (is_open (row rows e.number).phase ≡ true) × (places e.number ≡ p)
 
--- The places that are free, each once.
-pub record AreFree (rows : List Row) (limit : ℕ) (table : List (Option OpenRow)) (free : List ℕ) : Type 0 where
+-- A place of a table is free.
+pub record IsFree (table : List (Option OpenRow)) (p : ℕ) : Type 0 where
+  pub within : p < length table
+  pub vacant : at_place table p ≡ None
+
+-- All places are free but those of the open rows.
+pub record AreFree (rows : List Row) (limit : ℕ) (table : List (Option OpenRow)) : Type 0 where
   pub long : length table ≡ limit
-  pub each : (i : ℕ) → i < length free → (get_or free i 0 < limit) × (at_place table (get_or free i 0) ≡ None)
-  pub apart : (i j : ℕ) → i < j → j < length free → get_or free i 0 ≢ get_or free j 0
-  pub count : open_rows rows + length free ≡ limit
+  pub count : open_rows rows ≡ count_by is_some table
 
 -- the row of a number as it stands on a stack
 abbrev pub nested_of : List Row → Places → ℕ → Nested
@@ -211,7 +214,7 @@ pub record Holds (a : Held) (s : State) : Type 0 where
   pub assigned : Assigned
   pub made : a.made ≡ length s.rows
   pub table : AreRows s.rows places a.table
-  pub free : AreFree s.rows a.config.rows a.table a.free
+  pub free : AreFree s.rows a.config.rows a.table
   pub nests : AreNests s.rows places a.config.slots a.nests
   pub tags : AreTagged s.rows places a.table a.regions
   pub waiting : a.pool ≡ record { isolation = a.config.isolation; limit = a.config.rows; slots = a.config.slots; rows = map (waiting_of s.rows places) (waiting s.rows) }

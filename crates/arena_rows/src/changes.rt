@@ -1,24 +1,24 @@
 // Changes of an arena's parts, one at a time.
-ghost use Rattle.std.specs.Prelude.{◌≡◌, ◌<◌, ◌≤◌, ◌+◌, ◌-◌, ◌^◌, length, slice_index_or, replicate, Some, None};
+ghost use Rattle.std.specs.Prelude.{◌≡◌, ◌<◌, ◌≤◌, ◌+◌, ◌-◌, ◌^◌, ℕ, length, slice_index_or, Some, None};
 ghost use Rattle.std.specs.Option.{ForSome};
-ghost use Rattle.task_group.specs.Groups.{group, no_members};
+ghost use Rattle.task_group.specs.Groups.{group};
 ghost use Rattle.arena_rows.specs.declared.rows.CurrentJob.{CurrentJob};
 ghost use Rattle.nest_stack.specs.declared.stack.TheConstants.{MAX_HEIGHT};
 ghost use Rattle.nest_stack.specs.Nest.{stack};
 ghost use Rattle.job_step.specs.declared.frames.Frame.{Frame};
 ghost use Rattle.arena_rows.specs.declared.rows.OpenRow.{OpenRow};
 ghost use Rattle.arena_rows.specs.declared.rows.Stage.TheVariants as stage;
-ghost use Rattle.arena_rows.specs.Represents.{at_place};
-ghost use Rattle.arena_rows.specs.HeldChanges.{started, counted, framed, next_place, next_id, index_of, outer_of, entered, job_counted, with_entry, with_member, put, region_pushed, CanWait};
+ghost use Rattle.arena_rows.specs.Held.{HasFreePlace};
+ghost use Rattle.arena_rows.specs.Represents.{at_place, IsFree};
+ghost use Rattle.arena_rows.specs.HeldChanges.{started, counted, framed, next_id, index_of, outer_of, entered, job_counted, new_entry, with_entry, with_member, put, region_pushed, CanWait};
 ghost use Rattle.region_tag.specs.Region.{region_of};
 
 use crate::parts::Parts;
-use crate::rows::{OpenRow, Source, Stage};
+use crate::rows::{Source, Stage};
 use cancel_context::ContextId;
-use job_language::{GROUPS, Group};
+use job_language::Group;
 use job_step::Frame;
 use region_tag::RowId;
-use task_group::Groups;
 
 impl Parts {
     /// A row that waits goes live on top of a slot.
@@ -78,47 +78,27 @@ impl Parts {
         stage: Stage,
         context: ContextId,
     ) -> RowId
-        requires free { 0 < length self.old.free }
+        requires free { HasFreePlace self.old }
         requires few { self.old.made < 2 ^ 32 }
-        requires place { next_place self.old < length self.old.table }
-        requires regions { next_place self.old < length self.old.regions }
-        requires vacant { slice_index_or self.old.regions (next_place self.old) None ≡ None }
+        requires regions { length self.old.regions ≡ length self.old.table }
+        requires vacant { (p : ℕ) → IsFree self.old.table p → slice_index_or self.old.regions p None ≡ None }
         requires earlier { ForSome (outer_of self.old.regions source) (λ region. region.number < self.old.made + 1) }
-        ensures row { result ≡ next_id self.old }
-        ensures entered { self.new ≡ entered self.old (record {
-          number = self.old.made + 1;
-          source = source;
-          job = job;
-          made_on = made_on;
-          stage = stage;
-          groups = no_members;
-          group_contexts = replicate GROUPS None;
-          context = context;
-        }) }
+        ensures place { IsFree self.old.table result.place }
+        ensures row { result ≡ next_id self.old result.place }
+        ensures entered { self.new ≡ entered self.old result.place (new_entry (self.old.made + 1) source job made_on stage context) }
     {
-        let Some(place) = self.free.pop() else {
-            unreachable!();
-        };
         self.made += 1;
         let number = self.made;
-        let row = RowId { number, place };
         let outer = match source {
             Source::Root | Source::Posted => None,
             Source::Spawned(maker, _) | Source::Region(maker) => self.regions.region_of(maker),
         };
         let is_region = matches!(source, Source::Region(_));
+        let place = self
+            .rows
+            .insert(number, source, job, made_on, stage, context);
+        let row = RowId { number, place };
         self.regions.enter(row, outer, is_region);
-        let entry = OpenRow {
-            number,
-            source,
-            job,
-            made_on,
-            stage,
-            groups: Groups::new(),
-            group_contexts: [None; GROUPS],
-            context,
-        };
-        self.rows.set(place, Some(entry));
         row
     }
 
@@ -129,6 +109,8 @@ impl Parts {
         requires few { (d : CurrentJob) → (slice_index_or self.old.jobs (index_of self.old job) d).open_rows < length self.old.table }
         ensures { (d : CurrentJob) → self.new ≡ job_counted self.old job d }
     {
+        // Proof hint: the number of places is in range.
+        let _ = self.rows.len();
         let index = self.index_of(job);
         self.jobs[index].open_rows += 1;
     }
@@ -139,12 +121,10 @@ impl Parts {
         requires few { (e : OpenRow) → at_place self.old.table place ≡ Some e → (group e.groups number).pending < u32.MAX }
         ensures { (e : OpenRow) → at_place self.old.table place ≡ Some e → self.new ≡ with_entry self.old place (with_member number e) }
     {
-        let Some(maker) = self.rows.get(place) else {
+        let Some(_maker) = self.rows.get(place) else {
             return;
         };
-        let mut groups = maker.groups;
-        groups.add(number.index());
-        self.rows.set_groups(place, groups);
+        self.rows.add_member(place, number);
     }
 
     /// Lets a row wait to be started.

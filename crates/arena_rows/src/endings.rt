@@ -1,5 +1,5 @@
 // Rows that end: what they held is given back.
-ghost use Rattle.std.specs.Prelude.{◌≡◌, ◌<◌, ◌≤◌, ◌-◌, ◌++◌, ◌∷◌, [], ℕ, length, slice_index_or, slice_set, Some, None, IsSome};
+ghost use Rattle.std.specs.Prelude.{◌≡◌, ◌<◌, ◌≤◌, ◌-◌, ℕ, length, slice_index_or, slice_set, Some, None, IsSome};
 ghost use Rattle.task_group.specs.Groups.{group};
 ghost use Rattle.region_tag.specs.Region.{IsEntered};
 ghost use Rattle.job_language.specs.declared.instructions.TheConstants.{GROUPS};
@@ -63,12 +63,10 @@ impl Parts {
         requires pending { (e : OpenRow) → at_place self.old.table place ≡ Some e → 0 < (group e.groups number).pending }
         ensures { (e : OpenRow) → at_place self.old.table place ≡ Some e → self.new ≡ with_entry self.old place (member_left number value e) }
     {
-        let Some(maker) = self.rows.get(place) else {
+        let Some(_maker) = self.rows.get(place) else {
             return;
         };
-        let mut groups = maker.groups;
-        groups.finish(number.index(), value);
-        self.rows.set_groups(place, groups);
+        self.rows.finish_member(place, number, value);
     }
 
     /// Lets what spawned a row have one pending member less, if it is open.
@@ -86,16 +84,14 @@ impl Parts {
     /// Takes a row out of the table, and out of the regions.
     fn take_out(&mut self, row: RowId)
         requires place { row.place < length self.old.table }
-        requires room { length self.old.free < length self.old.table }
+        requires there { IsSome (at_place self.old.table row.place) }
         requires entered { IsEntered self.old.regions row }
         ensures { self.new ≡ record self.old {
           table = slice_set self.old.table row.place None;
-          free = self.old.free ++ row.place ∷ [];
           regions = slice_set self.old.regions row.place None;
         } }
     {
-        self.rows.set(row.place, None);
-        self.free.push_reserved(row.place);
+        self.rows.remove(row.place);
         self.regions.exit(row);
     }
 

@@ -1,5 +1,5 @@
 // Rows that are done, that fault and that are dropped, for every state that the parts stand for.
-ghost use Rattle.std.specs.Prelude.{◌≡◌, ◌<◌, ◌+◌, ℕ, true, false, length, Some, IsSome};
+ghost use Rattle.std.specs.Prelude.{◌≡◌, ◌<◌, ◌+◌, ℕ, true, false, count_by, is_some, length, Some, IsSome};
 ghost use Rattle.cancel_context.specs.Forest.{IsForest};
 ghost use Rattle.job_step.specs.declared.frames.Frame.{Frame};
 ghost use Rattle.nest_stack.specs.Nest.{stack};
@@ -93,7 +93,7 @@ impl Parts {
             → Holds self.new (on_row s n (λ r. record r { phase = Dropped })) }
         ensures forest { IsForest self.old.contexts → IsForest self.new.contexts }
         ensures long { length self.new.table ≡ length self.old.table }
-        ensures freed { length self.new.free ≡ length self.old.free + 1 }
+        ensures freed { count_by is_some self.new.table + 1 ≡ count_by is_some self.old.table }
         ensures numbers { (q : ℕ) (e : OpenRow) → at_place self.new.table q ≡ Some e → number_at self.old.table q ≡ Some e.number }
     {
         self.end(id, 0);

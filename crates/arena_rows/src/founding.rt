@@ -1,6 +1,5 @@
 // Parts that stand for a tenant that has done nothing yet.
-ghost use Rattle.std.specs.Prelude.{◌≡◌, ◌≤◌, IfOk, vec_capacity};
-ghost use Rattle.std.specs.List.{range_with_len};
+ghost use Rattle.std.specs.Prelude.{◌≡◌, IfOk};
 ghost use Rattle.tenant_model.specs.State.{empty};
 ghost use Rattle.arena_rows.specs.Represents.{Rests};
 ghost use Rattle.arena_rows.specs.Founding.{founded};
@@ -30,7 +29,6 @@ impl Parts {
         let rows = config.tenant().rows;
         let slots = usize::from(config.tenant().slots);
         let isolation = config.tenant().isolation;
-        let free = all_places(alloc, rows)?;
         let jobs = Vec::with_capacity(alloc, MAX_JOBS)?;
         let regions = Regions::new(alloc, rows)?;
         let pool = Pool::new(alloc, rows, slots, isolation)?;
@@ -39,7 +37,6 @@ impl Parts {
         Ok(Parts {
             config,
             rows: open,
-            free,
             made: 0,
             jobs,
             retired: 0,
@@ -51,16 +48,4 @@ impl Parts {
             nests,
         })
     }
-}
-
-/// That many places, from 0 on.
-fn all_places(alloc: Global, count: usize) -> Result<Vec<usize>, AllocError>
-    ensures places { IfOk result (λ places. places.items ≡ range_with_len 0 count) }
-    ensures room { IfOk result (λ places. count ≤ vec_capacity places) }
-{
-    let mut places = Vec::with_capacity(alloc, count)?;
-    for place in 0..count {
-        places.push(place)?;
-    }
-    Ok(places)
 }

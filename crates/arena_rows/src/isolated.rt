@@ -8,6 +8,7 @@ ghost use Rattle.tenant_model.specs.Changes.{new_row, add_row};
 ghost use Rattle.tenant_model.specs.Sound.{IsSteady};
 ghost use Rattle.tenant_model.specs.declared.rows.Kind.TheVariants.{Region};
 ghost use Rattle.tenant_model.specs.declared.rows.Phase.TheVariants.{Live};
+ghost use Rattle.arena_rows.specs.Held.{HasFreePlace};
 ghost use Rattle.arena_rows.specs.Represents.{id_of, Holds, HasTop};
 
 use crate::parts::Parts;
@@ -30,7 +31,7 @@ impl Parts {
     /// Makes a region on top of a slot's topmost row (`this_task_arena::isolate`).
     pub fn isolate(&mut self, slot: u8, frame: Frame)
         requires top { HasTop self.old slot }
-        requires free { 0 < length self.old.free }
+        requires free { HasFreePlace self.old }
         requires few { self.old.made < 2 ^ 32 }
         requires height { length (stack self.old.nests slot) < MAX_HEIGHT }
         ensures { (s : State) (n : ℕ) → Holds self.old s → top s.rows slot ≡ Some n

@@ -54,9 +54,7 @@ impl Parts {
         requires ended { (e : OpenRow) → at_place self.old.table place ≡ Some e → (group e.groups number).pending ≡ 0 }
         ensures { (e : OpenRow) → at_place self.old.table place ≡ Some e → self.new ≡ with_entry self.old place (with_group_emptied number e) }
     {
-        let mut groups = self.entry_at(place).groups;
-        groups.take_total(number.index());
-        self.rows.set_groups(place, groups);
+        self.rows.empty_group(place, number);
     }
 
     /// Lets a group of a slot's topmost row start afresh. Its context, if it has one, stays with it.

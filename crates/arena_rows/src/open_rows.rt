@@ -1,17 +1,23 @@
 // The open rows and their contexts, with the rows that wait filed by their contexts.
-ghost use Rattle.std.specs.Prelude.{◌≡◌, ◌⊎◌, ◌≢◌, ◌+◌, ◌*◌, ◌<◌, ◌≤◌, ℕ, None, Some, Contains, IfOk, IfSome, IsSome, [], false, true, length, replicate, slice_index_or, slice_set, vec_capacity};
+ghost use Rattle.std.specs.Prelude.{◌≡◌, ◌⊎◌, ◌≢◌, ◌+◌, ◌*◌, ◌<◌, ◌≤◌, ◌==◌, ℕ, None, Some, Contains, IfOk, IfSome, IsSome, [], count_by, is_some, false, true, length, replicate, slice_index_or, slice_set, vec_capacity};
 ghost use Rattle.cancel_context.specs.Forest.{IsForest, IsHeld, binding, held_count, is_cancelled, parent, with_bound, with_request, without};
 ghost use Rattle.cancel_context.specs.declared.contexts.TheConstants.{BASE_CONTEXTS, CONTEXTS_PER_ROW, MAX_ROWS};
 ghost use Rattle.place_lists.specs.Filing.{filed_in};
 ghost use Rattle.arena_rows.specs.OpenRows.{AreFiled, AreFine, IsDoomed, changed_at, list_for};
-ghost use Rattle.arena_rows.specs.HeldChanges.{with_group};
+ghost use Rattle.arena_rows.specs.Represents.{IsFree};
+ghost use Rattle.arena_rows.specs.HeldChanges.{new_entry, with_group, with_member};
+ghost use Rattle.arena_rows.specs.Endings.{member_left};
+ghost use Rattle.arena_rows.specs.MarkedGroups.{with_group_emptied};
+ghost use Rattle.arena_rows.specs.declared.rows.OpenRow.{OpenRow};
+ghost use Rattle.task_group.specs.Groups.{group};
 ghost use Rattle.arena_rows.specs.declared.rows.Stage.TheVariants as stage;
 ghost use Rattle.std.specs.Option.{ForSome, option_copied};
 
-use crate::rows::{OpenRow, Stage};
+use crate::rows::{OpenRow, Source, Stage};
 use cancel_context::{BASE_CONTEXTS, CONTEXTS_PER_ROW, ContextId, Contexts};
-use job_language::Group;
+use job_language::{GROUPS, Group};
 use place_lists::Filing;
+use place_table::PlaceTable;
 use std::alloc::{AllocError, Global};
 use std::marker::Model;
 use task_group::Groups;
@@ -19,7 +25,7 @@ use task_group::Groups;
 /// The open rows by their places, and the contexts. A row that waits is filed by its context, so that a
 /// cancellation leads to the rows that are to be dropped, and no others are looked at.
 pub(crate) struct OpenRows {
-    table: Vec<Option<OpenRow>>,
+    table: PlaceTable<OpenRow>,
     contexts: Contexts,
     /// For each context the places of the rows that wait under it; and last the doomed: rows that wait
     /// whose context was cancelled when they were filed, or since then.
@@ -49,9 +55,9 @@ impl Model for OpenRows {
 
     ghost Value = { OpenRows };
 
-    ghost view = { λ r. record { table = r.table.items; contexts = r.contexts } };
+    ghost view = { λ r. record { table = r.table; contexts = r.contexts } };
 
-    ghost invariant = { λ r. AreFiled r.table.items r.contexts r.filing r.doomed r.turned.items × (length r.contexts ≤ vec_capacity r.turned) };
+    ghost invariant = { λ r. AreFiled r.table r.contexts r.filing r.doomed r.turned.items × (length r.contexts ≤ vec_capacity r.turned) };
 }
 
 impl OpenRows {
@@ -61,7 +67,7 @@ impl OpenRows {
         ensures { IfOk result (λ made. made ≡ record { table = replicate rows None; contexts = replicate (BASE_CONTEXTS + CONTEXTS_PER_ROW * rows) None }) }
     {
         let doomed = BASE_CONTEXTS + CONTEXTS_PER_ROW * rows;
-        let table = vacant(alloc, rows)?;
+        let table = PlaceTable::new(alloc, rows)?;
         let contexts = Contexts::new(alloc, rows)?;
         let filing = Filing::new(alloc, doomed + 1, rows)?;
         let turned = Vec::with_capacity(alloc, doomed)?;
@@ -81,21 +87,66 @@ impl OpenRows {
         self.table.len()
     }
 
+    /// Whether no place is free.
+    pub(crate) fn is_full(&self) -> bool
+        ensures { result ≡ (count_by is_some self.now.table == length self.now.table) }
+    {
+        self.table.is_full()
+    }
+
+    /// Whether all places are free.
+    pub(crate) fn is_empty(&self) -> bool
+        ensures { result ≡ (count_by is_some self.now.table == 0) }
+    {
+        self.table.is_empty()
+    }
+
     /// What stands at a place; nothing where it is free, or not there.
     pub(crate) fn get(&self, place: usize) -> Option<&OpenRow>
         ensures { option_copied result ≡ slice_index_or self.now.table place None }
     {
-        self.table.get(place)?.as_ref()
+        self.table.get(place)
     }
 
-    /// Lets a row stand at a place, or nothing.
-    pub(crate) fn set(&mut self, place: usize, entry: Option<OpenRow>)
-        requires { place < length self.old.table }
-        ensures { self.new ≡ record self.old { table = slice_set self.old.table place entry } }
+    /// Lets a new row stand at a place that was free, and gives the place. None of its groups is used.
+    #[inline(always)]
+    pub(crate) fn insert(
+        &mut self,
+        number: u64,
+        source: Source,
+        job: u64,
+        made_on: Option<u8>,
+        stage: Stage,
+        context: ContextId,
+    ) -> usize
+        requires { count_by is_some self.old.table < length self.old.table }
+        ensures free { IsFree self.old.table result }
+        ensures put { self.new ≡ record self.old { table = slice_set self.old.table result (Some (new_entry number source job made_on stage context)) } }
     {
+        let entry = OpenRow {
+            number,
+            source,
+            job,
+            made_on,
+            stage,
+            groups: Groups::new(),
+            group_contexts: [None; GROUPS],
+            context,
+        };
         let list = list_for(&self.contexts, self.doomed, &entry);
-        self.table[place] = entry;
+        let place = self.table.insert(entry);
         file(&mut self.filing, place, list);
+        place
+    }
+
+    /// Takes the row from a place, which is free after that.
+    pub(crate) fn remove(&mut self, place: usize)
+        requires place { place < length self.old.table }
+        requires there { IsSome (slice_index_or self.old.table place None) }
+        ensures { self.new ≡ record self.old { table = slice_set self.old.table place None } }
+    {
+        self.table.remove(place);
+        self.filing.unfile(place);
     }
 
     /// Lets the row at a place go live on a slot, at a height.
@@ -104,9 +155,7 @@ impl OpenRows {
         requires there { IsSome (slice_index_or self.old.table place None) }
         ensures { self.new ≡ record self.old { table = changed_at self.old.table place (λ e. record e { stage = stage.Live slot height }) } }
     {
-        let Some(entry) = &mut self.table[place] else {
-            unreachable!();
-        };
+        let entry = self.table.at_mut(place);
         entry.stage = Stage::Live(slot, height);
         self.filing.unfile(place);
     }
@@ -117,10 +166,38 @@ impl OpenRows {
         requires there { IsSome (slice_index_or self.old.table place None) }
         ensures { self.new ≡ record self.old { table = changed_at self.old.table place (λ e. record e { groups = groups }) } }
     {
-        let Some(entry) = &mut self.table[place] else {
-            unreachable!();
-        };
+        let entry = self.table.at_mut(place);
         entry.groups = groups;
+    }
+
+    /// Lets the row at a place have one more pending member in a group.
+    pub(crate) fn add_member(&mut self, place: usize, number: Group)
+        requires place { place < length self.old.table }
+        requires there { IsSome (slice_index_or self.old.table place None) }
+        requires few { (e : OpenRow) → slice_index_or self.old.table place None ≡ Some e → (group e.groups number).pending < u32.MAX }
+        ensures { self.new ≡ record self.old { table = changed_at self.old.table place (with_member number) } }
+    {
+        self.table.at_mut(place).join(number);
+    }
+
+    /// Lets the row at a place have one pending member less in a group, which ended with a value.
+    pub(crate) fn finish_member(&mut self, place: usize, number: Group, value: i64)
+        requires place { place < length self.old.table }
+        requires there { IsSome (slice_index_or self.old.table place None) }
+        requires pending { (e : OpenRow) → slice_index_or self.old.table place None ≡ Some e → 0 < (group e.groups number).pending }
+        ensures { self.new ≡ record self.old { table = changed_at self.old.table place (member_left number value) } }
+    {
+        self.table.at_mut(place).leave(number, value);
+    }
+
+    /// Lets a group of the row at a place, with no member that is open, have none at all.
+    pub(crate) fn empty_group(&mut self, place: usize, number: Group)
+        requires place { place < length self.old.table }
+        requires there { IsSome (slice_index_or self.old.table place None) }
+        requires ended { (e : OpenRow) → slice_index_or self.old.table place None ≡ Some e → (group e.groups number).pending ≡ 0 }
+        ensures { self.new ≡ record self.old { table = changed_at self.old.table place (with_group_emptied number) } }
+    {
+        self.table.at_mut(place).empty_group(number);
     }
 
     /// Gives a group of the row at a place a context.
@@ -129,9 +206,7 @@ impl OpenRows {
         requires there { IsSome (slice_index_or self.old.table place None) }
         ensures { self.new ≡ record self.old { table = changed_at self.old.table place (with_group group context) } }
     {
-        let Some(entry) = &mut self.table[place] else {
-            unreachable!();
-        };
+        let entry = self.table.at_mut(place);
         entry.group_contexts[group.index()] = Some(context);
     }
 
@@ -204,25 +279,11 @@ impl OpenRows {
     }
 }
 
-/// A table with nothing at each of that many places.
-fn vacant<T: Copy>(alloc: Global, count: usize) -> Result<Vec<Option<T>>, AllocError>
-    ensures { IfOk result (λ table. table.items ≡ replicate count None) }
-{
-    let mut table = Vec::with_capacity(alloc, count)?;
-    for _ in 0..count {
-        table.push(None)?;
-    }
-    Ok(table)
-}
-
 /// Where a row is filed.
-fn list_for(contexts: &Contexts, doomed: usize, entry: &Option<OpenRow>) -> Option<usize>
+fn list_for(contexts: &Contexts, doomed: usize, entry: &OpenRow) -> Option<usize>
     requires { doomed ≡ length contexts.now }
-    ensures { result ≡ list_for contexts.now entry.now }
+    ensures { result ≡ list_for contexts.now (Some entry.now) }
 {
-    let Some(entry) = entry else {
-        return None;
-    };
     let Stage::Waiting(_) = entry.stage else {
         return None;
     };
@@ -233,10 +294,24 @@ fn list_for(contexts: &Contexts, doomed: usize, entry: &Option<OpenRow>) -> Opti
     if list < doomed { Some(list) } else { None }
 }
 
+/// Where what stands at a place is filed.
+fn list_at(
+    table: &PlaceTable<OpenRow>,
+    contexts: &Contexts,
+    doomed: usize,
+    place: usize,
+) -> Option<usize>
+    requires { doomed ≡ length contexts.now }
+    ensures { result ≡ list_for contexts.now (slice_index_or table.now place None) }
+{
+    let entry = table.get(place)?;
+    list_for(contexts, doomed, entry)
+}
+
 /// The place of a row that waits and whose context is cancelled. A row that is with the doomed, and whose
 /// context is not cancelled any more, is filed anew on the way.
 fn next_doomed(
-    table: &[Option<OpenRow>],
+    table: &PlaceTable<OpenRow>,
     contexts: &Contexts,
     filing: &mut Filing,
     doomed: usize,
@@ -247,7 +322,7 @@ fn next_doomed(
     ensures some { IfSome result (IsDoomed (record { table = table.now; contexts = contexts.now })) }
 {
     while let Some(place) = filing.first(doomed) {
-        let list = list_for(contexts, doomed, &table[place]);
+        let list = list_at(table, contexts, doomed, place);
         if list == Some(doomed) {
             return Some(place);
         }

@@ -18,8 +18,6 @@ pub struct Parts {
     pub(crate) config: TenantConfig,
     /// The open rows by their places, and the contexts.
     pub(crate) rows: OpenRows,
-    /// The places that are free.
-    pub(crate) free: Vec<usize>,
     /// How many rows were made.
     pub(crate) made: u64,
     /// The jobs that are not retired, and how many are.
@@ -39,7 +37,6 @@ impl Drop for Parts {
         let Parts {
             config: _config,
             rows: _rows,
-            free: _free,
             made: _made,
             jobs: _jobs,
             retired: _retired,

@@ -7,6 +7,7 @@ ghost use Rattle.tenant_model.specs.Sound.{IsSteady};
 ghost use Rattle.tenant_model.specs.declared.rows.Kind.TheVariants.{Posted};
 ghost use Rattle.tenant_model.specs.declared.rows.Phase.TheVariants.{Unstarted};
 ghost use Rattle.arena_rows.specs.declared.rows.CurrentJob.{CurrentJob};
+ghost use Rattle.arena_rows.specs.Held.{HasFreePlace};
 ghost use Rattle.arena_rows.specs.Represents.{Holds, Rests, RestsSomehow, HasTop};
 ghost use Rattle.arena_rows.specs.HeldChanges.{index_of};
 
@@ -30,7 +31,7 @@ impl Parts {
     pub fn post(&mut self, slot: u8, frame: Frame)
         requires rests { RestsSomehow self.old }
         requires top { HasTop self.old slot }
-        requires free { 0 < length self.old.free }
+        requires free { HasFreePlace self.old }
         requires few { self.old.made < 2 ^ 32 }
         ensures { (s : State) (n : ℕ) → Rests self.old s → top s.rows slot ≡ Some n
             → IsSteady (add_row s (new_row Posted (row s.rows n).job None frame Unstarted))

@@ -123,7 +123,6 @@ impl Parts {
         requires { HasEndedGroup self.now slot group }
         ensures { (s : State) (n : ℕ) → Holds self.now s → top s.rows slot ≡ Some n → result ≡ total s.rows n group }
     {
-        let mut groups = self.top_entry(slot).groups;
-        groups.take_total(group.index())
+        self.top_entry(slot).groups.total(group.index())
     }
 }

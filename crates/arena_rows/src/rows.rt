@@ -72,3 +72,35 @@ impl CurrentJob {
         }
     }
 }
+
+impl OpenRow {
+    ghost use Rattle.std.specs.Prelude.{◌≡◌, ◌<◌};
+    ghost use Rattle.task_group.specs.Groups.{group};
+    ghost use Rattle.arena_rows.specs.Endings.{member_left};
+    ghost use Rattle.arena_rows.specs.HeldChanges.{with_member};
+    ghost use Rattle.arena_rows.specs.MarkedGroups.{with_group_emptied};
+
+    /// Counts one more pending member of a group.
+    pub(crate) fn join(&mut self, number: Group)
+        requires { (group self.old.groups number).pending < u32.MAX }
+        ensures { self.new ≡ with_member number self.old }
+    {
+        self.groups.add(number.index());
+    }
+
+    /// Counts one pending member of a group less, which ended with a value.
+    pub(crate) fn leave(&mut self, number: Group, value: i64)
+        requires { 0 < (group self.old.groups number).pending }
+        ensures { self.new ≡ member_left number value self.old }
+    {
+        self.groups.finish(number.index(), value);
+    }
+
+    /// Leaves a group without a member; none is pending.
+    pub(crate) fn empty_group(&mut self, number: Group)
+        requires { (group self.old.groups number).pending ≡ 0 }
+        ensures { self.new ≡ with_group_emptied number self.old }
+    {
+        self.groups.take_total(number.index());
+    }
+}

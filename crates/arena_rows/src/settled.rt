@@ -1,11 +1,12 @@
 // Rows that rows make, with the state settled.
-ghost use Rattle.std.specs.Prelude.{◌≡◌, ◌<◌, ◌+◌, ◌^◌, ℕ, length, Some, None};
+ghost use Rattle.std.specs.Prelude.{◌≡◌, ◌<◌, ◌+◌, ◌^◌, ℕ, Some, None};
 ghost use Rattle.tenant_model.specs.State.{State, row};
 ghost use Rattle.tenant_model.specs.Walks.{settle, top};
 ghost use Rattle.tenant_model.specs.Changes.{new_row, add_row};
 ghost use Rattle.tenant_model.specs.Sound.{IsSteady};
 ghost use Rattle.tenant_model.specs.declared.rows.Kind.TheVariants.{Posted, Spawned};
 ghost use Rattle.tenant_model.specs.declared.rows.Phase.TheVariants.{Unstarted};
+ghost use Rattle.arena_rows.specs.Held.{HasFreePlace};
 ghost use Rattle.arena_rows.specs.MarkedGroups.{RestsWithTop};
 ghost use Rattle.arena_rows.specs.Represents.{Rests};
 
@@ -18,7 +19,7 @@ impl Parts {
     /// it is dropped at once; otherwise it waits.
     pub fn spawn_settled(&mut self, slot: u8, group: Group, frame: Frame)
         requires rests { RestsWithTop self.old slot }
-        requires free { 0 < length self.old.free }
+        requires free { HasFreePlace self.old }
         requires few { self.old.made + 1 < 2 ^ 32 }
         ensures { (s : State) (n : ℕ) → Rests self.old s → top s.rows slot ≡ Some n
             → IsSteady (add_row s (new_row (Spawned n group) (row s.rows n).job (Some slot) frame Unstarted))
@@ -36,7 +37,7 @@ impl Parts {
     /// job is cancelled the row is dropped at once; otherwise it waits.
     pub fn post_settled(&mut self, slot: u8, frame: Frame)
         requires rests { RestsWithTop self.old slot }
-        requires free { 0 < length self.old.free }
+        requires free { HasFreePlace self.old }
         requires few { self.old.made < 2 ^ 32 }
         ensures { (s : State) (n : ℕ) → Rests self.old s → top s.rows slot ≡ Some n
             → IsSteady (add_row s (new_row Posted (row s.rows n).job None frame Unstarted))

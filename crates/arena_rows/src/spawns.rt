@@ -8,6 +8,7 @@ ghost use Rattle.tenant_model.specs.Sound.{IsSteady, IsSettled};
 ghost use Rattle.tenant_model.specs.declared.rows.Kind.TheVariants.{Spawned};
 ghost use Rattle.tenant_model.specs.declared.rows.Phase.TheVariants.{Unstarted};
 ghost use Rattle.arena_rows.specs.declared.rows.OpenRow.{OpenRow};
+ghost use Rattle.arena_rows.specs.Held.{HasFreePlace};
 ghost use Rattle.arena_rows.specs.Represents.{at_place, Holds, HasTop, HasGroup, IsGiven};
 ghost use Rattle.arena_rows.specs.HeldChanges.{bound_to, group_given};
 
@@ -51,7 +52,7 @@ impl Parts {
     pub fn group_context(&mut self, slot: u8, group: Group) -> ContextId
         requires { HasTop self.old slot }
         ensures given { (s : State) (n : ℕ) (is : Holds self.old s) → top s.rows slot ≡ Some n → IsGiven self.old self.new s is n group result }
-        ensures free { self.new.free ≡ self.old.free }
+        ensures free { HasFreePlace self.old → HasFreePlace self.new }
         ensures made { self.new.made ≡ self.old.made }
     {
         let entry = self.top_entry(slot);
@@ -66,7 +67,7 @@ impl Parts {
     /// (`task_group::run`). The row's job has no fault: otherwise the new row would be dropped at once.
     pub fn spawn_waiting(&mut self, slot: u8, group: Group, context: ContextId, frame: Frame)
         requires given { HasGroup self.old slot group context }
-        requires free { 0 < length self.old.free }
+        requires free { HasFreePlace self.old }
         requires few { self.old.made + 1 < 2 ^ 32 }
         ensures { (s : State) (n : ℕ) (is : Holds self.old s) → IsSettled s → top s.rows slot ≡ Some n → is.assigned.of_group n group ≡ Some context
             → (job s.jobs (row s.rows n).job).fault ≡ None → IsSteady (add_row s (new_row (Spawned n group) (row s.rows n).job (Some slot) frame Unstarted))

@@ -6,7 +6,8 @@ ghost use Rattle.tenant_model.specs.declared.rows.Phase.TheVariants.{Unstarted, 
 ghost use Rattle.tenant_model.specs.declared.works.TheConstants.{MAX_JOBS};
 ghost use Rattle.tenant_model.specs.State.{State};
 ghost use Rattle.tenant_model.specs.Asks.{add_job};
-ghost use Rattle.arena_rows.specs.Represents.{Rests, RestsSomehow};
+ghost use Rattle.arena_rows.specs.Held.{HasFreePlace};
+ghost use Rattle.arena_rows.specs.Represents.{IsFree, Rests, RestsSomehow};
 ghost use Rattle.arena_rows.specs.HeldChanges.{next_id, root_frame, root_pushed, IsBegun};
 
 use crate::parts::Parts;
@@ -20,11 +21,12 @@ impl Parts {
     /// Takes a job more, with a context of its own, and its root at that stage.
     fn begin(&mut self, job: Job, stage: Stage) -> RowId
         requires rests { RestsSomehow self.old }
-        requires free { 0 < length self.old.free }
+        requires free { HasFreePlace self.old }
         requires jobs { length self.old.jobs < MAX_JOBS }
         requires few { self.old.made < 2 ^ 32 }
-        ensures row { result ≡ next_id self.old }
-        ensures begun { IsBegun self.old self.new job stage }
+        ensures place { IsFree self.old.table result.place }
+        ensures row { result ≡ next_id self.old result.place }
+        ensures begun { IsBegun self.old self.new result.place job stage }
     {
         let number = self.retired + self.jobs.len() as u64 + 1;
         let context = self.rows.bind(None);
@@ -58,7 +60,7 @@ impl Parts {
     /// Makes a job, whose root waits to be started.
     pub fn submit(&mut self, job: Job)
         requires rests { RestsSomehow self.old }
-        requires free { 0 < length self.old.free }
+        requires free { HasFreePlace self.old }
         requires jobs { length self.old.jobs < MAX_JOBS }
         requires few { self.old.made < 2 ^ 32 }
         ensures { (s : State) → Rests self.old s → Rests self.new (add_job s job Unstarted) }
@@ -71,7 +73,7 @@ impl Parts {
     /// Makes a job, and places its root on a reserved slot with nothing on it.
     pub fn place(&mut self, job: Job, slot: u8)
         requires rests { RestsSomehow self.old }
-        requires free { 0 < length self.old.free }
+        requires free { HasFreePlace self.old }
         requires jobs { length self.old.jobs < MAX_JOBS }
         requires few { self.old.made < 2 ^ 32 }
         requires slot { slot < self.old.config.reserved }

@@ -10,6 +10,7 @@ ghost use Rattle.tenant_model.specs.Walks.{is_open, has_unstarted};
 ghost use Rattle.tenant_model.specs.Changes.{is_row_limit_met};
 ghost use Rattle.thread_cells.specs.Cells.{cell_sum, cell_count};
 ghost use Rattle.tenant_model.specs.Asks.{current_jobs, free_slot, known_job, status};
+ghost use Rattle.arena_rows.specs.Held.{HasFreePlace};
 ghost use Rattle.arena_rows.specs.Represents.{Holds, HoldsSomehow};
 ghost use Rattle.arena_rows.specs.HeldReads.{held_status, known_current, known_status, is_first_cancel, known_cancels};
 
@@ -23,9 +24,9 @@ impl Parts {
     #[tactic(auto, using(crate::proofs::Told::limit_told))]
     pub fn is_row_limit_met(&self) -> bool
         ensures value { (s : State) → Holds self.now s → result ≡ is_row_limit_met s }
-        ensures room { result ≡ false → 0 < length self.now.free }
+        ensures room { result ≡ false → HasFreePlace self.now }
     {
-        self.free.is_empty()
+        self.rows.is_full()
     }
 
     /// Whether a row is open.
@@ -33,7 +34,7 @@ impl Parts {
     pub fn is_busy(&self) -> bool
         ensures { (s : State) → Holds self.now s → result ≡ list_any (λ r. is_open r.phase) s.rows }
     {
-        self.free.len() < self.rows.len()
+        !self.rows.is_empty()
     }
 
     /// Whether a row waits to be started.

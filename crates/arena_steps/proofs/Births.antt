@@ -22,7 +22,7 @@ use Rattle.tenant_model.proofs.Faulting.{AreSame-settle}
 use Rattle.tenant_model.proofs.Parts.{open-set}
 use Rattle.tenant_model.proofs.Picks.{top_is}
 use Rattle.tenant_model.proofs.Stacked.{AreSame-set}
-use Rattle.arena_rows.specs.Held.{Held}
+use Rattle.arena_rows.specs.Held.{Held, HasFreePlace}
 use Rattle.arena_rows.specs.Represents.{Holds, Rests, Gives}
 use Rattle.arena_rows.specs.MarkedGroups.{RestsWithTop}
 use Rattle.arena_rows.proofs.BornDropped.{settled_push}
@@ -87,10 +87,10 @@ module _ (a b : Held) (s : State) (slot n : ℕ) (f : Frame) (is : Holds a s) (o
       height_is t.rows now.holds.places b.config.slots b.nests now.holds.steady.formed.stacked now.holds.nests slot ∙ same_height ∙
       sym (height_is s.rows is.places a.config.slots a.nests is.steady.formed.stacked is.nests slot)
 
-  pub still_free : is_row_limit_met s ≡ false → 0 < length b.free
+  pub still_free : is_row_limit_met s ≡ false → HasFreePlace b
   still_free limit =
       let rows : b.config.rows ≡ s.config.rows = ap (λ (c : Tenant). c.rows) now.holds.config in
-      omega (arith, rows, now.holds.free.count, open-set s.rows n r its.0 its.1 refl (omega arith), has_room s limit)
+      omega (arith, rows, now.holds.free.count, now.holds.free.long, open-set s.rows n r its.0 its.1 refl (omega arith), has_room s limit)
 
   -- A row that waits, of the same job.
   pub born_rests : (c : Held) (k : Kind) (on : Option ℕ) (x y : Frame) → x ≡ y → IsSteady (add_row t (new_row k (row s.rows n).job on y Unstarted)) →

@@ -97,6 +97,7 @@ fn advance_empty(parts: &mut Parts, slot: u8, has_room: bool) -> Moved
 }
 
 /// Advances a slot by the private run of its topmost row.
+#[inline(always)]
 fn advance_by(parts: &mut Parts, slot: u8, run: &Run, has_room: bool) -> Moved
     requires runs { HasRun parts.old slot run.now }
     requires next { (i : Instr) → run.now.stop ≡ Shared i → is_last i ≡ false → run.now.end.place < LAST_PLACE }

@@ -56,6 +56,7 @@ fn count(parts: &mut Parts, slot: u8, frame: Frame, to: Register, key: Key) -> M
 
 /// Executes the shared instruction that a slot's topmost row is at, with its frame. A wait has
 /// nothing pending.
+#[inline(always)]
 pub fn execute(parts: &mut Parts, slot: u8, frame: Frame, instr: &Instr) -> Moved
     requires ready { CanExecute parts.old slot frame instr.now }
     requires room { parts.old.entries < parts.old.config.steps }

@@ -23,6 +23,7 @@ use job_language::{Instr, JobFault, Moved};
 use job_step::{Frame, Run, Stop, run_private};
 
 /// The private run of a slot's topmost row.
+#[inline(always)]
 pub(crate) fn run_top(parts: &Parts, slot: u8) -> Run
     requires { HasTop parts.now slot }
     ensures run { (s : State) (n : ℕ) → Holds parts.now s → top s.rows slot ≡ Some n → result ≡ run_on s slot n }
@@ -44,6 +45,7 @@ fn is_blocked(parts: &Parts, slot: u8, instr: &Instr) -> bool
 }
 
 /// Whether a slot's topmost row is at a wait for pending members and ran nothing before it.
+#[inline(always)]
 pub(crate) fn is_idle_wait(parts: &Parts, slot: u8, run: &Run) -> bool
     requires { HasTop parts.now slot }
     ensures { (s : State) (n : ℕ) → Holds parts.now s → top s.rows slot ≡ Some n → result ≡ is_idle_wait s n run.now.count run.now.stop }
@@ -82,6 +84,7 @@ fn pay_to_fault(parts: &mut Parts, slot: u8, count: u32) -> Moved
 
 /// Pays for instructions of a slot's topmost row and for the shared one that it is at, and executes
 /// that.
+#[inline(always)]
 fn pay_to_execute(parts: &mut Parts, slot: u8, count: u32, frame: Frame, instr: &Instr) -> Moved
     requires ready { CanExecute parts.old slot frame instr.now }
     requires room { parts.old.entries < parts.old.config.steps }
@@ -97,6 +100,7 @@ fn pay_to_execute(parts: &mut Parts, slot: u8, count: u32, frame: Frame, instr: 
 }
 
 /// Ends a step of a slot after the run of its topmost row, which stopped at a shared instruction.
+#[inline(always)]
 fn after_shared(parts: &mut Parts, slot: u8, run: &Run, instr: &Instr) -> Moved
     requires runs { HasRun parts.old slot run.now }
     requires stops { run.now.stop ≡ Shared instr.now }
@@ -113,6 +117,7 @@ fn after_shared(parts: &mut Parts, slot: u8, run: &Run, instr: &Instr) -> Moved
 }
 
 /// Ends a step of a slot after the run of its topmost row.
+#[inline(always)]
 pub(crate) fn after_run(parts: &mut Parts, slot: u8, run: &Run) -> Moved
     requires runs { HasRun parts.old slot run.now }
     requires room { parts.old.entries < parts.old.config.steps }

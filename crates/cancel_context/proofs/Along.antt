@@ -1,14 +1,14 @@
 -- Along the list of those bound to a context.
-use Rattle.std.proofs.Common.{◌≡◌, ◌<◌, ◌⊎◌, ℕ, suc, true, if◌then◌else◌, List, [], ◌∷◌, Option, Some, None, map, length, refl, sym, ◌∙◌, ap, subst, inl, inr, arith}
+use Rattle.std.proofs.Common.{◌≡◌, ◌<◌, ◌⊎◌, ℕ, suc, true, if◌then◌else◌, List, [], ◌∷◌, Option, Some, None, is_some, map, length, refl, sym, ◌∙◌, ap, subst, inl, inr, arith}
 use Rattle.std.specs.Prelude.{slice_set}
 use Rattle.std.proofs.Math.ListN.{get_or-map}
 use Rattle.std.proofs.lemmas.Bool.Decides.{eqb_tells}
 use Rattle.std.proofs.lemmas.List.{get_or-set_same, get_or-set_other, length-set, length-map, ext_get_or}
 use Rattle.cancel_context.specs.Forest.{Forest, Binding, binding, IsHeld, parent_in, parent, leaving, without_parent}
-use Rattle.cancel_context.specs.Free.{next_of}
 use Rattle.cancel_context.specs.Order.{IsIn}
-use Rattle.cancel_context.specs.Below.{Links, IsRow, IsOnce, IsLinked}
+use Rattle.cancel_context.specs.Below.{next_of, Links, IsRow, IsOnce, IsLinked}
 use Rattle.cancel_context.proofs.Chains.{IsHeld-within, IsHeld-parent_in}
+use Rattle.cancel_context.proofs.Released.{is_some-without_parent}
 use Rattle.cancel_context.proofs.Lists.{was}
 use Rattle.cancel_context.proofs.Rows.{steps, steps-row, length-once-le}
 
@@ -88,6 +88,14 @@ orphaning-place forest now links c x o =
     let at = along-first forest links c x o.rest o.along in
     let inside : x < length forest = IsHeld-within forest x (IsHeld-parent_in (binding forest x) c at) in
     (omega (arith, o.same_size), omega (arith, o.along.size))
+
+pub orphaning-held : (forest now : Forest) (links : Links) (c x : ℕ) → IsOrphaning forest now links c (Some x) → IsHeld now x
+orphaning-held forest now links c x o =
+    let held : IsHeld forest x = IsHeld-parent_in (binding forest x) c (along-first forest links c x o.rest o.along) in
+    elim (o.each x) [
+      | inl e ↦ ap is_some e ∙ is_some-without_parent c (binding forest x) ∙ held
+      | inr t ↦ ap is_some t.0 ∙ held
+    ]
 
 again_at : (c x : ℕ) (forest now : Forest) → (binding now x ≡ without_parent c (binding forest x)) ⊎ ((binding now x ≡ binding forest x) × Unit {0}) → without_parent c (binding now x) ≡ without_parent c (binding forest x)
 again_at c x forest now (inl e) = ap (without_parent c) e ∙ left_alone c (without_parent c (binding forest x)) (λ t. (was c c (binding forest x) t).1 refl)

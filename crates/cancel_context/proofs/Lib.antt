@@ -2,7 +2,6 @@ pub mod Chains
 pub mod Requests
 pub mod Bound
 pub mod Released
-pub mod Free
 pub mod Rows
 pub mod Lists
 pub mod Along

@@ -4,9 +4,8 @@ use Rattle.std.specs.Prelude.{slice_set, replicate}
 use Rattle.std.proofs.lemmas.Bool.Decides.{eqb_tells}
 use Rattle.std.proofs.lemmas.List.{get_or-set_same, get_or-set_other, length-set, get_or-replicate, length-replicate, get_or_past}
 use Rattle.cancel_context.specs.Forest.{Forest, Binding, binding, IsHeld, parent_in, parent, leaving, without_parent, with_bound, with_request, without}
-use Rattle.cancel_context.specs.Free.{next_of}
 use Rattle.cancel_context.specs.Order.{IsIn, HasBindingOrder}
-use Rattle.cancel_context.specs.Below.{Links, HasPlace, set_at, emptied, joined, first_left, left, IsRow, IsOnce, AreBelow, IsLinked}
+use Rattle.cancel_context.specs.Below.{next_of, Links, HasPlace, set_at, emptied, joined, first_left, left, IsRow, IsOnce, AreBelow, IsLinked}
 use Rattle.cancel_context.proofs.Chains.{IsHeld-within, IsHeld-parent_in, parents-held}
 use Rattle.cancel_context.proofs.Bound.{apart, binding-with_bound, binding-with_bound_other}
 use Rattle.cancel_context.proofs.Requests.{parent-with_request, is_some-with_request}

@@ -12,7 +12,7 @@ use Rattle.cancel_context.proofs.Chains.{IsHeld-within, parents-held, IsForest-o
 use Rattle.std.proofs.Math.ListN.{get_or-map}
 use Rattle.std.proofs.lemmas.List.{length-map}
 
-is_some-without_parent : (c : ℕ) (o : Option Binding) → is_some (without_parent c o) ≡ is_some o
+pub is_some-without_parent : (c : ℕ) (o : Option Binding) → is_some (without_parent c o) ≡ is_some o
 is_some-without_parent c None = refl
 is_some-without_parent c (Some b) = refl
 

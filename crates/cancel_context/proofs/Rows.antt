@@ -3,9 +3,8 @@ use Rattle.std.proofs.Common.{◌≡◌, ◌≢◌, ◌≤◌, ◌<◌, ◌+◌,
 use Rattle.std.specs.Prelude.{slice_set}
 use Rattle.std.proofs.lemmas.Bool.Decides.{eqb_tells}
 use Rattle.std.proofs.lemmas.List.{get_or-set_same, get_or-set_other, length-set}
-use Rattle.cancel_context.specs.Free.{next_of}
 use Rattle.cancel_context.specs.Order.{IsIn}
-use Rattle.cancel_context.specs.Below.{set_at, IsRow, IsOnce}
+use Rattle.cancel_context.specs.Below.{next_of, set_at, IsRow, IsOnce}
 use Rattle.cancel_context.proofs.Released.{except}
 
 pub set_at-other : (links : List (Option ℕ)) (at to : Option ℕ) (x : ℕ) → (at ≡ Some x → ⊥) → next_of (set_at links at to) x ≡ next_of links x

@@ -7,8 +7,7 @@ use Rattle.std.proofs.lemmas.List.{get_or-set_same, get_or-set_other, length-set
 use Rattle.std.proofs.lemmas.List.Sums.{sum_by-set, count_by-le-length}
 use Rattle.cancel_context.specs.Forest.{Forest, binding, IsHeld, parent, asks_in, chain, is_cancelled, IsForest}
 use Rattle.cancel_context.specs.Order.{IsIn, ParentIn, IsNewestFirst, HasBindingOrder}
-use Rattle.cancel_context.specs.Below.{Links, IsLinked}
-use Rattle.cancel_context.specs.Free.{next_of}
+use Rattle.cancel_context.specs.Below.{next_of, Links, IsLinked}
 use Rattle.cancel_context.specs.Flags.{Flagged, flag, AreFlags, IsRight, differs, visited, Waits, IsSpreading}
 use Rattle.cancel_context.proofs.Chains.{IsHeld-within, IsHeld-parent_in, parents-held, IsForest-ordered}
 use Rattle.cancel_context.proofs.Lists.{is_parent}

@@ -1,7 +1,6 @@
 -- The lists of those bound to each context.
-use Rattle.std.specs.Prelude.{◌≡◌, ◌<◌, ℕ, List, [], ◌∷◌, Option, Some, None, length, slice_set}
+use Rattle.std.specs.Prelude.{◌≡◌, ◌<◌, ℕ, List, [], ◌∷◌, Option, Some, None, length, slice_index_or, slice_set}
 use Rattle.cancel_context.specs.Forest.{Forest, IsHeld, parent}
-use Rattle.cancel_context.specs.Free.{next_of}
 use Rattle.cancel_context.specs.Order.{IsIn}
 
 -- By place: the first of those bound to a context, and what comes after and before a context in the list that it is in.
@@ -9,6 +8,10 @@ pub record Links : Type 0 where
   pub first : List (Option ℕ)
   pub next : List (Option ℕ)
   pub previous : List (Option ℕ)
+
+-- what comes next at a place
+abbrev pub next_of : List (Option ℕ) → ℕ → Option ℕ
+next_of next c = slice_index_or next c None
 
 pub record HasPlace (links : Links) (c : ℕ) : Type 0 where
   pub in_first : c < length links.first

@@ -1,6 +1,5 @@
 pub mod Forest
 pub mod Order
-pub mod Free
 pub mod Below
 pub mod Flags
 pub mod Whole

@@ -1,8 +1,7 @@
 // The lists of those bound to each context.
 ghost use Rattle.std.specs.Prelude.{◌≡◌, ◌≢◌, None, ◌<◌, IfOk, length, replicate};
 ghost use Rattle.std.specs.Option.{ForSome};
-ghost use Rattle.cancel_context.specs.Free.{next_of};
-ghost use Rattle.cancel_context.specs.Below.{HasPlace, set_at, emptied, joined, left};
+ghost use Rattle.cancel_context.specs.Below.{next_of, HasPlace, set_at, emptied, joined, left};
 
 use crate::bindings::ContextId;
 use std::alloc::{AllocError, Global};

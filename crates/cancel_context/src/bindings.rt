@@ -1,5 +1,5 @@
 // What a context is bound to.
-ghost use Rattle.std.specs.Prelude.{◌≡◌};
+ghost use Rattle.std.specs.Prelude.{◌≡◌, ◌<◌, ◌^◌};
 
 use std::marker::Model;
 
@@ -19,6 +19,14 @@ impl Model for ContextId {
 }
 
 impl ContextId {
+    /// The context at a place.
+    pub(crate) fn at(place: usize) -> ContextId
+        requires { place < 2 ^ 16 }
+        ensures { result ≡ place }
+    {
+        ContextId(place as u16)
+    }
+
     /// Its place among the contexts, which is below their number while it is held. Two contexts that are
     /// held at once have different places.
     pub fn index(self) -> usize

@@ -1,13 +1,13 @@
 // A forest of contexts.
 ghost use Rattle.std.specs.Prelude.{◌≡◌, ◌≢◌, ◌+◌, ◌*◌, ◌-◌, ◌^◌, ◌<◌, ◌≤◌, ◌||◌, ℕ, Contains, IsTrue, true, false, not, Some, None, length, map, replicate, vec_capacity, IfOk};
 ghost use Rattle.std.specs.Option.{ForSome, option_map_or};
-ghost use Rattle.cancel_context.specs.Forest.{IsHeld, held_count, binding, parent_in, parent, is_within, is_cancelled, IsForest, with_bound, asking, with_request, without_parent, without};
-ghost use Rattle.cancel_context.specs.Free.{next_of};
+ghost use Rattle.cancel_context.specs.Forest.{IsHeld, held_count, binding, parent, is_within, is_cancelled, IsForest, with_bound, with_request, leaving, without_parent, without};
 ghost use Rattle.cancel_context.specs.Below.{IsLinked};
 
 use crate::below::Below;
 use crate::bindings::{Binding, ContextId};
 use crate::flags::Flags;
+use place_table::PlaceTable;
 use std::alloc::{AllocError, Global};
 use std::marker::Model;
 
@@ -25,10 +25,7 @@ const _: () = prove!(BASE_CONTEXTS == 256 && CONTEXTS_PER_ROW == 5 && MAX_ROWS =
 /// Contexts that are bound to one another. A context is cancelled where it has a cancel request of
 /// its own, or one that it is bound to is cancelled.
 pub struct Contexts {
-    bindings: Vec<Option<Binding>>,
-    /// The free place that comes after each free place.
-    next_free: Vec<Option<ContextId>>,
-    first_free: Option<ContextId>,
+    bindings: PlaceTable<Binding>,
     below: Below,
     flags: Flags,
 }
@@ -38,8 +35,6 @@ impl Drop for Contexts {
     fn drop(self) {
         let Contexts {
             bindings: _bindings,
-            next_free: _next_free,
-            first_free: _first_free,
             below: _below,
             flags: _flags,
         } = self;
@@ -51,11 +46,11 @@ impl Model for Contexts {
 
     ghost Value = { Forest };
 
-    ghost view = { λ c. c.bindings.items };
+    ghost view = { λ c. c.bindings };
 
     ghost use Rattle.cancel_context.specs.Whole.{IsWhole};
 
-    ghost invariant = { λ c. IsWhole c.bindings.items c.next_free.items c.first_free c.below c.flags };
+    ghost invariant = { λ c. IsWhole c.bindings c.below c.flags };
 }
 
 impl Contexts {
@@ -66,13 +61,8 @@ impl Contexts {
         ensures forest { IfOk result IsForest }
     {
         let count = BASE_CONTEXTS + CONTEXTS_PER_ROW * rows;
-        let bindings = vec![in alloc; None; count]?;
-        let mut next_free = vec![in alloc; None; count]?;
-        let first_free = link_all(&mut next_free);
         Ok(Contexts {
-            bindings,
-            next_free,
-            first_free,
+            bindings: PlaceTable::new(alloc, count)?,
             below: Below::new(alloc, count)?,
             flags: Flags::new(alloc, count)?,
         })
@@ -91,19 +81,15 @@ impl Contexts {
         ensures others { (c : ℕ) → c ≢ result → is_cancelled self.new c ≡ is_cancelled self.old c }
         ensures forest { IsForest self.new }
     {
-        let Some(place) = self.first_free else {
-            unreachable!()
-        };
-        self.first_free = self.next_free[place.index()];
         let binding = Binding {
             parent,
             is_asked: false,
             is_orphan: false,
         };
-        self.bindings[place.index()] = Some(binding);
-        self.below.join(place, binding.parent);
-        self.flags.start(place, binding.parent);
-        place
+        let context = ContextId::at(self.bindings.insert(binding));
+        self.below.join(context, binding.parent);
+        self.flags.start(context, binding.parent);
+        context
     }
 
     /// Asks for the cancellation of a context. Answers whether it was not cancelled before, by itself
@@ -140,8 +126,7 @@ impl Contexts {
         ensures noted { (c : ℕ) → is_cancelled self.new c ≡ true → is_cancelled self.old c ≡ false → Contains turned.new.items c }
         ensures capacity { vec_capacity turned.new ≡ vec_capacity turned.old }
     {
-        let slot = &mut self.bindings[context.index()];
-        *slot = asking(*slot, true);
+        request(&mut self.bindings, context, true);
         let first = !self.flags.get(context);
         if first {
             self.flags
@@ -164,10 +149,7 @@ impl Contexts {
     pub fn is_held_and_cancelled(&self, context: ContextId) -> bool
         ensures { result ≡ is_cancelled self.now context }
     {
-        match self.bindings.get(context.index()) {
-            Some(Some(_)) => self.flags.get(context),
-            _ => false,
-        }
+        self.bindings.get(context.index()).is_some() && self.flags.get(context)
     }
 
     /// Takes back the cancel request of a context, and no other: one above it still holds.
@@ -194,12 +176,10 @@ impl Contexts {
         ensures others { (c : ℕ) → c ≢ context → is_cancelled self.new c ≡ is_cancelled self.old c }
         ensures forest { IsForest self.new }
     {
-        let parent = parent_in(self.bindings[context.index()]);
+        let parent = parent_of(&self.bindings, context);
         orphan(&mut self.bindings, &self.below, context);
         self.below.leave(context, parent);
-        self.bindings[context.index()] = None;
-        self.next_free[context.index()] = self.first_free;
-        self.first_free = Some(context);
+        self.bindings.remove(context.index());
     }
 
     /// Makes the request of a context, or takes it back, and turns the flags that follow.
@@ -210,9 +190,8 @@ impl Contexts {
         ensures count { held_count self.new ≡ held_count self.old }
         ensures forest { IsForest self.new }
     {
-        let slot = &mut self.bindings[context.index()];
-        *slot = asking(*slot, is_asked);
-        let is_cancelled = self.flags.follows(self.bindings[context.index()]);
+        request(&mut self.bindings, context, is_asked);
+        let is_cancelled = self.flags.follows(self.bindings.get(context.index()));
         if self.flags.get(context) != is_cancelled {
             self.flags
                 .turn(&self.bindings, &self.below, context, is_cancelled);
@@ -220,62 +199,40 @@ impl Contexts {
     }
 }
 
-/// Puts all places into the list of the free ones, the last place first. Answers the first of the list.
-fn link_all(next_free: &mut [Option<ContextId>]) -> Option<ContextId>
-    requires few { length next_free.old ≤ 2 ^ 16 }
-    requires unlinked { next_of next_free.old 0 ≡ None }
-    ensures size { length next_free.new ≡ length next_free.old }
-    ensures last { (x : ℕ) → result ≡ Some x → x + 1 ≡ length next_free.old }
-    ensures first { 0 < length next_free.old → result ≡ Some (length next_free.old - 1) }
-    ensures end { next_of next_free.new 0 ≡ None }
-    ensures linked { (c : ℕ) → c + 1 < length next_free.old → next_of next_free.new (c + 1) ≡ Some c }
+/// Makes the request of a context, or takes it back.
+fn request(bindings: &mut PlaceTable<Binding>, context: ContextId, is_asked: bool)
+    requires { IsHeld bindings.old context }
+    ensures { bindings.new ≡ with_request bindings.old context is_asked }
 {
-    let mut previous = None;
-    for place in 0..next_free.len() {
-        next_free[place] = previous;
-        previous = Some(ContextId(place as u16));
-    }
-    previous
-}
-
-/// A binding with its request made or taken back.
-fn asking(slot: Option<Binding>, is_asked: bool) -> Option<Binding>
-    ensures { result ≡ asking is_asked slot }
-{
-    let mut binding = slot?;
-    binding.is_asked = is_asked;
-    Some(binding)
+    bindings.at_mut(context.index()).is_asked = is_asked;
 }
 
 /// Makes those that are bound to a context orphans.
-fn orphan(bindings: &mut [Option<Binding>], below: &Below, parent: ContextId)
+fn orphan(bindings: &mut PlaceTable<Binding>, below: &Below, parent: ContextId)
     requires linked { IsLinked bindings.old below.now }
     requires held { IsHeld bindings.old parent }
     ensures { bindings.new ≡ map (without_parent parent) bindings.old }
 {
     let mut following = below.first(parent);
     while let Some(context) = following {
-        let slot = &mut bindings[context.index()];
-        *slot = without_parent(*slot, parent);
+        leave(bindings.at_mut(context.index()), parent);
         following = below.next(context);
     }
 }
 
 /// What a context is bound to.
-fn parent_in(slot: Option<Binding>) -> Option<ContextId>
-    ensures { result ≡ parent_in slot }
+fn parent_of(bindings: &PlaceTable<Binding>, context: ContextId) -> Option<ContextId>
+    ensures { result ≡ parent bindings.now context }
 {
-    slot?.parent
+    bindings.get(context.index())?.parent
 }
 
-/// A binding without a parent that is released.
-fn without_parent(slot: Option<Binding>, parent: ContextId) -> Option<Binding>
-    ensures { result ≡ without_parent parent slot }
+/// Leaves a binding without a parent that is released.
+fn leave(binding: &mut Binding, parent: ContextId)
+    ensures { binding.new ≡ leaving parent binding.old binding.old.parent }
 {
-    let mut binding = slot?;
     if binding.parent == Some(parent) {
         binding.parent = None;
         binding.is_orphan = true;
     }
-    Some(binding)
 }

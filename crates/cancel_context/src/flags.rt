@@ -1,6 +1,6 @@
 // A flag for each context: whether it is cancelled.
 ghost use Rattle.std.specs.Prelude.{◌≡◌, ◌⊎◌, ℕ, true, false, ◌+◌, ◌<◌, ◌≤◌, ◌||◌, IfOk, [], ◌∷◌, ◌++◌, Contains, length, replicate, slice_set, count_by, vec_capacity};
-ghost use Rattle.std.specs.Option.{ForSome, option_map_or};
+ghost use Rattle.std.specs.Option.{ForSome, option_copied, option_map_or};
 ghost use Rattle.cancel_context.specs.Forest.{IsHeld, parent_in, asks_in};
 ghost use Rattle.cancel_context.specs.Order.{HasBindingOrder, IsIn};
 ghost use Rattle.cancel_context.specs.Below.{IsLinked};
@@ -8,6 +8,7 @@ ghost use Rattle.cancel_context.specs.Flags.{flag, AreFlags, differs, visited, I
 
 use crate::below::Below;
 use crate::bindings::{Binding, ContextId};
+use place_table::PlaceTable;
 use std::alloc::{AllocError, Global};
 use std::marker::Model;
 
@@ -70,9 +71,9 @@ impl Flags {
     }
 
     /// Whether a context that is held so is cancelled, by its own or from above.
-    pub(crate) fn follows(&self, slot: Option<Binding>) -> bool
-        requires { ForSome (parent_in slot) (λ p. p < length self.now.flags) }
-        ensures { result ≡ (asks_in slot || option_map_or (flag self.now.flags) (parent_in slot) false) }
+    pub(crate) fn follows(&self, slot: Option<&Binding>) -> bool
+        requires { ForSome (parent_in (option_copied slot)) (λ p. p < length self.now.flags) }
+        ensures { result ≡ (asks_in (option_copied slot.entry) || option_map_or (flag self.now.flags) (parent_in (option_copied slot.entry)) false) }
     {
         match slot {
             Some(binding) => asks(slot) || self.above(binding.parent),
@@ -92,7 +93,7 @@ impl Flags {
     /// Turns the flag of a context, and then those of the contexts below it that follow.
     pub(crate) fn turn(
         &mut self,
-        bindings: &[Option<Binding>],
+        bindings: &PlaceTable<Binding>,
         below: &Below,
         context: ContextId,
         is_cancelled: bool,
@@ -117,7 +118,7 @@ impl Flags {
     /// follow, and notes each of these contexts.
     pub(crate) fn turn_noted(
         &mut self,
-        bindings: &[Option<Binding>],
+        bindings: &PlaceTable<Binding>,
         below: &Below,
         context: ContextId,
         turned: &mut Vec<ContextId>,
@@ -146,7 +147,7 @@ impl Flags {
     /// Turns the flags of those bound to a context, where they follow its flag.
     fn spread(
         &mut self,
-        bindings: &[Option<Binding>],
+        bindings: &PlaceTable<Binding>,
         below: &Below,
         parent: ContextId,
         is_cancelled: bool,
@@ -166,14 +167,14 @@ impl Flags {
     }
 
     /// Turns the flag of a context, unless it has the value already or is cancelled by its own.
-    fn visit(&mut self, bindings: &[Option<Binding>], context: ContextId, is_cancelled: bool)
+    fn visit(&mut self, bindings: &PlaceTable<Binding>, context: ContextId, is_cancelled: bool)
         requires place { context < length self.old.flags }
         requires size { length self.old.flags ≡ length bindings.now }
         requires room { length self.old.reached + count_by (differs is_cancelled) self.old.flags ≤ length self.old.flags }
         ensures { self.new ≡ visited bindings.now self.old context is_cancelled }
     {
         let place = context.index();
-        if self.is_cancelled[place] == is_cancelled || asks(bindings[place]) {
+        if self.is_cancelled[place] == is_cancelled || asks(bindings.get(place)) {
             return;
         }
         self.is_cancelled[place] = is_cancelled;
@@ -183,8 +184,8 @@ impl Flags {
 }
 
 /// Whether a context is cancelled by its own: it has a request, or is an orphan.
-pub(crate) fn asks(slot: Option<Binding>) -> bool
-    ensures { result ≡ asks_in slot }
+pub(crate) fn asks(slot: Option<&Binding>) -> bool
+    ensures { result ≡ asks_in (option_copied slot.entry) }
 {
     match slot {
         Some(binding) => binding.is_asked || binding.is_orphan,

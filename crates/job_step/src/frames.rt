@@ -15,9 +15,10 @@ const _: () = prove!(LAST_PLACE as usize + 1 == MAX_INSTRS);
 /// the registers.
 #[derive(Clone, Copy, Debug, PartialEq, Eq)]
 pub struct Frame {
+    // First, so that a copy of a frame has no gap before the registers.
+    pub registers: [i64; REGISTERS],
     pub procedure: u8,
     pub place: u8,
-    pub registers: [i64; REGISTERS],
 }
 
 impl Frame {

@@ -45,6 +45,7 @@ pub(crate) enum Next {
 
 /// The private run of a frame on a slot, in an arena of `width` slots. A frame that names no
 /// instruction of the program has the run of no instruction that ends in a yield.
+#[inline(always)]
 pub fn run_private(program: &Program, start: Frame, slot: u8, width: u8) -> Run
     ensures run { result ≡ run_of program.now slot width start }
     // Only a `ret` or a `jmp` ends a procedure, so another shared instruction has one after it.
@@ -64,6 +65,7 @@ pub fn run_private(program: &Program, start: Frame, slot: u8, width: u8) -> Run
 
 impl Run {
     /// The run of no instruction.
+    #[inline(always)]
     fn none(start: Frame) -> Run
         ensures { result ≡ record { start = start; end = start; count = 0; stop = Stop.Yield } }
     {
@@ -76,6 +78,7 @@ impl Run {
     }
 
     /// The run that left a frame at a place of its procedure, with these registers.
+    #[inline(always)]
     fn ended(start: Frame, place: u8, registers: [i64; REGISTERS], count: u32, stop: Stop) -> Run
         ensures { result ≡ record { start = start; end = frame_of start.procedure place registers; count = count; stop = stop } }
     {
@@ -93,6 +96,7 @@ impl Run {
     }
 }
 
+#[inline(always)]
 fn run_in(instrs: &[Instr], start: Frame, slot: u8, width: u8) -> Run
     requires valid { IsValidProc instrs.now }
     requires place { start.place < length instrs.now }

@@ -1,0 +1,5 @@
+mod Chains
+mod Held
+mod Pushed
+mod Written
+mod Walks

@@ -6,11 +6,11 @@ use Rattle.std.proofs.lemmas.Nat.{div-mul-add, mod-mul-add}
 use Rattle.job_language.specs.declared.tenants.Isolation.TheVariants.{Exact}
 use Rattle.place_lists.specs.Lists.{list_in, last_from, last_of, first_of as first_place}
 use Rattle.region_tag.specs.declared.row_id.RowId.{RowId}
-use Rattle.region_tag.specs.Region.{Table, is_same, same_region}
+use Rattle.region_tag.specs.Region.{Table, same_region}
 use Rattle.ready_pool.specs.declared.pool.Waiting.{Waiting}
 use Rattle.ready_pool.specs.Ready.{Ready, first_of, last_or, is_made_on, is_allowed, pick}
-use Rattle.ready_pool.specs.Parts.{PoolParts, HoldsRows, Waits, row_at, place_of, number_of, places_of, region_key, both_key}
-use Rattle.ready_pool.proofs.Rows.{tells, filter-every, filter-as, filter-none, filter-filter, Waits-filter, Waits-kept, row-same}
+use Rattle.ready_pool.specs.Parts.{PoolParts, HoldsRows, Waits, row_at, place_of, number_of, positions_of, region_key, both_key}
+use Rattle.ready_pool.proofs.Rows.{tells, filter-every, filter-as, filter-none, filter-filter, Waits-filter, Waits-kept, same-row}
 use Rattle.ready_pool.proofs.Keyed.{named-itself, named-is, listed-below}
 use Rattle.ready_pool.proofs.Holding.{eqb-same, and-false}
 
@@ -29,43 +29,27 @@ last-or : (ys : List ℕ) (x : ℕ) → last_from (Some x) ys ≡ Some (unwrap_o
 last-or [] x = refl
 last-or (y ∷ ys) x = last-unwrapped y ys x
 
-module _ (table : List (Option Waiting)) where
-  last-held : (back : ℕ) (row : RowId) (ws : List Waiting) → id_at table back ≡ Some row → ((w : Waiting) → Waits ws w → row_at table w.row.place ≡ Some w) → (place : ℕ) → last_from (Some back) (places_of ws) ≡ Some place → id_at table place ≡ last_or (Some row) ws
+module _ (seat : Waiting → ℕ) (table : List (Option Waiting)) where
+  last-held : (back : ℕ) (row : RowId) (ws : List Waiting) → id_at table back ≡ Some row → ((w : Waiting) → Waits ws w → row_at table (seat w) ≡ Some w) → (place : ℕ) → last_from (Some back) (positions_of seat ws) ≡ Some place → id_at table place ≡ last_or (Some row) ws
   last-held back row [] at there place e = let same : back ≡ place = cc in subst (λ p. id_at table p ≡ Some row) same at
-  last-held back row (w ∷ ws) at there place e = last-held w.row.place w.row ws (ap (option_map (λ (v : Waiting). v.row)) (there w (inl refl))) (λ v i. there v (inr i)) place e
+  last-held back row (w ∷ ws) at there place e = last-held (seat w) w.row ws (ap (option_map (λ (v : Waiting). v.row)) (there w (inl refl))) (λ v i. there v (inr i)) place e
 
-  newest-some : (ws : List Waiting) → ((w : Waiting) → Waits ws w → row_at table w.row.place ≡ Some w) → (place : ℕ) → last_of (places_of ws) ≡ Some place → id_at table place ≡ last_or None ws
+  newest-some : (ws : List Waiting) → ((w : Waiting) → Waits ws w → row_at table (seat w) ≡ Some w) → (place : ℕ) → last_of (positions_of seat ws) ≡ Some place → id_at table place ≡ last_or None ws
   newest-some [] there place e = cc
-  newest-some (w ∷ ws) there place e = last-held w.row.place w.row ws (ap (option_map (λ (v : Waiting). v.row)) (there w (inl refl))) (λ v i. there v (inr i)) place e
+  newest-some (w ∷ ws) there place e = last-held (seat w) w.row ws (ap (option_map (λ (v : Waiting). v.row)) (there w (inl refl))) (λ v i. there v (inr i)) place e
 
-newest-none : (ws : List Waiting) → last_of (places_of ws) ≡ None → last_or None ws ≡ None
-newest-none [] e = refl
-newest-none (w ∷ ws) e = absurd (last-some w.row.place (places_of ws) e)
+module _ (seat : Waiting → ℕ) where
+  newest-none : (ws : List Waiting) → last_of (positions_of seat ws) ≡ None → last_or None ws ≡ None
+  newest-none [] e = refl
+  newest-none (w ∷ ws) e = absurd (last-some (seat w) (positions_of seat ws) e)
 
-first-none : (ws : List Waiting) → first_place (places_of ws) ≡ None → ws ≡ []
-first-none [] e = refl
-first-none (w ∷ ws) e = cc
+  first-none : (ws : List Waiting) → first_place (positions_of seat ws) ≡ None → ws ≡ []
+  first-none [] e = refl
+  first-none (w ∷ ws) e = cc
 
-first-some : (ws : List Waiting) (place : ℕ) → first_place (places_of ws) ≡ Some place → (w : Waiting) × (Waits ws w × ((w.row.place ≡ place) × (first_of ws ≡ Some w.row)))
-first-some [] place e = cc
-first-some (w ∷ ws) place e = (w, (inl refl, (cc, refl)))
-
-and-first : (a b : Bool) → (a && b) ≡ true → a ≡ true
-and-first true b e = refl
-and-first false b e = e
-
-and-second : (a b : Bool) → (a && b) ≡ true → b ≡ true
-and-second true b e = e
-and-second false b e = cc
-
-is-eqb : (n m : ℕ) → (n == m) ≡ true → n ≡ m
-is-eqb n m e = elim (eqb_tells n m) [ inl h ↦ h.1 | inr h ↦ let wrong : true ≡ false = sym e ∙ h.0 in cc ]
-
-same-row : (r s : RowId) → is_same r s ≡ true → r ≡ s
-same-row r s e =
-    let number : r.number ≡ s.number = is-eqb r.number s.number (and-first (r.number == s.number) (r.place == s.place) e) in
-    let place : r.place ≡ s.place = is-eqb r.place s.place (and-second (r.number == s.number) (r.place == s.place) e) in
-    row-same r s number place
+  first-some : (ws : List Waiting) (place : ℕ) → first_place (positions_of seat ws) ≡ Some place → (w : Waiting) × (Waits ws w × ((seat w ≡ place) × (first_of ws ≡ Some w.row)))
+  first-some [] place e = cc
+  first-some (w ∷ ws) place e = (w, (inl refl, (cc, refl)))
 
 pub not-true : (b : Bool) → true ≡ not b → b ≡ false
 not-true true e = let wrong : true ≡ false = e in cc
@@ -130,7 +114,7 @@ pub exact-is : (pool : Ready) (table : Table) (slot : ℕ) (r : RowId) → pool.
 exact-is pool table slot r e = ap (λ mode. chosen slot (filter (λ (w : Waiting). is_allowed mode table (Some r) w.region) pool.rows)) e
 
 module _ (limit : ℕ) (held : PoolParts) (rows : List Waiting) (k : HoldsRows limit held rows) where
-  there-of : (f : Waiting → Bool) (w : Waiting) → Waits (filter f rows) w → row_at held.table w.row.place ≡ Some w
+  there-of : (f : Waiting → Bool) (w : Waiting) → Waits (filter f rows) w → row_at held.nodes.slots (k.seat w) ≡ Some w
   there-of f w i = k.there w (Waits-filter f rows w i).0
 
   module _ (slot : ℕ) where
@@ -138,10 +122,10 @@ module _ (limit : ℕ) (held : PoolParts) (rows : List Waiting) (k : HoldsRows l
     made w = is_made_on slot w.made_on
 
     pub newest-slot-none : None ≡ last_of (list_in held.by_slot slot) → None ≡ last_or None (filter made rows)
-    newest-slot-none e = sym (newest-none (filter made rows) (sym (e ∙ ap last_of (k.slots_listed.listed slot))))
+    newest-slot-none e = sym (newest-none k.seat (filter made rows) (sym (e ∙ ap last_of (k.slots_listed.listed slot))))
 
-    pub newest-slot : (place : ℕ) → Some place ≡ last_of (list_in held.by_slot slot) → id_at held.table place ≡ last_or None (filter made rows)
-    newest-slot place e = newest-some held.table (filter made rows) (there-of made) place (sym (e ∙ ap last_of (k.slots_listed.listed slot)))
+    pub newest-slot : (place : ℕ) → Some place ≡ last_of (list_in held.by_slot slot) → id_at held.nodes.slots place ≡ last_or None (filter made rows)
+    newest-slot place e = newest-some k.seat held.nodes.slots (filter made rows) (there-of made) place (sym (e ∙ ap last_of (k.slots_listed.listed slot)))
 
     module _ (r : RowId) where
       abbrev in_place : Waiting → Bool
@@ -157,26 +141,26 @@ module _ (limit : ℕ) (held : PoolParts) (rows : List Waiting) (k : HoldsRows l
 
       pub exact-none : None ≡ first_place (list_in held.by_region r.place) → None ≡ chosen slot (of_region r rows)
       exact-none e =
-          let none : filter in_place rows ≡ [] = first-none (filter in_place rows) (sym (e ∙ ap first_place (k.regions_listed.listed r.place))) in
+          let none : filter in_place rows ≡ [] = first-none k.seat (filter in_place rows) (sym (e ∙ ap first_place (k.regions_listed.listed r.place))) in
           region-none (λ v i f. subst (λ l. Waits l v) none (Waits-kept in_place rows v i (in_place-of v f)))
 
       module _ (first : ℕ) (at : Some first ≡ first_place (list_in held.by_region r.place)) where
-        oldest-of : (w : Waiting) × (Waits (filter in_place rows) w × ((w.row.place ≡ first) × (first_of (filter in_place rows) ≡ Some w.row)))
-        oldest-of = first-some (filter in_place rows) first (sym (at ∙ ap first_place (k.regions_listed.listed r.place)))
+        oldest-of : (w : Waiting) × (Waits (filter in_place rows) w × ((k.seat w ≡ first) × (first_of (filter in_place rows) ≡ Some w.row)))
+        oldest-of = first-some k.seat (filter in_place rows) first (sym (at ∙ ap first_place (k.regions_listed.listed r.place)))
 
-        there-first : row_at held.table first ≡ Some oldest-of.0
-        there-first = ap (row_at held.table) (sym oldest-of.1.1.0) ∙ there-of in_place oldest-of.0 oldest-of.1.0
+        there-first : row_at held.nodes.slots first ≡ Some oldest-of.0
+        there-first = ap (row_at held.nodes.slots) (sym oldest-of.1.1.0) ∙ there-of in_place oldest-of.0 oldest-of.1.0
 
-        pub first-there : row_at held.table first ≡ None → ⊥
+        pub first-there : row_at held.nodes.slots first ≡ None → ⊥
         first-there e = let wrong : None ≡ Some oldest-of.0 = sym e ∙ there-first in cc
 
         -- The region of this place is below the limit.
         pub region-limited : r.place < limit
         region-limited =
             let waits = Waits-filter in_place rows oldest-of.0 oldest-of.1.0 in
-            listed-below region_key limit limit held.by_region rows k.regions_listed oldest-of.0 waits.0 r.place (named-is r.place (region_key oldest-of.0) waits.1)
+            listed-below k.seat region_key limit held.nodes.capacity held.by_region rows k.regions_listed oldest-of.0 waits.0 r.place (named-is r.place (region_key oldest-of.0) waits.1)
 
-        module _ (oldest : Waiting) (is : row_at held.table first ≡ Some oldest) where
+        module _ (oldest : Waiting) (is : row_at held.nodes.slots first ≡ Some oldest) where
           same : oldest-of.0 ≡ oldest
           same = let both : Some oldest-of.0 ≡ Some oldest = sym there-first ∙ is in cc
 
@@ -196,7 +180,7 @@ module _ (limit : ℕ) (held : PoolParts) (rows : List Waiting) (k : HoldsRows l
               let wrong : true ≡ false = sym (same-itself r) ∙ sym (ap (λ o. same_region o (Some r)) here) ∙ ne in
               cc)
 
-          pub exact-chosen : same_region oldest.region (Some r) ≡ true → slot < held.slots → (place : ℕ) → place ≡ unwrap_or (last_of (list_in held.by_both (r.place * held.slots + slot))) first → id_at held.table place ≡ chosen slot (of_region r rows)
+          pub exact-chosen : same_region oldest.region (Some r) ≡ true → slot < held.slots → (place : ℕ) → place ≡ unwrap_or (last_of (list_in held.by_both (r.place * held.slots + slot))) first → id_at held.nodes.slots place ≡ chosen slot (of_region r rows)
           exact-chosen eq below place e =
               let here : oldest.region ≡ Some r = same-back oldest.region r eq in
               let number : ℕ = r.place * held.slots + slot in
@@ -211,7 +195,7 @@ module _ (limit : ℕ) (held : PoolParts) (rows : List Waiting) (k : HoldsRows l
                   | inr g ↦ g ∙ sym h
                 ]
               ]) in
-              let newest : filter made (filter in_place rows) ≡ ws = filter-filter made in_place rows ∙ filter-as in_both both rows (λ v i. numbered held.slots slot r.place v.made_on (region_key v) below (λ s f. listed-below (λ (w : Waiting). w.made_on) held.slots limit held.by_slot rows k.slots_listed v i s f)) in
+              let newest : filter made (filter in_place rows) ≡ ws = filter-filter made in_place rows ∙ filter-as in_both both rows (λ v i. numbered held.slots slot r.place v.made_on (region_key v) below (λ s f. listed-below k.seat (λ (w : Waiting). w.made_on) held.slots held.nodes.capacity held.by_slot rows k.slots_listed v i s f)) in
               let all : chosen slot (of_region r rows) ≡ last_or (Some oldest.row) ws = ap (chosen slot) regions ∙ ap (λ o. last_or o (filter made (filter in_place rows))) (oldest-of.1.1.1 ∙ ap (λ (w : Waiting). Some w.row) same) ∙ ap (last_or (Some oldest.row)) newest in
-              let last : last_from (Some first) (places_of ws) ≡ Some place = ap (last_from (Some first)) (sym (k.both_listed.listed number)) ∙ last-or (list_in held.by_both number) first ∙ ap Some (sym e) in
-              last-held held.table first oldest.row ws (ap (option_map (λ (v : Waiting). v.row)) is) (there-of both) place last ∙ sym all
+              let last : last_from (Some first) (positions_of k.seat ws) ≡ Some place = ap (last_from (Some first)) (sym (k.both_listed.listed number)) ∙ last-or (list_in held.by_both number) first ∙ ap Some (sym e) in
+              last-held k.seat held.nodes.slots first oldest.row ws (ap (option_map (λ (v : Waiting). v.row)) is) (there-of both) place last ∙ sym all

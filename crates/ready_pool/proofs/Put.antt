@@ -1,11 +1,12 @@
 -- A row that comes into a pool.
-use Rattle.std.proofs.Common.{◌≡◌, ◌≢◌, ◌<◌, ◌≤◌, ◌+◌, ◌*◌, ℕ, suc, true, false, if◌then◌else◌, List, [], ◌∷◌, ◌++◌, length, Option, Some, None, refl, sym, ◌∙◌, ap, subst, inl, inr, arith}
+use Rattle.std.proofs.Common.{◌≡◌, ◌<◌, ◌≤◌, ◌+◌, ◌*◌, ℕ, suc, true, false, if◌then◌else◌, List, [], ◌∷◌, ◌++◌, length, Option, Some, None, refl, sym, ◌∙◌, ap, subst, inl, inr, arith}
 use Rattle.std.specs.Prelude.{All, slice_index_or, is_some}
 use Rattle.std.specs.Option.{option_and_then}
 use Rattle.std.proofs.lemmas.Bool.Decides.{eqb_tells, leb_tells}
 use Rattle.std.proofs.lemmas.List.{get_or_past}
 use Rattle.std.proofs.Math.Nat.{mul-le-mul_right, suc-mul}
 use Rattle.place_lists.specs.Lists.{list_in, IsIn}
+use Rattle.slab.specs.Slab.{get as value_at}
 use Rattle.region_tag.specs.declared.row_id.RowId.{RowId}
 use Rattle.region_tag.specs.declared.regions.Tagged.{Tagged}
 use Rattle.region_tag.specs.Region.{Table, get, of_row}
@@ -88,23 +89,23 @@ number-below slots limit (Some a) (Some b) s p n e =
     let most : suc b * slots ≤ limit * slots = mul-le-mul_right slots high in
     omega (arith, most, low, same, suc-mul b slots)
 
-module _ (held : PoolParts) (k : HoldsRows (length held.table) held (rows_of held.table held.all)) where
-  module _ (place : ℕ) (free : All (λ (v : Waiting). v.row.place ≢ place) (rows_of held.table held.all)) where
-    out : (v : Waiting) → Waits (rows_of held.table held.all) v → v.row.place ≡ place → ⊥
-    out v i = Waits-of_All (λ (u : Waiting). u.row.place ≢ place) (rows_of held.table held.all) free v i
+module _ (held : PoolParts) (k : HoldsRows (length held.positions) held (rows_of held.nodes.slots held.all)) where
+  module _ (position : ℕ) (vacant : value_at held.nodes position ≡ None) where
+    out : (v : Waiting) → Waits (rows_of held.nodes.slots held.all) v → k.seat v ≡ position → ⊥
+    out v i e = let wrong : Some v ≡ None = sym (k.there v i) ∙ ap (value_at held.nodes) e ∙ vacant in cc
 
-    pub free-all : (l : ℕ) → IsIn (list_in held.all l) place → ⊥
-    free-all = listed-free all_key 1 (length held.table) held.all (rows_of held.table held.all) k.all_listed place out
+    pub free-all : (l : ℕ) → IsIn (list_in held.all l) position → ⊥
+    free-all = listed-free k.seat all_key 1 held.nodes.capacity held.all (rows_of held.nodes.slots held.all) k.all_listed position out
 
-    pub free-slot : (l : ℕ) → IsIn (list_in held.by_slot l) place → ⊥
-    free-slot = listed-free slot_key held.slots (length held.table) held.by_slot (rows_of held.table held.all) k.slots_listed place out
+    pub free-slot : (l : ℕ) → IsIn (list_in held.by_slot l) position → ⊥
+    free-slot = listed-free k.seat slot_key held.slots held.nodes.capacity held.by_slot (rows_of held.nodes.slots held.all) k.slots_listed position out
 
-    pub free-region : (l : ℕ) → IsIn (list_in held.by_region l) place → ⊥
-    free-region = listed-free region_key (length held.table) (length held.table) held.by_region (rows_of held.table held.all) k.regions_listed place out
+    pub free-region : (l : ℕ) → IsIn (list_in held.by_region l) position → ⊥
+    free-region = listed-free k.seat region_key (length held.positions) held.nodes.capacity held.by_region (rows_of held.nodes.slots held.all) k.regions_listed position out
 
-    pub free-both : (l : ℕ) → IsIn (list_in held.by_both l) place → ⊥
-    free-both = listed-free (both_key held.slots) (length held.table * held.slots) (length held.table) held.by_both (rows_of held.table held.all) k.both_listed place out
+    pub free-both : (l : ℕ) → IsIn (list_in held.by_both l) position → ⊥
+    free-both = listed-free k.seat (both_key held.slots) (length held.positions * held.slots) held.nodes.capacity held.by_both (rows_of held.nodes.slots held.all) k.both_listed position out
 
 -- What a pool sees of what is held after its type's invariant is shown for some rows.
-pub seen-held : (limit : ℕ) (held : PoolParts) (rows : List Waiting) → HoldsRows limit held rows → HoldsRows (length held.table) held (rows_of held.table held.all)
-seen-held limit held rows k = subst (λ l. HoldsRows l held (rows_of held.table held.all)) (sym k.size) (subst (λ ws. HoldsRows limit held ws) (sym (rows_of-is limit held rows k)) k)
+pub seen-held : (limit : ℕ) (held : PoolParts) (rows : List Waiting) → HoldsRows limit held rows → HoldsRows (length held.positions) held (rows_of held.nodes.slots held.all)
+seen-held limit held rows k = subst (λ l. HoldsRows l held (rows_of held.nodes.slots held.all)) (sym k.size) (subst (λ ws. HoldsRows limit held ws) (sym (rows_of-is limit held rows k)) k)

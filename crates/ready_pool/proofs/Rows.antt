@@ -1,10 +1,12 @@
 -- The rows that wait, and filters of them.
-use Rattle.std.proofs.Common.{◌≡◌, ◌⊎◌, ◌&&◌, Bool, true, false, ℕ, suc, if◌then◌else◌, List, [], ◌∷◌, ◌++◌, refl, sym, ◌∙◌, ap, subst, inl, inr, filter, arith}
+use Rattle.std.proofs.Common.{◌≡◌, ◌⊎◌, ◌==◌, ◌&&◌, Bool, true, false, ℕ, suc, if◌then◌else◌, List, [], ◌∷◌, ◌++◌, refl, sym, ◌∙◌, ap, subst, inl, inr, filter, arith}
 use Rattle.std.specs.Prelude.{All}
+use Rattle.std.proofs.lemmas.Bool.Decides.{eqb_tells}
 use Rattle.region_tag.specs.declared.row_id.RowId.{RowId}
+use Rattle.region_tag.specs.Region.{is_same}
 use Rattle.place_lists.specs.Lists.{IsIn}
 use Rattle.ready_pool.specs.declared.pool.Waiting.{Waiting}
-use Rattle.ready_pool.specs.Parts.{Waits, places_of}
+use Rattle.ready_pool.specs.Parts.{Waits, positions_of}
 
 pub tells : (b : Bool) → (b ≡ true) ⊎ (b ≡ false)
 tells true = inl refl
@@ -88,18 +90,36 @@ module _ (f : Waiting → Bool) where
         | inr h ↦ ap (filter f) (filter-no g x xs h) ∙ rest ∙ sym (filter-no (λ w. g w && f w) x xs (ap (λ b. b && f x) h))
       ]
 
-pub IsIn-place : (rows : List Waiting) (place : ℕ) → IsIn (places_of rows) place → (w : Waiting) × (Waits rows w × (w.row.place ≡ place))
-IsIn-place [] place i = absurd i
-IsIn-place (x ∷ xs) place (inl e) = (x, (inl refl, e))
-IsIn-place (x ∷ xs) place (inr i) = let there = IsIn-place xs place i in (there.0, (inr there.1.0, there.1.1))
+module _ (seat : Waiting → ℕ) where
+  pub IsIn-position : (rows : List Waiting) (p : ℕ) → IsIn (positions_of seat rows) p → (w : Waiting) × (Waits rows w × (seat w ≡ p))
+  IsIn-position [] p i = absurd i
+  IsIn-position (x ∷ xs) p (inl e) = (x, (inl refl, e))
+  IsIn-position (x ∷ xs) p (inr i) = let there = IsIn-position xs p i in (there.0, (inr there.1.0, there.1.1))
 
-pub place-IsIn : (rows : List Waiting) (w : Waiting) → Waits rows w → IsIn (places_of rows) w.row.place
-place-IsIn [] w i = absurd i
-place-IsIn (x ∷ xs) w (inl e) = inl (ap (λ (v : Waiting). v.row.place) e)
-place-IsIn (x ∷ xs) w (inr i) = inr (place-IsIn xs w i)
+  pub position-IsIn : (rows : List Waiting) (w : Waiting) → Waits rows w → IsIn (positions_of seat rows) (seat w)
+  position-IsIn [] w i = absurd i
+  position-IsIn (x ∷ xs) w (inl e) = inl (ap seat e)
+  position-IsIn (x ∷ xs) w (inr i) = inr (position-IsIn xs w i)
 
 abbrev row_id : (number place : ℕ) → RowId
 row_id number place = record { number = number; place = place }
 
 pub row-same : (r s : RowId) → r.number ≡ s.number → r.place ≡ s.place → r ≡ s
 row-same r s number place = ap (λ n. row_id n r.place) number ∙ ap (row_id s.number) place
+
+and-first : (a b : Bool) → (a && b) ≡ true → a ≡ true
+and-first true b e = refl
+and-first false b e = e
+
+and-second : (a b : Bool) → (a && b) ≡ true → b ≡ true
+and-second true b e = e
+and-second false b e = cc
+
+is-eqb : (n m : ℕ) → (n == m) ≡ true → n ≡ m
+is-eqb n m e = elim (eqb_tells n m) [ inl h ↦ h.1 | inr h ↦ let wrong : true ≡ false = sym e ∙ h.0 in cc ]
+
+pub same-row : (r s : RowId) → is_same r s ≡ true → r ≡ s
+same-row r s e =
+    let number : r.number ≡ s.number = is-eqb r.number s.number (and-first (r.number == s.number) (r.place == s.place) e) in
+    let place : r.place ≡ s.place = is-eqb r.place s.place (and-second (r.number == s.number) (r.place == s.place) e) in
+    row-same r s number place

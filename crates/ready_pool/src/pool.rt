@@ -1,6 +1,6 @@
 // The pool of the rows that wait.
 ghost use Rattle.std.specs.Prelude.{◌≡◌, ◌≢◌, ◌<◌, ◌≤◌, ◌==◌, All, Any, IfOk, IfSome, Some, None, filter, length};
-ghost use Rattle.std.specs.Option.{ForSome, option_map};
+ghost use Rattle.std.specs.Option.{ForSome, option_copied, option_map, option_or};
 ghost use Rattle.ready_pool.specs.Ready.{AreRising, empty, with_row, is_waiting, without, IsRegionEntered, is_made_on, first_of, last_or, pick};
 ghost use Rattle.ready_pool.specs.Parts.{find, number_of, place_of, row_at};
 ghost use Rattle.region_tag.specs.Region.{Table};
@@ -9,6 +9,7 @@ use crate::families::{join, leave};
 use job_language::{Isolation, MAX_ROWS, MAX_SLOTS};
 use place_lists::Lists;
 use region_tag::{Regions, RowId};
+use slab::Slab;
 use std::alloc::{AllocError, Global};
 use std::marker::Model;
 
@@ -27,10 +28,12 @@ pub struct Waiting {
 pub struct Pool {
     isolation: Isolation,
     slots: usize,
-    // By place.
-    rows: Vec<Option<Waiting>>,
-    // Places in order of making: of all rows, by the slot on which a row was made, by the place of its
-    // region, and by both.
+    // The rows, each at a position.
+    rows: Slab<Waiting>,
+    // By place, the position of the row that waits there. Where none waits it says nothing.
+    positions: Vec<usize>,
+    // Positions in order of making: of all rows, by the slot on which a row was made, by the place of
+    // its region, and by both.
     all: Lists,
     by_slot: Lists,
     by_region: Lists,
@@ -44,6 +47,7 @@ impl Drop for Pool {
             isolation: _isolation,
             slots: _slots,
             rows: _rows,
+            positions: _positions,
             all: _all,
             by_slot: _by_slot,
             by_region: _by_region,
@@ -59,11 +63,11 @@ impl Model for Pool {
 
     ghost Value = { Ready };
 
-    ghost view = { λ p. record { isolation = p.isolation; limit = length p.rows.items; slots = p.slots; rows = rows_of p.rows.items p.all } };
+    ghost view = { λ p. record { isolation = p.isolation; limit = length p.positions.items; slots = p.slots; rows = rows_of p.rows.slots p.all } };
 
-    ghost invariant = { λ p. HoldsRows (length p.rows.items)
-        (record { slots = p.slots; table = p.rows.items; all = p.all; by_slot = p.by_slot; by_region = p.by_region; by_both = p.by_both })
-        (rows_of p.rows.items p.all) };
+    ghost invariant = { λ p. HoldsRows (length p.positions.items)
+        (record { slots = p.slots; nodes = p.rows; positions = p.positions.items; all = p.all; by_slot = p.by_slot; by_region = p.by_region; by_both = p.by_both })
+        (rows_of p.rows.slots p.all) };
 }
 
 impl Pool {
@@ -78,14 +82,22 @@ impl Pool {
         requires slots { slots ≤ MAX_SLOTS }
         ensures { IfOk result (λ pool. pool ≡ empty isolation rows slots) }
     {
+        let held = Slab::with_capacity(alloc, rows)?;
+        let room = held.capacity();
+        let positions = vec![in alloc; 0; rows]?;
+        let all = Lists::new(alloc, 1, room)?;
+        let by_slot = Lists::new(alloc, slots, room)?;
+        let by_region = Lists::new(alloc, rows, room)?;
+        let by_both = Lists::new(alloc, rows * slots, room)?;
         Ok(Pool {
             isolation,
             slots,
-            rows: vec![in alloc; None; rows]?,
-            all: Lists::new(alloc, 1, rows)?,
-            by_slot: Lists::new(alloc, slots, rows)?,
-            by_region: Lists::new(alloc, rows, rows)?,
-            by_both: Lists::new(alloc, rows * slots, rows)?,
+            rows: held,
+            positions,
+            all,
+            by_slot,
+            by_region,
+            by_both,
         })
     }
 
@@ -111,18 +123,18 @@ impl Pool {
         requires regions { All (λ w. IsRegionEntered regions.now w.region) self.old.rows }
         ensures { self.new ≡ with_row self.old (record { row = row; made_on = made_on; region = region }) }
     {
-        let place = row.place;
         let region_place = place_of(region);
         let both = number_of(self.slots, made_on, region_place);
-        join(&mut self.all, Some(0), place);
-        join(&mut self.by_slot, made_on, place);
-        join(&mut self.by_region, region_place, place);
-        join(&mut self.by_both, both, place);
-        self.rows[place] = Some(Waiting {
+        let position = self.rows.insert_reserved(Waiting {
             row,
             made_on,
             region,
         });
+        self.positions[row.place] = position;
+        join(&mut self.all, Some(0), position);
+        join(&mut self.by_slot, made_on, position);
+        join(&mut self.by_region, region_place, position);
+        join(&mut self.by_both, both, position);
     }
 
     /// The row that a slot takes next, of those that it may take while its topmost row is in a region:
@@ -135,7 +147,7 @@ impl Pool {
         ensures rising { AreRising self.now.rows }
     {
         match (region, self.isolation) {
-            (None, _) => self.newest_on(slot).or(self.oldest()),
+            (None, _) => self.pick_outside(slot),
             (Some(region), Isolation::Exact) => self.pick_in(slot, region),
             (Some(region), Isolation::Within) => self.pick_within(slot, region, regions),
         }
@@ -146,17 +158,16 @@ impl Pool {
         ensures there { result ≡ is_waiting self.old row }
         ensures rest { self.new ≡ without self.old row }
     {
-        let place = row.place;
-        let Some(waiting) = find(&self.rows, row) else {
+        let Some(position) = find(&self.rows, &self.positions, row) else {
             return false;
         };
+        let waiting = self.rows.remove(position);
         let region_place = place_of(waiting.region);
         let both = number_of(self.slots, waiting.made_on, region_place);
-        leave(&mut self.all, Some(0), place);
-        leave(&mut self.by_slot, waiting.made_on, place);
-        leave(&mut self.by_region, region_place, place);
-        leave(&mut self.by_both, both, place);
-        self.rows[place] = None;
+        leave(&mut self.all, Some(0), position);
+        leave(&mut self.by_slot, waiting.made_on, position);
+        leave(&mut self.by_region, region_place, position);
+        leave(&mut self.by_both, both, position);
         true
     }
 
@@ -171,16 +182,26 @@ impl Pool {
     fn oldest(&self) -> Option<RowId>
         ensures { result ≡ first_of self.now.rows }
     {
-        let place = self.all.first(0)?;
-        Some(row_at(&self.rows, place)?.row)
+        let position = self.all.first(0)?;
+        Some(row_at(&self.rows, position)?.row)
     }
 
     /// The newest row that was made on a slot.
     fn newest_on(&self, slot: usize) -> Option<RowId>
         ensures { result ≡ last_or None (filter (λ w. is_made_on slot w.made_on) self.now.rows) }
     {
-        let place = self.by_slot.last(slot)?;
-        Some(row_at(&self.rows, place)?.row)
+        let position = self.by_slot.last(slot)?;
+        Some(row_at(&self.rows, position)?.row)
+    }
+
+    /// The pick for a waiter outside all regions. The oldest row is looked at only where it is taken.
+    fn pick_outside(&self, slot: usize) -> Option<RowId>
+        ensures { result ≡ option_or (last_or None (filter (λ w. is_made_on slot w.made_on) self.now.rows)) (first_of self.now.rows) }
+    {
+        if let Some(row) = self.newest_on(slot) {
+            return Some(row);
+        }
+        self.oldest()
     }
 
     /// The pick for a waiter in a region in mode exact.
@@ -204,8 +225,8 @@ impl Pool {
     {
         let mut oldest = None;
         let mut newest = None;
-        for place in self.all.iter(0) {
-            if let Some(waiting) = row_at(&self.rows, place) {
+        for position in self.all.iter(0) {
+            if let Some(waiting) = row_at(&self.rows, position) {
                 if regions.within(waiting.region, region) {
                     oldest = oldest.or(Some(waiting.row));
                     if waiting.made_on == Some(slot) {
@@ -218,22 +239,22 @@ impl Pool {
     }
 }
 
-/// The row that waits at a place.
-fn row_at(rows: &[Option<Waiting>], place: usize) -> Option<Waiting>
-    ensures { result ≡ row_at rows.now place }
+/// The row that waits at a position.
+fn row_at(rows: &Slab<Waiting>, position: usize) -> Option<&Waiting>
+    ensures { option_copied result ≡ row_at rows.now.slots position }
 {
-    *rows.get(place)?
+    rows.get(position)
 }
 
-/// The row of a handle, if it waits.
-fn find(rows: &[Option<Waiting>], row: RowId) -> Option<Waiting>
-    ensures { result ≡ find rows.now row }
+/// The position of the row of a handle, if it waits.
+fn find(rows: &Slab<Waiting>, positions: &[usize], row: RowId) -> Option<usize>
+    ensures { result ≡ find rows.now.slots positions.now row }
 {
-    let waiting = row_at(rows, row.place)?;
-    if waiting.row != row {
+    let position = *positions.get(row.place)?;
+    if rows.get(position)?.row != row {
         return None;
     }
-    Some(waiting)
+    Some(position)
 }
 
 /// The place of a region.

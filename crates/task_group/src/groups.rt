@@ -113,6 +113,15 @@ impl Groups {
         asked.is_used
     }
 
+    /// The wrapping sum of the values of the group's rows that have ended.
+    pub fn total(&self, number: usize) -> i64
+        requires { number < GROUPS }
+        ensures { result ≡ (group self.now number).total }
+    {
+        let asked = &self.groups[number];
+        asked.total
+    }
+
     /// Ends a wait that passed: returns the wrapping sum of the values of the group's rows, and leaves
     /// the group without a member. A wait passes only if nothing is pending.
     pub fn take_total(&mut self, number: usize) -> i64

@@ -1,8 +1,7 @@
-use Rattle.std.proofs.Common.{◌≡◌, ◌<◌, [], Some, None, length, refl, sym, ap, ◌∙◌, subst, arith}
+use Rattle.std.proofs.Common.{◌≡◌, [], Some, None, length, refl, sym, ap, ◌∙◌, subst, arith}
 use Rattle.std.specs.Prelude.{slice_index_or}
-use Rattle.std.proofs.lemmas.List.{get_or_default}
 use Rattle.place_lists.specs.Filing.{Filing, with_filed}
-use Rattle.place_lists.proofs.Filed.{filed-within, count-filed}
+use Rattle.place_lists.proofs.Filed.{count-filed}
 use Rattle.arena_rows.specs.OpenRows.{AreFiled, list_for}
 use Rattle.arena_rows.proofs.RowsFiled.{eq_some, eq_none, doomed_by, refiled, none_doomed}
 use Rattle.arena_rows.proofs.open_rows.next_doomed.Goals as goal
@@ -14,13 +13,9 @@ returns-then-eq-clause-some c =
     let filing = c.loop-place.filing in
     let k = c.loop-place.invariant in
     let place = c.in-Some.place in
-    let found = c.index-table-place.result in
-    let filed = filed-within filing.by_place place c.args.doomed c.in-Some.ensures.some in
-    let within : place < length table = omega (arith, filed, k.places) in
-    let is : found ≡ slice_index_or table place None = c.index-table-place.is ∙ get_or_default table place found None within in
-    let list : list_for forest found ≡ Some (length forest) = sym c.list_for-list.ensures ∙ eq_some c.list_for-list.result c.args.doomed (sym c.eq.ensures ∙ c.if-eq.true) ∙ ap Some k.doomed_last in
-    let doomed = doomed_by forest found list in
-    record { entry = doomed.0; there = sym is ∙ doomed.1; waits = doomed.2; cancelled = doomed.3 }
+    let list : list_for forest (slice_index_or table place None) ≡ Some (length forest) = sym c.list_at-list.ensures ∙ eq_some c.list_at-list.result c.args.doomed (sym c.eq.ensures ∙ c.if-eq.true) ∙ ap Some k.doomed_last in
+    let doomed = doomed_by forest (slice_index_or table place None) list in
+    record { entry = doomed.0; there = doomed.1; waits = doomed.2; cancelled = doomed.3 }
 
 pub loop-place-preserved : goal.loop-place-preserved
 loop-place-preserved c =
@@ -29,17 +24,13 @@ loop-place-preserved c =
     let filing = c.loop-place.filing in
     let k = c.loop-place.invariant in
     let place = c.in-Some.place in
-    let found = c.index-table-place.result in
-    let filed = filed-within filing.by_place place c.args.doomed c.in-Some.ensures.some in
-    let within : place < length table = omega (arith, filed, k.places) in
-    let is : found ≡ slice_index_or table place None = c.index-table-place.is ∙ get_or_default table place found None within in
-    let list : c.list_for-list.result ≡ list_for forest (slice_index_or table place None) = c.list_for-list.ensures ∙ ap (list_for forest) is in
+    let list : c.list_at-list.result ≡ list_for forest (slice_index_or table place None) = c.list_at-list.ensures in
     subst (λ (f : Filing). AreFiled table forest f c.args.doomed []) (sym (c.file.ensures ∙ ap (with_filed filing place) list)) (refiled table forest filing c.args.doomed [] k place c.args.doomed c.in-Some.ensures.some)
 
 pub loop-place-smaller : goal.loop-place-smaller
 loop-place-smaller c =
     let filing = c.loop-place.filing in
-    let fewer = count-filed filing c.in-Some.place c.args.doomed c.list_for-list.result c.in-Some.ensures.some (eq_none c.list_for-list.result c.args.doomed (sym c.eq.ensures ∙ c.if-eq.false)) in
+    let fewer = count-filed filing c.in-Some.place c.args.doomed c.list_at-list.result c.in-Some.ensures.some (eq_none c.list_at-list.result c.args.doomed (sym c.eq.ensures ∙ c.if-eq.false)) in
     rw c.file.ensures (omega (arith, fewer))
 
 pub returns-clause-none : goal.returns-clause-none

@@ -1,17 +1,15 @@
-use Rattle.std.proofs.Common.{◌≡◌, ◌<◌, None, length, sym, ◌∙◌, ap, subst, arith}
+use Rattle.std.proofs.Common.{◌≡◌, ◌<◌, Option, Some, None, length, sym, ◌∙◌, ap, subst, arith}
 use Rattle.std.specs.Prelude.{slice_set}
-use Rattle.std.proofs.lemmas.List.{get_or_default}
-use Rattle.cancel_context.specs.Forest.{binding, without_parent}
-use Rattle.cancel_context.specs.Free.{next_of}
-use Rattle.cancel_context.proofs.Along.{IsOrphaning, along-fewer, orphaning-place, orphaning-more, orphaning-end}
+use Rattle.cancel_context.specs.Forest.{Binding, IsHeld, binding, leaving, without_parent}
+use Rattle.cancel_context.specs.Below.{next_of}
+use Rattle.cancel_context.proofs.Along.{IsOrphaning, along-fewer, orphaning-place, orphaning-held, orphaning-more, orphaning-end}
 use Rattle.cancel_context.proofs.Rows.{steps}
 use Rattle.cancel_context.proofs.contexts.orphan.Goals as goal
 
-pub bounds-bindings-index : goal.bounds-bindings-index
-bounds-bindings-index c =
+pub at_mut-requires : goal.at_mut-requires
+at_mut-requires c =
     let o = subst (λ f. IsOrphaning c.args.bindings.now c.loop-following.bindings c.args.below.now c.args.parent f) c.in-Some.is c.loop-following.invariant in
-    let place = orphaning-place c.args.bindings.now c.loop-following.bindings c.args.below.now c.args.parent c.in-Some.context o in
-    omega (arith, place.0, c.index.ensures)
+    subst (λ i. IsHeld c.loop-following.bindings i) (sym c.index.ensures) (orphaning-held c.args.bindings.now c.loop-following.bindings c.args.below.now c.args.parent c.in-Some.context o)
 
 pub next-following-requires : goal.next-following-requires
 next-following-requires c =
@@ -30,16 +28,14 @@ loop-following-preserved c =
     let links = c.args.below.now in
     let now = c.loop-following.bindings in
     let x = c.in-Some.context in
-    let o = subst (λ f. IsOrphaning c.args.bindings.now now links c.args.parent f) c.in-Some.is c.loop-following.invariant in
-    let more = orphaning-more c.args.bindings.now now links c.args.parent x o in
     let p = c.args.parent in
-    let r = c.index-bindings-index.result in
-    let within : c.index.result < length now = omega (arith, (orphaning-place c.args.bindings.now now links p x o).0, c.index.ensures) in
-    let read = get_or_default now c.index.result r None within ∙ ap (binding now) c.index.ensures in
-    let value : c.without_parent.result ≡ without_parent p (binding now x) = c.without_parent.ensures ∙ ap (without_parent p) read in
-    let one = subst (λ t. IsOrphaning c.args.bindings.now (slice_set now x t) links p (next_of links.next x)) (sym value) more in
-    let two = subst (λ i. IsOrphaning c.args.bindings.now (slice_set now i c.without_parent.result) links p (next_of links.next x)) (sym c.index.ensures) one in
-    subst (λ t. IsOrphaning c.args.bindings.now (slice_set now c.index.result c.without_parent.result) links p t) (sym c.next-following.ensures) two
+    let o = subst (λ f. IsOrphaning c.args.bindings.now now links p f) c.in-Some.is c.loop-following.invariant in
+    let more = orphaning-more c.args.bindings.now now links p x o in
+    let read : binding now x ≡ Some c.at_mut.result.now = ap (binding now) (sym c.index.ensures) ∙ c.at_mut.ensures.value in
+    let value : Some c.leave.new.binding ≡ without_parent p (binding now x) = ap (λ (b : Binding). Some b) c.leave.ensures ∙ sym (ap (without_parent p) read) in
+    let one = subst (λ (t : Option Binding). IsOrphaning c.args.bindings.now (slice_set now x t) links p (next_of links.next x)) (sym value) more in
+    let two = subst (λ i. IsOrphaning c.args.bindings.now (slice_set now i (Some c.leave.new.binding)) links p (next_of links.next x)) (sym c.index.ensures) one in
+    subst (λ t. IsOrphaning c.args.bindings.now (slice_set now c.index.result (Some c.leave.new.binding)) links p t) (sym c.next-following.ensures) two
 
 pub returns : goal.returns
 returns c =

@@ -1,7 +1,4 @@
-use Rattle.std.proofs.Common.{◌≡◌, ◌<◌, ◌+◌, ℕ, true, false, length, refl, sym, ap, ◌∙◌, arith}
-use Rattle.nest_stack.specs.Nest.{stack}
-use Rattle.arena_rows.specs.Held.{Held}
-use Rattle.arena_rows.specs.Represents.{Holds, HasTop}
+use Rattle.std.proofs.Common.{sym, arith}
 use Rattle.arena_rows.specs.Endings.{HasFaulty}
 use Rattle.arena_rows.proofs.FaultSteps.{task_faulted, next_top, next_fault, next_faulty, region_faulted}
 use Rattle.arena_rows.proofs.parts.Parts.+fault_rows.Goals as goal

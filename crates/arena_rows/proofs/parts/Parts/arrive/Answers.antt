@@ -1,9 +1,7 @@
-use Rattle.std.proofs.Common.{◌≡◌, ℕ, ◌<◌, ◌≤◌, nat_le, Option, Some, None, true, false, length, refl, sym, ap, ◌∙◌, arith}
+use Rattle.std.proofs.Common.{◌≡◌, nat_le, Option, Some, None, true, false, refl, sym, ap, ◌∙◌, arith}
 use Rattle.std.specs.Option.{option_map}
 use Rattle.job_language.specs.declared.tenants.Tenant.{Tenant}
-use Rattle.region_tag.specs.declared.row_id.RowId.{RowId}
 use Rattle.ready_pool.specs.Ready.{Ready}
-use Rattle.tenant_model.specs.State.{State}
 use Rattle.tenant_model.specs.Walks.{pick}
 use Rattle.tenant_model.specs.Changes.{is_full, nest}
 use Rattle.tenant_model.specs.Advance.{is_open_to_workers}

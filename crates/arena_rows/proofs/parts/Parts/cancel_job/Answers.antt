@@ -1,5 +1,4 @@
-use Rattle.std.proofs.Common.{◌≡◌, refl, sym, ◌∙◌}
-use Rattle.arena_rows.specs.Represents.{Holds}
+use Rattle.std.proofs.Common.{◌≡◌, refl}
 use Rattle.arena_rows.specs.HeldChanges.{no_job, job_asked, job_changed, cancelled_work}
 use Rattle.arena_rows.proofs.OneJob.{job_held, asked_holds}
 use Rattle.arena_rows.proofs.parts.Parts.cancel_job.Goals as goal

@@ -1,6 +1,5 @@
 use Rattle.std.proofs.Common.{◌≡◌, ◌<◌, pos, length, length-set, Some, None, sym, ap, ◌∙◌, arith, subst}
-use Rattle.std.specs.Prelude.{slice_set}
-use Rattle.std.proofs.lemmas.List.{length_push}
+use Rattle.std.specs.Prelude.{count_by, is_some, slice_set}
 use Rattle.ready_pool.specs.Ready as ready
 use Rattle.tenant_model.specs.State.{row}
 use Rattle.tenant_model.specs.Changes.{on_row}
@@ -10,9 +9,10 @@ use Rattle.arena_rows.specs.Held.{Held}
 use Rattle.arena_rows.specs.Represents.{at_place, Holds}
 use Rattle.arena_rows.specs.Endings.{IsWaiting, parted}
 use Rattle.arena_rows.proofs.EndHolds.{dropped_holds}
-use Rattle.arena_rows.proofs.EndSteps.{parted_long}
+use Rattle.arena_rows.proofs.EndSteps.{parted_long, parted_taken, still_there}
 use Rattle.arena_rows.proofs.Parting.{parted_numbers, ended_numbers}
 use Rattle.arena_rows.proofs.EndTop.{over_of}
+use Rattle.arena_rows.proofs.FreePlaces.{one_freed}
 use Rattle.arena_rows.proofs.Grouped.{entry_of}
 use Rattle.arena_rows.proofs.Loose.{loose_waiting}
 use Rattle.arena_rows.proofs.parts.Parts.drop_row.Goals as goal
@@ -57,7 +57,11 @@ returns-clause-freed c =
     let h : IsWaiting a c.args.id = c.requires in
     let found = entry_of a h.0 h.2 h.1 (unstarted_open (row h.0.rows h.1).phase h.3) in
     let it = over_of a c.end.new.self c.args.id (pos 0) c.end.ensures h.0 h.2 h.1 found.0 found.1 h.4 in
-    rw c.unwait.ensures (ap (λ (x : Held). length x.free) it.over.rest ∙ length_push a.free (h.2.places h.1))
+    let table1 = parted a.table it.e.source (pos 0) in
+    let within : h.2.places h.1 < length table1 = omega (arith, it.entry.within, parted_long a.table it.e.source (pos 0)) in
+    let there = still_there a.table it.e.source (pos 0) (h.2.places h.1) it.e it.entry.there in
+    let new = ap (λ (x : Held). count_by is_some x.table) it.over.rest in
+    rw c.unwait.ensures (omega (arith, new, one_freed table1 (h.2.places h.1) there.0 within there.1, parted_taken a.table it.e.source (pos 0)))
 
 pub returns-clause-numbers : goal.returns-clause-numbers
 returns-clause-numbers c = λ q e there.

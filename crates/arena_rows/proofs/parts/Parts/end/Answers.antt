@@ -1,6 +1,6 @@
-use Rattle.std.proofs.Common.{◌≡◌, List, Option, Some, sym, ap, ◌∙◌, arith, w64, to_z, of_z, subst}
+use Rattle.std.proofs.Common.{◌≡◌, List, Option, Some, sym, ap, ◌∙◌, w64, to_z, of_z, subst}
 use Rattle.std.proofs.lemmas.Int.{to_z-of_z}
-use Rattle.std.specs.Prelude.{slice_index_or, slice_set}
+use Rattle.std.specs.Prelude.{is_some, slice_index_or, slice_set}
 use Rattle.cancel_context.specs.Forest.{Forest}
 use Rattle.arena_rows.specs.declared.rows.OpenRow.{OpenRow}
 use Rattle.arena_rows.specs.declared.rows.CurrentJob.{CurrentJob}
@@ -8,8 +8,8 @@ use Rattle.arena_rows.specs.Held.{Held, shown}
 use Rattle.arena_rows.specs.HeldChanges.{index_of}
 use Rattle.arena_rows.specs.Represents.{at_place}
 use Rattle.arena_rows.specs.Endings.{Left, contexts_of, open_maker, with_ended, HasEnded, MayEnd, CanEnd}
-use Rattle.arena_rows.proofs.Ending.{may_end, can_leave, room_for_place, its_job, some_open}
-use Rattle.arena_rows.proofs.EndSteps.{entry_in, parted_long, told, taken_is, counted_is, has_ended}
+use Rattle.arena_rows.proofs.Ending.{may_end, can_leave, its_job, some_open}
+use Rattle.arena_rows.proofs.EndSteps.{entry_in, still_there, told, taken_is, counted_is, has_ended}
 use Rattle.arena_rows.proofs.Started.{some_is}
 use Rattle.arena_rows.proofs.parts.Parts.end.Goals as goal
 
@@ -28,8 +28,8 @@ leave_maker-requires-clause-pending c = λ p x found there.
     let there' : at_place c.args.self.now.table p.0 ≡ Some x = ap (λ (a : Held). at_place a.table p.0) (sym c.self.view_is) ∙ ap (λ (t : List (Option OpenRow)). at_place t p.0) (sym c.release_all.ensures.table) ∙ there in
     (can_leave c.args.self.now h.0 h.2 h.1 e (entry_in c.args.self.now c.args.row h e c.entry_at.ensures) p found').2 x there'
 
-pub take_out-requires-clause-room : goal.take_out-requires-clause-room
-take_out-requires-clause-room c =
+pub take_out-requires-clause-there : goal.take_out-requires-clause-there
+take_out-requires-clause-there c =
     let a = c.args.self.now in
     let h : CanEnd a c.args.row = c.requires in
     let e = c.entry_at.result.now in
@@ -37,7 +37,8 @@ take_out-requires-clause-room c =
     let forest : Forest = c.release_all.new.rows.contexts in
     let entry = entry_in a c.args.row h e c.entry_at.ensures in
     let tells : c.leave_maker.new.self ≡ told a forest e.source v = c.leave_maker.ensures ∙ ap (λ (t : List (Option OpenRow)). told (record (shown c.self.inside) { table = t }) forest e.source (to_z w64 (of_z w64 v))) c.release_all.ensures.table ∙ ap (λ (x : Held). told x forest e.source (to_z w64 (of_z w64 v))) c.self.view_is ∙ ap (told a forest e.source) (to_z-of_z w64 c.args.value c.ranges.value) in
-    rw tells (omega (arith, room_for_place a h.0 h.2 h.1 e entry, parted_long a.table e.source v))
+    let there = still_there a.table e.source v c.args.row.place e c.entry_at.ensures in
+    rw tells (ap is_some there.1)
 
 pub count_out-requires-clause-below : goal.count_out-requires-clause-below
 count_out-requires-clause-below c =

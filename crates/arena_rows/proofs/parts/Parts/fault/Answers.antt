@@ -1,6 +1,4 @@
-use Rattle.std.proofs.Common.{◌≡◌, ℕ, sym, ap, ◌∙◌}
-use Rattle.arena_rows.specs.Held.{Held}
-use Rattle.arena_rows.specs.Represents.{Holds, HasTop}
+use Rattle.arena_rows.specs.Represents.{HasTop}
 use Rattle.arena_rows.specs.Endings.{faulted_rows}
 use Rattle.arena_rows.proofs.FaultEnds.{faulty, now_faulty, has_faulty, same_slots, same_room}
 use Rattle.arena_rows.proofs.parts.Parts.fault.Goals as goal

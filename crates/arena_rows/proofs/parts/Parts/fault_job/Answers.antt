@@ -1,7 +1,6 @@
-use Rattle.std.proofs.Common.{◌≡◌, ℕ, Option, Some, None, Bool, true, false, refl, sym, ap, ◌∙◌, ◌<◌, ◌≤◌, ◌-◌, length}
-use Rattle.std.specs.Prelude.{IsSome, is_some, ◌||◌}
-use Rattle.job_language.specs.declared.errors.JobFault.{JobFault}
-use Rattle.tenant_model.specs.State.{State, row, job}
+use Rattle.std.proofs.Common.{◌≡◌, Bool, true, false, refl, ◌<◌, ◌≤◌, ◌-◌, length}
+use Rattle.std.specs.Prelude.{is_some, ◌||◌}
+use Rattle.tenant_model.specs.State.{row, job}
 use Rattle.tenant_model.specs.Changes.{first_fault}
 use Rattle.arena_rows.specs.HeldChanges.{no_job, job_asked, job_changed, with_fault}
 use Rattle.arena_rows.proofs.FaultEnds.{some_fault}

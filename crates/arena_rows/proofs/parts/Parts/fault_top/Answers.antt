@@ -1,6 +1,5 @@
-use Rattle.std.proofs.Common.{◌≡◌, ℕ, pos, sym, ap, ◌∙◌, subst}
-use Rattle.arena_rows.specs.Held.{Held}
-use Rattle.arena_rows.specs.Represents.{Holds, HasTop}
+use Rattle.std.proofs.Common.{pos}
+use Rattle.arena_rows.specs.Represents.{HasTop}
 use Rattle.arena_rows.specs.Endings.{HasFaulty}
 use Rattle.arena_rows.proofs.EndHolds.{faulted_holds}
 use Rattle.arena_rows.proofs.EndTop.{over_on_top, still_within, still_some, popped_short}

@@ -1,8 +1,7 @@
-use Rattle.std.proofs.Common.{◌≡◌, ℕ, Some, sym, ap, ◌∙◌, subst, refl, w64, to_z, of_z}
+use Rattle.std.proofs.Common.{◌≡◌, Some, subst, refl, w64}
 use Rattle.std.proofs.lemmas.Int.{to_z-of_z}
 use Rattle.arena_rows.specs.declared.rows.OpenRow.{OpenRow}
-use Rattle.arena_rows.specs.Held.{Held}
-use Rattle.arena_rows.specs.Represents.{Holds, HasTop, at_place}
+use Rattle.arena_rows.specs.Represents.{at_place}
 use Rattle.arena_rows.specs.Endings.{HasUnused, HasEnded}
 use Rattle.arena_rows.proofs.EndHolds.{done_holds, ended_settled}
 use Rattle.arena_rows.proofs.EndTop.{over_on_top, still_within, still_some}

@@ -1,20 +1,18 @@
-use Rattle.std.proofs.Common.{◌≡◌, ℕ, false, ◌<◌, ◌+◌, length, length-set, Option, Some, None, refl, sym, ap, ◌∙◌, arith, get_or, subst}
-use Rattle.std.specs.Prelude.{slice_index_or, IsSome}
+use Rattle.std.proofs.Common.{◌≡◌, false, ◌<◌, ◌+◌, length, length-set, Some, None, refl, sym, ap, ◌∙◌, arith}
+use Rattle.std.specs.Prelude.{slice_index_or}
 use Rattle.std.proofs.lemmas.List.{get_or_default}
 use Rattle.cancel_context.specs.Forest.{IsHeld, held_count, with_bound}
 use Rattle.job_language.specs.declared.instructions.TheConstants.{GROUPS}
 use Rattle.cancel_context.proofs.Chains.{IsHeld-within}
-use Rattle.tenant_model.specs.State.{State, row}
-use Rattle.tenant_model.specs.Walks.{top, is_unstarted}
-use Rattle.region_tag.specs.declared.row_id.RowId.{RowId}
-use Rattle.arena_rows.specs.declared.rows.OpenRow.{OpenRow}
-use Rattle.arena_rows.specs.Represents.{at_place, id_of, Holds, IsGiven}
-use Rattle.arena_rows.specs.HeldChanges.{group_given}
+use Rattle.tenant_model.specs.State.{row}
+use Rattle.tenant_model.specs.Walks.{is_unstarted}
+use Rattle.arena_rows.specs.Represents.{at_place}
+use Rattle.arena_rows.specs.HeldChanges.{group_given, with_group}
 use Rattle.arena_rows.proofs.Capacity.{group_room}
-use Rattle.arena_rows.proofs.Grouped.{IsEntry, is_entry, group_bound}
+use Rattle.arena_rows.proofs.FreePlaces.{same_taken}
+use Rattle.arena_rows.proofs.Grouped.{is_entry, group_bound}
 use Rattle.arena_rows.proofs.RowHeld.{row_held}
-use Rattle.arena_rows.proofs.Started.{some_is}
-use Rattle.arena_rows.proofs.TopRows.{top_open, top_at, top_stands}
+use Rattle.arena_rows.proofs.TopRows.{top_open, top_at, top_stands, maker_within}
 use Rattle.arena_rows.proofs.parts.Parts.group_context.Goals as goal
 
 pub returns-in-Some-clause-given : goal.returns-in-Some-clause-given
@@ -82,8 +80,13 @@ returns-clause-free c =
     let h = c.requires in
     let row = c.top_row-row.ensures h.0 h.1 h.2 h.3 in
     let there = (c.top_entry-entry.ensures.entry h.0 h.1 h.2 h.3).0 in
-    let new = c.bind_group.ensures.given c.top_entry-entry.result.now (rw row there) in
-    rw new refl
+    let a = c.args.self.now in
+    let e = c.top_entry-entry.result.now in
+    let place = c.top_row-row.result.place in
+    let at_row : at_place a.table place ≡ Some e = rw row there in
+    let within = maker_within a h.0 h.2 c.args.slot h.1 h.3 c.top_row-row.result row in
+    let given = with_group c.args.group c.bind_group.result e in
+    rw (c.bind_group.ensures.given e at_row) (λ some. omega (arith, some, same_taken a.table place e given within at_row, length-set a.table place (Some given)))
 
 pub returns-clause-made : goal.returns-clause-made
 returns-clause-made c =

@@ -1,4 +1,4 @@
-use Rattle.std.proofs.Common.{◌≡◌, ◌<◌, sym, ap, ◌∙◌, arith}
+use Rattle.std.proofs.Common.{ap, arith}
 use Rattle.job_language.specs.declared.tenants.Tenant.{Tenant}
 use Rattle.arena_rows.proofs.FaultEnds.{freed_told}
 use Rattle.arena_rows.proofs.parts.Parts.is_freed.Goals as goal

@@ -1,5 +1,4 @@
-use Rattle.std.proofs.Common.{◌≡◌, ℕ, ◌<◌, ◌≤◌, nat_lt, nat_le, true, length, refl, sym, ap, ◌∙◌, arith}
-use Rattle.nest_stack.specs.Nest.{stack}
+use Rattle.std.proofs.Common.{◌≡◌, nat_lt, nat_le, true, refl, ap, ◌∙◌, arith}
 use Rattle.job_language.specs.declared.tenants.Tenant.{Tenant}
 use Rattle.tenant_model.specs.Walks.{height}
 use Rattle.arena_rows.proofs.Tops.{height_is}

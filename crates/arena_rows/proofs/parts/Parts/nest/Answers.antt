@@ -1,4 +1,4 @@
-use Rattle.std.proofs.Common.{◌<◌, length, arith}
+use Rattle.std.proofs.Common.{arith}
 use Rattle.arena_rows.proofs.Taken.{pick_taken, taken_within, taken_entry, taken_there, taken_waits, taken_rests}
 use Rattle.tenant_model.specs.State.{row}
 use Rattle.arena_rows.proofs.parts.Parts.nest.Goals as goal

@@ -1,7 +1,5 @@
-use Rattle.std.proofs.Common.{◌≡◌, ℕ, ◌-◌, ◌≤◌, nat_le, nat_lt, not, refl, sym, ap, ◌∙◌, arith}
-use Rattle.tenant_model.specs.State.{State, row, job}
-use Rattle.tenant_model.specs.Advance.{is_poor, with_fuel, with_fuel_paid}
-use Rattle.arena_rows.specs.Represents.{Holds}
+use Rattle.std.proofs.Common.{◌≡◌, ◌-◌, ap, ◌∙◌, arith}
+use Rattle.tenant_model.specs.State.{row, job}
 use Rattle.arena_rows.specs.HeldChanges.{no_job, job_changed, with_fuel_left}
 use Rattle.arena_rows.proofs.OneJob.{fuel_told, paid_holds, settled_fuel}
 use Rattle.arena_rows.proofs.TopRows.{top_job}

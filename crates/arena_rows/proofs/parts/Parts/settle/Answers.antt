@@ -1,11 +1,12 @@
-use Rattle.std.proofs.Common.{◌≡◌, length, refl, sym, ap, subst, arith}
+use Rattle.std.proofs.Common.{◌≡◌, refl, sym, ap, subst, arith}
+use Rattle.std.specs.Prelude.{count_by, is_some}
 use Rattle.cancel_context.specs.Forest.{IsForest}
 use Rattle.tenant_model.proofs.SoundSteps.{entry_settled}
 use Rattle.arena_rows.specs.Held.{Held}
 use Rattle.arena_rows.specs.OpenRows.{AreFine}
 use Rattle.arena_rows.specs.Represents.{HoldsSomehow}
 use Rattle.arena_rows.specs.Endings.{rows_of, IsCancelled}
-use Rattle.arena_rows.proofs.SettledRows.{SettledSome, settled_first, settled_more, settled_all, cancelled_waits, still_held, room_left}
+use Rattle.arena_rows.proofs.SettledRows.{SettledSome, settled_first, settled_more, settled_all, cancelled_waits, still_held}
 use Rattle.arena_rows.proofs.parts.Parts.settle.Goals as goal
 
 pub loop-row-init : goal.loop-row-init
@@ -22,15 +23,8 @@ drop_row-requires c =
 
 pub loop-row-smaller : goal.loop-row-smaller
 loop-row-smaller c =
-    let now : Held = c.next_cancelled.new.self in
-    let same : now ≡ c.loop-row.self = c.next_cancelled.ensures.same in
-    let held = subst HoldsSomehow (sym same) c.loop-row.invariant.held in
-    let sound = subst (λ (a : Held). IsForest a.contexts) (sym same) c.next_cancelled.ensures.sound in
-    let cancelled = subst (λ (a : Held). IsCancelled a c.in-Some.row) (sym same) c.in-Some.ensures.some in
-    let room = room_left now c.in-Some.row sound cancelled held in
-    let table = ap (λ (a : Held). length a.table) same in
-    let free = ap (λ (a : Held). length a.free) same in
-    omega (arith, room, table, free, c.drop_row.ensures.long, c.drop_row.ensures.freed)
+    let same = ap (λ (a : Held). count_by is_some a.table) c.next_cancelled.ensures.same in
+    omega (arith, same, c.drop_row.ensures.freed)
 
 pub loop-row-preserved : goal.loop-row-preserved
 loop-row-preserved c =

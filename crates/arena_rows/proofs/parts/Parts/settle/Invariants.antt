@@ -1,4 +1,4 @@
-use Rattle.std.proofs.Common.{◌-◌, length}
+use Rattle.std.specs.Prelude.{count_by, is_some}
 use Rattle.tenant_model.specs.State.{State}
 use Rattle.arena_rows.specs.Represents.{Holds, HoldsSomehow}
 use Rattle.arena_rows.proofs.SettledRows.{SettledSome}
@@ -11,4 +11,4 @@ invariant-loop-row l = record {
 }
 
 abbrev pub decreases-loop-row : goal.decreases-loop-row
-decreases-loop-row l = length l.self.table - length l.self.free
+decreases-loop-row l = count_by is_some l.self.table

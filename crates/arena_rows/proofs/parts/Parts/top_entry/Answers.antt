@@ -2,7 +2,6 @@ use Rattle.std.proofs.Common.{◌≡◌, ℕ, Some, refl, sym, ap, ◌∙◌}
 use Rattle.std.specs.Option.{option_copied}
 use Rattle.tenant_model.specs.State.{State}
 use Rattle.tenant_model.specs.Walks.{top}
-use Rattle.arena_rows.specs.declared.rows.OpenRow.{OpenRow}
 use Rattle.arena_rows.specs.Represents.{at_place, IsRow, Holds}
 use Rattle.arena_rows.proofs.Started.{some_is}
 use Rattle.arena_rows.proofs.TopRows.{top_within, top_told, top_not_none, top_stands, top_job}

@@ -1,8 +1,7 @@
 use Rattle.std.proofs.Common.{◌≡◌, ◌<◌, ℕ, List, Option, Some, None, length, ap, sym, ◌∙◌, arith}
 use Rattle.std.specs.Prelude.{slice_set}
 use Rattle.std.proofs.lemmas.List.{get_or_default, length-set}
-use Rattle.cancel_context.specs.Below.{Links}
-use Rattle.cancel_context.specs.Free.{next_of}
+use Rattle.cancel_context.specs.Below.{next_of, Links}
 use Rattle.cancel_context.proofs.below.Below.join.Goals as goal
 
 pub link-requires : goal.link-requires

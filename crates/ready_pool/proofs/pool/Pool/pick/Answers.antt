@@ -1,8 +1,7 @@
-use Rattle.std.proofs.Common.{◌≡◌, Some, None, sym, ◌∙◌, ap, filter, subst}
+use Rattle.std.proofs.Common.{◌≡◌, Some, None, sym, ◌∙◌, ap, subst}
 use Rattle.std.specs.Prelude.{Any, IfSome}
-use Rattle.std.specs.Option.{option_or}
 use Rattle.ready_pool.specs.declared.pool.Waiting.{Waiting}
-use Rattle.ready_pool.specs.Ready.{Ready, is_made_on, last_or, pick}
+use Rattle.ready_pool.specs.Ready.{Ready, pick}
 use Rattle.ready_pool.proofs.Picks.{picked_row_waits}
 use Rattle.ready_pool.proofs.Chosen.{outside}
 use Rattle.ready_pool.proofs.pool.Pool.pick.Goals as goal
@@ -11,13 +10,13 @@ pub returns-in-None-default-clause-value : goal.returns-in-None-default-clause-v
 returns-in-None-default-clause-value c =
     let pool = c.args.self.now in
     let table = c.args.regions.now in
-    c.or.ensures ∙ ap (λ o. option_or o c.oldest.result) c.newest_on.ensures ∙ ap (option_or (last_or None (filter (λ (w : Waiting). is_made_on c.args.slot w.made_on) pool.rows))) c.oldest.ensures ∙ outside pool table c.args.slot ∙ ap (pick pool table c.args.slot) (sym c.in-None-default.is-0)
+    c.pick_outside.ensures ∙ outside pool table c.args.slot ∙ ap (pick pool table c.args.slot) (sym c.in-None-default.is-0)
 
 pub returns-in-None-default-clause-there : goal.returns-in-None-default-clause-there
 returns-in-None-default-clause-there c =
     let pool = c.args.self.now in
     let table = c.args.regions.now in
-    let value : c.or.result ≡ pick pool table c.args.slot None = c.or.ensures ∙ ap (λ o. option_or o c.oldest.result) c.newest_on.ensures ∙ ap (option_or (last_or None (filter (λ (w : Waiting). is_made_on c.args.slot w.made_on) pool.rows))) c.oldest.ensures ∙ outside pool table c.args.slot in
+    let value : c.pick_outside.result ≡ pick pool table c.args.slot None = c.pick_outside.ensures ∙ outside pool table c.args.slot in
     subst (λ result. IfSome result (λ row. Any (λ (w : Waiting). w.row ≡ row) pool.rows)) (sym value) (picked_row_waits pool table c.args.slot None)
 
 pub returns-in-Some-Exact-clause-there : goal.returns-in-Some-Exact-clause-there

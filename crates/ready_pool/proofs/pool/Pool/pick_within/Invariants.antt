@@ -8,7 +8,7 @@ use Rattle.ready_pool.specs.Parts.{row_at, rows_of}
 use Rattle.ready_pool.proofs.Chosen.{chosen}
 use Rattle.ready_pool.proofs.pool.Pool.pick_within.Given as goal
 
-abbrev pub invariant-loop-place : goal.invariant-loop-place
-invariant-loop-place l =
-    let rest = filter (λ (w : Waiting). is_within l.regions w.region l.region) (filter_map (row_at l.self-inside.rows.items) l.place-iterator) in
-    last_or (option_or l.newest (option_or l.oldest (first_of rest))) (filter (λ w. is_made_on l.slot w.made_on) rest) ≡ chosen l.slot (filter (λ (w : Waiting). is_within l.regions w.region l.region) (rows_of l.self-inside.rows.items l.self-inside.all))
+abbrev pub invariant-loop-position : goal.invariant-loop-position
+invariant-loop-position l =
+    let rest = filter (λ (w : Waiting). is_within l.regions w.region l.region) (filter_map (row_at l.self-inside.rows.slots) l.position-iterator) in
+    last_or (option_or l.newest (option_or l.oldest (first_of rest))) (filter (λ w. is_made_on l.slot w.made_on) rest) ≡ chosen l.slot (filter (λ (w : Waiting). is_within l.regions w.region l.region) (rows_of l.self-inside.rows.slots l.self-inside.all))
