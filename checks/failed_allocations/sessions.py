@@ -150,7 +150,8 @@ def effect_of(sessions, tenants, said, status):
             return refused
         case ["ended"], ["closed", "closed"], "", 0:
             return NO_LINE
-        case ["ended", *_], ["closed", "closed"], "arena-server: device\n", 3 if are_last(others, sessions):
+        case ["ended", *_], ["closed", "closed"], "arena-server: device\n" | "arena-server: memory\n", 3 if are_last(
+                others, sessions):
             return NO_MORE
         case [], [], "arena-server: memory\n", 3:
             return NO_CLOSE

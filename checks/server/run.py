@@ -7,86 +7,14 @@ crates/script_program.
 """
 import json
 import os
-import re
-import resource
 import socket
-import stat
 import subprocess
-import sys
 import tempfile
 import threading
 import time
 
-PROGRAM = os.path.abspath("crates/server_program/out/server_program")
-SCRIPT = os.path.abspath("crates/script_program/out/script_program")
-
-FIB = {"args": [6, 0], "fuel": 1000, "procs": [[
-    ["set", 2, 2], ["lt", 3, 0, 2], ["jz", 3, 4], ["ret", 0], ["set", 2, 1], ["sub", 3, 0, 2], ["spawn", 0, 0, 3, 1],
-    ["sub", 3, 3, 2], ["spawn", 0, 0, 3, 1], ["wait", 4, 5, 0], ["ret", 4]]]}
-SEVEN = {"args": [7, 0], "fuel": 10, "procs": [[["ret", 0]]]}
-JUMPS_AWAY = {"args": [0, 0], "fuel": 1000, "procs": [[["jmp", 1]]]}
-# Memory for a tenant and the stacks of some threads, but not of 32.
-FEW_STACKS = 48 << 20
-HELLO = {"op": "hello", "tenant": "acme"}
-
-
-def tenant(name, slots, reserved):
-    return {"name": name, "priority": "normal", "reserved": reserved, "rows": 200, "slots": slots, "steps": 10000}
-
-
-def limited(memory):
-    """Limits the memory that a process may map, its threads' stacks among it."""
-    return lambda: resource.setrlimit(resource.RLIMIT_AS, (memory, memory))
-
-
-class Server:
-    """A server on a socket of its own, with a folder that goes when it ends."""
-
-    def __init__(self, tenants, workers, connections, memory=resource.RLIM_INFINITY):
-        self.folder = tempfile.TemporaryDirectory()
-        self.path = os.path.join(self.folder.name, "socket")
-        self.dumps = os.path.join(self.folder.name, "dumps")
-        os.mkdir(self.dumps)
-        config = os.path.join(self.folder.name, "config")
-        with open(config, "w") as it:
-            json.dump({"tenants": tenants, "workers": workers}, it)
-        words = ["--config", config, "--socket", self.path, "--connections", str(connections), "--dump", self.dumps]
-        self.process = subprocess.Popen([PROGRAM, *words], stdout=subprocess.PIPE, stderr=subprocess.PIPE, text=True,
-                                        preexec_fn=limited(memory))
-        assert self.process.stdout.readline() == "listening\n"
-        assert stat.S_IMODE(os.stat(self.path).st_mode) == 0o600
-
-    def connect(self):
-        client = socket.socket(socket.AF_UNIX)
-        client.connect(self.path)
-        return client
-
-    def ask(self, *requests):
-        """Sends requests on a connection of their own, and returns the replies."""
-        with self.connect() as client:
-            lines = "".join(json.dumps(request) + "\n" for request in requests)
-            client.sendall(lines.encode())
-            client.shutdown(socket.SHUT_WR)
-            with client.makefile() as replies:
-                return [json.loads(line) for line in replies]
-
-    def end(self):
-        """Returns what the server printed after its first line, and its status."""
-        out, err = self.process.communicate(timeout=60)
-        assert not os.path.exists(self.path)
-        for line in out.splitlines():
-            name, entries = re.fullmatch("(.*): closed, ([0-9]+) entries", line).groups()
-            assert dump_lines(self.dumps, name) == int(entries) + 1
-        return out.splitlines(), err, self.process.returncode
-
-
-def dump_lines(folder, name):
-    """How many lines the dump of a tenant has, which `check` says yes to."""
-    with open(os.path.join(folder, name + ".jsonl")) as dump:
-        done = subprocess.run([SCRIPT, "check"], stdin=dump, capture_output=True, text=True, timeout=60)
-        assert (done.stdout, done.stderr, done.returncode) == ("yes\n", "", 0), done
-        dump.seek(0)
-        return sum(1 for _ in dump)
+from endings import ENDINGS
+from servers import FEW_STACKS, FIB, HELLO, JUMPS_AWAY, PROGRAM, SEVEN, Server, dump_lines, limited, tenant
 
 
 def job_is_executed_and_polled():
@@ -165,6 +93,16 @@ def tenants_do_not_see_each_other():
         {"tenant": "beta"}, {"code": 6, "error": "unknown_job"}]
     lines, err, status = server.end()
     assert lines[1] == "beta: closed, 1 entries" and (err, status) == ("", 0)
+
+
+def names_lead_to_their_tenants():
+    """Each of four tenants has slots of its own number, by which it is known."""
+    names = ["acme", "beta", "gamma", "delta"]
+    server = Server([tenant(name, slots, 1) for slots, name in enumerate(names, 1)], 1, 4)
+    for slots, name in enumerate(names, 1):
+        assert server.ask({"op": "hello", "tenant": name}, {"op": "arena"}) == [
+            {"tenant": name}, {"priority": "normal", "reserved": 1, "slots": slots}]
+    assert server.end() == ([f"{name}: closed, 1 entries" for name in names], "", 0)
 
 
 def client_that_goes_away_ends_its_session_alone():
@@ -460,15 +398,14 @@ def folder_of_dumps_is_missing():
 
 
 def dump_that_fails_is_left_out():
-    """The device of acme's dump is full. beta has its dump all the same."""
+    """A folder stands where acme's dump would be. beta has its dump all the same."""
     server = Server([tenant("acme", 1, 1), tenant("beta", 1, 1)], 1, 1)
-    full = os.path.join(server.dumps, "acme.jsonl")
-    os.symlink("/dev/full", full)
+    os.mkdir(os.path.join(server.dumps, "acme.jsonl"))
     server.ask(HELLO)
     out, err = server.process.communicate(timeout=60)
     assert out == "acme: closed, 0 entries\nbeta: closed, 0 entries\n"
     assert (err, server.process.returncode) == ("arena-server: device\n", 3)
-    assert not os.path.lexists(full) and dump_lines(server.dumps, "beta") == 1
+    assert sorted(os.listdir(server.dumps)) == ["acme.jsonl", "beta.jsonl"] and dump_lines(server.dumps, "beta") == 1
 
 
 def wrong_words_and_files_are_faults():
@@ -501,6 +438,9 @@ def wrong_words_and_files_are_faults():
         with open(config, "w") as it:
             json.dump({"tenants": [tenant("acme", 1, 1)], "workers": 1}, it)
         assert run("--config", config, "--socket", "", "--connections", "1") == no_file
+        # A folder of dumps that is not there, or is a file, is found out before anything is served.
+        for dumps in ("nowhere", config):
+            assert run(*words, "--dump", dumps) == no_file and not os.path.exists(at), dumps
         with open(at, "w"):
             pass
         assert run(*words) == ("", "arena-server: device\n", 3)
@@ -545,7 +485,7 @@ def session_that_cannot_be_started_costs_no_history():
 
 
 CHECKS = [job_is_executed_and_polled, workers_share_a_job, each_job_has_its_end, tenants_do_not_see_each_other,
-          client_that_goes_away_ends_its_session_alone, client_that_goes_away_after_any_byte,
+          names_lead_to_their_tenants, client_that_goes_away_ends_its_session_alone, client_that_goes_away_after_any_byte,
           job_stands_though_its_reply_is_lost, hostile_lines_have_their_errors,
           requests_have_exactly_their_members, client_that_never_reads,
           client_that_sends_without_end, clients_that_say_nothing, many_clients_at_once,
@@ -553,7 +493,7 @@ CHECKS = [job_is_executed_and_polled, workers_share_a_job, each_job_has_its_end,
           waiting_ends_at_a_full_history, executes_end_at_a_full_history, folder_of_dumps_is_missing,
           dump_that_fails_is_left_out,
           wrong_words_and_files_are_faults, socket_may_be_gone_at_the_end, worker_that_cannot_be_started_is_a_fault,
-          session_that_cannot_be_started_costs_no_history]
+          session_that_cannot_be_started_costs_no_history, *ENDINGS]
 
 
 def main():

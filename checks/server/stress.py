@@ -1,6 +1,7 @@
 #!/usr/bin/env python3
 """Serves 64 tenants to 64 connections by 32 workers, round after round: each client asks at random for some seconds,
-and then every tenant must close. Replies are compared with what the jobs give under any schedule.
+and then every tenant must close. Some clients go in the midst of a wait, and some servers are stopped while their
+clients ask. Replies are compared with what the jobs give under any schedule.
 
 usage: checks/server/stress.py [MINUTES [PROGRAM]], at the top of the repository. It runs for ten minutes if none are
 said, by out/arena-server, and ends with a status other than 0 at the first thing that is not as it must be.
@@ -44,7 +45,12 @@ class Wrong(Exception):
 
 
 class Ended(Exception):
-    """The server ended a session that waits for a job, as it does when the tenant's history becomes full."""
+    """The server ended a session that waits for a job, as it does when the tenant's history becomes full, or any
+    session, once it is stopped."""
+
+
+class Gone(Exception):
+    """A client went while it waited for a reply."""
 
 
 def tenant_config(number, dice):
@@ -56,8 +62,9 @@ def tenant_config(number, dice):
 class Client:
     """A connection that asks one tenant at random."""
 
-    def __init__(self, path, tenant, dice):
+    def __init__(self, path, tenant, dice, stopped):
         self.dice, self.tenant, self.asked = dice, tenant, collections.Counter()
+        self.stopped = stopped      # set before the server is stopped
         self.wanted = {}      # the jobs it made, each with its outcome
         self.cancelled = set()
         self.socket = socket.socket(socket.AF_UNIX)
@@ -68,9 +75,14 @@ class Client:
             raise Wrong("hello")
 
     def ask(self, request):
-        self.socket.sendall(json.dumps(request).encode() + b"\n")
-        line = self.lines.readline()
-        if not line and request["op"] in ("execute", "collect"):
+        try:
+            self.socket.sendall(json.dumps(request).encode() + b"\n")
+            if request["op"] in ("execute", "collect") and self.dice.random() < 0.001:
+                raise Gone(self.tenant)
+            line = self.lines.readline()
+        except (BrokenPipeError, ConnectionResetError):
+            line = b""
+        if not line and (request["op"] in ("execute", "collect") or self.stopped.is_set()):
             raise Ended(self.tenant)
         if not line.endswith(b"\n"):
             raise Wrong(f"{self.tenant}: no reply to {request}")
@@ -125,14 +137,17 @@ class Client:
             self.cancel() if kind == "cancel" else self.look(kind)
 
     def run(self, end):
-        """Asks until the time is over. Returns whether the server ended the session before."""
+        """Asks until the time is over. Returns whether the server ended the session though it was not stopped."""
         try:
             while time.monotonic() < end:
                 self.step()
             return False
+        except Gone:
+            self.asked["client gone"] += 1
+            return False
         except Ended:
-            self.asked["session ended"] += 1
-            return True
+            self.asked["session stopped" if self.stopped.is_set() else "session ended"] += 1
+            return not self.stopped.is_set()
         finally:
             self.socket.close()
 
@@ -160,14 +175,15 @@ class Round:
         self.program, self.dice, self.asked = program, random.Random(seed), collections.Counter()
         self.config = config_of(self.dice)
         self.wrong, self.full = [], set()
+        self.stopped, self.stop_after = threading.Event(), self.dice.choice([None, None, self.dice.uniform(1, SECONDS)])
 
     def one(self, path, tenant, dice, end):
         try:
-            client = Client(path, f"t{tenant}", dice)
+            client = Client(path, f"t{tenant}", dice, self.stopped)
             if client.run(end):
                 self.full.add(tenant)
             self.asked.update(client.asked)
-        except (Wrong, OSError, KeyError, ValueError) as fault:
+        except (Wrong, Ended, OSError, KeyError, ValueError) as fault:
             self.wrong.append(repr(fault))
 
     def clients(self, path):
@@ -183,6 +199,11 @@ class Round:
             threads = list(self.clients(path))
             for thread in threads:
                 thread.start()
+            if self.stop_after:
+                time.sleep(self.stop_after)
+                self.asked["server stopped"] += 1
+                self.stopped.set()
+                os.unlink(path)
             for thread in threads:
                 thread.join()
             try:

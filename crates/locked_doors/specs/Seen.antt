@@ -1,5 +1,5 @@
 -- One session at the doors of tenants.
-use Rattle.std.specs.Prelude.{ℕ, ◌≡◌, ◌≤◌, ◌<◌, List, length, slice_index_or}
+use Rattle.std.specs.Prelude.{ℕ, ◌≡◌, ◌≤◌, ◌<◌, List, length, map, slice_index_or}
 use Rattle.tenant_record.specs.SeatData.{SeatData}
 use Rattle.tenant_slots.specs.Seen.{SlotsSeen}
 use Rattle.worker_main.specs.Slots.{SlotSeen}
@@ -15,8 +15,9 @@ pub record SessionSeen : Type 0 where
 abbrev pub AreOwn : List SeatData → Type 0
 AreOwn seats = (k : ℕ) (s : SeatData) → k < length seats → (slice_index_or seats k s).tenant ≡ k
 
--- There is a seat of each tenant, and a level of the queues for each.
+-- There is a seat of each tenant, and a level of the queues for each, and the names are the tenants' own, in order.
 pub record IsSession (s : SessionSeen) : Type 0 where
   pub seats : length s.seats ≡ length s.at.doors.doors
   pub own : AreOwn s.seats
   pub level : length s.at.doors.doors ≤ length s.at.ringer.queues.config
+  pub names : s.names ≡ map (λ d. d.config.name) s.at.doors.doors

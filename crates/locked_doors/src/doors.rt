@@ -1,5 +1,5 @@
 // One session at the doors of tenants.
-ghost use Rattle.std.specs.Prelude.{◌≡◌, ◌≤◌, ◌<◌, ℕ, length};
+ghost use Rattle.std.specs.Prelude.{◌≡◌, ◌≤◌, ◌<◌, ℕ, length, map};
 ghost use Rattle.tenant_slots.specs.Seen.{AreNumbered};
 ghost use Rattle.locked_doors.specs.Seen.{AreOwn};
 ghost use Rattle.locked_doors.specs.Ways.{Advances, AsksBound};
@@ -56,6 +56,7 @@ impl<'d, 'q, R: Wait, S: Signal> LockedDoors<'d, 'q, R, S> {
     ) -> Self
         requires seats { length seats.items ≡ length slots.doors }
         requires own { AreOwn seats.items }
+        requires names { names.now ≡ map (λ d. d.config.name) slots.doors }
         requires level { length slots.doors ≤ length ringer.queues.config }
         ensures { result ≡ record { at = record { ringer = ringer.entry; doors = slots.entry }; names = names.now; seats = seats.items; bound = 0 } }
     {

@@ -1,23 +1,23 @@
 //! `arena-server`: serves tenants to clients over a Unix socket.
 #![tactic(auto)]
 
+mod dumps;
+
 ghost use Rattle.std.specs.Prelude.{◌≤◌};
 
-use dump_lines::{DumpFault, write_dump};
-use job_language::{Entry, TenantConfig};
+use dumps::{can_dump, dump_history};
+use job_language::TenantConfig;
 use server_words::{Words, WordsFault, read_words};
-use socket_server::{House, MAX_CONFIG, Opened, Served, ServerEnd, config_of, serve_connections};
+use socket_server::{Endpoint, House, MAX_CONFIG, Opened, ServerEnd, config_of, serve_connections};
 use std::alloc::Global;
 use std::env::Env;
-use std::fs::{File, Files, Permissions};
+use std::fs::{File, Files};
 use std::io::{ErrorKind, Read};
 use std::net::Net;
-use std::os::unix::fs::PermissionsExt;
-use std::os::unix::net::UnixListener;
 use std::process::ExitCode;
 use std::sync::Wait;
 use std::thread::Threads;
-use std::{env, fs, io};
+use std::{env, io};
 use tenant_lock::{CloseFault, Closed};
 use tenant_record::Seat;
 
@@ -92,25 +92,26 @@ where
         passes,
         seats,
     } = House::open(alloc, &config, words.connections)?;
-    let listener = bind_private(rt, words.socket)?;
+    if let Some(folder) = words.dump {
+        can_dump(rt, alloc, folder, config.tenants())?;
+    }
+    let endpoint = Endpoint::bind(rt, alloc, words.socket)?;
     let served = serve_connections(
         rt,
         alloc,
         &house,
         passes,
         seats,
-        &listener,
+        &endpoint,
         config.workers(),
         words.connections,
     );
-    // Somebody may have removed it before.
-    let _ = fs::remove_file(rt, words.socket);
+    endpoint.remove(rt);
     let served = served?;
-    let end = close_tenants(rt, alloc, house, served.seats, config.tenants(), words.dump)?;
-    if served.is_whole {
-        Ok(end)
-    } else {
-        Ok(ServerEnd::Device)
+    let closed = close_tenants(rt, alloc, house, served.seats, config.tenants(), words.dump);
+    match served.fault {
+        Some(fault) => Err(fault),
+        None => closed,
     }
 }
 
@@ -125,19 +126,6 @@ fn config_bytes<R: Files + AllocGlobal>(rt: &R, path: &str) -> Result<Vec<u8>, S
         Err(fault) if fault.kind() == ErrorKind::OutOfMemory => Err(ServerEnd::Memory),
         Err(_) => Err(ServerEnd::Device),
     }
-}
-
-/// Binds the socket for its owner alone. If that can't be kept, the socket is removed again.
-fn bind_private<R: Files + Net>(rt: &R, socket: &str) -> Result<UnixListener, ServerEnd> {
-    let Ok(listener) = UnixListener::bind(rt, socket) else {
-        return Err(ServerEnd::Device);
-    };
-    if fs::set_permissions(rt, socket, Permissions::from_mode(0o600)).is_err() {
-        // The end is the same if it can't be removed.
-        let _ = fs::remove_file(rt, socket);
-        return Err(ServerEnd::Device);
-    }
-    Ok(listener)
 }
 
 /// Closes all tenants, tells each one's end, and goes on after a fault. The first fault is the end.
@@ -181,31 +169,6 @@ fn tell_end<R: Files + Print>(
         Ok(())
     } else {
         Err(ServerEnd::Device)
-    }
-}
-
-/// Writes a history to the file of its tenant's name in the folder. At a fault the file is removed, since a part of
-/// a history would pass for a whole one.
-fn dump_history<R: Files>(
-    rt: &R,
-    alloc: Global,
-    folder: &str,
-    config: &TenantConfig,
-    history: &[Entry],
-) -> Result<(), ServerEnd> {
-    let name = config.tenant().name;
-    let path = format!(in alloc; "{folder}/{}.jsonl", name.as_str())?;
-    let Ok(mut file) = File::create(rt, path.as_str()) else {
-        return Err(ServerEnd::Device);
-    };
-    let Err(fault) = write_dump(alloc, &mut file, config, history) else {
-        return Ok(());
-    };
-    // The end is the same if it can't be removed.
-    let _ = fs::remove_file(rt, path.as_str());
-    match fault {
-        DumpFault::Memory => Err(ServerEnd::Memory),
-        DumpFault::Device | DumpFault::NoEntry => Err(ServerEnd::Device),
     }
 }
 

@@ -8,9 +8,12 @@ ghost use Rattle.server_words.specs.Commands.{IsServerCommand};
 use clap::error::ErrorKind;
 use clap::{Arg, ArgAction, ArgMatches, Command};
 use std::alloc::{AllocError, Global};
+use thiserror::Error as DeriveError;
 
 /// How many connections a server may serve; it serves at least one.
 pub const MAX_CONNECTIONS: u8 = 64;
+
+const _: () = prove!(MAX_CONNECTIONS == 64);
 
 /// What the server is called with.
 #[derive(Clone, Copy, Debug, PartialEq, Eq)]
@@ -26,11 +29,11 @@ pub struct Words<'a> {
 }
 
 /// Why words are not read.
-#[derive(Clone, Copy, Debug, PartialEq, Eq)]
+#[derive(Clone, Copy, Debug, PartialEq, Eq, DeriveError)]
 pub enum WordsFault {
-    /// They are not words that the server is called with.
+    #[error("these are not words that the server is called with")]
     Words,
-    /// An allocation failed.
+    #[error("an allocation failed")]
     Memory,
 }
 
@@ -65,7 +68,8 @@ fn matches_in<'a>(alloc: Global, words: &'a [&'a str]) -> Result<ArgMatches<'a>,
 }
 
 fn fault_of(kind: ErrorKind) -> WordsFault
-    ensures { result ≡ WordsFault.Words → kind ≢ ErrorKind.OutOfMemory }
+    ensures words { result ≡ WordsFault.Words → kind ≢ ErrorKind.OutOfMemory }
+    ensures memory { result ≡ WordsFault.Memory → kind ≡ ErrorKind.OutOfMemory }
 {
     match kind {
         ErrorKind::OutOfMemory => WordsFault::Memory,

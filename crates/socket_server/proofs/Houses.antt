@@ -5,6 +5,7 @@ use Rattle.std.specs.List.{enumerate_from}
 use Rattle.std.proofs.lemmas.Bool.Decides.{eqb_tells}
 use Rattle.std.proofs.lemmas.List.{length-map}
 use Rattle.std.proofs.lemmas.List.FromFn.{length-enumerate_from}
+use Rattle.job_language.specs.Configuration.{names_of}
 use Rattle.job_language.specs.Tenant.{IsValidTenant}
 use Rattle.job_language.specs.declared.steps.Entry.{Entry}
 use Rattle.job_language.specs.declared.tenants.TheConstants.{MAX_SLOTS}
@@ -31,6 +32,10 @@ pub valid_from : (seats n : ℕ) (ts : List Tenant) → All IsValidTenant ts →
 valid_from seats n [] valid k d low = absurd (omega (arith, low))
 valid_from seats n (t ∷ ts) valid zero d low = valid 0 t (omega arith)
 valid_from seats n (t ∷ ts) valid (suc k) d low = valid_from seats (n + 1) ts (λ j e below. valid (suc j) e (omega (arith, below))) k d (omega (arith, low))
+
+pub names_from : (seats n : ℕ) (ts : List Tenant) → map (λ (d : DoorData). d.config.name) (map (door_of seats) (enumerate_from n ts)) ≡ names_of ts
+names_from seats n [] = refl
+names_from seats n (t ∷ ts) = ap (λ rest. t.name ∷ rest) (names_from seats (n + 1) ts)
 
 pub length_doors : (seats n : ℕ) (ts : List Tenant) → length (map (door_of seats) (enumerate_from n ts)) ≡ length ts
 length_doors seats n ts = length-map (enumerate_from n ts) (door_of seats) ∙ length-enumerate_from n ts

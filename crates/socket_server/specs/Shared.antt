@@ -1,5 +1,5 @@
 -- What all threads of a server share.
-use Rattle.std.specs.Prelude.{ℕ, ◌≡◌, List, length, All}
+use Rattle.std.specs.Prelude.{ℕ, ◌≡◌, List, length, map, All}
 use Rattle.job_language.specs.Tenant.{IsValidTenant}
 use Rattle.call_queues.specs.Queues.{QueuesSeen, QueueSet, PassSeen}
 use Rattle.tenant_lock.specs.Doors.{DoorData}
@@ -11,11 +11,12 @@ pub record SharedSeen : Type 0 where
   pub names : List (List ℕ)
   pub queues : QueuesSeen
 
--- The doors are numbered, each is of a valid tenant, and there is a level of the queues for each.
+-- The doors are numbered, each is of a valid tenant, and there is a level of the queues for each. The names are the tenants' own, in order.
 pub record IsShared (h : SharedSeen) : Type 0 where
   pub doors : AreNumbered h.doors
   pub tenants : All (λ (d : DoorData). IsValidTenant d.config) h.doors
   pub levels : length h.queues.config ≡ length h.doors
+  pub names : h.names ≡ map (λ (d : DoorData). d.config.name) h.doors
 
 -- All passes are of these queues.
 abbrev pub ArePassesOf : QueueSet → List PassSeen → Type 0

@@ -11,6 +11,8 @@ use world_script::config_in;
 /// How many bytes the file of a configuration may have.
 pub const MAX_CONFIG: usize = 1_048_576;
 
+const _: () = prove!(MAX_CONFIG == 1_048_576);
+
 /// The configuration that a file holds.
 pub fn config_of(alloc: Global, bytes: &[u8]) -> Result<Config, ServerEnd>
     ensures config { IfOk result (λ config. config_in bytes.now ≡ Some config) }

@@ -102,6 +102,13 @@ impl House {
         doors
     }
 
+    /// Wakes all that wait for a tenant, each to look whether to go on.
+    pub(crate) fn wake<R: Wait>(&self, rt: &R) {
+        for door in &self.doors {
+            door.wake(rt);
+        }
+    }
+
     /// Tells all that wait, for a tenant or for a call, to stop.
     pub fn stop<R: Wait>(&self, rt: &R) {
         for door in &self.doors {

@@ -4,14 +4,19 @@
 
 mod closing;
 mod configs;
+mod connections;
+mod endpoint;
 mod ends;
 mod house;
 mod posts;
+mod reception;
 mod serving;
 mod sessions;
 mod starting;
+mod watching;
 
 pub use configs::{MAX_CONFIG, config_of};
+pub use endpoint::Endpoint;
 pub use ends::ServerEnd;
 pub use house::{House, Opened};
 pub use serving::{Served, serve_connections};

@@ -6,21 +6,24 @@ use session_core::serve;
 use std::alloc::Global;
 use std::io::{Read, Write};
 use std::sync::Wait;
+use tenant_lock::StopFlag;
 use tenant_record::Seat;
 use tenant_slots::TenantSlots;
 use worker_main::{NoGate, Ringer, worker};
 
-/// Serves one client, and gives the seats back, however its session ended.
+/// Serves one client, and gives the seats back, however its session ended. It waits for nothing once the flag is
+/// raised.
 pub(crate) fn serve_client<R: Wait, I: Read, O: Write>(
     rt: &R,
     alloc: Global,
     client: Client<'_>,
+    is_gone: &StopFlag,
     reader: &mut I,
     writer: &mut O,
 ) -> Vec<Seat> {
     let Client { post, seats } = client;
     let Post { house, pass } = post;
-    let slots = TenantSlots::new(rt, house.doors.as_slice());
+    let slots = TenantSlots::new(rt, house.doors.as_slice(), is_gone);
     let ringer = Ringer::new(rt, &house.bell, &house.queues, pass);
     let mut doors = LockedDoors::new(slots, ringer, house.names.as_slice(), seats);
     let _end = serve(alloc, reader, writer, &mut doors);
@@ -31,6 +34,8 @@ pub(crate) fn serve_client<R: Wait, I: Read, O: Write>(
 /// Serves calls until the house tells to stop.
 pub(crate) fn serve_calls<R: Wait>(rt: &R, post: Post<'_>) {
     let Post { house, pass } = post;
-    let slots = TenantSlots::new(rt, house.doors.as_slice());
+    // A worker stops with the house.
+    let never = StopFlag::new();
+    let slots = TenantSlots::new(rt, house.doors.as_slice(), &never);
     let _served = worker(rt, &house.queues, pass, slots, &house.bell, &NoGate);
 }

@@ -1,17 +1,22 @@
 // The tenant's door: the calls that take the lock.
-ghost use Rattle.std.specs.Prelude.{ℕ, ◌≡◌, ◌≤◌, not, IfOk, IfErr, IfSome};
+ghost use Rattle.std.specs.Prelude.{ℕ, ◌≡◌, ◌≤◌, not, IfOk, IfErr, IfSome, Some};
 ghost use Rattle.std.specs.Option.{is_some};
 ghost use Rattle.job_language.specs.Recorded.{is_entry};
 ghost use Rattle.tenant_model.specs.Told.{placed_on};
 ghost use Rattle.tenant_model.specs.declared.rows.TheConstants.{MAX_HEIGHT};
 ghost use Rattle.tenant_record.specs.PassData.{GoesWith, goes_home};
 ghost use Rattle.tenant_record.specs.SeatData.{asked, first_seats};
-ghost use Rattle.tenant_lock.specs.Closing.{Closes, IsRefused};
+ghost use Rattle.tenant_record.specs.Cell.{IsRight};
+ghost use Rattle.tenant_lock.specs.Closing.{Agree, Closes, IsFault, IsRefused};
 ghost use Rattle.tenant_lock.specs.Doors.{Carries, ComesWith};
+ghost use Rattle.std.specs.Prelude.{IsSome};
+ghost use Rattle.job_language.specs.Brought.{job_of};
+ghost use Rattle.job_language.specs.declared.errors.Error.TheVariants.{NoMemory};
 
 use crate::closing::fault_of;
 use crate::faults::CloseFault;
 use crate::held::Held;
+use crate::stop_flag::StopFlag;
 use job_language::{Answer, Entry, Reply, Request, TenantConfig};
 use job_step::{Segment, View};
 use std::alloc::{AllocError, Global};
@@ -95,6 +100,7 @@ impl TenantDoor {
     pub fn ask<R: Wait>(&self, rt: &R, seat: &mut Seat, request: Request) -> Asked
         requires { seat.old.tenant ≡ self.now.tenant }
         ensures seat { seat.new ≡ asked seat.old request result.reply }
+        ensures memory { result.reply ≡ Reply.Refused NoMemory → IsSome (job_of request) }
         ensures placed { GoesWith self.now.tenant (placed_on result.reply) result.pass }
         ensures pending { result.reply ≡ Reply.Pending → (job : ℕ) × (request ≡ Request.Collect job) }
     {
@@ -174,22 +180,43 @@ impl TenantDoor {
     pub fn pause<R: Wait>(&self, rt: &R, pass: &Pass) -> bool
         requires { pass.now.tenant ≡ self.now.tenant }
     {
+        self.pause_until(rt, pass, &StopFlag::new())
+    }
+
+    /// As `pause`, and it also stops at a flag that is raised.
+    pub fn pause_until<R: Wait>(&self, rt: &R, pass: &Pass, stop: &StopFlag) -> bool
+        requires { pass.now.tenant ≡ self.now.tenant }
+    {
         let still = pass.still();
-        let held = self
-            .changed
-            .wait_while(rt, self.held.lock(rt), |held| held.is_idle_since(still));
-        held.is_over()
+        let held = self.changed.wait_while(rt, self.held.lock(rt), |held| {
+            !stop.is_raised() && held.is_idle_since(still)
+        });
+        stop.is_raised() || held.is_over()
     }
 
     /// Waits while a job has no outcome and the history is not full. It says whether those who wait
     /// were told to stop.
-    pub fn pause_for<R: Wait>(&self, rt: &R, _seat: &Seat, job: u64) -> bool
+    pub fn pause_for<R: Wait>(&self, rt: &R, seat: &Seat, job: u64) -> bool
+        requires { seat.now.tenant ≡ self.now.tenant }
+    {
+        self.pause_for_until(rt, seat, job, &StopFlag::new())
+    }
+
+    /// As `pause_for`, and it also stops at a flag that is raised.
+    pub fn pause_for_until<R: Wait>(&self, rt: &R, _seat: &Seat, job: u64, stop: &StopFlag) -> bool
         requires { _seat.now.tenant ≡ self.now.tenant }
     {
-        let held = self
-            .changed
-            .wait_while(rt, self.held.lock(rt), |held| held.is_job_open(job));
-        held.is_stopped
+        let held = self.changed.wait_while(rt, self.held.lock(rt), |held| {
+            !stop.is_raised() && held.is_job_open(job)
+        });
+        stop.is_raised() || held.is_stopped
+    }
+
+    /// Wakes all that wait, each to look whether to go on.
+    pub fn wake<R: Wait>(&self, rt: &R) {
+        // Who looked at its flag before that was raised waits by now, since it looks under the lock.
+        let _held = self.held.lock(rt);
+        self.changed.notify_all();
     }
 
     /// Tells all that wait to stop, from now on.
@@ -224,8 +251,10 @@ fn close(
     config: &TenantConfig,
     count: usize,
 ) -> Result<Closed, CloseFault>
-    ensures closed { IfOk result (λ closed. Closes (record { tenant = tenant; config = config.now; seats = count }) seats.now closed.history.items) }
-    ensures refused { IfErr result (λ fault. IsRefused (record { tenant = tenant; config = config.now; seats = count }) seats.now fault) }
+    ensures right { IsRight cell }
+    ensures agree { IfOk result (λ closed. Agree cell seats.now (record { tenant = tenant; config = config.now; seats = count })) }
+    ensures history { IfOk result (λ closed. closed.history.items ≡ cell.history) }
+    ensures refused { IfErr result (λ fault. IsFault cell seats.now (record { tenant = tenant; config = config.now; seats = count }) (Some fault)) }
 {
     // Proof hint: the cell is right.
     let _ = cell.history();

@@ -1,11 +1,17 @@
 // What a tenant's lock keeps, and the calls to which it is lent.
-ghost use Rattle.std.specs.Prelude.{ℕ, ◌≡◌, ◌≤◌, ◌==◌, ◌||◌, ◌&&◌, not, IfSome, Some, length, nat_lt, nat_le};
+ghost use Rattle.std.specs.Prelude.{ℕ, ◌≡◌, ◌≢◌, ◌≤◌, ◌||◌, not, true, false, IfSome, Some, length, nat_le};
 ghost use Rattle.std.specs.Option.{is_some};
 ghost use Rattle.job_language.specs.declared.answers.Moved.{Moved};
 ghost use Rattle.tenant_model.specs.Told.{placed_on};
-ghost use Rattle.tenant_record.specs.PassData.{GoesWith, goes_home};
+ghost use Rattle.tenant_record.specs.PassData.{GoesWith, goes_home, has_room};
 ghost use Rattle.tenant_record.specs.SeatData.{asked};
-ghost use Rattle.tenant_lock.specs.Doors.{Carries, ComesWith};
+ghost use Rattle.tenant_record.specs.Cell.{AnswersAsk, arrival, state_of};
+ghost use Rattle.tenant_record.specs.Locked.{IsMoved, IsArrived, IsAsked, given_home};
+ghost use Rattle.arena_steps.specs.Within.{advance_within};
+ghost use Rattle.arena_core.specs.Views.{Commits};
+ghost use Rattle.tenant_lock.specs.Doors.{Carries, ComesWith, has_slot_of};
+ghost use Rattle.std.specs.Prelude.{IsSome};
+ghost use Rattle.job_language.specs.Brought.{job_of};
 
 use job_language::{Came, Error, Moved, Reply, Request, Status};
 use job_step::Segment;
@@ -28,14 +34,20 @@ impl Held {
     }
 
     /// Answers an ask of a seat of the tenant of that number.
+    #[tactic(auto, using(crate::proofs::Asking::memory_of))]
     pub(crate) fn ask(&mut self, tenant: usize, seat: &mut Seat, request: Request) -> Asked
         ensures seat { seat.new ≡ asked seat.old request result.reply }
+        ensures memory { result.reply ≡ Reply.Refused Error.NoMemory → IsSome (job_of request) }
         ensures placed { GoesWith tenant (placed_on result.reply) result.pass }
         ensures pending { result.reply ≡ Reply.Pending → (job : ℕ) × (request ≡ Request.Collect job) }
+        ensures answer { self.old.cell.tenant ≡ tenant → AnswersAsk self.old.cell seat.old request result.reply self.new.cell }
+        ensures asked { self.old.cell.tenant ≡ tenant → IsAsked self.old.cell seat.old request result.reply result.due result.pass self.new.cell seat.new }
+        ensures kept { self.old.cell.tenant ≢ tenant → self.new ≡ self.old }
+        ensures stopped { self.new.is_stopped ≡ self.old.is_stopped }
     {
         if self.cell.tenant() != tenant {
             return Asked {
-                reply: Reply::Refused(Error::NoMemory),
+                reply: Reply::Refused(Error::NoTenant),
                 due: None,
                 pass: None,
             };
@@ -45,7 +57,11 @@ impl Held {
 
     /// Lets a worker arrive at the slot of a call, if that is of the tenant of that number.
     pub(crate) fn arrive(&mut self, tenant: usize, call: Call) -> Arrived
-        ensures { ComesWith tenant call.slot result.came result.pass }
+        ensures comes { ComesWith tenant call.slot result.came result.pass }
+        ensures answer { call.tenant ≡ tenant → self.old.cell.tenant ≡ tenant → result.came ≡ (arrival self.old.cell call.slot).0 }
+        ensures arrived { call.tenant ≡ tenant → self.old.cell.tenant ≡ tenant → IsArrived self.old.cell call.slot result.came result.due result.pass self.new.cell }
+        ensures elsewhere { call.tenant ≢ tenant → self.new ≡ self.old }
+        ensures stopped { self.new.is_stopped ≡ self.old.is_stopped }
     {
         if call.tenant != tenant || self.cell.tenant() != tenant {
             return Arrived {
@@ -61,6 +77,10 @@ impl Held {
     pub(crate) fn advance(&mut self, pass: Pass) -> Advanced
         ensures carries { IfSome result.pass (λ q. Carries pass result.moved q) }
         ensures home { is_some result.pass ≡ not (goes_home result.moved) }
+        ensures answer { has_slot_of self.old.cell pass ≡ true → result.moved ≡ (advance_within (has_room pass) (state_of self.old.cell) pass.slot).0 }
+        ensures moved { has_slot_of self.old.cell pass ≡ true → IsMoved self.old.cell pass result.moved result.due result.pass self.new.cell }
+        ensures kept { has_slot_of self.old.cell pass ≡ false → self.new ≡ self.old }
+        ensures stopped { self.new.is_stopped ≡ self.old.is_stopped }
     {
         if !self.has_slot_of(&pass) {
             return stale(pass);
@@ -72,6 +92,10 @@ impl Held {
     pub(crate) fn commit(&mut self, pass: Pass, segment: Segment) -> Advanced
         ensures carries { IfSome result.pass (λ q. Carries pass result.moved q) }
         ensures home { is_some result.pass ≡ not (goes_home result.moved) }
+        ensures answer { has_slot_of self.old.cell pass ≡ true → Commits (has_room pass) (state_of self.old.cell) pass.slot segment result.moved (state_of self.new.cell) }
+        ensures moved { has_slot_of self.old.cell pass ≡ true → IsMoved self.old.cell pass result.moved result.due result.pass self.new.cell }
+        ensures kept { has_slot_of self.old.cell pass ≡ false → self.new ≡ self.old }
+        ensures stopped { self.new.is_stopped ≡ self.old.is_stopped }
     {
         if !self.has_slot_of(&pass) {
             return stale(pass);
@@ -80,7 +104,11 @@ impl Held {
     }
 
     /// Puts a pass home, if its slot is one of the cell's.
-    pub(crate) fn give_home(&mut self, pass: Pass) {
+    pub(crate) fn give_home(&mut self, pass: Pass)
+        ensures home { has_slot_of self.old.cell pass ≡ true → self.new.cell ≡ given_home self.old.cell pass }
+        ensures kept { has_slot_of self.old.cell pass ≡ false → self.new ≡ self.old }
+        ensures stopped { self.new.is_stopped ≡ self.old.is_stopped }
+    {
         if self.has_slot_of(&pass) {
             self.cell.give_home(pass);
         }
@@ -88,7 +116,7 @@ impl Held {
 
     /// Whether the slot of a pass is one of the cell's.
     fn has_slot_of(&self, pass: &Pass) -> bool
-        ensures { result ≡ ((pass.now.tenant == self.now.cell.tenant) && nat_lt pass.now.slot self.now.cell.config.slots) }
+        ensures { result ≡ has_slot_of self.now.cell pass.now }
     {
         pass.tenant() == self.cell.tenant() && pass.slot() < self.cell.config().slots
     }

@@ -6,8 +6,10 @@ mod doors;
 mod faults;
 mod held;
 mod seat_logs;
+mod stop_flag;
 
 pub use closing::fault_of;
 pub use doors::{Closed, TenantDoor};
 pub use faults::CloseFault;
 pub use seat_logs::is_seat_log;
+pub use stop_flag::StopFlag;

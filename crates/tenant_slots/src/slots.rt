@@ -8,7 +8,7 @@ use job_language::{Came, Moved, Reply, Request};
 use job_step::{Segment, View};
 use std::marker::Model;
 use std::sync::Wait;
-use tenant_lock::TenantDoor;
+use tenant_lock::{StopFlag, TenantDoor};
 use tenant_record::{Pass, Seat};
 use world_model::Call;
 
@@ -17,6 +17,7 @@ use world_model::Call;
 pub struct TenantSlots<'d, R: Wait> {
     rt: &'d R,
     doors: &'d [TenantDoor],
+    stop: &'d StopFlag,
     pass: Option<Pass>,
 }
 
@@ -31,14 +32,16 @@ impl<'d, R: Wait> Model for TenantSlots<'d, R> {
 }
 
 impl<'d, R: Wait> TenantSlots<'d, R> {
-    /// A thread that is at no slot. The doors are those of tenants 0, 1 and so on.
-    pub fn new(rt: &'d R, doors: &'d [TenantDoor]) -> Self
+    /// A thread that is at no slot. The doors are those of tenants 0, 1 and so on. Where it waits it stops once the
+    /// flag is raised.
+    pub fn new(rt: &'d R, doors: &'d [TenantDoor], stop: &'d StopFlag) -> Self
         requires { AreNumbered doors.now }
         ensures { result ≡ record { doors = doors.now; pass = None } }
     {
         TenantSlots {
             rt,
             doors,
+            stop,
             pass: None,
         }
     }
@@ -64,7 +67,7 @@ impl<'d, R: Wait> TenantSlots<'d, R> {
         requires { seat.now.tenant < length self.now.doors }
     {
         let doors = self.doors;
-        doors[seat.tenant()].pause_for(self.rt, seat, job)
+        doors[seat.tenant()].pause_for_until(self.rt, seat, job, self.stop)
     }
 
     /// The tenant whose slot it is at.
@@ -100,7 +103,7 @@ impl<'d, R: Wait> TenantSlots<'d, R> {
         ensures { Pauses self.now result self.now }
     {
         match &self.pass {
-            Some(pass) => self.doors[pass.tenant()].pause(self.rt, pass),
+            Some(pass) => self.doors[pass.tenant()].pause_until(self.rt, pass, self.stop),
             None => true,
         }
     }

@@ -10,6 +10,7 @@ use std::marker::Model;
 use std::sync::Wait;
 use std::thread::Threads;
 use std::{slice, thread};
+use tenant_lock::StopFlag;
 use tenant_record::Seat;
 use tenant_slots::TenantSlots;
 use worker_main::{Gate, NoGate, Ringer, SlotDoor, worker};
@@ -71,7 +72,8 @@ impl Post<'_> {
         ensures { seat.new.tenant ≡ 0 }
     {
         let Post { shared, pass } = self;
-        let mut slots = TenantSlots::new(rt, slice::from_ref(shared.door));
+        let stop = StopFlag::new();
+        let mut slots = TenantSlots::new(rt, slice::from_ref(shared.door), &stop);
         let (_reply, due) = slots.ask(seat, Request::Execute(job));
         let mut ringer = Ringer::new(rt, &shared.bell, &shared.queues, pass);
         ringer.call_due(due);
@@ -87,7 +89,8 @@ impl Post<'_> {
     {
         let Post { shared, pass } = self;
         let (first, second) = jobs;
-        let mut slots = TenantSlots::new(rt, slice::from_ref(shared.door));
+        let stop = StopFlag::new();
+        let mut slots = TenantSlots::new(rt, slice::from_ref(shared.door), &stop);
         let mut ringer = Ringer::new(rt, &shared.bell, &shared.queues, pass);
         let (_reply, due) = slots.ask(seat, Request::Submit(first));
         ringer.call_due(due);
@@ -99,7 +102,8 @@ impl Post<'_> {
 /// Serves calls until the bell tells to stop.
 fn serve<R: Wait, G: Gate>(rt: &R, post: Post<'_>, gate: &G) {
     let Post { shared, pass } = post;
-    let slots = TenantSlots::new(rt, slice::from_ref(shared.door));
+    let stop = StopFlag::new();
+    let slots = TenantSlots::new(rt, slice::from_ref(shared.door), &stop);
     let _served = worker(rt, &shared.queues, pass, slots, &shared.bell, gate);
 }
 

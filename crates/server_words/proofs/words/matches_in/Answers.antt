@@ -12,7 +12,7 @@ only_if false no_more = refl
 
 pub returns-in-Err-clause-refused : goal.returns-in-Err-clause-refused
 returns-in-Err-clause-refused c refused =
-    only_if _ (λ taken. c.fault_of.ensures (search rules)
+    only_if _ (λ taken. c.fault_of.ensures.words (search rules)
     (c.kind.ensures ∙ c.in-Err.ensures.passes (ap (λ (a : App). takes a (map (λ word. word.now) c.args.words.now)) c.in_ok-command.ensures ∙ taken)))
 
 pub returns-in-Ok-clause-options : goal.returns-in-Ok-clause-options

@@ -1,11 +1,12 @@
 use Rattle.std.proofs.Common.{◌≡◌, length, sym, ◌∙◌, ap, subst, arith}
-use Rattle.std.specs.Prelude.{All}
+use Rattle.std.specs.Prelude.{All, map}
 use Rattle.std.proofs.lemmas.List.{length-map}
 use Rattle.job_language.specs.Tenant.{IsValidTenant}
 use Rattle.tenant_lock.specs.Doors.{DoorData}
 use Rattle.tenant_slots.specs.Seen.{AreNumbered}
 use Rattle.socket_server.specs.Houses.{doors_of}
-use Rattle.socket_server.proofs.Houses.{length_doors, numbered_from, valid_from}
+use Rattle.socket_server.proofs.Houses.{length_doors, names_from, numbered_from, valid_from}
+use Rattle.job_language.specs.Configuration.{names_of}
 use Rattle.socket_server.proofs.house.House.open.Goals as goal
 
 pub invariant_of-house : goal.invariant_of-house
@@ -15,5 +16,6 @@ invariant_of-house c =
     record {
       doors = subst AreNumbered (sym doors) (λ k d low. let it = numbered_from c.from.result 0 tenants k d low in omega (arith, it));
       tenants = subst (All (λ (d : DoorData). IsValidTenant d.config)) (sym doors) (valid_from c.from.result 0 tenants c.tenants-tenants.ensures.valid.each);
+      names = c.in_ok-names.ensures ∙ ap names_of c.tenants-tenants.ensures.value ∙ sym (ap (map (λ (d : DoorData). d.config.name)) doors ∙ names_from c.from.result 0 tenants);
       levels = ap length c.in_ok-queues.ensures.queues.0 ∙ ap length c.in_ok-market.ensures ∙ length-map tenants _ ∙ sym (ap length doors ∙ length_doors c.from.result 0 tenants);
     }

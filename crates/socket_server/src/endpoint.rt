@@ -1,0 +1,86 @@
+// The socket of a server, and its file.
+
+use crate::ends::ServerEnd;
+use std::alloc::Global;
+use std::fs::{DirBuilder, Files, Permissions};
+use std::io::ErrorKind;
+use std::net::Net;
+use std::os::unix::fs::{DirBuilderExt, MetadataExt, PermissionsExt};
+use std::os::unix::net::UnixListener;
+use std::{fs, io};
+
+/// A socket that its owner alone may connect to, and the file at which it is found.
+#[derive(Drop)]
+pub struct Endpoint<'p> {
+    pub(crate) listener: UnixListener,
+    path: &'p str,
+    /// The file that was made: the device that it is on, and its number there.
+    device: u64,
+    inode: u64,
+}
+
+impl<'p> Endpoint<'p> {
+    /// Listens at a path where there is nothing yet. The socket is made in a folder of its own, which its owner alone
+    /// may enter, and stands at the path once its mode is set. `Device` if one of the steps fails, and then nothing
+    /// is left behind.
+    pub fn bind<R: Files + Net>(
+        rt: &R,
+        alloc: Global,
+        path: &'p str,
+    ) -> Result<Endpoint<'p>, ServerEnd> {
+        let folder = format!(in alloc; "{path}.d")?;
+        let made = format!(in alloc; "{path}.d/s")?;
+        let bound = bind_within(rt, folder.as_str(), made.as_str(), path);
+        // They are there, unless a step before has failed.
+        let _ = fs::remove_file(rt, made.as_str());
+        let _ = fs::remove_dir(rt, folder.as_str());
+        let Ok(listener) = bound else {
+            return Err(ServerEnd::Device);
+        };
+        let Ok(file) = fs::symlink_metadata(rt, path) else {
+            let _ = fs::remove_file(rt, path);
+            return Err(ServerEnd::Device);
+        };
+        Ok(Endpoint {
+            listener,
+            path,
+            device: file.dev(),
+            inode: file.ino(),
+        })
+    }
+
+    /// Whether the path leads to this socket, as far as that can be known.
+    pub fn is_there<R: Files>(&self, rt: &R) -> bool {
+        match fs::symlink_metadata(rt, self.path) {
+            Ok(file) => file.dev() == self.device && file.ino() == self.inode,
+            Err(fault) => !matches!(fault.kind(), ErrorKind::NotFound | ErrorKind::NotADirectory),
+        }
+    }
+
+    /// Removes the socket's file. What else is at the path by now stays.
+    pub fn remove<R: Files>(&self, rt: &R) {
+        if self.is_there(rt) {
+            // Somebody else may remove it first.
+            let _ = fs::remove_file(rt, self.path);
+        }
+    }
+}
+
+/// Makes a socket in a new folder, and lets the path lead to it too.
+fn bind_within<R: Files + Net>(
+    rt: &R,
+    folder: &str,
+    made: &str,
+    path: &str,
+) -> io::Result<UnixListener> {
+    // A server that was killed as it started may have left them.
+    let _ = fs::remove_file(rt, made);
+    let _ = fs::remove_dir(rt, folder);
+    DirBuilder::new().mode(0o700).create(rt, folder)?;
+    let listener = UnixListener::bind(rt, made)?;
+    fs::set_permissions(rt, made, Permissions::from_mode(0o600))?;
+    listener.set_nonblocking(true)?;
+    // Unlike a rename, it fails if there is something at the path.
+    fs::hard_link(rt, made, path)?;
+    Ok(listener)
+}

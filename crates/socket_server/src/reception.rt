@@ -1,0 +1,194 @@
+// The thread that accepts connections, and looks after them until their sessions have ended.
+
+use crate::connections::Connection;
+use crate::endpoint::Endpoint;
+use crate::ends::ServerEnd;
+use crate::house::House;
+use crate::posts::{Client, Posts};
+use crate::watching::Watch;
+use std::alloc::{AllocError, Global};
+use std::fs::Files;
+use std::io::ErrorKind;
+use std::os::unix::net::UnixStream;
+use std::sync::{Arc, Wait};
+use tenant_record::Seat;
+
+/// How many quiet ticks a client has to take a reply once the server stops.
+const PATIENCE: u8 = 4;
+
+/// A connection that was accepted, for its session's thread.
+#[derive(Drop)]
+pub(crate) struct Admitted<'h> {
+    pub(crate) client: Client<'h>,
+    pub(crate) connection: Arc<Connection>,
+}
+
+/// What the thread that accepts has: the posts and seats that no session took, and the connections so far.
+#[derive(Drop)]
+pub(crate) struct Reception<'h> {
+    posts: Posts<'h>,
+    seats: Vec<Seat>,
+    watch: Watch,
+    accepted: Vec<Arc<Connection>>,
+    /// How many connections are still to be accepted.
+    left: u8,
+    /// The first fault.
+    fault: Option<ServerEnd>,
+    /// Once the server stops: how many quiet ticks are left until it cuts the connections off.
+    patience: Option<u8>,
+}
+
+impl<'h> Reception<'h> {
+    pub(crate) fn new(
+        alloc: Global,
+        posts: Posts<'h>,
+        seats: Vec<Seat>,
+        watch: Watch,
+        connections: u8,
+    ) -> Self {
+        Reception {
+            posts,
+            seats,
+            watch,
+            accepted: Vec::new(alloc),
+            left: connections,
+            fault: None,
+            patience: None,
+        }
+    }
+
+    /// How many connections are still to be accepted.
+    pub(crate) fn left(&self) -> u8 {
+        self.left
+    }
+
+    /// Accepts a connection, if one waits and one is still to be accepted.
+    pub(crate) fn admit(&mut self, alloc: Global, endpoint: &Endpoint<'_>) -> Option<Admitted<'h>> {
+        let left = self.left.checked_sub(1)?;
+        match endpoint.listener.accept() {
+            Ok((stream, _address)) => match self.admit_stream(alloc, stream) {
+                Ok(Some(admitted)) => {
+                    self.left = left;
+                    return Some(admitted);
+                }
+                Ok(None) => self.fail(ServerEnd::Device),
+                Err(_) => self.fail(ServerEnd::Memory),
+            },
+            Err(fault) => match fault.kind() {
+                ErrorKind::WouldBlock | ErrorKind::Interrupted => {}
+                _ => self.fail(ServerEnd::Device),
+            },
+        }
+        None
+    }
+
+    /// A connection with a post and a seat of each tenant. None if one is missing, or it can't be watched. The seats
+    /// come last, so that none is lost.
+    fn admit_stream(
+        &mut self,
+        alloc: Global,
+        stream: UnixStream,
+    ) -> Result<Option<Admitted<'h>>, AllocError> {
+        let connection = Arc::new(alloc, Connection::new(stream))?;
+        if self.watch.add(&connection, self.accepted.len()).is_err() {
+            return Ok(None);
+        }
+        self.accepted.push(Arc::try_clone(&connection)?)?;
+        let client = match self.posts.next_client(alloc, &mut self.seats) {
+            Ok(Some(client)) => client,
+            Ok(None) => {
+                connection.end();
+                return Ok(None);
+            }
+            Err(fault) => {
+                connection.end();
+                return Err(fault);
+            }
+        };
+        Ok(Some(Admitted { client, connection }))
+    }
+
+    /// Notes a fault, if it is the first.
+    pub(crate) fn note(&mut self, fault: ServerEnd) {
+        self.fault = self.fault.or(Some(fault));
+    }
+
+    /// Accepts no more connections, for a fault.
+    fn fail(&mut self, fault: ServerEnd) {
+        self.note(fault);
+        self.left = 0;
+    }
+
+    /// The last connection has no thread: it ends, and no more are accepted.
+    pub(crate) fn lose_last(&mut self) {
+        if let Some(connection) = self.accepted.last() {
+            connection.end();
+        }
+        self.fail(ServerEnd::Device);
+    }
+
+    /// Whether no connection is still to be accepted, and all sessions have ended.
+    pub(crate) fn is_over(&self) -> bool {
+        self.left == 0 && self.accepted.iter().all(|connection| connection.is_over())
+    }
+
+    /// Waits until something happens, for a tick at most. Sessions whose clients have gone stop waiting; and if the
+    /// socket's file is gone, the server stops.
+    pub(crate) fn attend<R: Files + Wait>(
+        &mut self,
+        rt: &R,
+        house: &House,
+        endpoint: &Endpoint<'_>,
+    ) {
+        if self.watch.wait().is_err() {
+            self.fail(ServerEnd::Device);
+            self.stop(rt, house);
+        }
+        if self.watch.raise_gone(&self.accepted) {
+            house.wake(rt);
+        }
+        if self.patience.is_none() && !endpoint.is_there(rt) {
+            self.stop(rt, house);
+        }
+        self.lose_patience();
+    }
+
+    /// Stops the server: it accepts no more, nothing waits any more, and no more lines come in.
+    fn stop<R: Wait>(&mut self, rt: &R, house: &House) {
+        self.left = 0;
+        self.patience = self.patience.or(Some(PATIENCE));
+        house.stop(rt);
+        for connection in &self.accepted {
+            connection.end_lines();
+        }
+    }
+
+    /// Cuts off the connections that are left when patience is at its end.
+    fn lose_patience(&mut self) {
+        let Some(patience) = self.patience else {
+            return;
+        };
+        if self.watch.was_quiet() {
+            self.patience = Some(patience.saturating_sub(1));
+        }
+        if patience == 0 {
+            for connection in &self.accepted {
+                connection.cut();
+            }
+        }
+    }
+
+    /// The seats that no session took, and the first fault.
+    pub(crate) fn into_rest(self) -> (Vec<Seat>, Option<ServerEnd>) {
+        let Reception {
+            posts: _posts,
+            seats,
+            watch: _watch,
+            accepted: _accepted,
+            left: _left,
+            fault,
+            patience: _patience,
+        } = self;
+        (seats, fault)
+    }
+}
