@@ -1,5 +1,7 @@
 """Small scripts of one tenant. Each step stands beside the line that it prints; the lines were worked out by
 hand from the rules, and not taken from a run."""
+import json
+
 from script import *
 
 JOBS = worked_jobs()
@@ -118,6 +120,15 @@ INNER_TAKEN = [
 ]
 
 # A name, the tenant, and its steps.
+
+
+def by_arrival(steps):
+    """The same steps where the job is submitted and a worker comes to slot 0, which is free once no row waits."""
+    (execution, _), *rest = steps
+    job = json.loads(execution)["request"]["job"]
+    return [(submit(job), made(1)), (arrive(0), arrived(1)), *((step, RAN if line == FREED else line) for step, line in rest)]
+
+
 ROWS = [
     ("the first job is complete", tenant(1, 0), [
         (submit(FIRST), made(1)),
@@ -172,6 +183,10 @@ ROWS = [
     ("a post is outside the region that makes it, within", tenant(2, 1, isolation="within"), POST_OUTSIDE),
     ("a task of the region runs on another slot", tenant(2, 1), STOLEN_TASK),
     ("a task of the region runs on another slot, within", tenant(2, 1, isolation="within"), STOLEN_TASK),
+    ("an isolated waiter keeps its cell, by arrival", tenant(2, 0), by_arrival(ISOLATED_WAITER)),
+    ("a plain waiter may run a task that overwrites it, by arrival", tenant(2, 0), by_arrival(PLAIN_WAITER)),
+    ("a post is outside the region that makes it, by arrival", tenant(2, 0), by_arrival(POST_OUTSIDE)),
+    ("a task of the region runs on another slot, by arrival", tenant(2, 0), by_arrival(STOLEN_TASK)),
     ("a waiter leaves the rows of an inner region", tenant(2, 0), INNER_LEFT),
     ("a waiter takes the rows of an inner region, within", tenant(2, 0, isolation="within"), INNER_TAKEN),
     ("retired jobs and their cells are gone", tenant(1, 0), [
@@ -255,6 +270,7 @@ OUTCOMES = [
     (STOLEN, 20, complete(1, 9)),
     (CHAIN, 600, complete(1, 7)),
     ({**CHAIN, "args": [128, 7]}, 600, fault(1, 3)),
+    (FIB, 100, complete(1, 8)),
     ({**FIB, "fuel": 172}, 100, complete(1, 8)),
     ({**FIB, "fuel": 171}, 100, fault(1, 2)),
 ]

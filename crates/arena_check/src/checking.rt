@@ -1,5 +1,7 @@
 // Checking a tenant's history by its arena.
-ghost use Rattle.std.specs.Prelude.{◌≡◌, ◌≤◌, ◌↔◌, ℕ, true, IfOk, IsTrue, OnErr, Ok, length, map};
+ghost use Rattle.std.specs.Prelude.{◌≡◌, ◌≤◌, ◌<◌, ◌↔◌, ℕ, true, IfOk, IsTrue, IsSome, OnErr, Ok, length, map, slice_index_or};
+ghost use Rattle.job_language.specs.Brought.{job_of, StepBrings};
+ghost use Rattle.job_language.specs.declared.steps.Entry.{Entry};
 ghost use Rattle.job_language.specs.Recorded.{is_entry};
 ghost use Rattle.tenant_model.specs.Asks.{ask};
 ghost use Rattle.tenant_model.specs.Solo.{answers, step};
@@ -32,6 +34,7 @@ fn check_all(arena: &mut Arena, entries: &[Entry]) -> Result<Verdict, AllocError
     ensures verdict { (s : State) → StandsFor arena.old s → IfOk result (λ verdict. IsVerdictFrom s 1 entries.now verdict) }
     ensures yes { (s : State) → StandsFor arena.old s → result ≡ Ok Verdict.Yes → answers s (map (λ e. e.step) entries.now) ≡ map (λ e. e.answer) entries.now }
     ensures no { (k : ℕ) → result ≡ Ok (Verdict.No k) → (1 ≤ k) × (k ≤ length entries.now) }
+    ensures brings { OnErr result ((k : ℕ) × (k < length entries.now) × ((d : Entry) → StepBrings (slice_index_or entries.now k d).step)) }
 {
     for (index, entry) in entries.iter().enumerate() {
         let answer = take(arena, &entry.step)?;
@@ -54,6 +57,7 @@ fn is_recorded(given: &Answer, recorded: &Answer) -> bool
 fn take(arena: &mut Arena, next: &Step) -> Result<Answer, AllocError>
     ensures ok { (s : State) → StandsFor arena.old s → IfOk result (λ answer. Takes arena.new answer (step s next.now)) }
     ensures err { OnErr result (arena.new ≡ arena.old) }
+    ensures brings { OnErr result (StepBrings next.now) }
 {
     match next {
         Step::Ask(request) => Ok(Answer::Replied(ask(arena, request)?)),
@@ -66,6 +70,7 @@ fn take(arena: &mut Arena, next: &Step) -> Result<Answer, AllocError>
 fn ask(arena: &mut Arena, request: &Request) -> Result<Reply, AllocError>
     ensures ok { (s : State) → StandsFor arena.old s → IfOk result (λ reply. Takes arena.new reply (ask s request.now)) }
     ensures err { OnErr result (arena.new ≡ arena.old) }
+    ensures brings { OnErr result (IsSome (job_of request.now)) }
 {
     Ok(arena.ask(request.try_clone()?))
 }

@@ -10,6 +10,8 @@ use std::io::Read;
 /// How many bytes a line of a script may have, without its newline.
 pub const MAX_SCRIPT_LINE: usize = 1_048_576;
 
+const _: () = prove!(MAX_SCRIPT_LINE == 1_048_576);
+
 /// What reading a line came to.
 #[derive(Clone, Copy, Debug, PartialEq, Eq)]
 pub(crate) enum Input {

@@ -10,6 +10,8 @@ use job_step::{Segment, View};
 /// How many rows may be on a slot.
 pub const MAX_HEIGHT: usize = 128;
 
+const _: () = prove!(MAX_HEIGHT == 128);
+
 /// One activity's way to one slot. Others may act on the slot's tenant between two calls, so what
 /// each call may see and do is a relation that the implementation gives.
 pub trait Door {

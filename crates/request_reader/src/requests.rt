@@ -17,6 +17,8 @@ use std::alloc::Global;
 /// How many bytes the line of a request may have, without its newline.
 pub const MAX_REQUEST: usize = 65_536;
 
+const _: () = prove!(MAX_REQUEST == 65_536);
+
 /// What a value asks for, with the job where it stands.
 #[derive(Drop)]
 enum Shape<'v> {

@@ -10,6 +10,8 @@ use std::marker::Model;
 /// How often a `LineReader` calls `read`.
 pub const MAX_TURNS: u64 = 1_048_576;
 
+const _: () = prove!(MAX_TURNS == 1_048_576);
+
 /// How often a reader may still be called. All calls go by it, and each lowers it by one.
 #[derive(Drop)]
 pub(crate) struct Turns {

@@ -1,5 +1,6 @@
 // The steps of one tenant, with what the market does at each.
-ghost use Rattle.std.specs.Prelude.{◌≡◌, ℕ, List, IfOk, OnErr};
+ghost use Rattle.std.specs.Prelude.{◌≡◌, ℕ, List, IfOk, IsSome, OnErr};
+ghost use Rattle.job_language.specs.Brought.{job_of};
 ghost use Rattle.job_language.specs.declared.steps.Step.TheVariants as step;
 ghost use Rattle.tenant_model.specs.State.{State};
 ghost use Rattle.world_model.specs.Raw as raw;
@@ -34,6 +35,7 @@ pub(crate) fn ask<A: TenantArena>(
 ) -> Result<Answer, AllocError>
     ensures taken { (s : State) (text : List ℕ) → A.stands_for arena.old s → IfOk result (λ answer. IsTaken A.stands_for s (raw.line tenant text) tenant (step.Ask request) market.old answer arena.new market.new) }
     ensures refused { (s : State) → A.stands_for arena.old s → OnErr result (A.stands_for arena.new s) }
+    ensures brings { OnErr result (IsSome (job_of request)) }
     ensures unchanged { OnErr result (market.new ≡ market.old) }
     ensures keeps { KeepsOrder market.old market.new }
 {

@@ -15,6 +15,10 @@ use std::test::Fail;
 const ISOLATED: &str =
     r#"{"args":[0,0],"fuel":1000,"procs":[[["set",2,5],["store",0,2],["isolate",3,1,0,1],["load",5,0],["ret",5]],[["spawn",0,2,0,1],["wait",2,3,0],["ret",2]],[["ret",0]]]}"#;
 
+/// As many procedures as a program may have.
+const LONG: &str =
+    r#"{"args":[7,0],"fuel":10,"procs":[[["ret",0]],[["ret",0]],[["ret",0]],[["ret",0]],[["ret",0]],[["ret",0]],[["ret",0]],[["ret",0]],[["ret",0]],[["ret",0]],[["ret",0]],[["ret",0]],[["ret",0]],[["ret",0]],[["ret",0]],[["ret",0]]]}"#;
+
 /// Executes a job, which is placed on the first slot.
 fn execute(alloc: Global, text: &str, arena: &mut Arena) -> Result<(), Fail> {
     let job = job_of(alloc, text)?;
@@ -132,5 +136,31 @@ fn a_frame_that_is_seen_is_committed_once(rt: HostRuntime) -> Result<(), Fail> {
         &committed_twice(&mut arena),
         &Some((Moved::Ran, Moved::Stale)),
     );
+    Ok(())
+}
+
+/// The answer to a commit of the topmost frame of the first slot, with so much more in its first register.
+fn committed_with(arena: &mut Arena, more: i64) -> Option<Moved> {
+    let View::Top(top) = arena.view(0) else {
+        return None;
+    };
+    let mut top = top;
+    top.frame.registers[0] = top.frame.registers[0].wrapping_add(more);
+    Some(arena.commit(0, &segment_of(top)))
+}
+
+#[test]
+fn a_commit_of_another_frame_is_stale_before_it_is_full(rt: HostRuntime) -> Result<(), Fail> {
+    let mut full = executed(rt.alloc(), FIB, 1, 1)?;
+    let answers = [committed_with(&mut full, 1), committed_with(&mut full, 0)];
+    assert_same(&rt, &answers, &[Some(Moved::Stale), Some(Moved::Full)]);
+    Ok(())
+}
+
+#[test]
+fn a_frame_of_the_longest_program_is_seen(rt: HostRuntime) -> Result<(), Fail> {
+    let arena = executed(rt.alloc(), LONG, 1, 100)?;
+    let is_seen = matches!(arena.view(0), View::Top(_));
+    assert_same(&rt, &is_seen, &true);
     Ok(())
 }

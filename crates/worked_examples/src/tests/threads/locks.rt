@@ -12,7 +12,7 @@ use std::sync::Wait;
 use std::test::Fail;
 use std::thread;
 use std::thread::Threads;
-use tenant_lock::{CloseFault, Closed, TenantDoor};
+use tenant_lock::{CloseFault, Closed, StopFlag, TenantDoor};
 use tenant_record::{Advanced, Pass, Seat};
 use world_model::Call;
 
@@ -286,5 +286,56 @@ fn a_pass_that_is_kept_is_missed(rt: HostRuntime) -> Result<(), Fail> {
     let _pass = submit_and_arrive(&rt, rt.alloc(), &door, seats.as_mut_slice());
     let fault = door.close(seats).err();
     assert_same(&rt, &fault, &Some(CloseFault::PassLost(1)));
+    Ok(())
+}
+
+/// Waits for job 1 by a seat, if that is one of the door's, and says whether the wait was told to stop.
+fn is_stopped<R: Wait>(rt: &R, door: &TenantDoor, seat: &Seat, stop: &StopFlag) -> bool {
+    seat.tenant() == door.tenant() && door.pause_for_until(rt, seat, 1, stop)
+}
+
+/// Waits in one thread, whose flag another one raises.
+fn is_stopped_by_its_flag<R: Threads + Wait + Sync>(
+    rt: &R,
+    door: &TenantDoor,
+    seat: &Seat,
+    stop: &StopFlag,
+) -> bool {
+    let raise = move || {
+        stop.raise();
+        door.wake(rt);
+    };
+    thread::join(rt, move || is_stopped(rt, door, seat, stop), raise).0
+}
+
+/// Waits in one thread, while another one stops the door.
+fn is_stopped_with_all<R: Threads + Wait + Sync>(
+    rt: &R,
+    door: &TenantDoor,
+    seat: &Seat,
+    never: &StopFlag,
+) -> bool {
+    let stop = move || door.stop(rt);
+    thread::join(rt, move || is_stopped(rt, door, seat, never), stop).0
+}
+
+/// Submits the job, which no worker runs, and waits for it twice: what each wait says.
+fn wait_twice<R: Threads + Wait + Sync>(
+    rt: &R,
+    alloc: Global,
+    door: &TenantDoor,
+    seats: &mut [Seat],
+) -> Option<[bool; 2]> {
+    let seat = seats.first_mut()?;
+    let _made = submit(rt, alloc, door, seat);
+    let alone = is_stopped_by_its_flag(rt, door, seat, &StopFlag::new());
+    Some([alone, is_stopped_with_all(rt, door, seat, &StopFlag::new())])
+}
+
+#[test]
+fn a_wait_ends_at_its_flag_and_at_the_doors_stop(rt: HostRuntime) -> Result<(), Fail> {
+    let (door, mut seats) = TenantDoor::new(rt.alloc(), 0, two_slots()?, 1)?;
+    let stopped = wait_twice(&rt, rt.alloc(), &door, seats.as_mut_slice());
+    assert_same(&rt, &stopped, &Some([true, true]));
     Ok(())
 }
