@@ -1,0 +1,324 @@
+#!/usr/bin/env python3
+"""Gives the command each of its subcommands against the server as it was built, and compares what it prints, what it
+says on standard error, and its status. The manual page and the completions must be those that the command makes.
+
+usage: checks/python/commands.py, at the top of the repository.
+"""
+import base64
+import hashlib
+import json
+import os
+import re
+import signal
+import subprocess
+import sys
+import tarfile
+import zipfile
+
+sys.path.insert(0, os.path.abspath("python"))
+
+from serving import (
+    DIVIDES, FIB, INVALID, PACKAGE, PATIENCE, SCRIPT, SEVEN, SPIN, Server, arena_command, arena_process, job, tenant)
+
+STORES = job([["set", 2, 5], ["store", 3, 2], ["ret", 2]])
+SOURCE = """fn fib(n) {
+    if n < 2 { return n }
+    let a = spawn fib(n - 1)
+    let b = spawn fib(n - 2)
+    sync
+    return a + b
+}
+"""
+PARAMETER = "param N = 3\nfn main(x) {\n    return x + N\n}\n"
+
+
+def differs(words, done, status, out, err):
+    """Whether a call ended otherwise than is wanted; `err` must be found in what is said on standard error, or
+    nothing be said."""
+    same = done.stdout == out if isinstance(out, str) else bool(out.fullmatch(done.stdout))
+    said = re.search(err, done.stderr) if err else not done.stderr
+    if same and said and done.returncode == status:
+        return False
+    print(f"arena {' '.join(words)}: status {done.returncode}, not {status}; printed {done.stdout!r}, not {out!r}; "
+          f"said {done.stderr!r}, not {err!r}")
+    return True
+
+
+class Calls:
+    """Calls of the command, with files of theirs, and how many ended otherwise than is wanted."""
+
+    def __init__(self, server):
+        self.server, self.count, self.differ = server, 0, 0
+        self.known = {"ARENA_SOCKET": server.path, "ARENA_TENANT": "acme"}
+
+    def file(self, name, content):
+        """A file with this text, or this JSON."""
+        with open(self.server.file(name), "w") as it:
+            it.write(content if isinstance(content, str) else json.dumps(content))
+        return self.server.file(name)
+
+    def call(self, *words, status=0, out="", err="", stdin="", how=arena_command, **more):
+        """Makes one call, within this process or as one of its own."""
+        self.count += 1
+        self.differ += differs(words, how(*words, stdin=stdin, **{**self.known, **more}), status, out, err)
+
+
+def jobs_are_run(it):
+    seven, fib = it.server.file("seven.json"), it.server.file("fib.json")
+    it.call("run", seven, out="7\n", how=arena_process)
+    it.call("run", seven, "--json", out='{"job":2,"status":"complete","value":7}\n')
+    it.call("run", fib, "--args", "7", "0", "--fuel", "2000", out="13\n")
+    it.call("--json", "run", fib, "--args", "7", out='{"job":4,"status":"complete","value":13}\n')
+    it.call("run", "-", stdin=json.dumps(SEVEN), out="7\n")
+    it.call("run", seven, "--color", "always", out="\x1b[32m7\x1b[0m\n")
+    it.call("run", it.file("divides.json", DIVIDES), status=1, out="job 7: fault 1, division by zero\n")
+    it.call("run", it.file("spin.json", SPIN), "--json", status=1, out='{"fault":2,"job":8,"status":"fault"}\n')
+    it.call("submit", seven, out="9\n")
+    it.call("wait", "9", out="7\n")
+    it.call("poll", "9", out="7\n")
+    it.call("cancel", "9", out="job 9: it had ended, had a fault, or was cancelled before\n")
+    it.call("run", it.file("stores.json", STORES), out="5\n")
+    it.call("cells", "3", out="key 3: 1 cell, sum 5\n")
+    it.call("cells", "3", "--json", out='{"count":1,"key":3,"sum":5}\n')
+    it.call("info", out="acme: 2 slots, 1 reserved, priority normal\n")
+    it.call("info", "--json", out='{"priority":"normal","reserved":1,"slots":2}\n')
+    it.call("retire", out="epoch 1\n")
+    it.call("poll", "9", status=26, err="^arena: poll 9: error 6, unknown_job: no job has that number, or it is "
+            "retired\n$")
+
+
+def waiting_jobs_are_looked_after(it):
+    """The tenant `still` has reserved slots alone, so that a submitted job waits."""
+    seven, still = it.server.file("seven.json"), {"ARENA_TENANT": "still"}
+    it.call("submit", seven, out="1\n", **still)
+    it.call("poll", "1", status=4, out="job 1: running\n", **still)
+    it.call("wait", "1", "--timeout", "0.5", status=7, err="^arena: collect 1: no reply within 0.5 s", **still)
+    it.call("retire", status=32, err="error 12, busy: .*cancel", **still)
+    it.call("cancel", "1", out="job 1: canceled\n", **still)
+    it.call("cancel", "1", "--json", out='{"first":false,"job":1}\n', **still)
+    it.call("wait", "1", status=3, out="job 1: canceled\n", **still)
+    it.call("run", seven, "-s", it.server.path, "-t", "still", out="7\n", ARENA_SOCKET="/nowhere",
+            ARENA_TENANT="nobody")
+
+
+def faults_have_their_status(it):
+    seven = it.server.file("seven.json")
+    it.call("info", "--tenant", "nobody", status=25, err="error 5, unknown_tenant")
+    it.call("info", status=2, err="no tenant is named; give --tenant NAME, or set ARENA_TENANT", ARENA_TENANT="")
+    it.call("info", "--socket", "/nowhere", status=6, err="^arena: /nowhere: No such file or directory; is "
+            "arena-server running there",
+            how=arena_process)
+    it.call("run", "/nowhere.json", status=8, err="^arena: /nowhere.json: No such file or directory")
+    it.call("run", it.file("broken.json", '{"args":\n]'), status=5, err=r"broken.json:2:1: no JSON")
+    it.call("run", it.server.file("invalid.json"), status=5, err=r"invalid.json: procs\[0\]\[0\]")
+    it.call("run", seven, "--args", "1", "2", "3", status=5, err="a job has two arguments")
+    it.call("run", seven, "-D", "N", status=2, err="write NAME=NUMBER")
+    it.call(status=2, err="COMMAND")
+    it.call("dance", status=2, err="invalid choice: 'dance'")
+    it.call("cells", "8", status=2, err="invalid choice: 8")
+
+
+def jobs_are_built(it):
+    source, parameter = it.server.file("fib.job"), it.file("parameter.job", PARAMETER)
+    it.call("run", source, "--args", "10", out="55\n")
+    it.call("run", parameter, "--args", "4", "-D", "N=8", out="12\n")
+    it.call("build", source, "-o", it.server.file("built.json"))
+    it.call("run", it.server.file("built.json"), "--args", "6", out="8\n")
+    it.call("build", source, "-S", out=re.compile(r".*\bspawn\b.*line 3.*", re.S))
+    it.call("build", source, "--map", out=re.compile(r'\{"file":".*fib.job","procedures":\[.*\],"procs":\[.*\]\}\n'))
+    it.call("build", source, "--serial", "--json", out='{"serial":true}\n')
+    it.call("build", it.file("wrong.job", "fn main(x) {\n    return y\n}\n"), status=5, err=r"wrong.job:2:12: ")
+    it.call("dis", it.server.file("built.json"), "-o", it.server.file("fib.jasm"))
+    it.call("asm", it.server.file("fib.jasm"), "-o", it.server.file("again.json"))
+    it.call("run", it.server.file("fib.jasm"), "--args", "6", out="8\n")
+    it.call("asm", it.file("wrong.jasm", "proc main(x, y)\n    jump 1\n"), status=5, err="wrong.jasm:2:")
+    with open(it.server.file("built.json")) as built, open(it.server.file("again.json")) as again:
+        assert built.read() == again.read()
+
+
+def files_are_linted(it):
+    it.call("lint", it.server.file("seven.json"), out=it.server.file("seven.json") + ": valid\n")
+    it.call("lint", it.server.file("fib.job"), out=it.server.file("fib.job") + ": valid\n")
+    it.call("lint", it.server.file("config.json"), "--json", out=json.dumps(
+        {"file": it.server.file("config.json"), "valid": True}, separators=(",", ":")) + "\n")
+    it.call("lint", it.server.file("invalid.json"), status=5, err=r"procs\[0\]\[0\]: .*jmp")
+    it.call("lint", it.file("none.json", {"tenants": [], "workers": 1}), status=5, err="tenants")
+
+
+def shell_takes_lines(it):
+    lines = f"info\nrun {it.server.file('seven.json')}\n" + '{"op":"arena"}\npoll 99\nhelp\nrun "\ncells 0\npoll 99\n'
+    done = arena_command("shell", stdin=lines, **it.known)
+    wanted = ["acme: 2 slots, 1 reserved, priority normal", "7", '{"priority":"normal","reserved":1,"slots":2}']
+    it.count += 1
+    if done.stdout.splitlines()[:3] != wanted or "key 0: 0 cells, sum 0" not in done.stdout or done.returncode != 26:
+        it.differ += 1
+        print(f"arena shell: {done}")
+    assert done.stderr.count("error 6, unknown_job") == 2 and "No closing quotation" in done.stderr, done.stderr
+    from arena.command.shell import Completer
+    completer = Completer(["run", "retire", "poll"])
+    assert list(completer.completions("r", "")) == ["run ", "retire "]
+    assert f"{it.server.folder.name}/seven.json" in list(completer.completions(f"{it.server.folder.name}/se", "run "))
+
+
+def servers_are_measured(it):
+    rows = re.compile(r" +clients +count +a second +50 %, ms +90 %, ms +99 %, ms +slowest, ms\n"
+                      r"requests +3 +30 +[\d,]+( +[\d.]+){4}\njobs +3 +20 +[\d,]+( +[\d.]+){4}\n")
+    it.call("retire", out=re.compile("epoch \\d+\n"))
+    it.call("bench", "-c", "3", "-n", "20", "--requests", "30", out=rows)
+    it.call("bench", it.server.file("seven.json"), "-c", "2", "-n", "300", "--requests", "0", "--retire", "--execute",
+            "--json",
+            out=re.compile(r'\{"clients":2,"count":300,"milliseconds":\{"100":.*\},"per_second":[\d.]+,"refused":0,'
+                           r'"what":"jobs"\}\n'))
+    it.call("bench", "-c", "1", "-n", "257", "--requests", "0", status=27, out=re.compile(r"(?s).*jobs +1 +256 .*"),
+            err="1 of 1 clients ended early: .*job_limit")
+
+
+def dumps_are_read(it, dump):
+    script = {"ARENA_SCRIPT": SCRIPT}
+    it.call("check", dump, out="yes\n", **script)
+    it.call("check", dump, "--script", SCRIPT, "--json", out=f'{{"file":"{dump}","verdict":"yes"}}\n')
+    it.call("check", it.file("no.jsonl", wrong(dump)), status=9, out="no at step 1\n", **script)
+    it.call("check", it.file("bad.jsonl", "{}\n"), status=9, out="bad line 1\n", **script)
+    it.call("check", dump, "--script", "/nowhere", status=10, err="^arena: /nowhere: No such file")
+    it.call("check", "/nowhere", status=8, err="^arena: /nowhere: No such file", **script)
+    it.call("stat", dump, "--map", it.server.file("fib.map"), out=re.compile(r"(?s)tenant acme: [\d,]+ of 10,000 "
+                                                                             r"entries .*slot +busy.*"))
+    it.call("stat", dump, "--csv", out=re.compile(r"(?s)job,made_by,outcome,.*\n1,execute,7,.*"))
+    it.call("stat", dump, "--json", out=re.compile(r'\{"advice":\[.*\],"asks":\{.*\}\n'))
+    it.call("stat", it.server.file("bad.jsonl"), status=9, err="bad.jsonl:1: a dump begins with")
+    it.call("stat", "-", stdin=dump_text(dump), out=re.compile("(?s)tenant acme: .*"), how=arena_process)
+    it.call("stat", dump, "--map", it.server.file("seven.json"), status=5, err="no source map; `arena build FILE --map")
+    it.call("timeline", dump, "--job", "3", "--axis", "clock", out=re.compile(r"(?s)<svg .*</svg>\n"))
+    files = [it.server.file(name) for name in ("t.svg", "t.html", "t.json")]
+    it.call("timeline", dump, "--svg", files[0], "--html", files[1], "--trace", files[2],
+            out=re.compile("".join(f"{re.escape(name)}: [\\d,]+ characters\n" for name in files)))
+    it.call("timeline", dump, "--from", "1000000", status=9, err="fewer entries than --from 1000000")
+    it.call("timeline", dump, "--from", "7", "--to", "3", status=2, err="--to is not before --from")
+    it.call("timeline", dump, "--job", "99999", status=9, err="no row of job 99999")
+
+
+def dump_text(path):
+    with open(path) as it:
+        return it.read()
+
+
+def wrong(path):
+    """The dump with a first entry whose reply is another."""
+    first, second, *rest = dump_text(path).splitlines()
+    return "\n".join([first, json.dumps({**json.loads(second), "reply": {"job": 7}}), *rest])
+
+
+def pages_are_those_that_the_command_makes(it):
+    for page, path in (("man", "python/man/arena.1"), ("bash", "python/completion/arena.bash"),
+                       ("zsh", "python/completion/_arena")):
+        with open(path) as made:
+            text = made.read()
+        it.call("pages", page, out=text)
+    subprocess.run(["bash", "-n", "python/completion/arena.bash"], check=True)
+    assert completed("arena ru") == ["run"] and completed("arena run --ar") == ["--args"]
+    assert "python/" in completed("arena stat pyth") and completed("arena timeline x --axi") == ["--axis"]
+
+
+def package_is_packed(it):
+    """The wheel that pip asks for has the package, the pages and a right record, and runs where it is unpacked."""
+    sys.path.insert(0, PACKAGE)
+    import packing
+    wheel = it.server.file(packing.build_wheel(it.server.folder.name))
+    there = it.server.file("unpacked")
+    with zipfile.ZipFile(wheel) as archive:
+        archive.extractall(there)
+        record = archive.read("arena-1.0.0.dist-info/RECORD").decode().splitlines()
+        assert {line.split(",")[0] for line in record} == set(archive.namelist())
+        for path, digest, size in (line.split(",") for line in record[:-1]):
+            content = archive.read(path)
+            wanted = base64.urlsafe_b64encode(hashlib.sha256(content).digest()).rstrip(b"=").decode()
+            assert (digest, int(size)) == (f"sha256={wanted}", len(content)), path
+        assert b"arena = arena.command:main" in archive.read("arena-1.0.0.dist-info/entry_points.txt")
+    done = subprocess.run([sys.executable, "-m", "arena", "lint", it.server.file("seven.json")], capture_output=True,
+                          text=True, timeout=PATIENCE, cwd=there)
+    assert done.stdout.endswith("seven.json: valid\n"), done
+    with tarfile.open(it.server.file(packing.build_sdist(it.server.folder.name))) as archive:
+        assert {"arena-1.0.0/pyproject.toml", "arena-1.0.0/packing.py"} <= {*archive.getnames()}
+
+
+def completed(line):
+    """What bash offers for a line."""
+    script = ("source python/completion/arena.bash; compopt() { :; }; COMP_WORDS=(" + line
+              + "); COMP_CWORD=$((${#COMP_WORDS[@]}-1)); "
+              "_arena; printf '%s\\n' \"${COMPREPLY[@]}\"")
+    done = subprocess.run(["bash", "-c", script], capture_output=True, text=True, timeout=PATIENCE, check=True)
+    return [it + ("/" if os.path.isdir(it) else "") for it in done.stdout.split()]
+
+
+def every_command_has_help(it):
+    from arena.command import COMMANDS, parser
+    for command in COMMANDS:
+        assert command.example.split()[:2] == ["arena", command.name], command
+        assert command.name in parser().format_help()
+    it.call("run", "--help", out=re.compile(r"(?s)usage: arena run .*example:\n  arena run .*"))
+    it.call("--help", out=re.compile(r"(?s)usage: arena .*exit status:\n +0  done.*"), how=arena_process)
+
+
+def interrupt_is_a_status(it):
+    """A call that waits for a job is interrupted from the keyboard once the server has its request."""
+    import arena
+    words = [sys.executable, "-m", "arena", "-s", it.server.path, "-t", "still", "shell"]
+    environment = {**os.environ, "PYTHONPATH": PACKAGE, "PYTHONUNBUFFERED": "1"}
+    with arena.Client(it.server.path, "still") as client:
+        number = client.submit(SEVEN)
+        process = subprocess.Popen(words, stdin=subprocess.PIPE, stdout=subprocess.PIPE, stderr=subprocess.PIPE,
+                                   text=True, env=environment)
+        process.stdin.write(f"poll {number}\nwait {number}\n")
+        process.stdin.flush()
+        assert process.stdout.readline() == f"job {number}: running\n"
+        process.send_signal(signal.SIGINT)
+        try:
+            _, err = process.communicate(timeout=PATIENCE)
+        finally:
+            process.kill()
+        client.cancel(number)
+    it.count += 1
+    if (process.returncode, err) != (130, "interrupted\n"):
+        it.differ += 1
+        print(f"interrupted: status {process.returncode}, {err!r}")
+
+
+def small_files(it):
+    """The files that several groups take."""
+    for name, content in (("seven.json", SEVEN), ("fib.json", FIB), ("invalid.json", INVALID), ("fib.job", SOURCE)):
+        it.file(name, content)
+
+
+def dump_of_some_jobs(it):
+    """A dump of jobs that end in different ways, with the map of one of them."""
+    import arena
+    with arena.Client(it.server.path, "acme") as client:
+        outcomes = [client.execute(one) for one in (SEVEN, DIVIDES, FIB, SPIN)]
+        assert [type(outcome) for outcome in outcomes] == [arena.Complete, arena.Fault, arena.Complete, arena.Fault]
+    it.call("build", it.server.file("fib.job"), "--map", "-o", it.server.file("fib.map"))
+    dumps_are_read(it, it.server.dump())
+
+
+# The checks that share a server, of which each call is a connection.
+GROUPS = [[jobs_are_run, waiting_jobs_are_looked_after, faults_have_their_status],
+          [jobs_are_built, files_are_linted, shell_takes_lines],
+          [interrupt_is_a_status, pages_are_those_that_the_command_makes, package_is_packed,
+           every_command_has_help],
+          [servers_are_measured],
+          [dump_of_some_jobs]]
+
+
+def main():
+    count = differ = 0
+    for group in GROUPS:
+        with Server(tenant(slots=2, reserved=1), tenant("still", slots=1, reserved=1)) as server:
+            it = Calls(server)
+            small_files(it)
+            for check in group:
+                check(it)
+        count, differ = count + it.count, differ + it.differ
+    print(f"{count} calls of the command: {differ} ended otherwise than is wanted")
+    return bool(differ)
+
+
+sys.exit(main())

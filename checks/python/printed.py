@@ -1,0 +1,126 @@
+"""The source of a syntax tree, with no more parentheses than it needs, save some that are drawn."""
+import random
+
+from arena.language.syntax import (Application, Assign, Binary, Block, Break, Call, Cancel, CellName, Constant,
+                                   Continue, DeclareGroup, Evaluate, For, Function, Give, If, Inline, Isolate, Let,
+                                   LetBoth, LetTask, Name, Not, Number, ParallelSum, Post, ReadCell, Return, Spawn,
+                                   StoreCell, Sync, Wait, While)
+
+LEVEL = {"||": 1, "&&": 2, "==": 3, "!=": 3, "<": 3, "<=": 3, ">": 3, ">=": 3, "+": 4, "-": 4, "*": 5, "/": 5, "%": 5}
+UNARY = 6
+SOMETIMES = 0.05
+
+
+class Printer:
+    """Prints trees; `draws` says where parentheses stand that are not needed, and which short forms are taken."""
+
+    def __init__(self, draws: random.Random):
+        self.draws = draws
+
+    def program(self, items):
+        return "\n".join(self.item(it) for it in items) + "\n"
+
+    def item(self, it):
+        match it:
+            case Constant():
+                return f"{'param' if it.is_parameter else 'const'} {it.name} = {self.expression(it.value)}"
+            case CellName():
+                return f"cell {it.name}" + (f" @ {it.key}" if it.key is not None else "")
+            case Inline():
+                return f"inline fn {it.name}({self.parameters(it)}) = {self.expression(it.value)}"
+            case Function():
+                return f"fn {it.name}({self.parameters(it)}) {self.block(it.body, '')}"
+
+    def parameters(self, it):
+        return ", ".join(p.name if p.bits is None else f"{p.name}: u{p.bits}" for p in it.parameters)
+
+    def block(self, block, indent):
+        inner = indent + "    "
+        lines = [f"{inner}{self.statement(it, inner)}\n" for it in block.statements]
+        return "{\n" + "".join(lines) + indent + "}"
+
+    def statement(self, it, indent):
+        match it:
+            case Let(name=name, value=value):
+                return f"let {name} = {self.expression(value)}"
+            case LetTask(name=name, target=target):
+                return f"let {name} = spawn {self.application(target)}"
+            case LetBoth():
+                return f"let {it.total}, {it.status} = wait {it.group}"
+            case Assign(name=name, value=value):
+                return self.assignment(name, value)
+            case StoreCell(cell=cell, value=value):
+                return f"{cell}.local = {self.expression(value)}"
+            case Evaluate(value=value):
+                return self.expression(value)
+            case DeclareGroup(name=name):
+                return f"group {name}"
+            case Spawn(group=group, target=target):
+                return f"spawn {group + ': ' if group else ''}{self.application(target)}"
+            case Post(target=target):
+                return f"post {self.application(target)}"
+            case Sync():
+                return "sync"
+            case Cancel(name=name):
+                return f"cancel {name}"
+            case Return(value=value):
+                return f"return {self.expression(value)}"
+            case Give(value=value):
+                return f"give {self.expression(value)}"
+            case Break():
+                return "break"
+            case Continue():
+                return "continue"
+            case While():
+                return f"while {self.expression(it.condition)} {self.block(it.body, indent)}"
+            case For():
+                ends = f"{self.expression(it.low)}..{self.expression(it.high)}"
+                return f"for {it.index} in {ends} {self.block(it.body, indent)}"
+            case If():
+                return self.conditional(it, indent)
+
+    def conditional(self, it, indent):
+        text = f"if {self.expression(it.condition)} {self.block(it.then, indent)}"
+        return f"{text} else {self.block(it.otherwise, indent)}" if it.otherwise.statements else text
+
+    def assignment(self, name, value):
+        is_short = isinstance(value, Binary) and isinstance(value.left, Name) and value.left.name == name
+        if is_short and value.operator in "+-*/%" and self.draws.random() < 0.7:
+            return f"{name} {value.operator}= {self.expression(value.right)}"
+        return f"{name} = {self.expression(value)}"
+
+    def application(self, it: Application):
+        return f"{it.name}({', '.join(self.expression(argument) for argument in it.arguments)})"
+
+    def expression(self, it, level=0):
+        text, own = self.bare(it)
+        return f"({text})" if own < level or self.draws.random() < SOMETIMES else text
+
+    def bare(self, it):
+        """The text without parentheses around it, and how strongly it binds."""
+        match it:
+            case Number(value=value):
+                return str(value), UNARY
+            case Name(name=name):
+                return name, UNARY
+            case Not(operand=operand):
+                return f"!{self.expression(operand, UNARY)}", UNARY
+            case Binary(operator="-", left=Number(value=0), right=Name() as right) if self.draws.random() < 0.5:
+                return f"-{self.expression(right, UNARY)}", UNARY
+            case Binary(operator=operator):
+                own = LEVEL[operator]
+                return f"{self.expression(it.left, own)} {operator} {self.expression(it.right, own + 1)}", own
+            case Application():
+                return self.application(it), UNARY
+            case Wait(name=name):
+                return f"wait {name}", UNARY
+            case Isolate(target=target):
+                return f"isolate {self.application(target)}", UNARY
+            case Call(target=target):
+                return f"call {self.application(target)}", UNARY
+            case ReadCell():
+                return f"{it.cell}.{it.part.name.lower()}", UNARY
+            case ParallelSum():
+                index = it.index if it.bits is None else f"{it.index}: u{it.bits}"
+                ends = f"{self.expression(it.low)}..{self.expression(it.high)}"
+                return f"psum {index} in {ends} grain {self.expression(it.grain)} {self.block(it.body, '    ')}", UNARY

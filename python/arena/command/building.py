@@ -1,0 +1,97 @@
+"""The commands that need no server: build, asm, dis, lint."""
+import json
+
+from arena.command.call import Call
+from arena.command.output import GREEN
+from arena.command.sources import SourceWrong, assembled, compiled, job_of, read_json
+from arena.command.words import JOB_WORDS, Command, Completes, Status, option, positional
+
+TO = option("-o", "--output", help="write to this file, not to standard output", metavar="FILE",
+            completes=Completes.FILE)
+
+
+def write(call: Call, text: str) -> None:
+    """Writes a text that ends a line to --output, or prints it."""
+    if call.words.output:
+        with open(call.words.output, "w", encoding="utf-8") as it:
+            it.write(text + "\n")
+    else:
+        print(text)
+
+
+def line_of(value: object) -> str:
+    """The compact JSON of a value."""
+    return json.dumps(value, separators=(",", ":"), sort_keys=True)
+
+
+def build(call: Call) -> int:
+    """Compiles a job."""
+    words = call.words
+    if not words.FILE.endswith(".job"):
+        raise SourceWrong(f"{words.FILE}: build compiles .job files; `arena asm` is for .jasm files")
+    done = compiled(words.FILE, words)
+    if words.serial:
+        call.output.say("serial" if done.serial else "not serial", {"serial": bool(done.serial)})
+    elif words.S:
+        write(call, done.listing().rstrip("\n"))
+    elif words.map:
+        write(call, line_of({**done.source_map(), "procs": done.job.to_value()["procs"]}))
+    else:
+        write(call, line_of(done.job.to_value()))
+    return Status.DONE
+
+
+def asm(call: Call) -> int:
+    """Assembles a job."""
+    write(call, line_of(assembled(call.words.FILE, call.words)))
+    return Status.DONE
+
+
+def dis(call: Call) -> int:
+    """Takes a job apart."""
+    from arena.assembler import disassemble
+    from arena.jobs import Job
+    write(call, disassemble(Job.from_value(job_of(call.words))).rstrip("\n"))
+    return Status.DONE
+
+
+def lint(call: Call) -> int:
+    """Looks for the first fault of a job or of a configuration."""
+    path = call.words.FILE
+    if path.endswith((".job", ".jasm")):
+        job_of(call.words)
+        fault = None
+    else:
+        from arena.lint import first_fault_of_config, first_fault_of_job
+        value = read_json(path)
+        is_config = isinstance(value, dict) and ("tenants" in value or "workers" in value)
+        fault = (first_fault_of_config if is_config else first_fault_of_job)(value)
+    if fault is not None:
+        if call.output.json:
+            call.output.say("", {"fault": str(fault), "file": path, "valid": False})
+            return Status.SOURCE
+        raise SourceWrong(f"{path}: {fault}")
+    call.output.say(call.output.paint(f"{path}: valid", GREEN), {"file": path, "valid": True})
+    return Status.DONE
+
+
+COMMANDS = (
+    Command("build", "compile a .job file to a JOB",
+            "Compiles a .job file to the JOB that the server reads, in JSON. -S writes the listing in its place, --map "
+            "which line of the source each instruction is of (`arena stat --map` reads it), and --serial whether the "
+            "job is serial.",
+            "arena build queens.job -D N=8 -o queens.json", build,
+            (*JOB_WORDS, option("-S", help="the listing: labels, registers by name, source lines", action="store_true"),
+             option("--map", help="the source line of each instruction, as JSON", action="store_true"),
+             option("--serial", help="say whether the job is serial", action="store_true"), TO)),
+    Command("asm", "assemble a .jasm file to a JOB",
+            "Assembles a .jasm file to the JOB that the server reads, in JSON.",
+            "arena asm sum.jasm --args 100", asm, (*JOB_WORDS, TO)),
+    Command("dis", "write a job in assembly",
+            "Writes any valid JOB, or compiled .job file, in assembly, which assembles back to the same JOB.",
+            "arena dis fib.json", dis, (*JOB_WORDS, TO)),
+    Command("lint", "say where a job or a configuration is wrong",
+            "Says in words where a job, or a configuration of the server, has its first fault, by the server's own "
+            "rules.",
+            "arena lint fib.json", lint, JOB_WORDS),
+)

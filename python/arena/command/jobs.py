@@ -1,0 +1,115 @@
+"""The commands that ask the server: run, submit, wait, poll, cancel, cells, info, retire."""
+from arena.command.call import Call
+from arena.command.output import GREEN, RED, YELLOW
+from arena.command.sources import job_of
+from arena.command.words import JOB_WORDS, Command, Status, positional
+from arena.replies import Canceled, Complete, Fault, Running
+from arena.replies import Status as JobStatus
+
+NUMBER = positional("JOB", "the job's number", type=int)
+
+
+def tell(call: Call, status: JobStatus) -> int:
+    """Prints a job's status: a value on standard output, anything else in words. Returns the exit status."""
+    output = call.output
+    match status:
+        case Complete(value, job):
+            output.say(output.paint(str(value), GREEN), {"job": job, "status": "complete", "value": value})
+            return Status.DONE
+        case Fault(code, _, job):
+            output.say(output.paint(str(status), RED), {"fault": code.value, "job": job, "status": "fault"})
+            return Status.FAULT
+        case Canceled(job):
+            output.say(output.paint(str(status), YELLOW), {"job": job, "status": "canceled"})
+            return Status.CANCELED
+        case Running(job):
+            output.say(str(status), {"job": job, "status": "running"})
+            return Status.RUNNING
+
+
+def run(call: Call) -> int:
+    """Executes a job."""
+    return tell(call, call.client.execute(job_of(call.words)))
+
+
+def submit(call: Call) -> int:
+    """Makes a job."""
+    number = call.client.submit(job_of(call.words))
+    call.output.say(str(number), {"job": number})
+    return Status.DONE
+
+
+def wait(call: Call) -> int:
+    """Waits for a job."""
+    return tell(call, call.client.collect(call.words.JOB))
+
+
+def poll(call: Call) -> int:
+    """Asks for a job's status."""
+    return tell(call, call.client.poll(call.words.JOB))
+
+
+def cancel(call: Call) -> int:
+    """Cancels a job."""
+    number = call.words.JOB
+    first = call.client.cancel(number)
+    text = f"job {number}: canceled" if first else f"job {number}: it had ended, had a fault, or was cancelled before"
+    call.output.say(text, {"first": first, "job": number})
+    return Status.DONE
+
+
+def cells(call: Call) -> int:
+    """Asks for the cells of a key."""
+    it = call.client.cells(call.words.KEY)
+    text = f"key {it.key}: {it.count} cell{'' if it.count == 1 else 's'}, sum {it.sum}"
+    call.output.say(text, {"count": it.count, "key": it.key, "sum": it.sum})
+    return Status.DONE
+
+
+def info(call: Call) -> int:
+    """Asks for the tenant's limits."""
+    it = call.client.arena()
+    slots = "1 slot" if it.slots == 1 else f"{it.slots} slots"
+    text = f"{call.tenant}: {slots}, {it.reserved} reserved, priority {it.priority}"
+    call.output.say(text, {"priority": it.priority, "reserved": it.reserved, "slots": it.slots})
+    return Status.DONE
+
+
+def retire(call: Call) -> int:
+    """Forgets all jobs."""
+    epoch = call.client.retire()
+    call.output.say(f"epoch {epoch}", {"epoch": epoch})
+    return Status.DONE
+
+
+COMMANDS = (
+    Command("run", "run a job and print its value",
+            "Runs a job to its outcome, and prints the value. The exit status says how it ended: 0 complete, 1 a "
+            "fault, 3 cancelled.", "arena run examples/jobs/fib.job --args 20", run, JOB_WORDS, in_shell=True),
+    Command("submit", "make a job that waits for a worker, and print its number",
+            "Makes a job that waits for a worker, and prints its number at once. A tenant without slots for workers "
+            "never runs it.", "arena submit examples/jobs/fib.job --args 20", submit, JOB_WORDS, in_shell=True),
+    Command("wait", "wait for a job's outcome, and print its value",
+            "Waits until a job has its outcome, and prints it as `run` does.", "arena wait 1 --timeout 10", wait,
+            (NUMBER,),
+            in_shell=True),
+    Command("poll", "print a job's status now",
+            "Prints a job's status as it is now. Each poll is an entry of the tenant's history: to wait for a job, use "
+            "`wait`.",
+            "arena poll 1", poll, (NUMBER,), in_shell=True),
+    Command("cancel", "cancel a job",
+            "Cancels a job: its rows that wait are dropped, and those that run are told so if they ask.",
+            "arena cancel 1",
+            cancel, (NUMBER,), in_shell=True),
+    Command("cells", "print how many cells a key has, and their sum",
+            "Prints on how many slots a key has a cell, and the sum of these cells, which wraps to 64 bits.",
+            "arena cells 0 --json", cells, (positional("KEY", "a key, 0 to 7", type=int, choices=range(8),
+                                                       metavar="KEY"),),
+            in_shell=True),
+    Command("info", "print the tenant's slots and priority",
+            "Prints how many slots the tenant has, how many of them are reserved for `run`, and its priority.",
+            "arena info --tenant acme", info, in_shell=True),
+    Command("retire", "forget all jobs and cells of the tenant",
+            "Forgets all jobs and cells of the tenant, so that it may have 256 jobs again. The server refuses while "
+            "any row is open. It gives no history back.", "arena retire", retire, in_shell=True),
+)

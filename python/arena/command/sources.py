@@ -1,0 +1,91 @@
+"""Jobs from files: compiled, assembled, or read as JSON."""
+import argparse
+import json
+import sys
+from collections.abc import Mapping
+from typing import TYPE_CHECKING, Any
+
+if TYPE_CHECKING:
+    from arena.language import Compiled
+
+
+class SourceWrong(Exception):
+    """A job or a configuration is not valid. The text says the file, the place, what is wrong and what to do."""
+
+
+def read_text(path: str) -> str:
+    """The text of a file, or of standard input if the path is -. Raises OSError; SourceWrong if it is no UTF-8."""
+    try:
+        if path == "-":
+            return sys.stdin.read()
+        with open(path, encoding="utf-8") as it:
+            return it.read()
+    except UnicodeDecodeError as fault:
+        raise SourceWrong(f"{path}: byte {fault.start} is no UTF-8") from None
+
+
+def compiled(path: str, words: argparse.Namespace) -> "Compiled":
+    """What the compiler makes of a .job file. Raises SourceWrong."""
+    from arena.language import SourceFault, compile_source
+    x, y = _args(words) or (0, 0)
+    try:
+        return compile_source(read_text(path), parameters=dict(words.define or ()), args=(x, y),
+                              fuel=1_000_000 if words.fuel is None else words.fuel, file=path)
+    except (SourceFault, ValueError) as fault:
+        raise SourceWrong(str(fault)) from None
+
+
+def assembled(path: str, words: argparse.Namespace) -> Mapping[str, Any]:
+    """What the assembler makes of a .jasm file. Raises SourceWrong."""
+    from arena.assembler import AssemblyFault, assemble
+    args = _args(words)
+    try:
+        return assemble(read_text(path), args=tuple(args) if args else None, fuel=words.fuel, file=path).to_value()
+    except (AssemblyFault, ValueError) as fault:
+        raise SourceWrong(str(fault)) from None
+
+
+def read_json(path: str) -> Any:
+    """The JSON value of a file. Raises SourceWrong with the line and column of what is no JSON."""
+    from arena.lint import read_value
+    try:
+        return read_value(read_text(path))
+    except json.JSONDecodeError as fault:
+        raise SourceWrong(f"{path}:{fault.lineno}:{fault.colno}: no JSON: {fault.msg}") from None
+    except ValueError as fault:
+        raise SourceWrong(f"{path}: {fault}") from None
+    except RecursionError:
+        raise SourceWrong(f"{path}: nested too deep for the JSON that a server reads") from None
+
+
+def job_of(words: argparse.Namespace) -> Mapping[str, Any]:
+    """The JOB of the words FILE, --args, --fuel and -D. Raises OSError, SourceWrong."""
+    path = words.FILE
+    if path.endswith(".job"):
+        return compiled(path, words).job.to_value()
+    if path.endswith(".jasm"):
+        return assembled(path, words)
+    value = read_json(path)
+    if words.define:
+        raise SourceWrong(f"{path}: -D gives a parameter of a .job file, and this is read as JSON")
+    if isinstance(value, dict):
+        value = {**value, **({"args": _args(words)} if words.args else {}),
+                 **({"fuel": words.fuel} if words.fuel else {})}
+    fault = _first_fault(value)
+    if fault is not None:
+        raise SourceWrong(f"{path}: {fault}")
+    return value
+
+
+def _first_fault(value: object) -> str | None:
+    from arena.lint import first_fault_of_job
+    fault = first_fault_of_job(value)
+    return None if fault is None else str(fault)
+
+
+def _args(words: argparse.Namespace) -> list[int] | None:
+    if not words.args:
+        return None
+    if len(words.args) > 2:
+        raise SourceWrong(f"--args {' '.join(map(str, words.args))}: a job has two arguments; pack more into them")
+    return [*words.args, 0][:2]

@@ -1,0 +1,167 @@
+"""What the words of the command are: one table, from which its parser, its manual page and its completions are made."""
+import argparse
+import enum
+from collections.abc import Callable, Sequence
+from dataclasses import dataclass, field
+from typing import TYPE_CHECKING, Any, NoReturn
+
+if TYPE_CHECKING:
+    from arena.command.call import Call
+
+
+class Status(enum.IntEnum):
+    """The exit statuses. An error reply of the server has its code and 20: error 8 ends with 28."""
+
+    DONE = 0
+    FAULT = 1
+    WORDS = 2
+    CANCELED = 3
+    RUNNING = 4
+    SOURCE = 5
+    CONNECTION = 6
+    TIMEOUT = 7
+    FILE = 8
+    DUMP = 9
+    PROGRAM = 10
+    REFUSED = 20
+    INTERRUPTED = 130
+
+
+STATUS_TEXTS = {
+    Status.DONE: "done; the job is complete",
+    Status.FAULT: "the job ended with a fault",
+    Status.WORDS: "the words are wrong, or no tenant is named",
+    Status.CANCELED: "the job was cancelled",
+    Status.RUNNING: "the job is still running",
+    Status.SOURCE: "a job or configuration is not valid; its place is said",
+    Status.CONNECTION: "no server at the socket, or it ended the connection",
+    Status.TIMEOUT: "no reply within --timeout",
+    Status.FILE: "a file can't be read or written",
+    Status.DUMP: "a dump is not one that a server wrote, or `check` says no to it",
+    Status.PROGRAM: "arena-script is not found, or failed",
+    Status.REFUSED: "from 21 to 32: the server's error reply, by 20 and its code (docs/PROTOCOL.md)",
+    Status.INTERRUPTED: "interrupted from the keyboard",
+}
+
+
+class Completes(enum.Enum):
+    """What a shell offers for a word."""
+
+    NOTHING = "nothing"
+    JOB_FILE = "job file"
+    DUMP = "dump"
+    FILE = "file"
+
+
+@dataclass(frozen=True)
+class Word:
+    """A positional word, whose only name has no dash, or an option. `more` goes to argparse."""
+
+    names: tuple[str, ...]
+    help: str
+    completes: Completes = Completes.NOTHING
+    more: dict[str, Any] = field(default_factory=dict)
+
+    @property
+    def is_option(self) -> bool:
+        """Whether it begins with a dash."""
+        return self.names[0].startswith("-")
+
+    @property
+    def shown(self) -> str:
+        """Its names and what follows them, as in a manual."""
+        if not self.is_option:
+            return self.names[0]
+        takes = self.more.get("metavar") or "|".join(self.more.get("choices", ()))
+        takes = " ".join(takes) if isinstance(takes, tuple) else takes
+        return ", ".join(self.names) + (f" {takes}" if takes else "")
+
+
+@dataclass(frozen=True)
+class Command:
+    """A subcommand: `text` tells more than its `summary`, and `example` is a line that one may type."""
+
+    name: str
+    summary: str
+    text: str
+    example: str
+    run: Callable[["Call"], int]
+    words: tuple[Word, ...] = ()
+    in_shell: bool = False
+
+
+def option(*names: str, help: str, completes: Completes = Completes.NOTHING, **more: Any) -> Word:
+    """An option."""
+    return Word(names, help, completes, more)
+
+
+def positional(name: str, help: str, completes: Completes = Completes.NOTHING, **more: Any) -> Word:
+    """A positional word."""
+    return Word((name,), help, completes, more)
+
+
+def assignment(text: str) -> tuple[str, int]:
+    """`N=8` as a name with its number."""
+    name, equals, value = text.partition("=")
+    if not equals or not name.isidentifier():
+        raise argparse.ArgumentTypeError(f"{text}: write NAME=NUMBER")
+    return name, int(value, 0)
+
+
+COMMON = (
+    option("-s", "--socket", help="the server's socket; else ARENA_SOCKET, else /tmp/arena.sock", metavar="PATH",
+           completes=Completes.FILE),
+    option("-t", "--tenant", help="the tenant's name; else ARENA_TENANT", metavar="NAME"),
+    option("--timeout", help="how long to wait for each reply; without it, for as long as the server does", type=float,
+           metavar="SECONDS"),
+    option("--json", help="print JSON, one value a line, for scripts", action="store_true"),
+    option("--color", help="colours: on a terminal, always or never", choices=("auto", "always", "never")),
+)
+
+JOB_WORDS = (
+    positional("FILE", "a job: .job is compiled, .jasm assembled, and any other file is a JOB in JSON; - is standard "
+               "input",
+               Completes.JOB_FILE),
+    option("--args", help="the job's arguments, 0 where they are left out", nargs="+", type=int, metavar=("X", "Y")),
+    option("--fuel", help="its fuel: from 1 to 1,000,000 instructions", type=int, metavar="N"),
+    option("-D", "--define", help="gives a parameter of a .job file its value", action="append", type=assignment,
+           metavar="NAME=N"),
+)
+
+
+class Parser(argparse.ArgumentParser):
+    """A parser whose faults say how to go on."""
+
+    def error(self, message: str) -> NoReturn:
+        """Ends with status 2."""
+        self.exit(Status.WORDS, f"{self.prog}: {message}\n{self.prog}: `{self.prog} --help` shows its words\n")
+
+
+def parser_of(commands: Sequence[Command], prog: str = "arena", about: str = "") -> Parser:
+    """The parser of the whole command."""
+    parser = Parser(prog=prog, description=about, allow_abbrev=False,
+                    formatter_class=argparse.RawDescriptionHelpFormatter,
+                    epilog=f"`{prog} COMMAND --help` shows a command's words, with an example.\n\nexit status:\n"
+                    + statuses())
+    for word in COMMON:
+        _add(parser, word, {"default": None})
+    inner = parser.add_subparsers(dest="command", metavar="COMMAND", required=True)
+    for command in commands:
+        sub = inner.add_parser(command.name, help=command.summary, description=command.text, allow_abbrev=False,
+                               epilog=f"example:\n  {command.example}",
+                               formatter_class=argparse.RawDescriptionHelpFormatter)
+        for word in command.words:
+            _add(sub, word, {})
+        for word in COMMON:
+            _add(sub, word, {"default": argparse.SUPPRESS})
+        sub.set_defaults(run=command.run)
+    return parser
+
+
+def _add(parser: argparse.ArgumentParser, word: Word, more: dict[str, Any]) -> None:
+    parser.add_argument(*word.names, help=word.help.replace("%", "%%"), **{**word.more, **more})
+
+
+def statuses() -> str:
+    """The exit statuses, a line each."""
+    return "\n".join(f"  {status.value:>4}  {text}" for status, text in STATUS_TEXTS.items())

@@ -1,0 +1,125 @@
+"""What all makers of a function's code share: the code so far, its registers and labels, and the names that are
+alive."""
+from collections.abc import Callable
+from dataclasses import dataclass, field
+
+from arena.language.code import ARGUMENT, LABEL, LOOP, MOVE, Code, Registers, Step
+from arena.language.faults import NOWHERE, Place
+from arena.language.names import Names, Pending
+from arena.language.syntax import Expression, Function, Parameter
+from arena.language.unit import Unit, folded
+
+
+@dataclass(frozen=True)
+class Loop:
+    """A loop around a place: where `continue` and `break` go, and which tasks were pending when it began."""
+
+    more: str
+    end: str
+    pending: Pending
+
+
+@dataclass(frozen=True)
+class Sum:
+    """The parallel sum whose body is being made: the register of the sum, and where `give` goes."""
+
+    total: int
+    more: str
+    pending: Pending
+
+
+@dataclass
+class Source:
+    """What the makers of all functions of a source share. `opened` are the inline functions around the place, and
+    `add_function` makes a function that is not in the source."""
+
+    unit: Unit
+    add_function: Callable[[Function], None]
+    opened: list[str] = field(default_factory=list)
+
+
+@dataclass(frozen=True)
+class Unpacked:
+    """A parameter with its register."""
+
+    parameter: Parameter
+    register: int
+
+
+class Builder:
+    """The code of a function that is being made."""
+
+    def __init__(self, source: Source, function: Function) -> None:
+        self.source, self.unit, self.function = source, source.unit, function
+        self.names = Names(self.unit)
+        self.registers = Registers()
+        self.code: Code = []
+        self.loops: list[Loop] = []
+        self.sum: Sum | None = None
+        self.depth = 0
+        self._labels = 0
+
+    def label(self) -> str:
+        """A label that nothing uses yet."""
+        self._labels += 1
+        return f"L{self._labels}"
+
+    def emit(self, name: str, place: Place, defines: tuple[int, ...] = (), uses: tuple[int, ...] = (), **more) -> None:
+        """Adds a step; `more` are the other members of `Step`."""
+        self.code.append(Step(name, place, defines, uses, depth=self.depth, **more))
+
+    def put(self, label: str) -> None:
+        """Places a label here."""
+        self.code.append(Step(LABEL, NOWHERE, target=label, depth=self.depth))
+
+    def mark_loop(self) -> None:
+        """Marks that a loop begins here; the loop's own steps are one deeper."""
+        self.code.append(Step(LOOP, NOWHERE, depth=self.depth))
+
+    def jump(self, label: str, place: Place, after: str = "") -> None:
+        """Jumps to a label, unless that is placed right after."""
+        if label != after:
+            self.emit("jmp", place, target=label)
+
+    def number(self, value: int, place: Place, into: int | None = None) -> int:
+        """A register that holds a number."""
+        register = self.registers.new(str(value)) if into is None else into
+        self.emit("set", place, (register,), number=value)
+        return register
+
+    def move(self, register: int, into: int | None, place: Place) -> int:
+        """Copies a register into another one, if one is asked for."""
+        if into is None or into == register:
+            return register
+        self.emit(MOVE, place, (into,), (register,))
+        return into
+
+    def fold(self, expression: Expression) -> int | None:
+        """The number that an expression always has, or None."""
+        return folded(expression, self.names.constant)
+
+    def divided(self, place: Place, register: int, bits: int, names: tuple[str, str]) -> tuple[int, int]:
+        """The high part of a packed argument, and its low bits."""
+        high, back, low = self.registers.new(names[0]), self.registers.new(), self.registers.new(names[1])
+        self.emit("div", place, (high,), (register, self.number(2**bits, place)))
+        self.emit("mul", place, (back,), (high, self.number(2**bits, place)))
+        self.emit("sub", place, (low,), (register, back))
+        return high, low
+
+    def argument(self, number: int, parameters: tuple[Parameter, ...]) -> int:
+        """A register that holds an argument at the start."""
+        name = parameters[0].name if len(parameters) == 1 else "(packed)"
+        register = self.registers.new(name)
+        self.registers.fixed[register] = number
+        self.emit(ARGUMENT, parameters[0].place, (register,), number=number)
+        return register
+
+    def unpacked(self, register: int, parameters: tuple[Parameter, ...]) -> list[Unpacked]:
+        """The parameters of an argument with their registers."""
+        found = []
+        for number in range(len(parameters) - 1, 0, -1):
+            parameter = parameters[number]
+            high_name = parameters[0].name if number == 1 else "(packed)"
+            register, low = self.divided(parameter.place, register, parameter.bits or 0, (high_name, parameter.name))
+            found.append(Unpacked(parameter, low))
+        return [*found, Unpacked(parameters[0], register)]

@@ -1,0 +1,143 @@
+"""From a source to a job, through all passes."""
+from collections.abc import Mapping
+from dataclasses import dataclass, field
+
+from arena.jobs import GREATEST_FUEL, INSTRUCTIONS_OF_A_PROCEDURE, REGISTERS, REQUEST_BYTES, Job
+from arena.language import output
+from arena.language.arithmetic import fits
+from arena.language.builder import Source
+from arena.language.code import ARGUMENT, NO_OPERATION, PURE, Code, Registers
+from arena.language.colouring import Coloured, coloured, greatest_pressure
+from arena.language.constants import with_constants
+from arena.language.copies import without_copies
+from arena.language.faults import NOWHERE, SourceFault
+from arena.language.flow import tidied
+from arena.language.liveness import without_unread
+from arena.language.output import FinishedProcedure, finished
+from arena.language.parser import parse
+from arena.language.statements import FunctionMaker
+from arena.language.syntax import Function
+from arena.language.unit import Unit
+from arena.language.waits import with_waits
+from arena.texts import counted, listed
+
+
+MAY_GO = frozenset({*NO_OPERATION, ARGUMENT, *PURE})
+"""The steps that may be no instructions in the end."""
+
+
+@dataclass(frozen=True)
+class Compiled:
+    """A compiled source: its job, and whether that is serial: whether no schedule changes its value."""
+
+    job: Job
+    serial: bool
+    file: str
+    _procedures: list[FinishedProcedure] = field(repr=False)
+
+    def listing(self) -> str:
+        """The job's instructions as `arena.assembler` reads them, with labels, the variables of the registers and the
+        source lines."""
+        return output.listing(self._procedures, self.serial)
+
+    def source_map(self) -> dict:
+        """For JSON: `{"file":..,"procedures":[{"lines":[..],"name":..},..]}` with the source line of each
+        instruction."""
+        procedures = [{"lines": [line.source_line for line in it.lines], "name": it.name} for it in self._procedures]
+        return {"file": self.file, "procedures": procedures}
+
+
+@dataclass(frozen=True)
+class _Made:
+    """A function, its registers, and its code in which these are chosen."""
+
+    function: Function
+    registers: Registers
+    result: Coloured
+
+
+def compile_source(text: str, *, parameters: Mapping[str, int] | None = None, args: tuple[int, int] = (0, 0),
+                   fuel: int = GREATEST_FUEL, file: str = "<job>") -> Compiled:
+    """Compiles a source. `parameters` give values to its `param`s, `args` are the arguments of the root, and `fuel` is
+    the number of instructions that the job may execute. `file` is the name in messages.
+
+    Raises `SourceFault` if the source can't be compiled, and ValueError for arguments or fuel out of range. It blocks
+    for as long as it computes: some milliseconds for each procedure.
+    """
+    if not all(map(fits, args)):
+        raise ValueError(f"the arguments {args} do not fit 64 bits")
+    if not 1 <= fuel <= GREATEST_FUEL:
+        raise ValueError(f"the fuel is from 1 to {GREATEST_FUEL}, not {fuel}")
+    try:
+        procedures = _procedures(text, parameters or {})
+        job = Job(args, fuel, tuple(it.instructions() for it in procedures))
+        _check_length(job)
+    except RecursionError:
+        raise SourceFault("the source is nested too deep: split the expression or the block", file=file) from None
+    except SourceFault as fault:
+        fault.file = file
+        raise
+    return Compiled(job, job.is_serial(), file, procedures)
+
+
+def _procedures(text: str, parameters: Mapping[str, int]) -> list[FinishedProcedure]:
+    unit = Unit(parse(text), parameters)
+    waiting = [unit.functions[name] for name in unit.order()]
+
+    def add_function(function: Function) -> None:
+        """Adds a function that is not in the source."""
+        unit.functions[function.name] = function
+        unit.check_count(function.place)
+        waiting.append(function)
+
+    source = Source(unit, add_function)
+    made: list[_Made] = []
+    while waiting:
+        made.append(_made(source, waiting.pop(0)))
+    numbers = {it.function.name: number for number, it in enumerate(made)}
+    return [_finished(it, numbers) for it in made]
+
+
+def _made(source: Source, function: Function) -> _Made:
+    """The code of a function through all passes up to the choice of its registers."""
+    maker = FunctionMaker(source, function)
+    code, registers = tidied(maker.make()), maker.registers
+    _check_count(function, sum(it.name not in MAY_GO for it in code), "at least ")
+    code = without_unread(with_waits(code, registers))
+    result = coloured(code, registers.fixed)
+    if result is None:
+        raise _pressure(function, code, registers)
+    return _Made(function, registers, with_constants(without_copies(result, registers), registers))
+
+
+def _pressure(function: Function, code: Code, registers: Registers) -> SourceFault:
+    """The fault that a function needs more registers than there are."""
+    pressure = greatest_pressure(code)
+    names = sorted({registers.names[it] for it in pressure.registers if it in registers.names})
+    values = sum(it not in registers.names for it in pressure.registers)
+    shown = listed([*names, *([counted(values, "other value")] if values else [])])
+    return code[pressure.at].place.fault(
+        f"{function.name} needs more than {REGISTERS} registers here, and there is no memory to put one into; alive "
+        f"are {shown}: let another fn do a part, or compute a value where it is needed")
+
+
+def _finished(it: _Made, numbers: Mapping[str, int]) -> FinishedProcedure:
+    """The procedure of a function, if it is not too long."""
+    procedure = finished(it.function.name, it.result, it.registers, numbers)
+    _check_count(it.function, len(procedure.lines))
+    return procedure
+
+
+def _check_count(function: Function, count: int, least: str = "") -> None:
+    """Refuses a procedure with too many instructions. The first passes say which it has at least, so that none takes
+    long for code that is refused at the end."""
+    if count > INSTRUCTIONS_OF_A_PROCEDURE:
+        raise function.place.fault(f"{function.name} has {least}{count} instructions, and a procedure has at most "
+                                   f"{INSTRUCTIONS_OF_A_PROCEDURE}: let another fn do a part")
+
+
+def _check_length(job: Job) -> None:
+    length = job.request_bytes()
+    if length > REQUEST_BYTES:
+        raise NOWHERE.fault(f"the request with this job has {length} bytes, and a line has at most {REQUEST_BYTES}: "
+                            "make the source shorter")

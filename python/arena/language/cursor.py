@@ -1,0 +1,101 @@
+"""A reader's place in a list of tokens, and the small things that every rule of the grammar is made of."""
+import re
+
+from arena.language.faults import Place
+from arena.language.syntax import Parameter
+from arena.language.tokens import Token, TokenKind
+
+GREATEST_WIDTH = 62
+"""The most bits that a parameter in a packed argument may have."""
+
+
+class Cursor:
+    """A place in a list of tokens."""
+
+    def __init__(self, tokens: list[Token]) -> None:
+        self._tokens, self._at = tokens, 0
+
+    @property
+    def token(self) -> Token:
+        """The next token."""
+        return self._tokens[self._at]
+
+    @property
+    def place(self) -> Place:
+        """The place of the next token."""
+        return self.token.place
+
+    def ahead(self, count: int) -> Token:
+        """The token after so many more; at the end, the last one."""
+        return self._tokens[min(self._at + count, len(self._tokens) - 1)]
+
+    def advance(self) -> Token:
+        """Takes the next token, whatever it is."""
+        taken = self.token
+        self._at = min(self._at + 1, len(self._tokens) - 1)
+        return taken
+
+    def sees(self, *texts: str) -> bool:
+        """Whether the next token is one of these words and signs."""
+        return self.token.kind in (TokenKind.WORD, TokenKind.SIGN) and self.token.text in texts
+
+    def take(self, *texts: str) -> str | None:
+        """Takes the next token if it is one of these words and signs, and returns its text."""
+        return self.advance().text if self.sees(*texts) else None
+
+    def need(self, text: str, what: str = "") -> Place:
+        """Takes this word or sign, and returns its place; refuses anything else."""
+        if not self.sees(text):
+            raise self.unexpected(what or f"`{text}`")
+        return self.advance().place
+
+    def unexpected(self, wanted: str) -> Exception:
+        """The fault that something else was wanted here."""
+        found = self.token
+        is_word = found.kind is TokenKind.WORD and "name" in wanted
+        hint = ", which is a word of the language and no name" if is_word else ""
+        return found.place.fault(f"expected {wanted}, found {found.shown()}{hint}")
+
+    def name(self, what: str = "a name") -> str:
+        """Takes a name."""
+        if self.token.kind is not TokenKind.NAME:
+            raise self.unexpected(what if "name" in what else f"the name of {what}")
+        return self.advance().text
+
+    def skip_lines(self) -> None:
+        """Skips ends of lines."""
+        while self.token.kind is TokenKind.END_OF_LINE:
+            self.advance()
+
+    def number(self, is_negative: bool = False) -> int:
+        """Takes a number, or its negative. It must fit 64 bits with a sign."""
+        token = self.advance()
+        base = 16 if token.text.startswith("0x") else 10
+        value = int(token.text.replace("_", ""), base) * (-1 if is_negative else 1)
+        if not -(2**63) <= value < 2**63:
+            raise token.place.fault(f"the number {value} does not fit 64 bits: it is from -2^63 to 2^63 - 1")
+        return value
+
+    def parameters(self) -> tuple[Parameter, ...]:
+        """Takes `(a, b: u20, ..)`."""
+        self.need("(", "`(` and the parameters")
+        found: list[Parameter] = []
+        while not self.take(")"):
+            place = self.place
+            name = self.name("a parameter")
+            found.append(Parameter(place, name, self.width()))
+            if not self.take(","):
+                self.need(")", "`,` or `)`")
+                break
+        return tuple(found)
+
+    def width(self) -> int | None:
+        """Takes `: u20` if it is there, and returns the number of bits."""
+        if not self.take(":"):
+            return None
+        token = self.token
+        match = re.fullmatch(r"u([1-9]\d?)", token.text)
+        if not match or int(match[1]) > GREATEST_WIDTH:
+            raise token.place.fault(f"a width is u1 to u{GREATEST_WIDTH}, found {token.shown()}")
+        self.advance()
+        return int(match[1])

@@ -1,0 +1,139 @@
+"""Code for loops. A loop whose last index is known when it begins, or whose test holds if a register is 0, is tested at
+its end, which takes an instruction less in each turn."""
+from collections.abc import Callable
+
+from arena.language.arithmetic import wrapped
+from arena.language.builder import Loop, Sum
+from arena.language.captures import is_assigned
+from arena.language.faults import Place
+from arena.language.names import Variable
+from arena.language.sums import TOTAL, SumLoop
+from arena.language.syntax import Binary, Block, Expression, For, Held, Name, While
+from arena.language.values import Values
+
+
+class Loops(Values):
+    """Makes the code of loops."""
+
+    def block(self, block: Block) -> bool:
+        """Makes a block; returns whether its end is never reached."""
+        raise NotImplementedError
+
+    def body(self, block: Block, place: Place, more: str, end: str) -> None:
+        """Makes the body of a loop."""
+        before = self.names.pending
+        self.loops.append(Loop(more, end, before))
+        is_left = self.block(block)
+        self.loops.pop()
+        if not is_left and self.names.pending != before:
+            names = sorted(it.name for it in self.names.pending ^ before)
+            raise place.fault(f"the task {names[0]} is waited for in this loop and was made before it: wait for it "
+                              "before the loop")
+        self.names.pending = before
+
+    def make_while(self, it: While) -> None:
+        """`while condition { .. }`."""
+        top, inside, end = self.label(), self.label(), self.label()
+        before = self.names.pending
+        self.mark_loop()
+        self.depth += 1
+        if self.ends_sooner_by_zero(it.condition):
+            self.jump(top, it.place)
+            self.put(inside)
+            self.body(it.body, it.place, top, end)
+            self.put(top)
+            self.branch(it.condition, inside, end, end)
+        else:
+            self.put(top)
+            self.branch(it.condition, inside, end, inside)
+            self.put(inside)
+            self.body(it.body, it.place, top, end)
+            self.jump(top, it.place)
+        self.names.refuse_waited(before, it.condition.place, "in the condition of a loop")
+        self.depth -= 1
+        self.put(end)
+
+    def make_for(self, it: For) -> None:
+        """`for index in low..high { .. }`. Both ends are computed once."""
+        place, index = it.place, self.registers.new(it.index)
+        first, limit = self.fold(it.low), self.fold(it.high)
+        self.value(it.low, index)
+        variable = it.high.name if isinstance(it.high, Name) and limit is None else None
+        if variable is not None and not is_assigned(it.body, variable):
+            high = self.names.readable(variable, it.high.place).register
+            self._count_to_variable(it, index, high)
+            return
+        end = self.label()
+        if limit is None:
+            limit_register = self.value(it.high, self.registers.new(f"(end of {it.index})"))
+            self._skip_if_empty(place, index, Held(place, limit_register), end)
+            self._count_to_last(place, index, limit_register, end, lambda more: self._for_body(it, index, more, end))
+            return
+        if first is None or first >= limit:
+            self._skip_if_empty(place, index, it.high, end)
+        self._count(place, index, lambda: self.number(wrapped(limit - 1), place), end,
+                    lambda more: self._for_body(it, index, more, end))
+
+    def _for_body(self, it: For, index: int, more: str, end: str) -> None:
+        self.names.open()
+        self.names.declare(it.index, Variable(it.index, index, kept="is counted by the for around this line"), it.place)
+        self.body(it.body, it.place, more, end)
+        self.names.close(it.body.end, is_left=False)
+
+    def _skip_if_empty(self, place: Place, index: int, high: Expression, end: str) -> None:
+        inside = self.label()
+        self.branch(Binary(place, "<", Held(place, index), high), inside, end, inside)
+        self.put(inside)
+
+    def _count_to_variable(self, it: For, index: int, high: int) -> None:
+        """A loop up to a variable that it does not change, tested at its beginning."""
+        place, top, inside, more, end = it.place, self.label(), self.label(), self.label(), self.label()
+        self.mark_loop()
+        self.depth += 1
+        self.put(top)
+        self.branch(Binary(place, "<", Held(place, index), Held(place, high)), inside, end, inside)
+        self.put(inside)
+        self._for_body(it, index, more, end)
+        self.put(more)
+        self._step(place, index)
+        self.jump(top, place)
+        self.depth -= 1
+        self.put(end)
+
+    def _count_to_last(self, place: Place, index: int, high: int, end: str, body: Callable[[str], None]) -> None:
+        """A loop up to a register of its own, which is not empty: the register becomes the last index."""
+        self.emit("sub", place, (high,), (high, self.number(1, place)))
+        self._count(place, index, lambda: high, end, body)
+
+    def _count(self, place: Place, index: int, last: Callable[[], int], end: str, body: Callable[[str], None]) -> None:
+        """A loop that is not empty, tested at its end against its last index."""
+        inside, more = self.label(), self.label()
+        self.mark_loop()
+        self.depth += 1
+        self.put(inside)
+        body(more)
+        self.put(more)
+        self._step(place, index)
+        is_beyond = self.registers.new()
+        self.emit("lt", place, (is_beyond,), (last(), index))
+        self.emit("jz", place, (), (is_beyond,), target=inside)
+        self.depth -= 1
+        self.put(end)
+
+    def _step(self, place: Place, index: int) -> None:
+        self.emit("add", place, (index,), (index, self.number(1, place)))
+
+    def make_sum_loop(self, it: SumLoop) -> None:
+        """The loop of one task of a parallel sum over its range, which may be empty."""
+        place, end = it.place, self.label()
+        index, high = (self.names.variable(name, place).register for name in (it.index, it.end))
+        total = self.names.variable(TOTAL, place).register
+        self._skip_if_empty(place, index, Held(place, high), end)
+
+        def body(more: str) -> None:
+            """Makes the body, in which `give` may stand."""
+            self.sum = Sum(total, more, self.names.pending)
+            self.body(it.body, place, more, end)
+            self.sum = None
+
+        self._count_to_last(place, index, high, end, body)

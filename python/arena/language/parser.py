@@ -1,0 +1,189 @@
+"""The grammar's statements and items: the tree of a source."""
+from difflib import get_close_matches
+
+from arena.language.expressions import Expressions
+from arena.language.syntax import (Assign, Binary, Block, Break, Call, Cancel, CellName, CellPart, Constant, Continue,
+                                   DeclareGroup, Evaluate, Expression, For, Function, Give, If, Inline, Isolate, Item,
+                                   Let, LetBoth, LetTask, Name, Number, ParallelSum, Post, ReadCell, Return, Spawn,
+                                   Statement, StoreCell, Sync, Wait, While)
+from arena.language.tokens import WORDS, TokenKind, tokens_of
+
+ASSIGNMENTS = ("=", "+=", "-=", "*=", "/=", "%=")
+
+
+class Parser(Expressions):
+    """Reads a source; raises `SourceFault` at the first token that no rule allows."""
+
+    def items(self) -> list[Item]:
+        """Reads all items."""
+        found: list[Item] = []
+        self.skip_lines()
+        while self.token.kind is not TokenKind.END_OF_FILE:
+            found.append(self.item())
+            if self.token.kind is not TokenKind.END_OF_LINE:
+                raise self.unexpected("the end of the line")
+            self.skip_lines()
+        return found
+
+    def item(self) -> Item:
+        """Reads one item."""
+        place = self.place
+        if self.sees("const", "param"):
+            is_parameter = self.advance().text == "param"
+            name = self.name()
+            self.need("=")
+            return Constant(place, name, self.expression(), is_parameter)
+        if self.take("cell"):
+            return CellName(place, self.name("a cell"), self.key())
+        if self.take("inline"):
+            self.need("fn")
+            name, parameters = self.name("a function"), self.parameters()
+            self.need("=")
+            self.skip_lines()
+            return Inline(place, name, parameters, self.expression())
+        if self.take("fn"):
+            return Function(place, self.name("a function"), self.parameters(), self.block())
+        raise self.unexpected("fn, inline fn, const, param or cell")
+
+    def key(self) -> int | None:
+        """Reads `@ 3` if it is there."""
+        if not self.take("@"):
+            return None
+        if self.token.kind is not TokenKind.NUMBER:
+            raise self.unexpected("the number of a key")
+        return self.number()
+
+    def block(self) -> Block:
+        """Reads `{ .. }`."""
+        place = self.need("{")
+        found: list[Statement] = []
+        self.skip_lines()
+        while not self.sees("}"):
+            if self.token.kind is TokenKind.END_OF_FILE:
+                raise place.fault("this `{` has no `}`")
+            found.append(self.statement())
+            if not self.sees("}") and self.token.kind is not TokenKind.END_OF_LINE:
+                raise self.unexpected("the end of the statement")
+            self.skip_lines()
+        return Block(place, tuple(found), self.need("}"))
+
+    def statement(self) -> Statement:
+        """Reads one statement."""
+        readers = {"let": self._let, "group": self._group, "spawn": self._spawn, "post": self._post, "sync": self._sync,
+                   "cancel": self._cancel, "return": self._return, "give": self._give, "break": self._break,
+                   "continue": self._continue, "while": self._while, "for": self._for, "if": self._if}
+        if self.token.kind is TokenKind.WORD and self.token.text in readers:
+            return readers[self.token.text]()
+        if self.token.kind is TokenKind.NAME:
+            self._refuse_misspelling()
+            if self.ahead(1).text in ASSIGNMENTS:
+                return self._assignment()
+            if self.ahead(1).text == "." and self.ahead(3).text in ASSIGNMENTS:
+                return self._store()
+        return self._evaluation()
+
+    def _refuse_misspelling(self) -> None:
+        """Refuses two names in a row, of which the first should have been a word."""
+        first, second = self.token, self.ahead(1)
+        if second.kind in (TokenKind.NAME, TokenKind.NUMBER):
+            close = get_close_matches(first.text, sorted(WORDS), 1)
+            hint = f"; did you mean `{close[0]}`?" if close else ": an assignment is `name = value`"
+            raise first.place.fault(f"`{first.text}` begins no statement{hint}")
+
+    def _evaluation(self) -> Statement:
+        place, value = self.place, self.expression()
+        if not isinstance(value, Wait | Isolate | Call | ParallelSum):
+            raise place.fault("this value goes nowhere: write `let name = ..`, or leave it out")
+        return Evaluate(place, value)
+
+    def _assignment(self) -> Assign:
+        place, name = self.place, self.name()
+        return Assign(place, name, self._assigned(Name(place, name)))
+
+    def _store(self) -> StoreCell:
+        place, cell = self.place, self.name()
+        self.advance()
+        part = self.advance()
+        if part.text != "local":
+            raise part.place.fault(f"only {cell}.local can be assigned to")
+        return StoreCell(place, cell, self._assigned(ReadCell(place, cell, CellPart.LOCAL)))
+
+    def _assigned(self, before: Expression) -> Expression:
+        """Reads `= value`, or `+= value` and the like as an operation on what is there before."""
+        sign = self.advance()
+        self.skip_lines()
+        value = self.expression()
+        return value if sign.text == "=" else Binary(sign.place, sign.text[0], before, value)
+
+    def _let(self) -> Statement:
+        place = self.need("let")
+        name = self.name()
+        if self.take(","):
+            status = self.name("the status")
+            self.need("=")
+            self.need("wait")
+            return LetBoth(place, name, status, self.name("a group or a task"))
+        self.need("=")
+        self.skip_lines()
+        if self.take("spawn"):
+            return LetTask(place, name, self.application())
+        return Let(place, name, self.expression())
+
+    def _group(self) -> DeclareGroup:
+        return DeclareGroup(self.need("group"), self.name("a group"))
+
+    def _spawn(self) -> Spawn:
+        place, group = self.need("spawn"), None
+        if self.ahead(1).text == ":":
+            group = self.name("a group")
+            self.need(":")
+        return Spawn(place, group, self.application())
+
+    def _post(self) -> Post:
+        return Post(self.need("post"), self.application())
+
+    def _sync(self) -> Sync:
+        return Sync(self.need("sync"))
+
+    def _cancel(self) -> Cancel:
+        return Cancel(self.need("cancel"), self.name("a group or a task"))
+
+    def _return(self) -> Return:
+        place = self.need("return")
+        is_bare = self.token.kind is TokenKind.END_OF_LINE or self.sees("}")
+        return Return(place, Number(place, 0) if is_bare else self.expression())
+
+    def _give(self) -> Give:
+        return Give(self.need("give"), self.expression())
+
+    def _break(self) -> Break:
+        return Break(self.need("break"))
+
+    def _continue(self) -> Continue:
+        return Continue(self.need("continue"))
+
+    def _while(self) -> While:
+        return While(self.need("while"), self.expression(), self.block())
+
+    def _for(self) -> For:
+        place, index = self.need("for"), self.name("the counter")
+        self.need("in")
+        ends = self.range()
+        return For(place, index, ends.low, ends.high, self.block())
+
+    def _if(self) -> If:
+        place, condition, then = self.need("if"), self.expression(), self.block()
+        start = self._at
+        self.skip_lines()
+        if not self.take("else"):
+            self._at = start
+            return If(place, condition, then, Block(then.end, (), then.end))
+        if self.sees("if"):
+            inner = self._if()
+            return If(place, condition, then, Block(inner.place, (inner,), inner.otherwise.end))
+        return If(place, condition, then, self.block())
+
+
+def parse(text: str) -> list[Item]:
+    """The tree of a source: its items in order. Raises `SourceFault`."""
+    return Parser(tokens_of(text)).items()

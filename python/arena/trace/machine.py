@@ -1,0 +1,124 @@
+"""Private runs of a row: its registers after up to 1,000 private instructions."""
+from collections.abc import Callable
+from dataclasses import dataclass
+from functools import lru_cache
+from typing import NamedTuple
+
+# How many private instructions one advance executes at most.
+RUN = 1000
+# After how many instructions a procedure is compiled to Python.
+WARM = 2000
+LEAST, GREATEST, RANGE = -(2**63), 2**63 - 1, 2**64
+
+# Private instructions come first; `SHARED` parts them from the others.
+NAMES = ["set", "add", "sub", "lt", "jz", "jmp", "mul", "div", "slot", "width",
+         "spawn", "wait", "ret", "isolate", "post", "cancel", "ask", "load", "store", "sum", "count"]
+NUMBERS = {name: number for number, name in enumerate(NAMES)}
+SET, ADD, SUB, LT, JZ, JMP, MUL, DIV, SLOT, WIDTH, SHARED = range(11)
+WAIT = NUMBERS["wait"]
+
+
+class Instr(NamedTuple):
+    """An instruction: its number in `NAMES`, and its operands, 0 where it has fewer than four."""
+
+    op: int
+    x: int = 0
+    y: int = 0
+    z: int = 0
+    w: int = 0
+
+
+@dataclass(slots=True)
+class Run:
+    """Where a private run ended: before the instruction `at`, after `count` ones, or at a division by zero, which
+    `at` is."""
+
+    at: int
+    count: int
+    divided_by_zero: bool
+
+
+Fast = Callable[[list[int], int, int, int, int], Run]
+
+
+@dataclass(slots=True, eq=False)
+class Procedure:
+    """A procedure. Once it is warm, `fast` runs it from any of its `leaders`: instructions that are jumped to, or
+    that follow a jump or a shared instruction."""
+
+    instrs: tuple[Instr, ...]
+    executed: int = 0
+    fast: Fast | None = None
+    leaders: frozenset[int] = frozenset()
+
+
+def decode(procs: list[list[list]]) -> list[Procedure]:
+    """The procedures of a valid job. Jobs of the same code share them."""
+    return [_procedure(tuple(Instr(NUMBERS[name], *operands) for name, *operands in proc)) for proc in procs]
+
+
+@lru_cache(maxsize=1024)
+def _procedure(instrs: tuple[Instr, ...]) -> Procedure:
+    return Procedure(instrs)
+
+
+def wrapped(number: int) -> int:
+    """The number as a signed one of 64 bits."""
+    return (number - LEAST) % RANGE + LEAST
+
+
+def quotient(a: int, b: int) -> int:
+    """Rounded toward zero."""
+    return wrapped(abs(a) // abs(b) if (a < 0) == (b < 0) else -(abs(a) // abs(b)))
+
+
+def run_private(procedure: Procedure, registers: list[int], at: int, slot: int, width: int) -> Run:
+    """Executes private instructions, which change the registers, until a shared one is next, 1,000 are executed, or one
+    divides by zero."""
+    instrs, leaders, count = procedure.instrs, procedure.leaders, 0
+    while True:
+        if at in leaders:
+            run = procedure.fast(registers, at, count, slot, width)
+            if run.divided_by_zero:
+                return run
+            at, count = run.at, run.count
+        instr = instrs[at]
+        if instr[0] >= SHARED or count == RUN:
+            break
+        count += 1
+        follows = _step(instr, registers, at, slot, width)
+        if follows is None:
+            return Run(at, count, True)
+        at = follows
+    if procedure.fast is None:
+        procedure.executed += count
+        if procedure.executed >= WARM:
+            from arena.trace.fast import compile_procedure
+            compile_procedure(procedure)
+    return Run(at, count, False)
+
+
+def _step(instr: Instr, registers: list[int], at: int, slot: int, width: int) -> int | None:
+    """Executes one private instruction. Returns which one is next, or none if it divides by zero."""
+    op, x, y, z, _ = instr
+    if op == JZ:
+        return y if registers[x] == 0 else at + 1
+    if op == JMP:
+        return x
+    if op == SET:
+        registers[x] = y
+    elif op == ADD:
+        registers[x] = wrapped(registers[y] + registers[z])
+    elif op == SUB:
+        registers[x] = wrapped(registers[y] - registers[z])
+    elif op == LT:
+        registers[x] = 1 if registers[y] < registers[z] else 0
+    elif op == MUL:
+        registers[x] = wrapped(registers[y] * registers[z])
+    elif op == DIV:
+        if registers[z] == 0:
+            return None
+        registers[x] = quotient(registers[y], registers[z])
+    else:
+        registers[x] = slot if op == SLOT else width
+    return at + 1
