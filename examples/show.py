@@ -4,7 +4,7 @@
 usage: examples/show.py [NAME]     (first_job if no NAME is given)
 
 It runs out/arena-script if `make build` has built that since the last change of a source. Otherwise it
-runs the program by `rt try`, which proves nothing and takes about half a minute.
+builds the program without proving it, in about a minute, and keeps it for the next time (checks/build/unproved.py).
 """
 import json
 import pathlib
@@ -12,7 +12,11 @@ import subprocess
 import sys
 
 TOP = pathlib.Path(__file__).resolve().parent.parent
-PROGRAM = TOP / "out" / "arena-script"
+sys.path.append(str(TOP / "checks" / "build"))
+
+from unproved import built, is_newer_than_sources
+
+PROVED = TOP / "out" / "arena-script"
 
 MOVES = {
     "arrived": "a worker came to slot {slot} and started row {row}",
@@ -61,24 +65,16 @@ def meaning(step, answer):
     return MOVES[answer["moved"]].format(slot=step.get("slot"), row=answer.get("row"))
 
 
-def is_built():
-    """Whether the proved program is there and no source is newer."""
-    if not PROGRAM.exists():
-        return False
-    made = PROGRAM.stat().st_mtime
-    return all(source.stat().st_mtime <= made for source in TOP.glob("crates/*/src/**/*.rt"))
-
-
 def answers_to(script):
     """Returns the lines that the program prints for a script."""
-    if is_built():
-        command, folder = [str(PROGRAM)], TOP
+    if is_newer_than_sources(PROVED):
+        program = PROVED
         print("running out/arena-script, built by `make build`", file=sys.stderr)
     else:
-        command, folder = ["rt", "try"], TOP / "crates" / "script_program"
-        print("running the program unproved, by `rt try`: about half a minute (`make build` proves it)", file=sys.stderr)
+        program = built("arena-script")
+        print("running out/unproved/arena-script, which is not proved (`make build` proves it)", file=sys.stderr)
     with open(script) as lines:
-        run = subprocess.run(command, cwd=folder, stdin=lines, capture_output=True, text=True)
+        run = subprocess.run([program], stdin=lines, capture_output=True, text=True)
     if run.returncode != 0:
         sys.exit(f"{run.stderr}the program ended with status {run.returncode}")
     return run.stdout.splitlines()

@@ -5,11 +5,12 @@ usage: checks/build/run.py, at the top of the repository. It prints a line befor
 with the minutes since the start; a crate that has not changed since its last proof takes seconds.
 """
 import os
-import re
 import shutil
 import subprocess
 import sys
 import time
+
+from kit import functions_in, is_proved
 
 PROGRAMS = {"script_program": "arena-script", "server_program": "arena-server"}
 START = time.monotonic()
@@ -42,10 +43,10 @@ def prove(name, command):
         status = subprocess.run(command, cwd=f"crates/{name}", stdin=subprocess.DEVNULL, stdout=log, stderr=log).returncode
         log.seek(0)
         text = log.read()
-    functions = re.findall(r"^logic=proved functions=(\d+)", text, re.M)
-    if not functions if name in PROGRAMS else status:
+    if not is_proved(text, status, name in PROGRAMS):
         sys.exit(f"{''.join(text.splitlines(True)[-40:])}{name} is not proved (out/{name}.log)")
-    say(f"{name} proved{f', {functions[-1]} functions' if functions else ''}")
+    functions = functions_in(text)
+    say(f"{name} proved{f', {functions} functions' if functions else ''}")
 
 
 def main():
