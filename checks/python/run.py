@@ -1,5 +1,5 @@
 #!/usr/bin/env python3
-"""Runs the checks of the Python package, each in a process of its own, and passes on what it prints. The last line says
+"""Runs the checks of the Python package side by side, each in a process of its own, and passes on what it prints. The last line says
 how many there are, and how many found a difference.
 
 usage: checks/python/run.py [CHECK..], from anywhere, after `rt ci` or `make build`: all checks, if none is named.
@@ -8,22 +8,31 @@ import os
 import subprocess
 import sys
 import time
+from concurrent.futures import ThreadPoolExecutor
 
-CHECKS = ("lint", "assembler", "refusals", "damaged", "fuel", "worked", "language", "faults", "client", "commands", "trace",
-          "page")
+CHECKS = ("language", "faults", "assembler", "trace", "page", "commands", "fuel", "lint", "refusals", "damaged", "worked",
+          "client")
 FOLDER = os.path.dirname(os.path.abspath(__file__))
 
 
+def run(check):
+    """Runs a check. Returns whether it passed, and what it printed, with how long it took."""
+    start = time.monotonic()
+    pipes = {"stdout": subprocess.PIPE, "stderr": subprocess.STDOUT, "text": True}
+    done = subprocess.run([sys.executable, os.path.join(FOLDER, f"{check}.py")], **pipes)
+    said = "ok" if done.returncode == 0 else f"status {done.returncode}"
+    return done.returncode == 0, f"{done.stdout}{check}: {said}, {time.monotonic() - start:.0f} s"
+
+
 def main(checks):
-    failed = []
-    for check in checks or CHECKS:
-        start = time.monotonic()
-        status = subprocess.run([sys.executable, os.path.join(FOLDER, f"{check}.py")]).returncode
-        if status:
-            failed.append(check)
-        print(f"{check}: {'ok' if not status else f'status {status}'}, {time.monotonic() - start:.0f} s", flush=True)
-    print(f"{len(checks or CHECKS)} checks of the package: {len(failed)} with "
-          f"differences{': ' if failed else ''}{', '.join(failed)}")
+    """Runs checks side by side, as many as there are processors, the longest first."""
+    checks, failed = checks or CHECKS, []
+    with ThreadPoolExecutor(len(os.sched_getaffinity(0))) as pool:
+        for check, (passed, text) in zip(checks, pool.map(run, checks)):
+            print(text, flush=True)
+            if not passed:
+                failed.append(check)
+    print(f"{len(checks)} checks of the package: {len(failed)} with differences{': ' if failed else ''}{', '.join(failed)}")
     return failed
 
 
