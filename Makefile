@@ -21,7 +21,7 @@ serve: build ## serves two connections at /tmp/arena.sock; Ctrl-C stops it in or
 	@trap 'rm -f $(SOCKET)' INT; setsid $(PROGRAM) --config examples/server/config.json --socket $(SOCKET) \
 	    --connections 2 & server=$$!; while kill -0 $$server 2>/dev/null; do wait $$server; done; wait $$server
 
-serve-unproved: ## the same within a minute, by a server that is built without proofs
+serve-unproved: ## the same within a minute or two, by a server that is built without proofs
 	@checks/build/unproved.py arena-server
 	@$(MAKE) --no-print-directory -o build serve PROGRAM=out/unproved/arena-server
 
