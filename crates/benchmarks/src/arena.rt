@@ -1,20 +1,17 @@
-// Jobs on one slot of an arena, of a tenant's cell or of each tenant of a world.
+// Jobs on one slot of an arena or of a tenant's cell.
 mod jobs;
 mod recorded;
 mod runs;
-mod worlds;
 
 use crate::stops::Stop;
 use crate::words::number_in;
 use jobs::{cancels, fibonacci};
 use recorded::run_recorded;
 use runs::{Ran, run_jobs};
-use worlds::run_world;
 
 /// Runs jobs, and prints how many tasks ran, how many steps that took and the value of the last job.
 /// `fib N JOBS WAITING` runs jobs of the Nth Fibonacci number beside WAITING rows that wait; `recorded N JOBS`
-/// runs them on a cell, which records each step; `cancels JOBS` runs jobs that cancel 16 groups;
-/// `world TENANTS JOBS` runs jobs of the 12th Fibonacci number on each tenant of a world. Without words it does
+/// runs them on a cell, which records each step; `cancels JOBS` runs jobs that cancel 16 groups. Without words it does
 /// a little of each.
 pub(crate) fn run<R: Print + AllocGlobal>(rt: &R, words: &[&str]) -> Result<(), Stop> {
     match words {
@@ -29,7 +26,6 @@ pub(crate) fn run<R: Print + AllocGlobal>(rt: &R, words: &[&str]) -> Result<(), 
         }
         ["recorded", number, jobs] => print_recorded(rt, number_in(number)?, number_in(jobs)?),
         ["cancels", jobs] => print_cancels(rt, number_in(jobs)?),
-        ["world", tenants, jobs] => print_world(rt, number_in(tenants)?, number_in(jobs)?),
         _ => Err(Stop::Words),
     }
 }
@@ -40,9 +36,7 @@ fn print_few<R: Print + AllocGlobal>(rt: &R) -> Result<(), Stop> {
     print_fib(rt, 12, 2, 64)?;
     print_fib(rt, 12, 1, 4_000)?;
     print_recorded(rt, 12, 1)?;
-    print_cancels(rt, 2)?;
-    print_world(rt, 1, 1)?;
-    print_world(rt, 8, 2)
+    print_cancels(rt, 2)
 }
 
 fn print_fib<R: Print + AllocGlobal>(
@@ -68,11 +62,5 @@ fn print_cancels<R: Print + AllocGlobal>(rt: &R, jobs: usize) -> Result<(), Stop
     let text = cancels(rt.alloc())?;
     let ran = run_jobs(rt.alloc(), text.as_str(), jobs, 0)?;
     println!(rt; "cancels: {ran}")?;
-    Ok(())
-}
-
-fn print_world<R: Print + AllocGlobal>(rt: &R, tenants: usize, jobs: usize) -> Result<(), Stop> {
-    let ran = run_world(rt.alloc(), tenants, jobs)?;
-    println!(rt; "world of {tenants} tenants: {ran}")?;
     Ok(())
 }

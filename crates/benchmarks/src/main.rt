@@ -7,7 +7,6 @@ mod arena;
 mod leaves;
 mod locks;
 mod private_run;
-mod queues;
 mod reading;
 mod stops;
 mod tenants;
@@ -86,7 +85,6 @@ where
         What::Leaves => leaves::run(rt, words),
         What::Locks => locks::run(rt, words),
         What::PrivateRun => private_run::run(rt, words),
-        What::Queues => queues::run(rt, words),
         What::Reading => reading::run(rt, words),
     }
 }

@@ -28,11 +28,10 @@ pub(crate) enum Stop {
 
 /// What is printed if the words ask for nothing that there is.
 const USAGE: &str = "usage: benchmarks [WHAT ..], and WHAT is one of
-    arena [fib N JOBS WAITING | recorded N JOBS | cancels JOBS | world TENANTS JOBS]
+    arena [fib N JOBS WAITING | recorded N JOBS | cancels JOBS]
     leaves [LEAF ROWS ROUNDS]
     locks [steps EVENTS THREADS TENANTS]
     private_run
-    queues [QUEUE THREADS CALLS]
     reading [BLOCK REQUESTS]";
 
 impl Stop {

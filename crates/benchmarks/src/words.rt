@@ -4,7 +4,7 @@ use crate::stops::Stop;
 /// What is measured.
 #[derive(Clone, Copy)]
 pub(crate) enum What {
-    /// Jobs on an arena, a tenant's cell or a world.
+    /// Jobs on an arena or a tenant's cell.
     Arena,
     /// The calls of the arena's leaves.
     Leaves,
@@ -12,19 +12,16 @@ pub(crate) enum What {
     Locks,
     /// The private run of a job's root.
     PrivateRun,
-    /// Queues of calls.
-    Queues,
     /// Requests that are read.
     Reading,
 }
 
 /// All of it, in the order in which it is done without words.
-pub(crate) const ALL: [What; 6] = [
+pub(crate) const ALL: [What; 5] = [
     What::Arena,
     What::Leaves,
     What::Locks,
     What::PrivateRun,
-    What::Queues,
     What::Reading,
 ];
 
@@ -36,7 +33,6 @@ impl What {
             "leaves" => Ok(What::Leaves),
             "locks" => Ok(What::Locks),
             "private_run" => Ok(What::PrivateRun),
-            "queues" => Ok(What::Queues),
             "reading" => Ok(What::Reading),
             _ => Err(Stop::Words),
         }

@@ -2,7 +2,8 @@
 ghost use Rattle.std.specs.Prelude.{◌≡◌, ◌≤◌, ◌<◌, ℕ, length, map};
 ghost use Rattle.tenant_slots.specs.Seen.{AreNumbered};
 ghost use Rattle.locked_doors.specs.Seen.{AreOwn};
-ghost use Rattle.locked_doors.specs.Ways.{Advances, AsksBound};
+ghost use Rattle.locked_doors.specs.Ways.{Advances, AsksBound, with_thread};
+ghost use Rattle.tenant_slots.specs.Ways.{left};
 
 use job_language::{Moved, Reply, Request, TenantName};
 use job_step::Segment;
@@ -67,6 +68,13 @@ impl<'d, 'q, R: Wait, S: Signal> LockedDoors<'d, 'q, R, S> {
             seats,
             bound: 0,
         }
+    }
+
+    /// Gives the slot home that it is at. The doors can then serve another session, by the same seats.
+    pub fn leave(&mut self)
+        ensures { self.new ≡ with_thread self.old (record self.old.at { doors = left self.old.at.doors }) }
+    {
+        self.slots.give_home();
     }
 
     /// Gives the slot home that it is at, and gives back the seats, and the ringer with its queue pass.

@@ -1,14 +1,15 @@
 //! `arena-server`: serves tenants to clients over a Unix socket.
 #![tactic(auto)]
 
-mod dumps;
-
 ghost use Rattle.std.specs.Prelude.{◌≤◌};
 
-use dumps::{can_dump, dump_history};
+use dump_files::{can_dump, dump_history};
+use dump_lines::DumpFault;
 use job_language::TenantConfig;
 use server_words::{Words, WordsFault, read_words};
-use socket_server::{Endpoint, House, MAX_CONFIG, Opened, ServerEnd, config_of, serve_connections};
+use socket_server::{
+    Access, Endpoint, House, MAX_CONFIG, Opened, ServerEnd, config_of, serve_connections,
+};
 use std::alloc::Global;
 use std::env::Env;
 use std::fs::{File, Files};
@@ -93,9 +94,9 @@ where
         seats,
     } = House::open(alloc, &config, words.connections)?;
     if let Some(folder) = words.dump {
-        can_dump(rt, alloc, folder, config.tenants())?;
+        try_folder(rt, alloc, folder, config.tenants())?;
     }
-    let endpoint = Endpoint::bind(rt, alloc, words.socket)?;
+    let endpoint = Endpoint::bind(rt, alloc, words.socket, Access::OWNER)?;
     let served = serve_connections(
         rt,
         alloc,
@@ -112,6 +113,34 @@ where
     match served.fault {
         Some(fault) => Err(fault),
         None => closed,
+    }
+}
+
+/// Whether a dump can be made in a folder: `Device` if not. Nothing is left there.
+fn try_folder<R: Files>(
+    rt: &R,
+    alloc: Global,
+    folder: &str,
+    configs: &[TenantConfig],
+) -> Result<(), ServerEnd> {
+    let Some(config) = configs.first() else {
+        return Ok(());
+    };
+    let path = dump_path(alloc, folder, config)?;
+    can_dump(rt, alloc, path.as_str()).map_err(end_at)
+}
+
+/// The file of a tenant's history in a folder.
+fn dump_path(alloc: Global, folder: &str, config: &TenantConfig) -> Result<String, ServerEnd> {
+    let name = config.tenant().name;
+    Ok(format!(in alloc; "{folder}/{}.jsonl", name.as_str())?)
+}
+
+/// What a dump that was not written is for the server.
+fn end_at(fault: DumpFault) -> ServerEnd {
+    match fault {
+        DumpFault::Memory => ServerEnd::Memory,
+        DumpFault::Device | DumpFault::NoEntry => ServerEnd::Device,
     }
 }
 
@@ -163,7 +192,8 @@ fn tell_end<R: Files + Print>(
 ) -> Result<(), ServerEnd> {
     let is_printed = print_end(rt, end, config).is_ok();
     if let (Some(folder), Ok(closed)) = (folder, end) {
-        dump_history(rt, alloc, folder, config, closed.history.as_slice())?;
+        let path = dump_path(alloc, folder, config)?;
+        dump_history(rt, alloc, path.as_str(), config, closed.history.as_slice()).map_err(end_at)?;
     }
     if is_printed {
         Ok(())

@@ -103,10 +103,20 @@ impl House {
     }
 
     /// Wakes all that wait for a tenant, each to look whether to go on.
-    pub(crate) fn wake<R: Wait>(&self, rt: &R) {
+    pub fn wake<R: Wait>(&self, rt: &R) {
         for door in &self.doors {
             door.wake(rt);
         }
+    }
+
+    /// The bell that is rung after each call for a worker.
+    pub fn bell(&self) -> &Bell {
+        &self.bell
+    }
+
+    /// The doors of the tenants, in the order of the configuration.
+    pub fn doors(&self) -> &[TenantDoor] {
+        self.doors.as_slice()
     }
 
     /// Tells all that wait, for a tenant or for a call, to stop.

@@ -16,7 +16,10 @@ mod starting;
 mod watching;
 
 pub use configs::{MAX_CONFIG, config_of};
-pub use endpoint::Endpoint;
+pub use endpoint::{Access, Endpoint};
 pub use ends::ServerEnd;
 pub use house::{House, Opened};
+pub use posts::{Client, Post, Posts};
 pub use serving::{Served, serve_connections};
+pub use sessions::serve_calls;
+pub use watching::Watch;

@@ -6,13 +6,18 @@ ghost use Rattle.socket_server.specs.Shared.{ArePassesOf};
 use crate::house::House;
 use crate::starting::take_seats;
 use call_queues::QueuePass;
+use locked_doors::LockedDoors;
 use std::alloc::{AllocError, Global};
 use std::marker::Model;
+use std::sync::Wait;
+use tenant_lock::StopFlag;
 use tenant_record::Seat;
+use tenant_slots::TenantSlots;
+use worker_main::{Bell, Ringer};
 
 /// The passes of a house's queues that no thread has yet.
 #[derive(Drop)]
-pub(crate) struct Posts<'h> {
+pub struct Posts<'h> {
     house: &'h House,
     passes: Vec<QueuePass>,
 }
@@ -29,7 +34,7 @@ impl<'h> Model for Posts<'h> {
 
 /// One thread's pass of the queues of a house.
 #[derive(Drop)]
-pub(crate) struct Post<'h> {
+pub struct Post<'h> {
     pub(crate) house: &'h House,
     pub(crate) pass: QueuePass,
 }
@@ -46,7 +51,7 @@ impl<'h> Model for Post<'h> {
 
 /// One session's pass, and its seat of each tenant.
 #[derive(Drop)]
-pub(crate) struct Client<'h> {
+pub struct Client<'h> {
     pub(crate) post: Post<'h>,
     pub(crate) seats: Vec<Seat>,
 }
@@ -63,14 +68,14 @@ impl<'h> Model for Client<'h> {
 
 impl<'h> Posts<'h> {
     /// The posts of a house for whose queues the passes are.
-    pub(crate) fn new(house: &'h House, passes: Vec<QueuePass>) -> Self
+    pub fn new(house: &'h House, passes: Vec<QueuePass>) -> Self
         requires { ArePassesOf house.now.queues.queues passes.items }
     {
         Posts { house, passes }
     }
 
     /// A post, if a pass is left.
-    pub(crate) fn next(&mut self) -> Option<Post<'h>> {
+    pub fn next(&mut self) -> Option<Post<'h>> {
         let pass = self.passes.pop()?;
         Some(Post {
             house: self.house,
@@ -79,7 +84,7 @@ impl<'h> Posts<'h> {
     }
 
     /// A post for a session, with a seat of each tenant. None if a pass or a seat is missing.
-    pub(crate) fn next_client(
+    pub fn next_client(
         &mut self,
         alloc: Global,
         seats: &mut Vec<Seat>,
@@ -92,5 +97,20 @@ impl<'h> Posts<'h> {
             return Ok(None);
         };
         Ok(Some(Client { post, seats }))
+    }
+}
+
+impl<'h> Client<'h> {
+    /// The doors of a session that has asked nothing yet. Where it waits it stops once the flag is raised.
+    pub fn into_doors<R: Wait>(
+        self,
+        rt: &'h R,
+        stop: &'h StopFlag,
+    ) -> LockedDoors<'h, 'h, R, Bell> {
+        let Client { post, seats } = self;
+        let Post { house, pass } = post;
+        let slots = TenantSlots::new(rt, house.doors.as_slice(), stop);
+        let ringer = Ringer::new(rt, &house.bell, &house.queues, pass);
+        LockedDoors::new(slots, ringer, house.names.as_slice(), seats)
     }
 }

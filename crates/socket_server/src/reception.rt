@@ -8,10 +8,14 @@ use crate::posts::{Client, Posts};
 use crate::watching::Watch;
 use std::alloc::{AllocError, Global};
 use std::fs::Files;
-use std::io::ErrorKind;
 use std::os::unix::net::UnixStream;
 use std::sync::{Arc, Wait};
+use std::time::Duration;
 use tenant_record::Seat;
+
+/// How long a wait takes at most, in milliseconds. What is looked at after each, such as whether the socket's file is
+/// still there, is seen within that time.
+const TICK: u64 = 250;
 
 /// How many quiet ticks a client has to take a reply once the server stops.
 const PATIENCE: u8 = 4;
@@ -65,19 +69,17 @@ impl<'h> Reception<'h> {
     /// Accepts a connection, if one waits and one is still to be accepted.
     pub(crate) fn admit(&mut self, alloc: Global, endpoint: &Endpoint<'_>) -> Option<Admitted<'h>> {
         let left = self.left.checked_sub(1)?;
-        match endpoint.listener.accept() {
-            Ok((stream, _address)) => match self.admit_stream(alloc, stream) {
-                Ok(Some(admitted)) => {
-                    self.left = left;
-                    return Some(admitted);
-                }
-                Ok(None) => self.fail(ServerEnd::Device),
-                Err(_) => self.fail(ServerEnd::Memory),
-            },
-            Err(fault) => match fault.kind() {
-                ErrorKind::WouldBlock | ErrorKind::Interrupted => {}
-                _ => self.fail(ServerEnd::Device),
-            },
+        let Ok(accepted) = endpoint.accept() else {
+            self.fail(ServerEnd::Device);
+            return None;
+        };
+        match self.admit_stream(alloc, accepted?) {
+            Ok(Some(admitted)) => {
+                self.left = left;
+                return Some(admitted);
+            }
+            Ok(None) => self.fail(ServerEnd::Device),
+            Err(_) => self.fail(ServerEnd::Memory),
         }
         None
     }
@@ -90,7 +92,11 @@ impl<'h> Reception<'h> {
         stream: UnixStream,
     ) -> Result<Option<Admitted<'h>>, AllocError> {
         let connection = Arc::new(alloc, Connection::new(stream))?;
-        if self.watch.add(&connection, self.accepted.len()).is_err() {
+        if self
+            .watch
+            .add(connection.fd(), self.accepted.len())
+            .is_err()
+        {
             return Ok(None);
         }
         self.accepted.push(Arc::try_clone(&connection)?)?;
@@ -140,17 +146,30 @@ impl<'h> Reception<'h> {
         house: &House,
         endpoint: &Endpoint<'_>,
     ) {
-        if self.watch.wait().is_err() {
+        if self.watch.wait(Duration::from_millis(TICK)).is_err() {
             self.fail(ServerEnd::Device);
             self.stop(rt, house);
         }
-        if self.watch.raise_gone(&self.accepted) {
+        if self.raise_gone() {
             house.wake(rt);
         }
         if self.patience.is_none() && !endpoint.is_there(rt) {
             self.stop(rt, house);
         }
         self.lose_patience();
+    }
+
+    /// Raises the flags of the connections whose clients have gone, as the last wait reported. It says whether there
+    /// are any.
+    fn raise_gone(&self) -> bool {
+        let mut is_any = false;
+        for (number, connection) in self.accepted.iter().enumerate() {
+            if self.watch.has_gone(number) && !connection.is_over() {
+                connection.is_gone.raise();
+                is_any = true;
+            }
+        }
+        is_any
     }
 
     /// Stops the server: it accepts no more, nothing waits any more, and no more lines come in.

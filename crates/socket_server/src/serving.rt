@@ -21,6 +21,7 @@ use std::sync::{Mutex, Wait};
 use std::thread::Threads;
 use std::{io, thread};
 use tenant_record::Seat;
+use worker_main::NoGate;
 
 /// How the connections of a server ended.
 #[derive(Drop)]
@@ -54,7 +55,7 @@ pub fn serve_connections<R: Threads + Wait + Files + Net + Sync + Print>(
     // With room for all, so that no seat is lost for lack of memory.
     let returned = Mutex::new(Vec::with_capacity(alloc, seats.len())?);
     let waiting = Mutex::new(Vec::with_capacity(alloc, usize::from(connections))?);
-    let (watch, waker) = match Watch::new(rt, alloc, &endpoint.listener, connections) {
+    let (watch, waker) = match Watch::new(rt, alloc, endpoint, connections) {
         Ok(made) => made,
         Err(fault) => return Err(end_of(&fault)),
     };
@@ -65,7 +66,10 @@ pub fn serve_connections<R: Threads + Wait + Files + Net + Sync + Print>(
             let Some(post) = posts.next() else {
                 break;
             };
-            if scope.spawn(move || serve_calls(rt, post)).is_err() {
+            if scope
+                .spawn(move || serve_calls(rt, post, &house.bell, &NoGate))
+                .is_err()
+            {
                 house.stop(rt);
                 return None;
             }

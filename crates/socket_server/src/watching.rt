@@ -1,54 +1,53 @@
 // Waiting for connections, for clients that go, and for sessions that end.
 
-use crate::connections::Connection;
+use crate::endpoint::Endpoint;
 use mio::unix::SourceFd;
 use mio::{Events, Interest, Poll, Token, Waker};
 use std::alloc::Global;
 use std::io;
 use std::net::Net;
-use std::os::fd::AsRawFd;
-use std::os::unix::net::UnixListener;
-use std::sync::Arc;
+use std::os::fd::{AsRawFd, RawFd};
 use std::time::Duration;
 
-/// How long a wait takes at most, in milliseconds. What is looked at after each, such as whether the socket's file is
-/// still there, is seen within that time.
-const TICK: u64 = 250;
-
-/// The listener's token. Connections have those from 2 on, in the order in which they were accepted.
+/// The listener's token. Connections have those from 2 on, by their numbers.
 const LISTENER: usize = 0;
 
 const WAKER: usize = 1;
 
 const FIRST_CONNECTION: usize = 2;
 
-/// What the system reports of a server's sockets.
+/// What the system reports of a server's sockets. Each connection that is watched has a number of its own.
 #[derive(Drop)]
-pub(crate) struct Watch {
+pub struct Watch {
     poll: Poll,
     events: Events<Global>,
 }
 
 impl Watch {
-    /// Watches a listener for connections. The waker ends a wait from another thread.
-    pub(crate) fn new<R: Net>(
+    /// Watches an endpoint for connections. The waker ends a wait from another thread.
+    pub fn new<R: Net>(
         rt: &R,
         alloc: Global,
-        listener: &UnixListener,
+        endpoint: &Endpoint<'_>,
         connections: u8,
     ) -> io::Result<(Watch, Waker)> {
         let events = Events::with_capacity(alloc, usize::from(connections) + FIRST_CONNECTION)?;
         let poll = Poll::new(rt)?;
-        let fd = listener.as_raw_fd();
+        let fd = endpoint.listener.as_raw_fd();
         poll.registry()
             .register(&mut SourceFd(&fd), Token(LISTENER), Interest::READABLE)?;
         let waker = Waker::new(poll.registry(), Token(WAKER))?;
         Ok((Watch { poll, events }, waker))
     }
 
-    /// Watches a connection for its client's going: the one that was accepted after `number` others.
-    pub(crate) fn add(&self, connection: &Connection, number: usize) -> io::Result<()> {
-        let fd = connection.fd();
+    /// Watches an endpoint for connections no more.
+    pub fn leave(&self, endpoint: &Endpoint<'_>) -> io::Result<()> {
+        let fd = endpoint.listener.as_raw_fd();
+        self.poll.registry().deregister(&mut SourceFd(&fd))
+    }
+
+    /// Watches a connection, by its number, for its client's going.
+    pub fn add(&self, fd: RawFd, number: usize) -> io::Result<()> {
         // A hang-up is reported whatever one is interested in, and nothing else is to wake.
         self.poll.registry().register(
             &mut SourceFd(&fd),
@@ -57,33 +56,20 @@ impl Watch {
         )
     }
 
-    /// Waits until something is reported or a tick has passed.
-    pub(crate) fn wait(&mut self) -> io::Result<()> {
-        self.poll
-            .poll(&mut self.events, Some(Duration::from_millis(TICK)))
+    /// Waits until something is reported, or for that long.
+    pub fn wait(&mut self, most: Duration) -> io::Result<()> {
+        self.poll.poll(&mut self.events, Some(most))
     }
 
-    /// Whether the last wait ended with its tick.
-    pub(crate) fn was_quiet(&self) -> bool {
+    /// Whether the last wait ended with nothing reported.
+    pub fn was_quiet(&self) -> bool {
         self.events.is_empty()
     }
 
-    /// Raises the flags of the connections whose clients have gone, as the last wait reported. It says whether
-    /// there are any.
-    pub(crate) fn raise_gone(&self, accepted: &[Arc<Connection>]) -> bool {
-        let mut is_any = false;
-        for event in self.events.iter() {
-            let Some(place) = event.token().0.checked_sub(FIRST_CONNECTION) else {
-                continue;
-            };
-            let Some(connection) = accepted.get(place) else {
-                continue;
-            };
-            if event.is_write_closed() && !connection.is_over() {
-                connection.is_gone.raise();
-                is_any = true;
-            }
-        }
-        is_any
+    /// Whether the last wait reported that the client of the connection of that number has gone.
+    pub fn has_gone(&self, number: usize) -> bool {
+        self.events.iter().any(|event| {
+            event.token().0.checked_sub(FIRST_CONNECTION) == Some(number) && event.is_write_closed()
+        })
     }
 }

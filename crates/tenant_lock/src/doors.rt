@@ -14,6 +14,7 @@ ghost use Rattle.job_language.specs.Brought.{job_of};
 ghost use Rattle.job_language.specs.declared.errors.Error.TheVariants.{NoMemory};
 
 use crate::closing::fault_of;
+use crate::counts::Counts;
 use crate::faults::CloseFault;
 use crate::held::Held;
 use crate::stop_flag::StopFlag;
@@ -21,6 +22,7 @@ use job_language::{Answer, Entry, Reply, Request, TenantConfig};
 use job_step::{Segment, View};
 use std::alloc::{AllocError, Global};
 use std::marker::Model;
+use std::sync::atomic::{AtomicU64, Ordering};
 use std::sync::{Condvar, Mutex, Wait};
 use tenant_record::{Advanced, Arrived, Asked, Pass, Seat, TenantCell, first_seats};
 use world_model::Call;
@@ -40,6 +42,8 @@ pub struct TenantDoor {
     seats: usize,
     held: Mutex<Held>,
     changed: Condvar,
+    /// How many jobs were made. Nothing that is answered depends on it.
+    jobs: AtomicU64,
 }
 
 impl Drop for TenantDoor {
@@ -51,6 +55,7 @@ impl Drop for TenantDoor {
             seats: _seats,
             held: _held,
             changed: _changed,
+            jobs: _jobs,
         } = self;
     }
 }
@@ -84,6 +89,7 @@ impl TenantDoor {
             seats,
             held: Mutex::new(held),
             changed: Condvar::new(),
+            jobs: AtomicU64::new(0),
         };
         Ok((door, all_seats))
     }
@@ -107,6 +113,9 @@ impl TenantDoor {
         let asked = self.held.lock(rt).ask(self.tenant, seat, request);
         if asked.reply.is_recorded() {
             self.changed.notify_all();
+        }
+        if let Reply::Made(_) | Reply::Placed(..) = asked.reply {
+            self.jobs.fetch_add(1, Ordering::SeqCst);
         }
         asked
     }
@@ -165,6 +174,16 @@ impl TenantDoor {
         ensures { result ≤ MAX_HEIGHT }
     {
         self.held.lock(rt).cell.height(pass)
+    }
+
+    /// How much of the tenant's history is used.
+    pub fn counts<R: Wait>(&self, rt: &R) -> Counts {
+        self.held.lock(rt).counts()
+    }
+
+    /// How many jobs were made at the tenant.
+    pub fn jobs(&self) -> u64 {
+        self.jobs.load(Ordering::SeqCst)
     }
 
     /// Puts a pass home.
@@ -237,6 +256,7 @@ impl TenantDoor {
             seats: count,
             held,
             changed: _changed,
+            jobs: _jobs,
         } = self;
         let cell = held.into_inner().cell;
         close(cell, seats.as_slice(), tenant, &config, count)

@@ -13,6 +13,7 @@ ghost use Rattle.tenant_lock.specs.Doors.{Carries, ComesWith, has_slot_of};
 ghost use Rattle.std.specs.Prelude.{IsSome};
 ghost use Rattle.job_language.specs.Brought.{job_of};
 
+use crate::counts::Counts;
 use job_language::{Came, Error, Moved, Reply, Request, Status};
 use job_step::Segment;
 use tenant_record::{Advanced, Arrived, Asked, Pass, Seat, TenantCell};
@@ -126,6 +127,17 @@ impl Held {
         ensures { result ≡ (self.now.is_stopped || nat_le self.now.cell.config.steps (length self.now.cell.history)) }
     {
         self.is_stopped || self.cell.config().steps <= self.cell.history().len()
+    }
+
+    /// How much of the history is used.
+    pub(crate) fn counts(&self) -> Counts
+        ensures entries { result.entries ≡ length self.now.cell.history }
+        ensures asks { result.asks ≡ length self.now.cell.askers }
+    {
+        Counts {
+            entries: self.cell.history().len(),
+            asks: self.cell.askers().len(),
+        }
     }
 
     /// Whether a job is there without an outcome, and nobody has to stop.

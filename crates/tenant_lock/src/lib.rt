@@ -2,6 +2,7 @@
 #![tactic(auto)]
 
 mod closing;
+mod counts;
 mod doors;
 mod faults;
 mod held;
@@ -9,6 +10,7 @@ mod seat_logs;
 mod stop_flag;
 
 pub use closing::fault_of;
+pub use counts::Counts;
 pub use doors::{Closed, TenantDoor};
 pub use faults::CloseFault;
 pub use seat_logs::is_seat_log;

@@ -2,7 +2,8 @@
 
 use std::sync::atomic::{AtomicBool, Ordering};
 
-/// Whether one thread is to stop waiting at the doors of tenants. Another thread raises it, and it stays raised.
+/// Whether one thread is to stop waiting at the doors of tenants. Another thread raises it, and it stays raised until
+/// it is lowered.
 #[derive(Drop)]
 pub struct StopFlag {
     is_raised: AtomicBool,
@@ -19,6 +20,11 @@ impl StopFlag {
     /// Raises the flag. A thread that waits sees it once it is woken (`TenantDoor::wake`).
     pub fn raise(&self) {
         self.is_raised.store(true, Ordering::SeqCst);
+    }
+
+    /// Lowers the flag.
+    pub fn lower(&self) {
+        self.is_raised.store(false, Ordering::SeqCst);
     }
 
     /// Whether the flag is raised.

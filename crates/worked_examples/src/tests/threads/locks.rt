@@ -3,8 +3,8 @@
 use crate::tests::assert_same;
 use history_check::{Verdict, check};
 use job_language::{
-    Came, Fuel, Instr, Isolation, Job, Level, Moved, Proc, Program, Register, Reply, Request,
-    Status, Tenant, TenantConfig, TenantName,
+    Came, Fuel, Group, Instr, Isolation, Job, Level, Moved, Proc, Program, Register, Reply,
+    Request, Status, Tenant, TenantConfig, TenantName,
 };
 use job_step::{Segment, View, segment_of};
 use std::alloc::{AllocError, Global};
@@ -19,19 +19,23 @@ use world_model::Call;
 /// The call of the only slot for workers.
 const CALL: Call = Call { tenant: 0, slot: 1 };
 
-/// A tenant of two slots, the first of them reserved.
-fn two_slots() -> Result<TenantConfig, Fail> {
+/// A tenant of so many slots, the first of them reserved, whose history has room for so many entries.
+fn tenant(slots: u8, steps: usize) -> Result<TenantConfig, Fail> {
     let tenant = Tenant {
         name: TenantName::new("acme").ok_or("a name")?,
         priority: Level::Normal,
         isolation: Isolation::Exact,
-        slots: 2,
+        slots,
         reserved: 1,
         rows: 128,
-        steps: 256,
+        steps,
     };
     let config = TenantConfig::new(tenant).ok_or("a tenant")?;
     Ok(config)
+}
+
+fn two_slots() -> Result<TenantConfig, Fail> {
+    tenant(2, 256)
 }
 
 /// A job that returns its first argument, 7.
@@ -337,5 +341,88 @@ fn a_wait_ends_at_its_flag_and_at_the_doors_stop(rt: HostRuntime) -> Result<(), 
     let (door, mut seats) = TenantDoor::new(rt.alloc(), 0, two_slots()?, 1)?;
     let stopped = wait_twice(&rt, rt.alloc(), &door, seats.as_mut_slice());
     assert_same(&rt, &stopped, &Some([true, true]));
+    Ok(())
+}
+
+/// A job that spawns a task and waits for it.
+fn waiting(alloc: Global) -> Option<Job> {
+    let fuel = Fuel::new(10)?;
+    Some(Job {
+        program: spawning(alloc, Register::new(0)?, Group::new(0)?).ok()?,
+        args: [7, 0],
+        fuel,
+    })
+}
+
+/// A program that spawns a task and waits for it.
+fn spawning(alloc: Global, register: Register, group: Group) -> Result<Program, AllocError> {
+    let spawn = Instr::Spawn(group, 1, register, register);
+    let wait = Instr::Wait(register, register, group);
+    let instrs = vec![in alloc; spawn, wait, Instr::Ret(register)]?;
+    let rest = vec![in alloc; Instr::Ret(register)]?;
+    let procs = vec![in alloc; Proc::new(instrs), Proc::new(rest)]?;
+    Program::new(alloc, procs)
+}
+
+/// Lets a worker run the job until it waits for the task, which another worker has: what the last advance is answered,
+/// with the first worker's pass.
+fn wait_for_another<R: Wait>(
+    rt: &R,
+    alloc: Global,
+    door: &TenantDoor,
+    seat: &mut Seat,
+) -> Option<(Moved, Pass)> {
+    let _made = ask(rt, door, seat, Request::Submit(waiting(alloc)?));
+    let spawned = advance(rt, door, door.arrive(rt, CALL).pass)?;
+    let _other = door.arrive(rt, Call { tenant: 0, slot: 2 });
+    let waits = advance(rt, door, spawned.pass)?;
+    Some((waits.moved, waits.pass?))
+}
+
+/// Pauses at the slot of a pass, if that is one of the door's, and says whether to stop.
+fn pause<R: Wait>(rt: &R, door: &TenantDoor, pass: &Pass) -> bool {
+    pass.tenant() == door.tenant() && door.pause(rt, pass)
+}
+
+/// A worker waits at its slot in one thread, while another thread stops the door.
+fn pause_until_stop<R: Threads + Wait + Sync>(
+    rt: &R,
+    alloc: Global,
+    door: &TenantDoor,
+    seats: &mut [Seat],
+) -> Option<(Moved, bool)> {
+    let (moved, pass) = wait_for_another(rt, alloc, door, seats.first_mut()?)?;
+    let stop = move || door.stop(rt);
+    let stopped = thread::join(rt, || pause(rt, door, &pass), stop).0;
+    Some((moved, stopped))
+}
+
+#[test]
+fn a_worker_that_waits_at_its_slot_is_stopped(rt: HostRuntime) -> Result<(), Fail> {
+    let (door, mut seats) = TenantDoor::new(rt.alloc(), 0, tenant(3, 256)?, 1)?;
+    let seen = pause_until_stop(&rt, rt.alloc(), &door, seats.as_mut_slice());
+    assert_same(&rt, &seen, &Some((Moved::Idle, true)));
+    Ok(())
+}
+
+/// A worker waits at its slot in one thread, while another thread fills the history by a poll.
+fn pause_until_full<R: Threads + Wait + Sync>(
+    rt: &R,
+    alloc: Global,
+    door: &TenantDoor,
+    seats: &mut [Seat],
+) -> Option<(Moved, bool)> {
+    let seat = seats.first_mut()?;
+    let (moved, pass) = wait_for_another(rt, alloc, door, seat)?;
+    let fill = move || poll(rt, door, seat, 1);
+    let stopped = thread::join(rt, || pause(rt, door, &pass), fill).0;
+    Some((moved, stopped))
+}
+
+#[test]
+fn a_worker_that_waits_at_its_slot_stops_at_a_full_history(rt: HostRuntime) -> Result<(), Fail> {
+    let (door, mut seats) = TenantDoor::new(rt.alloc(), 0, tenant(3, 5)?, 1)?;
+    let seen = pause_until_full(&rt, rt.alloc(), &door, seats.as_mut_slice());
+    assert_same(&rt, &seen, &Some((Moved::Idle, true)));
     Ok(())
 }

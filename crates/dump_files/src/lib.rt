@@ -1,0 +1,7 @@
+//! The files of histories.
+#![tactic(auto)]
+
+mod dumps;
+mod parts;
+
+pub use dumps::{can_dump, dump_history};

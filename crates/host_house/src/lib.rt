@@ -1,0 +1,16 @@
+//! The generations of a host: houses whose sessions serve one client after another, until the next house takes over.
+#![tactic(auto)]
+
+mod desks;
+mod events;
+mod hosts;
+mod lives;
+mod living;
+mod places;
+mod reception;
+mod reports;
+
+pub use events::say;
+pub use hosts::{Host, Step};
+pub use lives::{Lived, millis, seconds};
+pub use living::{Setting, Terms, live};

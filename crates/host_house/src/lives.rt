@@ -1,0 +1,261 @@
+// The life of a generation, as the thread sees it that accepts its connections.
+
+use crate::events::say;
+use crate::hosts::Look;
+use crate::living::Setting;
+use crate::places::Place;
+use crate::reception::Reception;
+use crate::reports::{Facts, is_one_used, report};
+use generation_life::{Stage, Why};
+use host_status::{Event, Fault};
+use socket_server::ServerEnd;
+use std::alloc::Global;
+use std::net::Shutdown;
+use std::sync::Wait;
+use std::thread;
+use std::time::{Clock, Duration};
+
+/// How many quiet ticks a client has to take a reply once its session is told to stop: a second.
+const QUIET: u32 = 50;
+
+/// How often a generation tells of itself, in milliseconds.
+const TELL: u64 = 1000;
+
+/// How long to wait where the system reports nothing, in milliseconds.
+const PAUSE: u64 = 20;
+
+/// What a generation was, once its sessions have ended.
+#[derive(Clone, Copy, Debug, PartialEq, Eq)]
+pub struct Lived {
+    pub number: u64,
+    /// When it was opened, in seconds since 1970.
+    pub began: u64,
+    pub why: Why,
+    /// How many connections it had.
+    pub served: u64,
+}
+
+/// How far a generation is.
+#[derive(Clone, Copy, Debug, PartialEq, Eq)]
+enum Phase {
+    /// It takes connections.
+    Serving,
+    /// It goes on for those that it has, until that time, in milliseconds of the monotonic clock.
+    Draining { until: u64 },
+    /// Its sessions were told to stop. After so many quiet ticks they are cut off.
+    Stopping { quiet: u32 },
+}
+
+/// A generation that lives.
+pub(crate) struct Life<'s, 'p> {
+    setting: Setting<'s>,
+    places: &'p [Place],
+    reception: Reception<'p>,
+    number: u64,
+    began: u64,
+    phase: Phase,
+    /// When it last told of itself, in milliseconds of the monotonic clock.
+    told: u64,
+}
+
+impl<'s, 'p> Drop for Life<'s, 'p> {
+    fn drop(self) {
+        let Life {
+            setting: _setting,
+            places: _places,
+            reception: _reception,
+            number: _number,
+            began: _began,
+            phase: _phase,
+            told: _told,
+        } = self;
+    }
+}
+
+impl<'s, 'p> Life<'s, 'p> {
+    /// A generation that serves from now on. `Device` if the host stops.
+    pub(crate) fn begin<R: Wait + Clock>(
+        rt: &R,
+        setting: Setting<'s>,
+        places: &'p [Place],
+        reception: Reception<'p>,
+    ) -> Result<Life<'s, 'p>, ServerEnd> {
+        let Some(number) = setting.host.begin(rt)? else {
+            return Err(ServerEnd::Device);
+        };
+        Ok(Life {
+            setting,
+            places,
+            reception,
+            number,
+            began: seconds(rt),
+            phase: Phase::Serving,
+            told: 0,
+        })
+    }
+
+    /// Lives until all sessions have ended.
+    pub(crate) fn pass<R: Wait + Clock + Print + Eprint>(self, rt: &R, alloc: Global) -> Lived {
+        let mut life = self;
+        let Setting { config, asked, .. } = life.setting;
+        say(
+            rt,
+            alloc,
+            Event::Opened {
+                generation: life.number,
+                tenants: config.tenants().len(),
+                ms: millis(rt).saturating_sub(asked),
+            },
+        );
+        for _turn in rt.forever() {
+            if life.take_turn(rt, alloc) {
+                break;
+            }
+        }
+        let look = life.setting.host.look(rt, life.number);
+        Lived {
+            number: life.number,
+            began: life.began,
+            why: look.why.unwrap_or(Why::Stop),
+            served: life.reception.served(),
+        }
+    }
+
+    /// Looks after the generation for a tick at most. It says whether its life is over.
+    fn take_turn<R: Wait + Clock + Print + Eprint>(&mut self, rt: &R, alloc: Global) -> bool {
+        let look = self.setting.host.look(rt, self.number);
+        let now = millis(rt);
+        let is_quiet = self.attend(rt);
+        self.grow_older(rt, alloc, look, now, is_quiet);
+        if self.phase != Phase::Serving {
+            if self.reception.guests(rt) == 0 {
+                return true;
+            }
+        } else if self
+            .reception
+            .admit(rt, alloc, self.setting.endpoint)
+            .is_err()
+        {
+            self.say_refused(rt, alloc, now);
+        }
+        if now.saturating_sub(self.told) >= TELL {
+            self.told = now;
+            self.tell(rt, alloc, look);
+        }
+        false
+    }
+
+    /// Waits until something happens, for a tick at most. It says whether nothing did.
+    fn attend<R: Wait + Clock>(&mut self, rt: &R) -> bool {
+        match self.reception.attend(rt, self.setting.house) {
+            Ok(is_quiet) => is_quiet,
+            Err(_) => {
+                thread::sleep(rt, Duration::from_millis(PAUSE));
+                true
+            }
+        }
+    }
+
+    /// Goes on to the next phase, if it is time.
+    fn grow_older<R: Wait + Clock + Print + Eprint>(
+        &mut self,
+        rt: &R,
+        alloc: Global,
+        look: Look,
+        now: u64,
+        is_quiet: bool,
+    ) {
+        let Setting {
+            host,
+            config,
+            house,
+            endpoint,
+            terms,
+            ..
+        } = self.setting;
+        match self.phase {
+            Phase::Serving if look.stage == Some(Stage::Serving) => {
+                if is_one_used(rt, house, config, terms.rotate_at) {
+                    host.wish(rt, Why::History);
+                }
+            }
+            Phase::Serving => {
+                self.reception.leave(endpoint);
+                say(
+                    rt,
+                    alloc,
+                    Event::Draining {
+                        generation: self.number,
+                    },
+                );
+                let patience = u64::from(terms.patience).saturating_mul(1000);
+                self.phase = Phase::Draining {
+                    until: now.saturating_add(patience),
+                };
+            }
+            Phase::Draining { until } => {
+                if look.is_stopping || until <= now {
+                    house.stop(rt);
+                    self.reception.shut(rt, Shutdown::Read);
+                    self.phase = Phase::Stopping { quiet: QUIET };
+                }
+            }
+            Phase::Stopping { quiet: 0 } => self.reception.shut(rt, Shutdown::Both),
+            Phase::Stopping { quiet } if is_quiet => {
+                self.phase = Phase::Stopping { quiet: quiet - 1 };
+            }
+            Phase::Stopping { .. } => {}
+        }
+    }
+
+    /// Tells the host what the generation is now. Where an allocation fails, what it told before stays.
+    fn tell<R: Wait>(&self, rt: &R, alloc: Global, look: Look) {
+        let Setting {
+            host,
+            config,
+            house,
+            ..
+        } = self.setting;
+        let facts = Facts {
+            number: self.number,
+            stage: look.stage.unwrap_or(Stage::Draining),
+            why: look.why,
+            began: self.began,
+            connections: self.reception.guests(rt),
+            served: self.reception.served(),
+        };
+        if let Ok(told) = report(rt, alloc, house, config, self.places, facts) {
+            let _ = host.tell(rt, told);
+        }
+    }
+
+    /// Says that a connection was not accepted, once in a while.
+    fn say_refused<R: Clock + Print + Eprint>(&mut self, rt: &R, alloc: Global, now: u64) {
+        if now.saturating_sub(self.told) >= TELL {
+            say(
+                rt,
+                alloc,
+                Event::Fault {
+                    what: Fault::Accept,
+                    generation: Some(self.number),
+                },
+            );
+        }
+    }
+}
+
+/// The time of the monotonic clock in milliseconds; 0 where the clock can't be read.
+pub fn millis<R: Clock>(rt: &R) -> u64 {
+    match rt.monotonic() {
+        Ok(time) => u64::try_from(time.as_millis()).unwrap_or(u64::MAX),
+        Err(_) => 0,
+    }
+}
+
+/// The time in seconds since 1970; 0 where the clock can't be read.
+pub fn seconds<R: Clock>(rt: &R) -> u64 {
+    match rt.since_1970() {
+        Ok(time) => time.as_secs(),
+        Err(_) => 0,
+    }
+}

@@ -1,0 +1,107 @@
+// What a generation tells of itself.
+
+use crate::places::Place;
+use generation_life::{Stage, Why};
+use host_status::{Generation, Tenant, Worker};
+use job_language::Config;
+use socket_server::House;
+use std::alloc::{AllocError, Global};
+use std::sync::Wait;
+
+/// What is told of a generation beside its tenants and workers.
+#[derive(Clone, Copy)]
+pub(crate) struct Facts {
+    pub(crate) number: u64,
+    pub(crate) stage: Stage,
+    pub(crate) why: Option<Why>,
+    /// In seconds since 1970.
+    pub(crate) began: u64,
+    pub(crate) connections: usize,
+    pub(crate) served: u64,
+}
+
+/// What a generation tells of itself.
+pub(crate) fn report<R: Wait>(
+    rt: &R,
+    alloc: Global,
+    house: &House,
+    config: &Config,
+    places: &[Place],
+    facts: Facts,
+) -> Result<Generation, AllocError> {
+    Ok(Generation {
+        generation: facts.number,
+        state: facts.stage,
+        began: facts.began,
+        why: facts.why,
+        connections: facts.connections,
+        served: facts.served,
+        workers: workers(alloc, config, places)?,
+        tenants: tenants(rt, alloc, house, config)?,
+    })
+}
+
+fn workers(alloc: Global, config: &Config, places: &[Place]) -> Result<Vec<Worker>, AllocError> {
+    let mut workers = Vec::with_capacity(alloc, places.len())?;
+    for (worker, place) in places.iter().enumerate() {
+        let seen = place.seen();
+        workers.push(Worker {
+            worker,
+            tenant: name_of(alloc, config, seen.map(|(tenant, _)| tenant))?,
+            slot: seen.map(|(_, slot)| slot),
+        })?;
+    }
+    Ok(workers)
+}
+
+/// The name of the tenant of a number, if there is one.
+fn name_of(
+    alloc: Global,
+    config: &Config,
+    number: Option<u64>,
+) -> Result<Option<String>, AllocError> {
+    let Some(number) = number else {
+        return Ok(None);
+    };
+    let Ok(number) = usize::try_from(number) else {
+        return Ok(None);
+    };
+    match config.tenants().get(number) {
+        Some(tenant) => Ok(Some(String::from_str(alloc, tenant.tenant().name.as_str())?)),
+        None => Ok(None),
+    }
+}
+
+fn tenants<R: Wait>(
+    rt: &R,
+    alloc: Global,
+    house: &House,
+    config: &Config,
+) -> Result<Vec<Tenant>, AllocError> {
+    let mut tenants = Vec::with_capacity(alloc, config.tenants().len())?;
+    for (door, tenant) in house.doors().iter().zip(config.tenants()) {
+        let counts = door.counts(rt);
+        tenants.push(Tenant {
+            tenant: String::from_str(alloc, tenant.tenant().name.as_str())?,
+            steps: tenant.tenant().steps,
+            entries: counts.entries,
+            asks: counts.asks,
+            jobs: door.jobs(),
+        })?;
+    }
+    Ok(tenants)
+}
+
+/// Whether a tenant's history has that many per cent of its steps.
+pub(crate) fn is_one_used<R: Wait>(rt: &R, house: &House, config: &Config, percent: u32) -> bool {
+    house.doors().iter().zip(config.tenants()).any(|(door, tenant)| is_used(
+        door.counts(rt).entries,
+        tenant.tenant().steps,
+        percent,
+    ))
+}
+
+/// Whether `entries` are at least that many per cent of `steps`.
+fn is_used(entries: usize, steps: usize, percent: u32) -> bool {
+    entries as u128 * 100 >= steps as u128 * u128::from(percent)
+}

@@ -1,0 +1,8 @@
+//! What a host shows of itself: its status, and the events that it tells of.
+#![tactic(auto)]
+
+mod events;
+mod status;
+
+pub use events::{Event, Fault};
+pub use status::{ClosedGeneration, ClosedTenant, Generation, Status, Tenant, Worker, status_line};
