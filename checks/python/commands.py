@@ -17,6 +17,7 @@ import zipfile
 
 sys.path.insert(0, os.path.abspath("python"))
 
+from calls import Calls
 from serving import (
     DIVIDES, FIB, INVALID, PACKAGE, PATIENCE, SCRIPT, SEVEN, SPIN, Server, arena_command, arena_process, job, tenant)
 
@@ -32,35 +33,12 @@ SOURCE = """fn fib(n) {
 PARAMETER = "param N = 3\nfn main(x) {\n    return x + N\n}\n"
 
 
-def differs(words, done, status, out, err):
-    """Whether a call ended otherwise than is wanted; `err` must be found in what is said on standard error, or
-    nothing be said."""
-    same = done.stdout == out if isinstance(out, str) else bool(out.fullmatch(done.stdout))
-    said = re.search(err, done.stderr) if err else not done.stderr
-    if same and said and done.returncode == status:
-        return False
-    print(f"arena {' '.join(words)}: status {done.returncode}, not {status}; printed {done.stdout!r}, not {out!r}; "
-          f"said {done.stderr!r}, not {err!r}")
-    return True
-
-
-class Calls:
-    """Calls of the command, with files of theirs, and how many ended otherwise than is wanted."""
+class ServerCalls(Calls):
+    """Calls that go to a server, and have their files in its folder."""
 
     def __init__(self, server):
-        self.server, self.count, self.differ = server, 0, 0
-        self.known = {"ARENA_SOCKET": server.path, "ARENA_TENANT": "acme"}
-
-    def file(self, name, content):
-        """A file with this text, or this JSON."""
-        with open(self.server.file(name), "w") as it:
-            it.write(content if isinstance(content, str) else json.dumps(content))
-        return self.server.file(name)
-
-    def call(self, *words, status=0, out="", err="", stdin="", how=arena_command, **more):
-        """Makes one call, within this process or as one of its own."""
-        self.count += 1
-        self.differ += differs(words, how(*words, stdin=stdin, **{**self.known, **more}), status, out, err)
+        super().__init__(server.folder.name, ARENA_SOCKET=server.path, ARENA_TENANT="acme")
+        self.server = server
 
 
 def jobs_are_run(it):
@@ -106,7 +84,7 @@ def faults_have_their_status(it):
     it.call("info", "--tenant", "nobody", status=25, err="error 5, unknown_tenant")
     it.call("info", status=2, err="no tenant is named; give --tenant NAME, or set ARENA_TENANT", ARENA_TENANT="")
     it.call("info", "--socket", "/nowhere", status=6, err="^arena: /nowhere: No such file or directory; is "
-            "arena-server running there",
+            "arena-server running there\\? It ends by itself after as many connections",
             how=arena_process)
     it.call("run", "/nowhere.json", status=8, err="^arena: /nowhere.json: No such file or directory")
     it.call("run", it.file("broken.json", '{"args":\n]'), status=5, err=r"broken.json:2:1: no JSON")
@@ -116,6 +94,12 @@ def faults_have_their_status(it):
     it.call(status=2, err="COMMAND")
     it.call("dance", status=2, err="invalid choice: 'dance'")
     it.call("cells", "8", status=2, err="invalid choice: 8")
+    out_of_fuel = r"job \d+: fault 2, out of fuel"
+    for fuel, more in (("70", r": it had 70; --fuel gives up to 1,000,000"),
+                       ("1000000", ": it had 1,000,000, the most that a job can have; split the work into several jobs")):
+        it.call("run", it.server.file("spin.json"), "--fuel", fuel, status=1, out=re.compile(f"{out_of_fuel}{more}\n"))
+    it.call("submit", it.server.file("spin.json"), out="13\n")
+    it.call("wait", "13", status=1, out=re.compile(f"{out_of_fuel}; a job has 1,000,000 at most\n"))
 
 
 def jobs_are_built(it):
@@ -146,7 +130,7 @@ def files_are_linted(it):
 
 
 def shell_takes_lines(it):
-    lines = f"info\nrun {it.server.file('seven.json')}\n" + '{"op":"arena"}\npoll 99\nhelp\nrun "\ncells 0\npoll 99\n'
+    lines = f"info\nrun {it.server.file('seven.json')}\n" + '{"op":"arena"}\npoll 99\nhelp\nfoo\nrun "\narena cells 0\npoll 99\n'
     done = arena_command("shell", stdin=lines, **it.known)
     wanted = ["acme: 2 slots, 1 reserved, priority normal", "7", '{"priority":"normal","reserved":1,"slots":2}']
     it.count += 1
@@ -154,6 +138,7 @@ def shell_takes_lines(it):
         it.differ += 1
         print(f"arena shell: {done}")
     assert done.stderr.count("error 6, unknown_job") == 2 and "No closing quotation" in done.stderr, done.stderr
+    assert "\narena: argument COMMAND: invalid choice: 'foo'" in done.stderr, done.stderr
     from arena.command.shell import Completer
     completer = Completer(["run", "retire", "poll"])
     assert list(completer.completions("r", "")) == ["run ", "retire "]
@@ -188,7 +173,9 @@ def dumps_are_read(it, dump):
     it.call("stat", it.server.file("bad.jsonl"), status=9, err="bad.jsonl:1: a dump begins with")
     it.call("stat", "-", stdin=dump_text(dump), out=re.compile("(?s)tenant acme: .*"), how=arena_process)
     it.call("stat", dump, "--map", it.server.file("seven.json"), status=5, err="no source map; `arena build FILE --map")
-    it.call("timeline", dump, "--job", "3", "--axis", "clock", out=re.compile(r"(?s)<svg .*</svg>\n"))
+    titled = r"(?s)<svg .*<title>acme: entries {} to \d+</title>.*</svg>\n"
+    it.call("timeline", dump, "--job", "3", "--axis", "clock", out=re.compile(titled.format(r"([2-9]|\d\d+)")))
+    it.call("timeline", dump, "--job", "3", "--from", "1", out=re.compile(titled.format("1")))
     files = [it.server.file(name) for name in ("t.svg", "t.html", "t.json")]
     it.call("timeline", dump, "--svg", files[0], "--html", files[1], "--trace", files[2],
             out=re.compile("".join(f"{re.escape(name)}: [\\d,]+ characters\n" for name in files)))
@@ -214,9 +201,6 @@ def pages_are_those_that_the_command_makes(it):
         with open(path) as made:
             text = made.read()
         it.call("pages", page, out=text)
-    subprocess.run(["bash", "-n", "python/completion/arena.bash"], check=True)
-    assert completed("arena ru") == ["run"] and completed("arena run --ar") == ["--args"]
-    assert "python/" in completed("arena stat pyth") and completed("arena timeline x --axi") == ["--axis"]
 
 
 def package_is_packed(it):
@@ -239,15 +223,6 @@ def package_is_packed(it):
     assert done.stdout.endswith("seven.json: valid\n"), done
     with tarfile.open(it.server.file(packing.build_sdist(it.server.folder.name))) as archive:
         assert {"arena-1.0.0/pyproject.toml", "arena-1.0.0/packing.py"} <= {*archive.getnames()}
-
-
-def completed(line):
-    """What bash offers for a line."""
-    script = ("source python/completion/arena.bash; compopt() { :; }; COMP_WORDS=(" + line
-              + "); COMP_CWORD=$((${#COMP_WORDS[@]}-1)); "
-              "_arena; printf '%s\\n' \"${COMPREPLY[@]}\"")
-    done = subprocess.run(["bash", "-c", script], capture_output=True, text=True, timeout=PATIENCE, check=True)
-    return [it + ("/" if os.path.isdir(it) else "") for it in done.stdout.split()]
 
 
 def every_command_has_help(it):
@@ -312,7 +287,7 @@ def main():
     count = differ = 0
     for group in GROUPS:
         with Server(tenant(slots=2, reserved=1), tenant("still", slots=1, reserved=1)) as server:
-            it = Calls(server)
+            it = ServerCalls(server)
             small_files(it)
             for check in group:
                 check(it)

@@ -11,7 +11,7 @@ import time
 from concurrent.futures import ThreadPoolExecutor
 
 CHECKS = ("language", "faults", "assembler", "trace", "page", "commands", "fuel", "lint", "refusals", "damaged", "worked",
-          "client")
+          "client", "completions", "host", "metrics", "orders", "advise", "lost_jobs")
 FOLDER = os.path.dirname(os.path.abspath(__file__))
 
 

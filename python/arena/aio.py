@@ -12,6 +12,7 @@ from collections.abc import Mapping
 from typing import TYPE_CHECKING, Self, TypeVar
 
 from arena import requests
+from arena.made import JobsMade
 from arena.replies import ArenaError, Cells, ConnectionLost, Limits, Outcome, Status, TimedOut
 from arena.requests import JobLike, Request
 
@@ -32,6 +33,7 @@ class Client:
         self.path, self.tenant, self.timeout = os.fspath(path), tenant, timeout
         self._waiting: collections.deque[asyncio.Future[bytes]] = collections.deque()
         self._lost: ConnectionLost | None = None
+        self._jobs = JobsMade()
         self._writer: asyncio.StreamWriter | None = None
         self._task: asyncio.Task | None = None
 
@@ -47,7 +49,7 @@ class Client:
         try:
             reader, self._writer = await asyncio.open_unix_connection(self.path)
         except OSError as fault:
-            raise ConnectionLost(f"{self.path}: {fault.strerror or fault}; is arena-server running there?") from None
+            raise ConnectionLost.at(self.path, fault) from None
         self._task = asyncio.create_task(self._read(reader))
         if self.tenant is not None:
             try:
@@ -67,6 +69,13 @@ class Client:
             await self._writer.wait_closed()
         except OSError:
             pass  # the other side was first
+
+    async def reconnect(self) -> None:
+        """As arena.Client.reconnect. Calls that still wait raise ConnectionLost."""
+        await self.close()
+        self._jobs.connection += 1
+        self._lost, self._writer = None, None
+        await self.connect()
 
     # Requests.
 
@@ -121,7 +130,7 @@ class Client:
             raise ConnectionLost(f"{request.what}: not connected; use `async with`, or call connect")
         if self._lost is not None:
             raise self._lost
-        limit = self.timeout if timeout is None else timeout
+        limit, connection = self.timeout if timeout is None else timeout, self._jobs.connection
         reply: asyncio.Future[bytes] = asyncio.get_running_loop().create_future()
         self._waiting.append(reply)
         self._writer.write(request.line)
@@ -136,7 +145,7 @@ class Client:
             raise ConnectionLost(f"{request.what}: not sent, {fault.strerror or fault}; connect anew") from None
         finally:
             reply.cancel()  # does nothing if the reply has come
-        return request.value(line)
+        return self._jobs.value(request, line, connection)
 
     async def _read(self, reader: asyncio.StreamReader) -> None:
         """Gives each reply to the call that has waited longest; one that waits no more leaves its reply unread."""

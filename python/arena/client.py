@@ -11,9 +11,10 @@ import os
 import socket
 import time
 from collections.abc import Mapping
-from typing import TYPE_CHECKING, Generic, Self, TypeVar
+from typing import TYPE_CHECKING, Generic, Self, TypeVar, cast
 
 from arena import requests
+from arena.made import JobsMade
 from arena.replies import ArenaError, Cells, ConnectionLost, Limits, Outcome, Status, TimedOut
 from arena.requests import JobLike, Request
 
@@ -36,6 +37,10 @@ class Client:
 
     def __init__(self, path: str | os.PathLike, tenant: str | None = None, *, timeout: float | None = None) -> None:
         self.path, self.tenant, self.timeout = os.fspath(path), None, timeout
+        self._jobs = JobsMade()
+        self._connect(tenant)
+
+    def _connect(self, tenant: str | None) -> None:
         self._bytes = bytearray()
         self._owed = 0
         self._socket = socket.socket(socket.AF_UNIX)
@@ -43,7 +48,7 @@ class Client:
             self._socket.connect(self.path)
         except OSError as fault:
             self._socket.close()
-            raise ConnectionLost(f"{self.path}: {fault.strerror or fault}; is arena-server running there?") from None
+            raise ConnectionLost.at(self.path, fault) from None
         if tenant is not None:
             try:
                 self.hello(tenant)
@@ -60,6 +65,15 @@ class Client:
     def close(self) -> None:
         """Ends the connection. Jobs go on; another connection of the tenant can collect them."""
         self._socket.close()
+
+    def reconnect(self) -> None:
+        """Ends the connection and makes another, bound to the same tenant. Raises ConnectionLost, UnknownTenant.
+
+        A job that was made before may be unknown there, since arena-host begins anew with each generation: then
+        `LostJob` is raised. If another job has its number by now, that one is meant. """
+        self.close()
+        self._jobs.connection += 1
+        self._connect(self.tenant)
 
     # Requests.
 
@@ -120,7 +134,7 @@ class Client:
     def ask(self, request: Request[Value], timeout: float | None = None) -> Value:
         """Sends one request and reads its reply."""
         self.send(request.line, request.what)
-        return request.value(self.read_line(request.what, timeout))
+        return self._jobs.value(request, self.read_line(request.what, timeout), self._jobs.connection)
 
     def send(self, lines: bytes, what: str = "the request") -> None:
         """Sends whole lines, each of which is owed a reply by `read_line`."""
@@ -170,14 +184,24 @@ class Pending(Generic[Value]):
     """The reply to a request of a pipeline, which is there after the `with` block."""
 
     def __init__(self, request: Request[Value]) -> None:
-        self._request, self._line = request, None
+        self._request = request
+        self._fault: ArenaError | None = ArenaError(f"{request.what}: no reply yet; a pipeline's results are there "
+                                                    "after its `with` block")
+        self._value: Value | None = None
+
+    def _take(self, line: bytes, jobs: JobsMade) -> None:
+        """Takes the line of the reply."""
+        self._fault = None
+        try:
+            self._value = jobs.value(self._request, line, jobs.connection)
+        except ArenaError as fault:
+            self._fault = fault
 
     def result(self) -> Value:
         """What the reply says. Raises as the request's own call does."""
-        if self._line is None:
-            raise ArenaError(f"{self._request.what}: no reply yet; a pipeline's results are there after its `with` "
-                             f"block")
-        return self._request.value(self._line)
+        if self._fault is not None:
+            raise self._fault
+        return cast(Value, self._value)
 
 
 class Pipeline:
@@ -205,7 +229,7 @@ class Pipeline:
                 self._client.send(b"".join(it._request.line for it in batch), "the pipeline")
                 sent = at + len(batch)
             try:
-                pending._line = self._client.read_line(pending._request.what)
+                pending._take(self._client.read_line(pending._request.what), self._client._jobs)
             except TimedOut:
                 self._client._owed += sent - at - 1
                 raise

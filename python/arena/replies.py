@@ -5,7 +5,7 @@ as the exception of its name, all of which are `Refused`.
 """
 import enum
 from dataclasses import dataclass, field
-from typing import ClassVar
+from typing import ClassVar, Self
 
 
 class FaultCode(enum.IntEnum):
@@ -108,6 +108,12 @@ class ArenaError(Exception):
 class ConnectionLost(ArenaError):
     """There is no server at the path, or it ended the connection before a reply."""
 
+    @classmethod
+    def at(cls, path: str, fault: OSError) -> Self:
+        """That a path can't be connected to."""
+        return cls(f"{path}: {fault.strerror or fault}; is arena-server running there? It ends by itself after as many "
+                   "connections as its --connections says")
+
 
 class TimedOut(ArenaError, TimeoutError):
     """No reply came in time. The request stands: a job goes on and can be collected later."""
@@ -169,6 +175,13 @@ class UnknownJob(Refused):
 
     code, name = 6, "unknown_job"
     advice = "no job has that number, or it is retired"
+
+
+class LostJob(UnknownJob):
+    """Error 6 for a job that this client made on a connection which has ended since."""
+
+    advice = ("this client made the job on a connection that has ended: its generation is over, or it was retired; run "
+              "it again if its outcome is still wanted")
 
 
 class JobLimit(Refused):

@@ -1,7 +1,7 @@
 """The lines that a client sends, each with what its reply means. Both clients and the pipeline stand on these."""
 import json
 from collections.abc import Callable, Mapping
-from dataclasses import dataclass
+from dataclasses import dataclass, replace
 from typing import Any, Generic, Protocol, TypeVar
 
 from arena.replies import REFUSALS, Cells, Limits, Outcome, Status, StrangeReply, status_of
@@ -39,11 +39,16 @@ def line_of(value: object) -> bytes:
 
 @dataclass(frozen=True, slots=True)
 class Request(Generic[Value]):
-    """A line to send. `what` names the request in errors; `read` makes a value of a reply that is no error."""
+    """A line to send. `what` names the request in errors; `read` makes a value of a reply that is no error. `job` is
+    the number that it asks about; `made` gives the number of the job that it made by the value; `retires` is whether
+    it makes the server forget all jobs."""
 
     what: str
     line: bytes
     read: Callable[[dict], Value]
+    job: int | None = None
+    made: Callable[[Value], int] | None = None
+    retires: bool = False
 
     def value(self, line: bytes) -> Value:
         """What the line of a reply says. Raises the `Refused` of an error reply, and StrangeReply."""
@@ -57,8 +62,9 @@ class Request(Generic[Value]):
 
 
 def _asked(op: str, read: Callable[[dict], Value], **members: object) -> Request[Value]:
-    number = f" {members['job']}" if isinstance(members.get("job"), int) else ""
-    return Request(op + number, line_of({"op": op, **members}), read)
+    job = members.get("job")
+    number = job if isinstance(job, int) else None
+    return Request(op if number is None else f"{op} {number}", line_of({"op": op, **members}), read, number)
 
 
 def hello(tenant: str) -> Request[str]:
@@ -68,12 +74,12 @@ def hello(tenant: str) -> Request[str]:
 
 def submit(job: JobLike) -> Request[int]:
     """Makes a job that waits for a worker; its number."""
-    return _asked("submit", lambda reply: reply["job"], job=value_of(job))
+    return replace(_asked("submit", lambda reply: reply["job"], job=value_of(job)), made=lambda number: number)
 
 
 def execute(job: JobLike) -> Request[Outcome]:
     """Runs a job, on a reserved slot if one is free; its outcome."""
-    return _asked("execute", status_of, job=value_of(job))
+    return replace(_asked("execute", status_of, job=value_of(job)), made=lambda outcome: outcome.job)
 
 
 def poll(number: int) -> Request[Status]:
@@ -103,4 +109,4 @@ def limits() -> Request[Limits]:
 
 def retire() -> Request[int]:
     """Forgets all jobs and cells; the epoch that begins."""
-    return _asked("retire", lambda reply: reply["epoch"])
+    return replace(_asked("retire", lambda reply: reply["epoch"]), retires=True)

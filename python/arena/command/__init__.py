@@ -4,18 +4,22 @@ import os
 import sys
 from collections.abc import Callable, Sequence
 
-from arena.command import bench, building, dumps, jobs, pages, shell
+from arena.command import advise, bench, building, dumps, host, jobs, metrics, orders, pages, series, shell
 from arena.command.call import Call, WordsFault
-from arena.command.dumps import ProgramFault
+from arena.command.script import ProgramFault
 from arena.command.sources import SourceWrong
 from arena.command.words import Command, Parser, Status, parser_of
+from arena.host.orders import NoHost, NotYet
+from arena.host.status import StatusFault
 from arena.replies import ArenaError, Refused, TimedOut
 from arena.trace import DumpFault
 
 ABOUT = ("Runs jobs on arena-server, looks after them, and shows what happened to them. The server's socket and the "
-         "tenant are given by options or by ARENA_SOCKET and ARENA_TENANT.")
+         "tenant are given by options or by ARENA_SOCKET and ARENA_TENANT. It also looks after arena-host, whose run "
+         "folder D is given by a word or, where that may be left out, by ARENA_RUN.")
 
-COMMANDS: tuple[Command, ...] = (*jobs.COMMANDS, *building.COMMANDS, *shell.COMMANDS, *bench.COMMANDS, *dumps.COMMANDS,
+COMMANDS: tuple[Command, ...] = (*jobs.COMMANDS, *building.COMMANDS, *advise.COMMANDS, *shell.COMMANDS, *bench.COMMANDS,
+                                 *dumps.COMMANDS, *host.COMMANDS, *metrics.COMMANDS, *orders.COMMANDS, *series.COMMANDS,
                                  *pages.COMMANDS)
 
 
@@ -43,7 +47,8 @@ def guarded(call: Call, run: Callable[[Call], int]) -> int:
     except BrokenPipeError:
         os.dup2(os.open(os.devnull, os.O_WRONLY), sys.stdout.fileno())  # whoever read has read enough
         return Status.DONE
-    except (WordsFault, SourceWrong, ArenaError, DumpFault, ProgramFault, OSError) as fault:
+    except (WordsFault, SourceWrong, ArenaError, DumpFault, ProgramFault, StatusFault, NoHost, NotYet,
+            OSError) as fault:
         status, text = described(fault)
         call.output.complain(f"arena: {text}")
         return status
@@ -54,7 +59,7 @@ def described(fault: Exception) -> tuple[int, str]:
     match fault:
         case Refused():
             return Status.REFUSED + fault.code, str(fault)
-        case TimedOut():
+        case TimedOut() | NotYet():
             return Status.TIMEOUT, str(fault)
         case ArenaError():
             return Status.CONNECTION, str(fault)
@@ -66,6 +71,8 @@ def described(fault: Exception) -> tuple[int, str]:
             return Status.DUMP, str(fault)
         case ProgramFault():
             return Status.PROGRAM, str(fault)
+        case StatusFault() | NoHost():
+            return Status.HOST, str(fault)
         case _:
             name = getattr(fault, "filename", None) or "file"
             return Status.FILE, f"{name}: {getattr(fault, 'strerror', None) or fault}"

@@ -6,6 +6,7 @@ from typing import Self
 
 from arena.client import Client
 from arena.command.output import Output, output_of
+from arena.host.folder import RunFolder
 
 SOCKET = "/tmp/arena.sock"
 
@@ -46,6 +47,14 @@ class Call:
         if not tenant:
             raise WordsFault("no tenant is named; give --tenant NAME, or set ARENA_TENANT")
         return tenant
+
+    @property
+    def folder(self) -> RunFolder:
+        """The run folder of arena-host. Raises WordsFault if none is said."""
+        path = self.words.D or os.environ.get("ARENA_RUN")
+        if not path:
+            raise WordsFault("no run folder of arena-host is named; give it as the word D, or set ARENA_RUN")
+        return RunFolder(path)
 
     @property
     def client(self) -> Client:

@@ -2,13 +2,12 @@
 import contextlib
 import gc
 import os
-import shutil
-import subprocess
 import sys
 from collections.abc import Iterator
 
 from arena.command.call import Call, WordsFault
 from arena.command.output import GREEN, Progress
+from arena.command.script import SCRIPT, script_of, verdict_of
 from arena.command.sources import SourceWrong
 from arena.command.words import Command, Completes, Status, option, positional
 from arena.trace import Dump, DumpFault, Happening, read_dump, replay
@@ -25,10 +24,6 @@ DUMP = positional("DUMP", "a dump: the file NAME.jsonl that `arena-server --dump
 MAP = option("--map", help="a source map that `arena build --map` wrote, for names and source lines; may come more "
              "than once",
              action="append", metavar="FILE", completes=Completes.FILE)
-
-
-class ProgramFault(Exception):
-    """arena-script is not there, or failed."""
 
 
 def opened(path: str) -> Dump:
@@ -70,28 +65,9 @@ def maps(call: Call) -> SourceMap:
         raise SourceWrong(str(fault)) from None
 
 
-def script_of(call: Call) -> str:
-    """The program arena-script: --script, ARENA_SCRIPT, one on the PATH, or out/arena-script. Raises ProgramFault."""
-    said = call.words.script or os.environ.get("ARENA_SCRIPT")
-    found = said or shutil.which("arena-script") or (os.path.abspath("out/arena-script")
-                                                     if os.path.exists("out/arena-script") else None)
-    if not found:
-        raise ProgramFault("no arena-script on the PATH; name it by --script or ARENA_SCRIPT (`make build` makes "
-                           "out/arena-script)")
-    return found
-
-
 def check(call: Call) -> int:
     """Lets arena-script check a dump."""
-    script = script_of(call)
-    with open(call.words.DUMP, "rb") as dump:
-        try:
-            done = subprocess.run([script, "check"], stdin=dump, capture_output=True, text=True)
-        except OSError as fault:
-            raise ProgramFault(f"{script}: {fault.strerror}") from None
-    verdict = done.stdout.strip()
-    if done.returncode not in (0, 2) or not verdict:
-        raise ProgramFault(f"{script} check: {done.stderr.strip() or f'status {done.returncode}'}")
+    verdict = verdict_of(script_of(call), call.words.DUMP)
     text = verdict if verdict != "yes" else call.output.paint(verdict, GREEN)
     call.output.say(text, {"file": call.words.DUMP, "verdict": verdict})
     return Status.DONE if verdict == "yes" else Status.DUMP
@@ -114,16 +90,17 @@ def stat(call: Call) -> int:
 def timeline(call: Call) -> int:
     """Draws a dump."""
     words, dump, source = call.words, opened(call.words.DUMP), maps(call)
-    if words.first < 1 or words.last is not None and words.last < words.first:
-        raise WordsFault(f"--from {words.first} --to {words.last}: entries are counted from 1, and --to is not before "
+    first = 1 if words.first is None else words.first
+    if first < 1 or words.last is not None and words.last < first:
+        raise WordsFault(f"--from {first} --to {words.last}: entries are counted from 1, and --to is not before "
                          "--from")
     choice = Choice(Axis(words.axis), words.first, words.last, words.job)
     with without_collector():
         shown = timeline_of(replayed(dump), dump.tenant, choice, source)
-        if not shown.last:
-            raise DumpFault(dump.file, 1, f"the history has fewer entries than --from {words.first}")
         if words.job is not None and not shown.bars:
             raise DumpFault(dump.file, 1, f"no row of job {words.job} was live in these entries")
+        if not shown.last:
+            raise DumpFault(dump.file, 1, f"the history has fewer entries than --from {first}")
         draw(call, shown)
     return Status.DONE
 
@@ -146,8 +123,7 @@ COMMANDS = (
     Command("check", "check a dump by arena-script",
             "Lets `arena-script check` take every step of a dump again. It prints `yes`; or `no at step k` for the "
             "first entry whose answer is not the tenant's; or `bad line n`.", "arena check dumps/acme.jsonl", check,
-            (DUMP, option("--script", metavar="PATH", completes=Completes.FILE, help="the program arena-script; else "
-                          "ARENA_SCRIPT, else the one on the PATH, else out/arena-script"))),
+            (DUMP, SCRIPT)),
     Command("stat", "statistics of a dump: jobs, slots, history, and what to change",
             "Replays a dump, and says of each job how long it waited and took, what it returned or where it had its "
             "fault, its work, span and parallelism, its fuel, rows and height; of each slot how busy it was; how full "
@@ -167,8 +143,9 @@ COMMANDS = (
              option("--axis", choices=[axis.value for axis in Axis], default="entries", help="what is measured: "
                     "entries of the history; instructions of all slots one after another; or as on a clock, slots side "
                     "by side"),
-             option("--from", help="the first entry, from 1", type=int, metavar="ENTRY", default=1, dest="first"),
+             option("--from", help="the first entry, from 1", type=int, metavar="ENTRY", dest="first"),
              option("--to", help="the last entry", type=int, metavar="ENTRY", dest="last"),
-             option("--job", help="one job alone, its rows coloured by procedure", type=int, metavar="JOB"), MAP,
+             option("--job", help="one job alone, its rows coloured by procedure; from its request to its end, unless "
+                    "--from or --to is given", type=int, metavar="JOB"), MAP,
              option("--width", help="how wide the SVG is, in pixels", type=int, metavar="N", default=1400))),
 )

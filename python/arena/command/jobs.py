@@ -3,21 +3,33 @@ from arena.command.call import Call
 from arena.command.output import GREEN, RED, YELLOW
 from arena.command.sources import job_of
 from arena.command.words import JOB_WORDS, Command, Status, positional
-from arena.replies import Canceled, Complete, Fault, Running
+from arena.jobs import GREATEST_FUEL
+from arena.replies import Canceled, Complete, Fault, FaultCode, Running
 from arena.replies import Status as JobStatus
 
 NUMBER = positional("JOB", "the job's number", type=int)
 
 
-def tell(call: Call, status: JobStatus) -> int:
-    """Prints a job's status: a value on standard output, anything else in words. Returns the exit status."""
+def about_fuel(given: int | None) -> str:
+    """What to know of a job that is out of fuel, if it is known how much it was given."""
+    if given is None:
+        return f"; a job has {GREATEST_FUEL:,} at most"
+    if given < GREATEST_FUEL:
+        return f": it had {given:,}; --fuel gives up to {GREATEST_FUEL:,}"
+    return f": it had {given:,}, the most that a job can have; split the work into several jobs"
+
+
+def tell(call: Call, status: JobStatus, given: int | None = None) -> int:
+    """Prints a job's status: a value on standard output, anything else in words. `given` is its fuel, if that is known.
+    Returns the exit status."""
     output = call.output
     match status:
         case Complete(value, job):
             output.say(output.paint(str(value), GREEN), {"job": job, "status": "complete", "value": value})
             return Status.DONE
         case Fault(code, _, job):
-            output.say(output.paint(str(status), RED), {"fault": code.value, "job": job, "status": "fault"})
+            text = str(status) + (about_fuel(given) if code is FaultCode.FUEL else "")
+            output.say(output.paint(text, RED), {"fault": code.value, "job": job, "status": "fault"})
             return Status.FAULT
         case Canceled(job):
             output.say(output.paint(str(status), YELLOW), {"job": job, "status": "canceled"})
@@ -29,7 +41,8 @@ def tell(call: Call, status: JobStatus) -> int:
 
 def run(call: Call) -> int:
     """Executes a job."""
-    return tell(call, call.client.execute(job_of(call.words)))
+    job = job_of(call.words)
+    return tell(call, call.client.execute(job), job["fuel"])
 
 
 def submit(call: Call) -> int:

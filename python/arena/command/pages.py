@@ -34,37 +34,57 @@ def manual(commands: Sequence[Command], about: str) -> str:
         lines += [".TP", f".B {status.value}", _escaped(text)]
     lines += [".SH ENVIRONMENT", ".TP", ".B ARENA_SOCKET", "the server's socket", ".TP", ".B ARENA_TENANT",
               "the tenant's name",
-              ".TP", ".B ARENA_SCRIPT", "the program arena\\-script, for `check`", ".TP", ".B NO_COLOR",
+              ".TP", ".B ARENA_RUN", "the run folder of arena\\-host", ".TP", ".B ARENA_SCRIPT",
+              "the program arena\\-script, for `check` and `check\\-dumps`", ".TP", ".B NO_COLOR",
               "no colours, if it is set"]
     return "\n".join(lines)
 
 
-_SUFFIXES = {Completes.JOB_FILE: ("job", "jasm", "json"), Completes.DUMP: ("jsonl",)}
+_SUFFIXES = {Completes.JOB_FILE: ("job", "jasm", "json"), Completes.DUMP: ("jsonl",), Completes.CONFIG: ("json",)}
+_ZSH_ACTIONS = {Completes.FILE: "_files", Completes.FOLDER: "_files -/"}
 
 
 def _options(words: Sequence[Word]) -> list[str]:
     return [name for word in words if word.is_option for name in word.names]
 
 
-# The completion for bash: @NAME@ is filled in.
+def _choices(word: Word) -> str:
+    """The values among which a word chooses, if it does."""
+    return " ".join(map(str, word.more.get("choices", ())))
+
+
+def _quoted(text: str) -> str:
+    """A text as a shell takes it in single quotes."""
+    return "'" + text.replace("'", "'\\''") + "'"
+
+
+# The completion for bash: @NAME@ is filled in. It needs no `extglob`, which shells leave off.
 BASH = r"""# bash completion for arena; made by `arena pages bash`.
+_arena_files() {
+    local cur=$1 suffix
+    shift
+    compopt -o filenames
+    mapfile -t COMPREPLY < <(compgen -d -- "$cur"; for suffix; do compgen -f -X "!*$suffix" -- "$cur"; done)
+}
 _arena() {
-    local cur=${COMP_WORDS[COMP_CWORD]} prev=${COMP_WORDS[COMP_CWORD-1]} command= word words filter
+    local cur=${COMP_WORDS[COMP_CWORD]} prev=${COMP_WORDS[COMP_CWORD-1]} command= options= choices= word
+    local -a files=()
     COMPREPLY=()
-    case $prev in
-        @FILES@) compopt -o filenames; COMPREPLY=($(compgen -f -- "$cur")); return ;;
-        @TAKES@) return ;;
-    esac
     for word in "${COMP_WORDS[@]:1:COMP_CWORD-1}"; do
         case $word in @COMMANDS@) command=$word; break ;; esac
     done
+    case "$command $prev" in
+@TAKES@
+    esac
     case $command in
-        '') COMPREPLY=($(compgen -W '@FIRST@' -- "$cur")); return ;;
+        '') choices='@NAMES@' options='@COMMON@' ;;
 @CASES@
     esac
-    if [[ $cur == -* ]]; then COMPREPLY=($(compgen -W "$words --help" -- "$cur")); return; fi
-    compopt -o filenames
-    COMPREPLY=($(compgen -f -X "$filter" -- "$cur") $(compgen -d -- "$cur"))
+    case $cur in
+        -*) mapfile -t COMPREPLY < <(compgen -W "$options -h --help" -- "$cur") ;;
+        *) mapfile -t COMPREPLY < <(compgen -W "$choices" -- "$cur")
+           if [ ${#files[@]} -gt 0 ]; then _arena_files "$cur" "${files[@]}"; fi ;;
+    esac
 }
 complete -F _arena arena"""
 
@@ -78,48 +98,128 @@ def _filled(text: str, parts: dict[str, str]) -> str:
 
 def bash(commands: Sequence[Command]) -> str:
     """The completion for bash."""
-    options = [word for command in commands for word in (*command.words, *COMMON)
-               if word.is_option and "action" not in word.more or word.completes is Completes.FILE]
-    files = {name for word in options if word.completes is Completes.FILE for name in word.names}
-    takes = {name for word in options for name in word.names} - files
     names = [command.name for command in commands]
+    takes = [line for command in commands for line in _bash_takes(command.name, command.words)]
+    takes += _bash_takes("*", COMMON)
     return _filled(BASH, {
-        "FILES": "|".join(sorted(files)), "TAKES": "|".join(sorted(takes)), "COMMANDS": "|".join(names),
-        "FIRST": " ".join([*names, *_options(COMMON)]), "CASES": "\n".join(map(_bash_case, commands))})
+        "COMMANDS": "|".join(names), "TAKES": "\n".join(takes), "NAMES": " ".join(names),
+        "COMMON": " ".join(_options(COMMON)), "CASES": "\n".join(map(_bash_case, commands))})
+
+
+def _bash_takes(command: str, words: Sequence[Word]) -> Iterator[str]:
+    """A line for each kind of value that options of a command take."""
+    kinds: dict[str, list[str]] = {}
+    for word in words:
+        if word.is_option and word.more.get("action") != "store_true":
+            kinds.setdefault(_bash_value(word), []).extend(rf"{command}\ {name}" for name in word.names)
+    yield from (f"        {'|'.join(names)}) {offers}return ;;" for offers, names in kinds.items())
+
+
+def _bash_value(word: Word) -> str:
+    """What offers the values of an option."""
+    if word.completes is not Completes.NOTHING:
+        return f'_arena_files "$cur" {_bash_suffixes(word)}; '
+    return f"""mapfile -t COMPREPLY < <(compgen -W '{_choices(word)}' -- "$cur"); """ if _choices(word) else ""
+
+
+def _bash_suffixes(word: Word) -> str:
+    """What the names of its files end in; all end in nothing."""
+    return " ".join(f".{it}" for it in _SUFFIXES.get(word.completes, ())) or "''"
 
 
 def _bash_case(command: Command) -> str:
-    """The options of a command, and which files it takes."""
-    suffixes = [it for word in command.words if not word.is_option for it in _SUFFIXES.get(word.completes, ())]
-    pattern = f'"!*.@({"|".join(suffixes)})"' if suffixes else '"*"'
-    options = " ".join(_options((*command.words, *COMMON)))
-    return f'        {command.name}) words="{options}"; filter={pattern} ;;'
+    """The options of a command, and what stands without an option: words to choose from, or files."""
+    parts = [f"options='{' '.join(_options((*command.words, *COMMON)))}'"]
+    for word in command.words:
+        if not word.is_option and word.completes is not Completes.NOTHING:
+            parts.append(f"files=({_bash_suffixes(word)})")
+        elif not word.is_option and _choices(word):
+            parts.append(f"choices='{_choices(word)}'")
+    return f"        {command.name}) {' '.join(parts)} ;;"
 
 
-def _zsh_word(word: Word) -> str:
-    text = word.help.replace("'", "").replace("[", "(").replace("]", ")").replace(":", ",")
-    suffixes = _SUFFIXES.get(word.completes)
-    action = "_files" if word.completes is Completes.FILE else " "
-    if suffixes:
-        action = f'_files -g "*.({"|".join(suffixes)})"'
-    if not word.is_option:
-        return f"'::{text}:{action}'"
-    takes = "" if word.more.get("action") == "store_true" else f":{word.shown.split()[-1]}:{action}"
-    names = word.names[0] if len(word.names) == 1 else "{" + ",".join(word.names) + "}"
-    return f"{names}'[{text}]{takes}'"
+# The completion for zsh: @NAME@ is filled in.
+ZSH = r"""#compdef arena
+# zsh completion for arena; made by `arena pages zsh`.
+_arena() {
+    local curcontext=$curcontext state line
+    local -a commands common
+    typeset -A opt_args
+    commands=(
+@COMMANDS@
+    )
+    common=(
+@COMMON@
+    )
+    _arguments -C $common '1:command:->command' '*::words:->words'
+    case $state in
+        command) _describe command commands ;;
+        words) case $words[1] in
+@CASES@
+        esac ;;
+    esac
+}
+if [[ $funcstack[1] == _arena ]]; then _arena "$@"; else compdef _arena arena; fi"""
+
+
+def _zsh_quoted(text: str) -> str:
+    """A text as it stands between single quotes."""
+    return text.replace("'", "'\\''")
 
 
 def zsh(commands: Sequence[Command]) -> str:
     """The completion for zsh."""
-    lines = ["#compdef arena", "# zsh completion for arena; made by `arena pages zsh`.", "_arena() {",
-             "    local -a commands", "    commands=("]
-    lines += [f"        '{command.name}:{command.summary}'" for command in commands]
-    common = " ".join(map(_zsh_word, COMMON))
-    lines += ["    )", f"    _arguments -C {common} '1:command:->command' '*::words:->words'", "    case $state in",
-              "        command) _describe command commands ;;", "        words) case $words[1] in"]
-    lines += [f"            {command.name}) _arguments {' '.join(map(_zsh_word, (*command.words, *COMMON)))} ;;"
-              for command in commands]
-    return "\n".join([*lines, "        esac ;;", "    esac", "}", '_arena "$@"'])
+    names = "\n".join(f"        {_quoted(f'{command.name}:{command.summary}')}" for command in commands)
+    common = [*map(_zsh_word, COMMON), "'(- *)'{-h,--help}'[show the words]'"]
+    return _filled(ZSH, {"COMMANDS": names, "COMMON": "\n".join(f"        {it}" for it in common),
+                         "CASES": "\n".join(map(_zsh_case, commands))})
+
+
+def _zsh_case(command: Command) -> str:
+    """What a command takes, as `_arguments` reads it."""
+    words = "".join(f" \\\n                {_zsh_word(word)}" for word in command.words)
+    return f"            {command.name}) _arguments $common{words} ;;"
+
+
+def _zsh_word(word: Word) -> str:
+    """A word, as `_arguments` reads it."""
+    if not word.is_option:
+        many = "*" if word.more.get("nargs") in ("*", "+") else ":" if word.more.get("nargs") == "?" else ""
+        return _quoted(f"{many}:{_zsh_text(word.help)}:{_zsh_values(word)}")
+    text = word.help.replace("[", r"\[").replace("]", r"\]")
+    about = _quoted(f"[{text}]" + "".join(_zsh_takes(word)))
+    if word.more.get("action") == "append":
+        names = "'*'" + _zsh_names(word)
+    else:
+        names = (f"'({' '.join(word.names)})'" if len(word.names) > 1 else "") + _zsh_names(word)
+    return names + about
+
+
+def _zsh_names(word: Word) -> str:
+    """The names of an option; braces where there are several."""
+    return word.names[0] if len(word.names) == 1 else "{" + ",".join(word.names) + "}"
+
+
+def _zsh_takes(word: Word) -> Iterator[str]:
+    """The values that an option takes: all but the first may be left out."""
+    if word.more.get("action") == "store_true":
+        return
+    shown = word.more.get("metavar") or word.names[-1].lstrip("-")
+    for at, name in enumerate(shown if isinstance(shown, tuple) else (shown,)):
+        yield f"{':' if at else ''}:{name}:{_zsh_values(word)}"
+
+
+def _zsh_values(word: Word) -> str:
+    """What a shell offers as a value of a word."""
+    suffixes = _SUFFIXES.get(word.completes)
+    if suffixes:
+        return f'_files -g "*.{suffixes[0] if len(suffixes) == 1 else "(" + "|".join(suffixes) + ")"}"'
+    return _ZSH_ACTIONS.get(word.completes) or (f"({_choices(word)})" if _choices(word) else " ")
+
+
+def _zsh_text(text: str) -> str:
+    """A text in which a colon ends nothing."""
+    return text.replace("\\", "\\\\").replace(":", "\\:")
 
 
 def pages(call: Call) -> int:

@@ -7,7 +7,8 @@ from collections.abc import Callable, Iterator
 from arena.command.call import Call
 from arena.command.words import Command, Parser, Status, parser_of
 
-ABOUT = "Lines of the shell. One that begins with { is sent as it is; `quit`, or the end of the input, ends the shell."
+ABOUT = ("Lines of the shell, in which `arena` may be left out. One that begins with { is sent as it is; `quit`, or the "
+         "end of the input, ends the shell.")
 LINES_KEPT = 1000
 
 
@@ -100,7 +101,8 @@ def one(call: Call, parser: Parser, line: str) -> int:
     if line.startswith("{"):
         return guarded(call, lambda it: send_as_is(it, line))
     try:
-        words = parser.parse_args(shlex.split(line))
+        typed = shlex.split(line)
+        words = parser.parse_args(typed[1:] if typed[0] == "arena" else typed)
     except ValueError as fault:
         call.output.complain(f"arena: {fault}: {line}")
         return Status.WORDS
@@ -116,7 +118,7 @@ def shell(call: Call) -> int:
     """Takes lines until they end; the status is that of the last one, if they are not typed."""
     from arena.command import COMMANDS as ALL
     known = [command for command in ALL if command.in_shell]
-    parser = parser_of(known, prog="", about=ABOUT)
+    parser = parser_of(known, about=ABOUT)
     call.client.arena()
     typed = sys.stdin.isatty()
     keep = edit_lines([*(command.name for command in known), "help", "quit"]) if typed else lambda: None

@@ -14,6 +14,7 @@ class Status(enum.IntEnum):
 
     DONE = 0
     FAULT = 1
+    ADVICE = 1
     WORDS = 2
     CANCELED = 3
     RUNNING = 4
@@ -23,22 +24,24 @@ class Status(enum.IntEnum):
     FILE = 8
     DUMP = 9
     PROGRAM = 10
+    HOST = 11
     REFUSED = 20
     INTERRUPTED = 130
 
 
 STATUS_TEXTS = {
     Status.DONE: "done; the job is complete",
-    Status.FAULT: "the job ended with a fault",
-    Status.WORDS: "the words are wrong, or no tenant is named",
+    Status.FAULT: "the job ended with a fault; `advise` has something to say",
+    Status.WORDS: "the words are wrong, or no tenant or folder is named",
     Status.CANCELED: "the job was cancelled",
     Status.RUNNING: "the job is still running",
     Status.SOURCE: "a job or configuration is not valid; its place is said",
     Status.CONNECTION: "no server at the socket, or it ended the connection",
-    Status.TIMEOUT: "no reply within --timeout",
-    Status.FILE: "a file can't be read or written",
-    Status.DUMP: "a dump is not one that a server wrote, or `check` says no to it",
+    Status.TIMEOUT: "no reply within --timeout, or an order was not carried out within --wait",
+    Status.FILE: "a file can't be read or written, or an address not listened on",
+    Status.DUMP: "a dump is not one that a server wrote, `check` says no to it, or it is missing",
     Status.PROGRAM: "arena-script is not found, or failed",
+    Status.HOST: "no arena-host runs in the folder, or its status.json is stale or is none",
     Status.REFUSED: "from 21 to 32: the server's error reply, by 20 and its code (docs/PROTOCOL.md)",
     Status.INTERRUPTED: "interrupted from the keyboard",
 }
@@ -50,7 +53,9 @@ class Completes(enum.Enum):
     NOTHING = "nothing"
     JOB_FILE = "job file"
     DUMP = "dump"
+    CONFIG = "configuration"
     FILE = "file"
+    FOLDER = "folder"
 
 
 @dataclass(frozen=True)
@@ -123,10 +128,23 @@ JOB_WORDS = (
                "input",
                Completes.JOB_FILE),
     option("--args", help="the job's arguments, 0 where they are left out", nargs="+", type=int, metavar=("X", "Y")),
-    option("--fuel", help="its fuel: from 1 to 1,000,000 instructions", type=int, metavar="N"),
+    option("--fuel", help="its fuel: how many instructions it may execute; 1,000,000, the most, unless this or "
+           "its file says less", type=int, metavar="N"),
     option("-D", "--define", help="gives a parameter of a .job file its value", action="append", type=assignment,
            metavar="NAME=N"),
 )
+
+
+FOLDER = positional("D", "the run folder of arena-host; else ARENA_RUN", Completes.FOLDER, nargs="?")
+ITS_FOLDER = positional("D", "the run folder of arena-host", Completes.FOLDER)
+
+
+def seconds(text: str) -> float:
+    """A number of seconds, as a word."""
+    number = float(text)
+    if not 0 <= number <= 86_400 * 365:
+        raise argparse.ArgumentTypeError(f"{text}: a number of seconds, 0 or more")
+    return number
 
 
 class Parser(argparse.ArgumentParser):

@@ -8,6 +8,10 @@ from arena.language.tokens import Token, TokenKind
 GREATEST_WIDTH = 62
 """The most bits that a parameter in a packed argument may have."""
 
+ELSEWHERE = {**dict.fromkeys(("elif", "elsif", "elseif"), "write `else if`"),
+             "**": "there is no operator for powers: multiply, as in `n * n`"}
+"""What other languages have, and what to write here."""
+
 
 class Cursor:
     """A place in a list of tokens."""
@@ -54,6 +58,8 @@ class Cursor:
         found = self.token
         is_word = found.kind is TokenKind.WORD and "name" in wanted
         hint = ", which is a word of the language and no name" if is_word else ""
+        if found.text in ELSEWHERE:
+            hint = f": {ELSEWHERE[found.text]}"
         return found.place.fault(f"expected {wanted}, found {found.shown()}{hint}")
 
     def name(self, what: str = "a name") -> str:

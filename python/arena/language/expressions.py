@@ -115,5 +115,7 @@ class Expressions(Cursor):
     def range(self) -> Range:
         """Reads `low..high`."""
         low = self.expression()
+        if isinstance(low, Application) and low.name == "range" and not self.sees(".."):
+            raise low.place.fault("there is no `range(..)`: write both ends, as in `0..n`")
         self.need("..", "`..` and the end of the range")
         return Range(low, self.expression())

@@ -1,6 +1,7 @@
 """The grammar's statements and items: the tree of a source."""
 from difflib import get_close_matches
 
+from arena.language.cursor import ELSEWHERE
 from arena.language.expressions import Expressions
 from arena.language.syntax import (Assign, Binary, Block, Break, Call, Cancel, CellName, CellPart, Constant, Continue,
                                    DeclareGroup, Evaluate, Expression, For, Function, Give, If, Inline, Isolate, Item,
@@ -83,8 +84,10 @@ class Parser(Expressions):
         return self._evaluation()
 
     def _refuse_misspelling(self) -> None:
-        """Refuses two names in a row, of which the first should have been a word."""
+        """Refuses two names in a row, of which the first should have been a word, and a word of other languages."""
         first, second = self.token, self.ahead(1)
+        if first.text in ELSEWHERE and second.text not in (*ASSIGNMENTS, "."):
+            raise first.place.fault(f"`{first.text}` begins no statement: {ELSEWHERE[first.text]}")
         if second.kind in (TokenKind.NAME, TokenKind.NUMBER):
             close = get_close_matches(first.text, sorted(WORDS), 1)
             hint = f"; did you mean `{close[0]}`?" if close else ": an assignment is `name = value`"

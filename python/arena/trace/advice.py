@@ -3,7 +3,9 @@ import enum
 from collections.abc import Callable, Iterator
 from dataclasses import dataclass
 
+from arena.jobs import GREATEST_FUEL
 from arena.replies import FaultCode
+from arena.trace.model import Job
 from arena.trace.source import SourceMap
 from arena.trace.stats import JobStat, Statistics, place_of_fault
 
@@ -102,7 +104,7 @@ def _fuel(it: Statistics) -> Iterator[Advice]:
     def say(stat: JobStat) -> str:
         """The advice about one job."""
         job = stat.job
-        how = "raise its fuel" if job.given < 1_000_000 else "its fuel can't be raised, so split it into two jobs"
+        how = "raise its fuel" if job.given < GREATEST_FUEL else "its fuel can't be raised, so split it into two jobs"
         used = f"{job.given - job.left:,} of {job.given:,}"
         return f"job {job.number} used {100 * stat.fuel_used:.1f} % of its fuel, {used}: {how}"
     yield from _each(near, About.FUEL, say)
@@ -136,11 +138,19 @@ def _polls(it: Statistics) -> Iterator[Advice]:
 
 _FAULTS = {
     FaultCode.DIVISION: "test the divisor first",
-    FaultCode.FUEL: "raise its fuel, or look for an endless loop",
     FaultCode.TOO_DEEP: "rows nest on a slot while they wait, 128 at most: spawn fewer levels, or larger leaves",
     FaultCode.TASK_LIMIT: "raise the tenant's `rows`, or wait for some rows before others are made",
     FaultCode.MISSING_WAIT: "wait for every group that was used before the row returns",
 }
+
+
+def _cure(job: Job) -> str:
+    """What is usually done about the fault of a job."""
+    if job.fault.code is not FaultCode.FUEL:
+        return _FAULTS[job.fault.code]
+    if job.given < GREATEST_FUEL:
+        return f"it had {job.given:,}: raise its fuel, or look for an endless loop"
+    return f"it had {job.given:,}, which is the most: split it into several jobs, or look for an endless loop"
 
 
 def _faults(it: Statistics, source: SourceMap | None) -> Iterator[Advice]:
@@ -148,5 +158,5 @@ def _faults(it: Statistics, source: SourceMap | None) -> Iterator[Advice]:
         """The advice about one job."""
         fault = stat.job.fault
         return (f"job {stat.number} had fault {fault.code.value}, {fault.code.text}, at "
-                f"{place_of_fault(stat.job, source)}: {_FAULTS[fault.code]}")
+                f"{place_of_fault(stat.job, source)}: {_cure(stat.job)}")
     yield from _each([stat for stat in it.jobs if stat.job.fault is not None], About.FAULT, say)

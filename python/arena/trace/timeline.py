@@ -14,13 +14,18 @@ from arena.trace.source import SourceMap
 
 @dataclass(frozen=True, slots=True)
 class Choice:
-    """What is to be shown: an axis, the entries from `first` to `last` (both count; none is the end), one job or
-    all."""
+    """What is to be shown: an axis, the entries from `first` to `last` (both count; none is the end), one job or all.
+    If neither end is given, one job is shown from its request to its end."""
 
     axis: Axis = Axis.ENTRIES
-    first: int = 1
+    first: int | None = None
     last: int | None = None
     job: int | None = None
+
+    @property
+    def is_near(self) -> bool:
+        """Whether only the entries of the job's life are shown."""
+        return self.job is not None and self.first is None and self.last is None
 
     def has_row(self, row: Row) -> bool:
         """Whether a row's job is shown."""
@@ -107,6 +112,7 @@ class Timeline:
 
     tenant: Tenant
     choice: Choice
+    first: int = 0
     last: int = 0
     begin: int = 0
     end: int = 0
@@ -120,7 +126,7 @@ class Timeline:
     @property
     def title(self) -> str:
         """The tenant and the entries that are shown."""
-        return f"{self.tenant.name}: entries {self.choice.first:,} to {self.last:,}"
+        return f"{self.tenant.name}: entries {self.first:,} to {self.last:,}"
 
     @property
     def subtitle(self) -> str:
@@ -144,14 +150,17 @@ class Builder:
         self._live: dict[Row, Bar] = {}
         self._made_at: dict[Row, int] = {}  # rows that wait
         self._is_shown = False
+        self._job: Job | None = None  # the one that is shown alone, since its request
 
     def take(self, happening: Happening) -> None:
         """Goes on by an entry."""
         it, meter = self.timeline, self._meter
         meter.take(happening)
-        self._is_shown = happening.number >= it.choice.first
+        if self._job is None and happening.job is not None and happening.job.number == it.choice.job:
+            self._job = happening.job
+        self._is_shown = happening.number >= (it.choice.first or 1) and not (it.choice.is_near and self._job is None)
         if self._is_shown and not it.last:
-            it.begin = meter.begin
+            it.first, it.begin = happening.number, meter.begin
         if self._is_shown:
             it.last = happening.number
         if happening.move is Move.RAN:
@@ -167,6 +176,13 @@ class Builder:
                 self._start(made, meter.end)
         for row in happening.ended:
             self._end(row)
+
+    def is_over(self, happening: Happening) -> bool:
+        """Whether nothing after an entry is to be shown."""
+        choice = self.timeline.choice
+        if choice.is_near:
+            return self._job is not None and not self._job.open
+        return choice.last is not None and happening.number >= choice.last
 
     def _start(self, row: Row, begin: int) -> None:
         made_at = self._made_at.pop(row)
@@ -235,6 +251,6 @@ def timeline_of(happenings: Iterable[Happening], tenant: Tenant, choice: Choice,
     builder = Builder(tenant, choice, source)
     for happening in happenings:
         builder.take(happening)
-        if choice.last is not None and happening.number >= choice.last:
+        if builder.is_over(happening):
             break
     return builder.end()

@@ -1,0 +1,41 @@
+"""Calls of the command that are compared with how they should end."""
+import json
+import os
+import re
+
+from serving import arena_command
+
+
+def differs(words, done, status, out, err):
+    """Whether a call ended otherwise than is wanted; `err` must be found in what is said on standard error, or
+    nothing be said."""
+    same = done.stdout == out if isinstance(out, str) else bool(out.fullmatch(done.stdout))
+    said = re.search(err, done.stderr) if err else not done.stderr
+    if same and said and done.returncode == status:
+        return False
+    print(f"arena {' '.join(words)}: status {done.returncode}, not {status}; printed {done.stdout!r}, not {out!r}; "
+          f"said {done.stderr!r}, not {err!r}")
+    return True
+
+
+class Calls:
+    """Calls of the command with an environment, files of theirs in a folder, and how many ended otherwise than is
+    wanted."""
+
+    def __init__(self, folder, **known):
+        self.folder, self.known, self.count, self.differ = folder, known, 0, 0
+
+    def path(self, name):
+        """A path in the folder."""
+        return os.path.join(self.folder, name)
+
+    def file(self, name, content):
+        """A file with this text, or this JSON."""
+        with open(self.path(name), "w") as it:
+            it.write(content if isinstance(content, str) else json.dumps(content))
+        return self.path(name)
+
+    def call(self, *words, status=0, out="", err="", stdin="", how=arena_command, **more):
+        """Makes one call, within this process or as one of its own."""
+        self.count += 1
+        self.differ += differs(words, how(*words, stdin=stdin, **{**self.known, **more}), status, out, err)

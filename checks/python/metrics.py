@@ -1,0 +1,310 @@
+#!/usr/bin/env python3
+"""Asks `arena metrics` for everything that it serves: metrics, which a strict parser reads, health, and the page, which
+is opened in headless Chromium, if that is installed. What is wanted comes from docs/HOST.md.
+
+usage: checks/python/metrics.py, at the top of the repository. It needs no built program.
+"""
+import base64
+import contextlib
+import hashlib
+import http.client
+import json
+import os
+import re
+import shutil
+import signal
+import socket
+import subprocess
+import sys
+import tempfile
+import threading
+from unittest import mock
+
+sys.path.insert(0, os.path.abspath("python"))
+
+from calls import Calls
+from exposition import parsed
+from fake_host import FakeHost, Folder, closed, closed_tenant, example, generation, tenant
+from serving import PACKAGE, PATIENCE
+
+from arena.host import RunFolder, parse_status
+from arena.host.address import Address
+from arena.host.prometheus import Family, Kind, Sample, exposition, families_of
+from arena.host.web import MetricsServer, Watcher
+
+BROWSERS = ("chromium", "chromium-browser", "google-chrome", "chrome")
+
+# The samples of the example of docs/HOST.md, by their labels.
+SAMPLES = {
+    "arena_up": {"": 1},
+    "arena_status_timestamp_seconds": {"": 1764180123},
+    "arena_start_time_seconds": {"": 1764180000},
+    "arena_resident_memory_bytes": {"": 81264640},
+    "arena_connections_limit": {"": 64},
+    "arena_rotate_at_ratio": {"": 0.5},
+    "arena_patience_seconds": {"": 30},
+    "arena_dumps_limit": {"": 8},
+    "arena_generation_state": {
+        "generation=122 state=serving": 0, "generation=122 state=draining": 1, "generation=122 state=closing": 0,
+        "generation=123 state=serving": 1, "generation=123 state=draining": 0, "generation=123 state=closing": 0},
+    "arena_generation_start_time_seconds": {"generation=122": 1764180010, "generation=123": 1764180110},
+    "arena_connections": {"generation=122": 1, "generation=123": 2},
+    "arena_connections_served_total": {"generation=122": 40, "generation=123": 7},
+    "arena_workers": {"generation=122": 2, "generation=123": 0},
+    "arena_workers_waiting": {"generation=122": 1, "generation=123": 0},
+    "arena_history_steps": {"generation=122 tenant=acme": 1048576},
+    "arena_history_entries": {"generation=122 tenant=acme": 524300},
+    "arena_requests_total": {"generation=122 tenant=acme": 88},
+    "arena_jobs_total": {"generation=122 tenant=acme": 40},
+    "arena_workers_at_tenant": {"generation=122 tenant=acme": 1},
+    "arena_close_duration_seconds": {"generation=121 why=file": 0.035},
+    "arena_close_entries": {"generation=121 tenant=acme": 9000},
+    "arena_close_fault": {"generation=121 tenant=acme": 0},
+    "arena_close_dumped": {"generation=121 tenant=acme": 1},
+}
+
+
+def metrics_of(value):
+    """The metrics of a status."""
+    return parsed(exposition(families_of(parse_status(json.dumps(value).encode())[0])))
+
+
+def plain(metrics):
+    """The samples of metrics, with their labels as a text."""
+    return {name: {" ".join(f"{label}={value}" for label, value in sorted(labels)): value
+                   for labels, value in it.samples.items()} for name, it in metrics.items()}
+
+
+def example_has_its_samples():
+    found = plain(metrics_of(example()))
+    assert found == SAMPLES, {name: (found.get(name), SAMPLES.get(name)) for name in {*found, *SAMPLES}
+                              if found.get(name) != SAMPLES.get(name)}
+    without = plain(metrics_of({**example(), "memory": None, "closed": []}))
+    assert without == {name: it for name, it in SAMPLES.items() if "_close_" not in name and "memory" not in name}
+    assert plain(parsed(exposition(families_of(None)))) == {"arena_up": {"": 0}}
+    stopping = metrics_of({**example(), "generations": []})
+    assert "arena_history_entries" not in stopping and stopping["arena_up"].samples == {frozenset(): 1}
+
+
+def each_tenant_of_each_generation_has_a_sample():
+    tenants = [tenant(f"t-{it}", entries=it) for it in range(64)]
+    with Folder() as folder:
+        bad = [closed_tenant("t-1", fault=7, dumped=False), closed_tenant("t-2")]
+        found = plain(metrics_of(folder.status(generation(3, "closing", "stop", tenants), generation(4, tenants=tenants),
+                                               closed=[closed(2, *bad, why="stop", ms=1500)])))
+    assert found["arena_history_entries"] == {f"generation={number} tenant=t-{it}": it for number in (3, 4)
+                                              for it in range(64)}
+    assert found["arena_generation_state"]["generation=3 state=closing"] == 1
+    assert found["arena_close_fault"] == {"generation=2 tenant=t-1": 7, "generation=2 tenant=t-2": 0}
+    assert found["arena_close_dumped"] == {"generation=2 tenant=t-1": 0, "generation=2 tenant=t-2": 1}
+    assert found["arena_close_duration_seconds"] == {"generation=2 why=stop": 1.5}
+
+
+def texts_are_escaped():
+    odd = 'a\\b"c\nd\\n,x="'
+    name = metrics_of({**example(), "generations": [generation(1, tenants=[tenant(odd)])]})["arena_jobs_total"]
+    assert [*name.samples] == [frozenset({("generation", "1"), ("tenant", odd)})], name
+    help = parsed(exposition([Family("a_total", Kind.COUNTER, 'one\\two\n"three"', [Sample(2**70)])]))["a_total"]
+    assert help.help == 'one\\two\n"three"' and help.samples == {frozenset(): 2.0**70}, help
+
+
+def counters_never_go_back():
+    """A generation goes from serving to draining to closed, while the next one counts from 0."""
+    def counts(asks):
+        """A tenant that was asked so often."""
+        return [tenant(asks=asks, jobs=asks, entries=asks)]
+
+    with Folder() as folder:
+        texts = [folder.status(generation(4, tenants=counts(8), served=3)),
+                 folder.status(generation(4, "draining", "history", counts(9), served=3), generation(5, tenants=counts(0))),
+                 folder.status(generation(4, "closing", "history", counts(9), served=4), generation(5, tenants=counts(2))),
+                 folder.status(generation(5, tenants=counts(3), served=1), closed=[closed(4, closed_tenant(entries=9))])]
+    seen = {}
+    for found in map(metrics_of, texts):
+        for name, it in found.items():
+            for labels, value in it.samples.items() if it.kind == "counter" else ():
+                assert value >= seen.get((name, labels), 0), (name, labels, value)
+                seen[name, labels] = value
+    assert len(seen) == 6, seen
+
+
+@contextlib.contextmanager
+def served(folder, clock=None):
+    """A server of a folder on a thread, at a port that is free."""
+    watcher = Watcher(RunFolder(folder.path), clock) if clock else Watcher(RunFolder(folder.path))
+    with MetricsServer(Address.parse("127.0.0.1:0"), watcher) as server:
+        thread = threading.Thread(target=server.serve_forever, args=(0.01,))
+        thread.start()
+        try:
+            yield server
+        finally:
+            server.shutdown()
+            thread.join()
+
+
+def asked(server, path, method="GET"):
+    """The status, the headers and the text of an answer."""
+    connection = http.client.HTTPConnection("127.0.0.1", server.server_port, timeout=PATIENCE)
+    with contextlib.closing(connection):
+        connection.request(method, path)
+        reply = connection.getresponse()
+        return reply.status, dict(reply.getheaders()), reply.read().decode()
+
+
+def health_is_told():
+    now = example()["time"]
+    for age, status, text in ((0, 200, "ok\n"), (5, 200, "ok\n"), (-5, 200, "ok\n"),
+                              (6, 503, r"\S+/status.json: written 6 s ago, and a host writes it each second\n"),
+                              (-6, 503, r"\S+/status.json: its time is 6 s ahead of the clock here\n")):
+        with Folder() as folder, served(folder, lambda: now + age) as server:
+            folder.write(example())
+            found = asked(server, "/healthz")
+            assert found[0] == status and re.fullmatch(text, found[2]), found
+            up = parsed(asked(server, "/metrics")[2])
+            assert up["arena_up"].samples == {frozenset(): status == 200} and (len(up) > 1) == (status == 200), up
+    with Folder() as folder, served(folder) as server:
+        for damage, text in ((lambda: None, "not there"), (lambda: folder.write(b'{"time":1'), "no JSON"),
+                             (lambda: folder.write(b"[]"), "the whole is an object"),
+                             (lambda: (os.unlink(folder.file("status.json")), os.mkdir(folder.file("status.json"))),
+                              "Is a directory")):
+            damage()
+            found = asked(server, "/healthz")
+            assert found[0] == 503 and text in found[2], found
+            assert plain(parsed(asked(server, "/metrics")[2])) == {"arena_up": {"": 0}}
+            assert text in asked(server, "/")[2] and text in asked(server, "/status")[2]
+        os.rmdir(folder.file("status.json"))
+
+
+def answers_have_their_heads():
+    with FakeHost(tenants=[tenant()]) as host, served(host) as server:
+        status, head, text = asked(server, "/metrics")
+        assert (status, head["Content-Type"]) == (200, "text/plain; version=0.0.4; charset=utf-8"), head
+        assert head["Cache-Control"] == "no-store" and int(head["Content-Length"]) == len(text)
+        assert plain(parsed(text))["arena_history_steps"] == {"generation=5 tenant=acme": 10_000}
+        assert asked(server, "/healthz?x=1")[0] == 200
+        with socket.create_connection(("127.0.0.1", server.server_port)) as client:
+            client.sendall(b"HEAD /metrics HTTP/1.0\r\n\r\n")
+            with client.makefile(newline="") as reply:
+                again = reply.read()
+        assert again.startswith("HTTP/1.0 200 ") and f"\r\nContent-Length: {len(text)}\r\n" in again, again
+        assert again.endswith("\r\n\r\n") and again.count("\r\n\r\n") == 1, again
+        assert asked(server, "/other")[0] == 404 and asked(server, "/metrics", "POST")[0] == 501
+        with socket.create_connection(("127.0.0.1", server.server_port)):  # one that says nothing holds nobody up
+            assert asked(server, "/healthz")[:3:2] == (200, "ok\n")
+
+
+def page_is_safe():
+    """The page names nothing elsewhere, runs its own script alone, and shows names as text."""
+    with Folder() as folder, served(folder) as server:
+        folder.write(folder.status(generation(1, tenants=[tenant('<b>"&'), tenant("@SCRIPT@")])))
+        _, head, text = asked(server, "/")
+        part = asked(server, "/status")[2]
+    assert '<td class="left">&lt;b&gt;&quot;&amp;</td>' in part and "<b>" not in text and part in text, text
+    assert text.count("@SCRIPT@") == 1 and not re.search(r"(src|href|url|import)\s*[=(]|//[a-z]", text), text
+    policy = head["Content-Security-Policy"]
+    assert policy.startswith("default-src 'none'; connect-src 'self'; ") and "unsafe" not in policy, policy
+    for tag in ("script", "style"):
+        inside = re.findall(f"<{tag}>(.*?)</{tag}>", text, re.S)
+        digest = base64.b64encode(hashlib.sha256(inside[0].encode()).digest()).decode()
+        assert len(inside) == text.count(f"<{tag}") == 1 and f"{tag}-src 'sha256-{digest}'" in policy, tag
+
+
+def page_keeps_up():
+    """The page shows the status that was there when it was opened, and then by itself the one that came after."""
+    browser = next(filter(None, map(shutil.which, BROWSERS)), None)
+    if browser is None:
+        return f"skipped: none of {', '.join(BROWSERS)} is installed, so the page was not opened"
+    with Folder() as folder, served(folder) as server:
+        first, asked_for = server.watcher.page, []
+
+        def page():
+            """The page, after which the status is another one."""
+            answer = first()
+            asked_for.append(answer.text)
+            folder.write(folder.status(generation(8, tenants=[tenant("later", entries=4321)])))
+            return answer
+
+        server.watcher.paths["/"] = page
+        folder.write(folder.status(generation(7, tenants=[tenant("sooner", entries=1234)])))
+        document = opened(browser, server.url)
+    assert len(asked_for) == 1 and "1,234" in asked_for[0], asked_for
+    assert "<td class=\"left\">later</td>" in document and "4,321" in document and "1,234" not in document, document
+    return f"the page was opened by {os.path.basename(browser)}, and put the next status into itself"
+
+
+def opened(browser, url):
+    """The document of a page after the time in which it asks twice."""
+    with tempfile.TemporaryDirectory() as folder:
+        done = subprocess.run([browser, "--headless", "--no-sandbox", "--disable-gpu", f"--user-data-dir={folder}",
+                               "--virtual-time-budget=5000", "--dump-dom", url], capture_output=True, text=True,
+                              timeout=PATIENCE)
+    assert done.returncode == 0, done.stderr
+    return done.stdout
+
+
+def command_serves():
+    """The command prints where it listens, answers, and ends with the keyboard."""
+    with FakeHost() as host:
+        words = [sys.executable, "-m", "arena", "metrics", host.path, "--listen", "127.0.0.1:0"]
+        process = subprocess.Popen(words, stdout=subprocess.PIPE, stderr=subprocess.PIPE, text=True,
+                                   env={**os.environ, "PYTHONPATH": PACKAGE})
+        found = re.fullmatch(r"listening at http://127\.0\.0\.1:(\d+)/\n", process.stdout.readline())
+        assert found, process.communicate()
+        connection = http.client.HTTPConnection("127.0.0.1", int(found[1]), timeout=PATIENCE)
+        with contextlib.closing(connection):
+            connection.request("GET", "/healthz")
+            assert connection.getresponse().status == 200
+        process.send_signal(signal.SIGINT)
+        ended = *process.communicate(timeout=PATIENCE), process.returncode
+    assert ended == ("", "", 0), ended
+
+
+class Silent:
+    """In the place of the server: it notes where it would listen, and is interrupted at once."""
+
+    def __init__(self, address, _):
+        self.url = f"http://{address}/"
+
+    def __enter__(self):
+        return self
+
+    def __exit__(self, *_):
+        pass
+
+    def serve_forever(self):
+        raise KeyboardInterrupt
+
+
+def others_are_let_in_by_request_alone(it):
+    with mock.patch("arena.host.web.MetricsServer", Silent):
+        for where in ("127.0.0.1:9753", "[::1]:1", "127.8.9.10:65535"):
+            it.call("metrics", "/nowhere", "--listen", where, out=f"listening at http://{where}/\n")
+        it.call("metrics", "/nowhere", out="listening at http://127.0.0.1:9753/\n")
+        it.call("metrics", "/nowhere", "--listen", "localhost:1", "--json", out='{"url":"http://127.0.0.1:1/"}\n')
+        for where in ("0.0.0.0:9753", "192.0.2.1:80", "[::]:9753", "[2001:db8::1]:80"):
+            it.call("metrics", "/nowhere", "--listen", where, status=2, err=f"^arena: --listen {re.escape(where)}: other "
+                    "machines reach this address.*--open-to-network")
+            it.call("metrics", "/nowhere", "--listen", where, "--open-to-network", out=f"listening at http://{where}/\n")
+        for where in ("nowhere:80", "127.0.0.1", "127.0.0.1:", "127.0.0.1:65536", "127.0.0.1:x", ":80", "127.0.0.1:\u0661"):
+            it.call("metrics", "/nowhere", "--listen", where, status=2, err="write ADDRESS:PORT, as 127.0.0.1:9753")
+    it.call("metrics", status=2, err="no run folder of arena-host is named")
+    with socket.create_server(("127.0.0.1", 0)) as other:
+        where = f"127.0.0.1:{other.getsockname()[1]}"
+        it.call("metrics", "/nowhere", "--listen", where, status=8, err=f"^arena: {where}: Address already in use\n$")
+
+
+CHECKS = [example_has_its_samples, each_tenant_of_each_generation_has_a_sample, texts_are_escaped,
+          counters_never_go_back, health_is_told, answers_have_their_heads, page_is_safe, command_serves]
+
+
+def main():
+    for check in CHECKS:
+        check()
+    it = Calls("/nowhere")
+    others_are_let_in_by_request_alone(it)
+    print(page_keeps_up())
+    print(f"{len(CHECKS)} checks of the metrics passed; {it.count} calls: {it.differ} ended otherwise than is wanted")
+    return bool(it.differ)
+
+
+sys.exit(main())

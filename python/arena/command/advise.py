@@ -1,0 +1,68 @@
+"""`arena advise`: what is unwise in a configuration that is valid."""
+import argparse
+from collections.abc import Callable
+
+from arena.advise import Machine, advice_of, memory_of_machine
+from arena.command.call import Call
+from arena.command.output import GREEN, YELLOW
+from arena.command.sources import SourceWrong, read_json
+from arena.command.words import Command, Completes, Status, option, positional
+from arena.lint import first_fault_of_config
+
+GIB = 2**30
+MOST_CONNECTIONS = 64
+
+
+def from_to(least: int, most: int) -> Callable[[str], int]:
+    """The type of a word that is a number in a range."""
+    def number(text: str) -> int:
+        """The number."""
+        found = int(text)
+        if not least <= found <= most:
+            raise argparse.ArgumentTypeError(f"{text}: a number from {least} to {most}")
+        return found
+    return number
+
+
+def gib(text: str) -> int:
+    """A number of GiB, as a word, in bytes."""
+    number = float(text)
+    if not 0 < number < 2**40:
+        raise argparse.ArgumentTypeError(f"{text}: a number of GiB, more than 0")
+    return int(number * GIB)
+
+
+def advise(call: Call) -> int:
+    """Says what is unwise."""
+    words, path = call.words, call.words.CONFIG
+    config = read_json(path)
+    fault = first_fault_of_config(config)
+    if fault is not None:
+        raise SourceWrong(f"{path}: {fault}")
+    memory = words.memory or memory_of_machine()
+    if memory is None:
+        call.output.complain("arena: the memory of this machine is not known, so --memory has to say it")
+    found = advice_of(config, Machine(words.connections, memory, words.rotate_at if words.host else None))
+    lines = [call.output.paint(f"{path}: {it}", YELLOW) for it in found]
+    call.output.say("\n".join(lines) or call.output.paint(f"{path}: nothing to advise", GREEN),
+                    {"advice": [it.to_value() for it in found], "file": path})
+    return Status.ADVICE if found else Status.DONE
+
+
+COMMANDS = (
+    Command("advise", "say what is unwise in a valid configuration",
+            "Says of a configuration: which tenants have no slot for workers, so that what is submitted there never "
+            "runs; which can keep all workers, since there are fewer of them than worker slots; whether its histories "
+            "have more room than the machine has memory; and which histories are so short that they are full, or that "
+            "arena-host rotates, after a few jobs. The status is 1 if there is something to say.",
+            "arena advise config.json --host", advise,
+            (positional("CONFIG", "a configuration of arena-server or arena-host, in JSON; - is standard input",
+                        Completes.CONFIG),
+             option("--host", help="it is for arena-host, which rotates; else for arena-server", action="store_true"),
+             option("--rotate-at", help="the word of arena-host, in per cent; 50 without it", type=from_to(1, 100),
+                    default=50, metavar="P"),
+             option("--connections", help=f"how many connections there are at a time; {MOST_CONNECTIONS} without it",
+                    type=from_to(1, MOST_CONNECTIONS), default=MOST_CONNECTIONS, metavar="N"),
+             option("--memory", help="the memory of the machine that serves it; else that of this one", type=gib,
+                    metavar="GIB"))),
+)

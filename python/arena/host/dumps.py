@@ -1,0 +1,128 @@
+"""The dumps in a run folder: which are whole, which are parts of one, and which are missing, and why."""
+import itertools
+import os
+import re
+import time
+from collections.abc import Iterator
+from dataclasses import dataclass
+
+from arena.host.folder import RunFolder
+from arena.host.status import ClosedGeneration, StatusFault, host_runs, read_status
+
+NAME = re.compile(r"([a-z0-9-]{1,32})\.([0-9]{6}|[1-9][0-9]{6,17})\.jsonl(\.part)?")
+"""The name of a dump: the tenant, the generation, and whether it is a part."""
+
+
+def name_of(tenant: str, generation: int) -> str:
+    """A dump as it is told: `acme.000123`."""
+    return f"{tenant}.{generation:06}"
+
+
+@dataclass(frozen=True, slots=True)
+class DumpFile:
+    """A file of a dump. `is_open` says of a part that its generation is not closed, so that a host may write it now."""
+
+    tenant: str
+    generation: int
+    path: str
+    is_whole: bool
+    is_open: bool
+
+    @property
+    def amiss(self) -> bool:
+        """Whether the file should not be there like this."""
+        return not self.is_whole and not self.is_open
+
+
+@dataclass(frozen=True, slots=True)
+class Hole:
+    """Generations, from the first to the last, of which a tenant has no dump; `amiss` if it should have one."""
+
+    tenant: str
+    generation: int
+    last: int
+    why: str
+    amiss: bool
+
+
+@dataclass(frozen=True, slots=True)
+class Known:
+    """What the host's status tells of generations: those that are open, and those that it closed last."""
+
+    open: frozenset[int] = frozenset()
+    closed: tuple[ClosedGeneration, ...] = ()
+
+    @classmethod
+    def of(cls, folder: RunFolder) -> "Known":
+        """What is known of a folder. What a host that runs no more had open is not open. Raises OSError."""
+        try:
+            status, runs = read_status(folder).status, host_runs(folder, time.time())
+        except StatusFault:
+            return cls()
+        return cls(frozenset(it.number for it in status.generations if runs), status.closed)
+
+    def hole(self, tenant: str, generation: int) -> Hole | None:
+        """Why a tenant has no dump of a generation; None if nothing is known of it."""
+        if generation in self.open:
+            return Hole(tenant, generation, generation, "the generation is still open", amiss=False)
+        closed = next((it for it in self.closed if it.number == generation), None)
+        if closed is None:
+            return None
+        found = next((it for it in closed.tenants if it.tenant == tenant), None)
+        if found is None:
+            return Hole(tenant, generation, generation, "the tenant was not in the configuration", amiss=False)
+        why = "it was written, and is gone" if found.dumped else "it could not be written"
+        if found.fault is not None:
+            why = f"close fault {found.fault}"
+        return Hole(tenant, generation, generation, why, amiss=True)
+
+
+def dumps_in(folder: RunFolder) -> list[DumpFile | Hole]:
+    """The dumps of a folder, by tenant in the order of generations, and what is missing between the first and the last
+    of each tenant. What `--keep` removed is before the first. Raises OSError."""
+    known = Known.of(folder)
+    files = sorted(_files(folder, known), key=lambda it: (it.tenant, it.generation, it.is_whole))
+    tenants = {it.tenant for it in files} | {one.tenant for it in known.closed for one in it.tenants}
+    found: list[DumpFile | Hole] = []
+    for tenant in sorted(tenants):
+        mine = [it for it in files if it.tenant == tenant]
+        whole: list[DumpFile | Hole] = [*mine, *_holes(tenant, [it.generation for it in mine], known)]
+        found += sorted(whole, key=lambda it: it.generation)
+    return found
+
+
+def _files(folder: RunFolder, known: Known) -> Iterator[DumpFile]:
+    for name in os.listdir(folder.dumps):
+        if parts := NAME.fullmatch(name):
+            generation = int(parts[2])
+            yield DumpFile(parts[1], generation, os.path.join(folder.dumps, name), parts[3] is None,
+                           generation in known.open)
+
+
+def _holes(tenant: str, numbers: list[int], known: Known) -> Iterator[Hole]:
+    """What is missing: between two numbers of a tenant, and from the last one to that which the host closed last. A
+    tenant of no dumps misses those of which the host tells."""
+    closed = [it.number for it in known.closed if any(one.tenant == tenant for one in it.tenants)]
+    last = max([*numbers, *closed])
+    ends = [*numbers, last + 1] if numbers else [min(closed) - 1, last + 1]
+    for before, after in itertools.pairwise(ends):
+        yield from _holes_between(tenant, range(before + 1, after), known)
+
+
+def _holes_between(tenant: str, gap: range, known: Known) -> Iterator[Hole]:
+    """What is missing in a gap: what is known by itself, and the rest in stretches."""
+    start = gap.start
+    told = sorted(it for it in {*known.open, *(closed.number for closed in known.closed)} if it in gap)
+    for number in told:
+        if start < number:
+            yield _unknown(tenant, start, number - 1)
+        if hole := known.hole(tenant, number):
+            yield hole
+        start = number + 1
+    if start < gap.stop:
+        yield _unknown(tenant, start, gap.stop - 1)
+
+
+def _unknown(tenant: str, first: int, last: int) -> Hole:
+    return Hole(tenant, first, last, "it was not written, was removed, or the tenant was not in the configuration",
+                amiss=True)

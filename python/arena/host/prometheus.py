@@ -1,0 +1,152 @@
+"""A host's status in Prometheus' text exposition format, version 0.0.4.
+
+Each count of a tenant has the label `generation`, since it begins anew with each generation: it grows as long as its
+generation is open, and then its series ends. So no series goes backwards when a generation closes; a sum over
+generations does, and one takes the rate first: `sum by (tenant) (rate(arena_requests_total[5m]))`. The number of a
+generation comes again only if a host was killed before it wrote a dump of it; then its counters begin with 0, which
+Prometheus takes as the restart that it is.
+"""
+import enum
+from collections.abc import Callable, Iterable, Iterator, Mapping
+from dataclasses import dataclass, field
+
+from arena.host.status import ClosedGeneration, ClosedTenant, Generation, HostStatus, State, TenantStatus
+
+CONTENT_TYPE = "text/plain; version=0.0.4; charset=utf-8"
+
+
+class Kind(enum.Enum):
+    """What may become of a value: a counter only grows, a gauge goes both ways."""
+
+    COUNTER = "counter"
+    GAUGE = "gauge"
+
+
+@dataclass(frozen=True, slots=True)
+class Sample:
+    """A value with its labels."""
+
+    value: int | float
+    labels: Mapping[str, str] = field(default_factory=dict)
+
+
+@dataclass(frozen=True, slots=True)
+class Family:
+    """A metric: its name, what it is, and its samples, no two of which have the same labels."""
+
+    name: str
+    kind: Kind
+    help: str
+    samples: list[Sample]
+
+    def lines(self) -> Iterator[str]:
+        """Its lines: HELP, TYPE, and one for each sample. None, if it has no samples."""
+        if self.samples:
+            yield f"# HELP {self.name} {escaped_help(self.help)}"
+            yield f"# TYPE {self.name} {self.kind.value}"
+            yield from (f"{self.name}{labelled(it.labels)} {it.value}" for it in self.samples)
+
+
+def exposition(families: Iterable[Family]) -> str:
+    """The text that Prometheus reads."""
+    return "".join(f"{line}\n" for family in families for line in family.lines())
+
+
+def escaped_help(text: str) -> str:
+    """A text as it stands after HELP."""
+    return text.replace("\\", "\\\\").replace("\n", "\\n")
+
+
+def labelled(labels: Mapping[str, str]) -> str:
+    """Labels in braces; nothing, if there are none."""
+    pairs = ",".join(f'{name}="{_escaped(value)}"' for name, value in labels.items())
+    return f"{{{pairs}}}" if pairs else ""
+
+
+def _escaped(value: str) -> str:
+    """The value of a label as it stands between quotes."""
+    return value.replace("\\", "\\\\").replace('"', '\\"').replace("\n", "\\n")
+
+
+def families_of(status: HostStatus | None) -> list[Family]:
+    """The metrics of a host. None is for a host that gives no status of now, of which only that is said."""
+    up = Family("arena_up", Kind.GAUGE, "Whether the host's status is there and at most 5 seconds old.",
+                [Sample(int(status is not None))])
+    if status is None:
+        return [up]
+    return [up, *_host(status), *_generations(status), *_tenants(status), *_closed(status)]
+
+
+def _host(it: HostStatus) -> Iterator[Family]:
+    def gauge(name: str, help: str, value: int | float) -> Family:
+        """A metric with one sample."""
+        return Family(name, Kind.GAUGE, help, [Sample(value)])
+
+    yield gauge("arena_status_timestamp_seconds", "When the status was written, in seconds since 1970.", it.time)
+    yield gauge("arena_start_time_seconds", "When the host began, in seconds since 1970.", it.began)
+    if it.memory is not None:
+        yield gauge("arena_resident_memory_bytes", "Resident memory of the host.", it.memory)
+    yield gauge("arena_connections_limit", "How many connections a generation serves at a time.", it.connections)
+    yield gauge("arena_rotate_at_ratio", "How full a history may be before the host rotates, from 0 to 1.",
+                it.rotate_at / 100)
+    yield gauge("arena_patience_seconds", "How long the sessions of a generation have to end once the next one serves.",
+                it.patience)
+    yield gauge("arena_dumps_limit", "How many dumps of each tenant are kept.", it.keep)
+
+
+def _generations(status: HostStatus) -> Iterator[Family]:
+    def each(name: str, kind: Kind, help: str, value: Callable[[Generation], int]) -> Family:
+        """A metric with a sample for each generation."""
+        return Family(name, kind, help, [Sample(value(it), _of(it)) for it in status.generations])
+
+    states = [Sample(int(it.state is state), {**_of(it), "state": state.value})
+              for it in status.generations for state in State]
+    yield Family("arena_generation_state", Kind.GAUGE, "1 at the state that a generation is in, and 0 at the others.",
+                 states)
+    yield each("arena_generation_start_time_seconds", Kind.GAUGE, "When a generation began, in seconds since 1970.",
+               lambda it: it.began)
+    yield each("arena_connections", Kind.GAUGE, "Sessions that serve a client now.", lambda it: it.connections)
+    yield each("arena_connections_served_total", Kind.COUNTER, "Connections so far.", lambda it: it.served)
+    yield each("arena_workers", Kind.GAUGE, "Workers, with a tenant or waiting for a call.", lambda it: len(it.workers))
+    yield each("arena_workers_waiting", Kind.GAUGE, "Workers that wait for a call.",
+               lambda it: sum(worker.tenant is None for worker in it.workers))
+
+
+def _tenants(status: HostStatus) -> Iterator[Family]:
+    pairs = [(generation, tenant) for generation in status.generations for tenant in generation.tenants]
+
+    def each(name: str, kind: Kind, help: str, value: Callable[[TenantStatus], int]) -> Family:
+        """A metric with a sample for each tenant of each generation."""
+        return Family(name, kind, help, [Sample(value(it), _of(generation, it.tenant)) for generation, it in pairs])
+
+    yield each("arena_history_steps", Kind.GAUGE, "How many entries a tenant's history has room for.",
+               lambda it: it.steps)
+    yield each("arena_history_entries", Kind.GAUGE, "How many entries a tenant's history holds.", lambda it: it.entries)
+    yield each("arena_requests_total", Kind.COUNTER, "Requests that were asked of a tenant.", lambda it: it.asks)
+    yield each("arena_jobs_total", Kind.COUNTER, "Jobs that were made.", lambda it: it.jobs)
+    at_tenants = [Sample(sum(worker.tenant == it.tenant for worker in generation.workers), _of(generation, it.tenant))
+                  for generation, it in pairs]
+    yield Family("arena_workers_at_tenant", Kind.GAUGE, "Workers that were last at a slot of a tenant.", at_tenants)
+
+
+def _closed(status: HostStatus) -> Iterator[Family]:
+    """What the last 16 generations left; their series end when they are no longer among these."""
+    pairs = [(generation, tenant) for generation in status.closed for tenant in generation.tenants]
+
+    def each(name: str, help: str, value: Callable[[ClosedTenant], int]) -> Family:
+        """A metric with a sample for each tenant of each generation that was closed."""
+        samples = [Sample(value(it), _of(generation, it.tenant)) for generation, it in pairs]
+        return Family(name, Kind.GAUGE, help, samples)
+
+    yield Family("arena_close_duration_seconds", Kind.GAUGE, "How long closing and dumping a generation took.",
+                 [Sample(it.ms / 1000, {**_of(it), "why": it.why.value}) for it in status.closed])
+    yield each("arena_close_entries", "How many entries a tenant's history had at the close.",
+               lambda it: it.entries)
+    yield each("arena_close_fault", "The number of a tenant's close fault, 0 if it had none.", lambda it: it.fault or 0)
+    yield each("arena_close_dumped", "Whether a tenant's dump was written.", lambda it: int(it.dumped))
+
+
+def _of(generation: Generation | ClosedGeneration, tenant: str | None = None) -> dict[str, str]:
+    """The labels of a generation, or of a tenant in it."""
+    labels = {"generation": str(generation.number)}
+    return labels if tenant is None else {**labels, "tenant": tenant}

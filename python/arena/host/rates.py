@@ -1,0 +1,73 @@
+"""How fast a host goes: what its counts grew by between two readings of its status."""
+from dataclasses import dataclass, field
+
+from arena.host.status import Reading, TenantStatus
+
+Key = tuple[int, str]
+"""A generation's number with a tenant's name."""
+
+
+@dataclass(frozen=True, slots=True)
+class Rates:
+    """What a tenant did in a generation, each a second."""
+
+    entries: float
+    asks: float
+    jobs: float
+
+
+@dataclass
+class Watch:
+    """The two last readings of a host that differ, from which rates are taken."""
+
+    before: Reading | None = None
+    now: Reading | None = None
+    _known: dict[Key, Rates] = field(default_factory=dict)
+
+    def take(self, reading: Reading) -> None:
+        """Takes another reading. One that was written when the last one was tells nothing new."""
+        if self.now is not None and reading.written == self.now.written:
+            return
+        self.before, self.now = self.now, reading
+        self._known = rates_between(self.before, self.now) if self.before is not None else {}
+
+    def of(self, generation: int, tenant: str) -> Rates | None:
+        """The rates of a tenant in a generation; None if two readings of it are not there yet."""
+        return self._known.get((generation, tenant))
+
+    def total(self) -> Rates | None:
+        """The rates of all tenants together; None if there are none yet."""
+        if not self._known:
+            return None
+        all_of = self._known.values()
+        return Rates(sum(it.entries for it in all_of), sum(it.asks for it in all_of), sum(it.jobs for it in all_of))
+
+
+def rates_between(before: Reading, after: Reading) -> dict[Key, Rates]:
+    """The rates of each tenant in each generation that is open in the later reading. There are none if another host
+    wrote it, or if no time went by."""
+    seconds = after.written - before.written
+    if before.status.began != after.status.began or seconds <= 0:
+        return {}
+    known = _counts(before)
+    oldest_new = max((it.number for it in (*before.status.generations, *before.status.closed)), default=-1) + 1
+    found: dict[Key, Rates] = {}
+    for key, last in _counts(after).items():
+        first = known.get(key)
+        if first is None and key[0] < oldest_new:
+            continue  # nothing is known of where it began
+        rates = _rates(first, last, seconds)
+        if min(rates.entries, rates.asks, rates.jobs) >= 0:
+            found[key] = rates
+    return found
+
+
+def _counts(reading: Reading) -> dict[Key, TenantStatus]:
+    return {(generation.number, tenant.tenant): tenant for generation in reading.status.generations
+            for tenant in generation.tenants}
+
+
+def _rates(first: TenantStatus | None, last: TenantStatus, seconds: float) -> Rates:
+    """The rates from a first count, which is 0 of a generation that was opened in between."""
+    entries, asks, jobs = (first.entries, first.asks, first.jobs) if first else (0, 0, 0)
+    return Rates((last.entries - entries) / seconds, (last.asks - asks) / seconds, (last.jobs - jobs) / seconds)

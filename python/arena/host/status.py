@@ -1,0 +1,299 @@
+"""`status.json` of arena-host, read into values. Members that docs/HOST.md does not name are passed over."""
+import enum
+import json
+import os
+from collections.abc import Callable, Iterator
+from dataclasses import dataclass
+from typing import TypeVar
+
+from arena.host.folder import RunFolder
+from arena.lint import read_value
+
+FRESH_SECONDS = 5
+"""How old a status may be, in seconds, before one has to doubt that its host still runs; it is written each second."""
+
+MOST_BYTES = 16 * 1024 * 1024
+"""How long a status may be, in bytes. One of 64 tenants has some 10,000 for each generation."""
+
+Value = TypeVar("Value")
+Kind = TypeVar("Kind", bound=enum.Enum)
+
+
+class StatusFault(Exception):
+    """A status that is missing, or is not one that a host wrote. `message` says what is wrong and what to do; `str()`
+    has the file before it."""
+
+    def __init__(self, file: str, message: str) -> None:
+        super().__init__(f"{file}: {message}")
+        self.file, self.message = file, message
+
+
+class State(enum.Enum):
+    """What a generation does: `serving` takes new connections, `draining` goes on for those that it has."""
+
+    SERVING = "serving"
+    DRAINING = "draining"
+    CLOSING = "closing"
+
+
+class Why(enum.Enum):
+    """Why a generation was left: a history was nearly full, the file `rotate` was made, or the host was stopped."""
+
+    HISTORY = "history"
+    FILE = "file"
+    STOP = "stop"
+
+
+@dataclass(frozen=True, slots=True)
+class TenantStatus:
+    """A tenant in a generation: the room of its history and what it holds, in entries; requests that were asked of it,
+    and jobs that were made."""
+
+    tenant: str
+    steps: int
+    entries: int
+    asks: int
+    jobs: int
+
+    @property
+    def share(self) -> float:
+        """How full the history is, from 0 to 1."""
+        return self.entries / self.steps
+
+
+@dataclass(frozen=True, slots=True)
+class WorkerStatus:
+    """Where a worker was last: at a slot of a tenant, or None for both while it waits for a call."""
+
+    worker: int
+    tenant: str | None
+    slot: int | None
+
+
+@dataclass(frozen=True, slots=True)
+class Generation:
+    """A generation that is not closed. `began` is in seconds since 1970; `connections` are those of now, `served` all
+    so far; `why` is None while it serves."""
+
+    number: int
+    state: State
+    began: int
+    why: Why | None
+    connections: int
+    served: int
+    workers: tuple[WorkerStatus, ...]
+    tenants: tuple[TenantStatus, ...]
+
+
+@dataclass(frozen=True, slots=True)
+class ClosedTenant:
+    """A tenant at its close: its entries, the number of the close fault or None, and whether its dump was written."""
+
+    tenant: str
+    entries: int
+    fault: int | None
+    dumped: bool
+
+
+@dataclass(frozen=True, slots=True)
+class ClosedGeneration:
+    """A generation that was closed. `began` and `ended` are in seconds since 1970; `ms` is how many milliseconds
+    closing and dumping took."""
+
+    number: int
+    began: int
+    ended: int
+    why: Why
+    served: int
+    ms: int
+    tenants: tuple[ClosedTenant, ...]
+
+
+@dataclass(frozen=True, slots=True)
+class HostStatus:
+    """What a host said of itself. `time` and `began` are in seconds since 1970, `memory` in bytes or None,
+    `rotate_at` in per cent, `patience` in seconds; `connections` is the most of one generation. The oldest generation
+    is first, and so it is of those that are closed."""
+
+    time: int
+    began: int
+    connections: int
+    rotate_at: int
+    keep: int
+    patience: int
+    memory: int | None
+    generations: tuple[Generation, ...]
+    closed: tuple[ClosedGeneration, ...]
+
+    @property
+    def serving(self) -> Generation | None:
+        """The generation that takes new connections; None while the host stops."""
+        return next((it for it in reversed(self.generations) if it.state is State.SERVING), None)
+
+
+@dataclass(frozen=True, slots=True)
+class Reading:
+    """A status with the object that it was read from, and when it was written, in seconds since 1970 and as exactly as
+    the file tells."""
+
+    status: HostStatus
+    value: dict
+    written: float
+
+    def stale(self, now: float) -> str | None:
+        """Why the status is no longer that of now, which is in seconds since 1970; None if it is at most 5 s old."""
+        age = int(now) - self.status.time
+        if age > FRESH_SECONDS:
+            return f"written {age} s ago, and a host writes it each second"
+        if age < -FRESH_SECONDS:
+            return f"its time is {-age} s ahead of the clock here"
+        return None
+
+
+class _Part:
+    """An object of a status, at its path; its members are read by their types."""
+
+    def __init__(self, value: object, path: str, file: str) -> None:
+        self.path, self.file = path, file
+        if not isinstance(value, dict):
+            raise self.fault("", "an object", value)
+        self.value = value
+
+    def fault(self, name: str, wanted: str, found: object) -> StatusFault:
+        """The fault of a member that is not what is wanted."""
+        place = ".".join(filter(None, (self.path, name))) or "the whole"
+        return StatusFault(self.file, f"{place} is {wanted}, not {_shown(found)}; this is not a status of arena-host")
+
+    def _of(self, name: str, wanted: str, is_right: Callable[[object], bool]) -> object:
+        found = self.value.get(name, _MISSING)
+        if not is_right(found):
+            raise self.fault(name, wanted, found)
+        return found
+
+    def number(self, name: str, least: int = 0) -> int:
+        """A whole number."""
+        found = self._of(name, f"a whole number from {least} on",
+                         lambda it: isinstance(it, int) and not isinstance(it, bool) and it >= least)
+        assert isinstance(found, int)
+        return found
+
+    def text(self, name: str) -> str:
+        """A text."""
+        found = self._of(name, "a text", lambda it: isinstance(it, str))
+        assert isinstance(found, str)
+        return found
+
+    def flag(self, name: str) -> bool:
+        """True or false."""
+        return bool(self._of(name, "true or false", lambda it: isinstance(it, bool)))
+
+    def one_of(self, name: str, kind: type[Kind]) -> Kind:
+        """One of some texts."""
+        texts = [it.value for it in kind]
+        return kind(self._of(name, f"one of {', '.join(texts)}", lambda it: isinstance(it, str) and it in texts))
+
+    def or_none(self, name: str, read: Callable[[str], Value]) -> Value | None:
+        """A member that may be null."""
+        return None if self.value.get(name, _MISSING) is None else read(name)
+
+    def parts(self, name: str) -> Iterator["_Part"]:
+        """The objects of a list."""
+        found = self._of(name, "a list", lambda it: isinstance(it, list))
+        assert isinstance(found, list)
+        path = f"{self.path}.{name}" if self.path else name
+        return (_Part(it, f"{path}[{at}]", self.file) for at, it in enumerate(found))
+
+    def distinct(self, name: str, key: str, known: list[Value]) -> None:
+        """Raises StatusFault, if a key of the list stands there twice."""
+        twice = next((it for at, it in enumerate(known) if it in known[:at]), None)
+        if twice is not None:
+            place = f"{self.path}.{name}" if self.path else name
+            raise StatusFault(self.file, f"{place} has {key} {_shown(twice)} twice; this is not a status of arena-host")
+
+
+_MISSING = object()
+
+
+def _shown(value: object) -> str:
+    """A value as messages show it, at most 60 characters long."""
+    text = "missing" if value is _MISSING else json.dumps(value)
+    return text if len(text) <= 60 else f"{text[:57]}..."
+
+
+def read_status(folder: RunFolder) -> Reading:
+    """The status in a run folder. Raises StatusFault if it is missing or is none, and OSError if it can't be read."""
+    try:
+        with open(folder.status, "rb") as it:
+            data, modified = it.read(MOST_BYTES + 1), os.fstat(it.fileno()).st_mtime
+    except FileNotFoundError:
+        if os.path.isdir(folder.path):
+            raise StatusFault(folder.status, "not there; no arena-host has written it, so start one with `--run "
+                              f"{folder.path}`, or name the folder of one that runs") from None
+        raise StatusFault(folder.path, "no such folder; name the one of `arena-host --run`") from None
+    status, value = parse_status(data, folder.status)
+    # Times in the file are whole seconds. The file's own time is finer, and is taken as long as it agrees with them.
+    written = modified if status.time <= modified < status.time + 2 else float(status.time)
+    return Reading(status, value, written)
+
+
+def host_runs(folder: RunFolder, now: float) -> bool:
+    """Whether a host runs in a folder: its lock tells or, to those who may not open that, whether its status is of now,
+    which is in seconds since 1970. Raises StatusFault, OSError."""
+    try:
+        return folder.is_held()
+    except PermissionError:
+        return read_status(folder).stale(now) is None
+
+
+def parse_status(data: bytes, file: str = "status.json") -> tuple[HostStatus, dict]:
+    """The status in some bytes, and the object that it was read from. Raises StatusFault."""
+    if len(data) > MOST_BYTES:
+        raise StatusFault(file, f"more than {MOST_BYTES:,} bytes; this is not a status of arena-host")
+    if not data.strip():
+        raise StatusFault(file, "empty; a host writes it whole, so this is not its status")
+    try:
+        value = read_value(data.decode())
+    except ValueError as fault:
+        raise StatusFault(file, f"no JSON: {fault}; it may be cut, and a host writes it whole") from None
+    part = _Part(value, "", file)
+    return _host(part), part.value
+
+
+def _host(part: _Part) -> HostStatus:
+    status = HostStatus(
+        part.number("time"), part.number("began"), part.number("connections"), part.number("rotate_at"),
+        part.number("keep"), part.number("patience"), part.or_none("memory", part.number),
+        tuple(map(_generation, part.parts("generations"))), tuple(map(_closed, part.parts("closed"))))
+    part.distinct("generations", "generation", [it.number for it in (*status.generations, *status.closed)])
+    return status
+
+
+def _generation(part: _Part) -> Generation:
+    generation = Generation(
+        part.number("generation"), part.one_of("state", State), part.number("began"),
+        part.or_none("why", lambda name: part.one_of(name, Why)), part.number("connections"), part.number("served"),
+        tuple(map(_worker, part.parts("workers"))), tuple(map(_tenant, part.parts("tenants"))))
+    part.distinct("tenants", "tenant", [it.tenant for it in generation.tenants])
+    return generation
+
+
+def _worker(part: _Part) -> WorkerStatus:
+    return WorkerStatus(part.number("worker"), part.or_none("tenant", part.text), part.or_none("slot", part.number))
+
+
+def _tenant(part: _Part) -> TenantStatus:
+    return TenantStatus(part.text("tenant"), part.number("steps", 1), part.number("entries"), part.number("asks"),
+                        part.number("jobs"))
+
+
+def _closed(part: _Part) -> ClosedGeneration:
+    closed = ClosedGeneration(
+        part.number("generation"), part.number("began"), part.number("ended"), part.one_of("why", Why),
+        part.number("served"), part.number("ms"), tuple(map(_closed_tenant, part.parts("tenants"))))
+    part.distinct("tenants", "tenant", [it.tenant for it in closed.tenants])
+    return closed
+
+
+def _closed_tenant(part: _Part) -> ClosedTenant:
+    return ClosedTenant(part.text("tenant"), part.number("entries"), part.or_none("fault", part.number),
+                        part.flag("dumped"))
