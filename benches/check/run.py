@@ -4,6 +4,8 @@ slot, with a task for each smaller number, in histories of 150,000 and of 1,000,
 answers the steps; what it answers, put beside the steps, is the dump that `arena-script check` is given, and it
 must say `yes`. The program is the one that `make build` or `rt ci` built. Each is done three times, and the
 fastest counts.
+
+usage: benches/check/run.py [PROGRAM [ENTRIES..]]
 """
 import json
 import pathlib
@@ -11,7 +13,9 @@ import subprocess
 import sys
 import time
 
-PROGRAM = pathlib.Path(__file__).resolve().parents[2] / "crates/script_program/out/script_program"
+BUILT = pathlib.Path(__file__).resolve().parents[2] / "crates/script_program/out/script_program"
+PROGRAM = pathlib.Path(sys.argv[1]) if len(sys.argv) > 1 else BUILT
+ENTRIES = [int(word) for word in sys.argv[2:]] or [150_000, 1_000_000]
 TENANT = {"name": "acme", "priority": "normal", "reserved": 1, "rows": 4096, "slots": 1, "steps": 1048576}
 FIBONACCI = [[
     ["set", 2, 2], ["lt", 3, 0, 2], ["jz", 3, 4], ["ret", 0], ["set", 2, 1], ["sub", 3, 0, 2], ["spawn", 0, 0, 3, 1],
@@ -64,14 +68,14 @@ def main():
     if not PROGRAM.exists():
         sys.exit("make build comes first")
     tenant = compact({"tenant": TENANT})
-    for entries in (150_000, 1_000_000):
+    for entries in ENTRIES:
         script = list(steps(entries))
         printed, own = run("own", "\n".join([tenant, *script, ""]))
         dump = [entry(*pair) for pair in zip(script, printed.splitlines())]
         assert len(dump) == entries
         verdict, check = run("check", "\n".join([tenant, *dump, ""]))
         assert verdict == "yes\n", verdict
-        print(f"{entries} entries: own {own:.1f} s, check {check:.1f} s", flush=True)
+        print(f"{entries} entries: own {own:.2f} s, check {check:.2f} s", flush=True)
 
 
 main()

@@ -5,34 +5,22 @@
 set -e
 cd "$(dirname "$0")"
 events="${1:-1000000}"
-built=../../crates/benchmarks/out/benchmarks
-(cd ../../crates/benchmarks && rt run < stdin > /dev/null 2>&1)
-work=$(mktemp -d)
-trap 'rm -rf "$work"' EXIT
+clock=clock
+. ../measure.sh
 
-# The nanoseconds for an event by a number of threads over a number of tenants, added to a file of their own.
-measure() {
-    each=$((events / $1))
-    total=$((each * $1))
-    begun=$(date +%s%N)
-    printed=$("$built" locks steps "$each" "$1" "$2")
-    ended=$(date +%s%N)
-    case "$printed" in
-    *": $total events") echo $(((ended - begun) / total)) >> "$work/$1.$2" ;;
-    *) echo "$printed" >&2; exit 1 ;;
-    esac
+# The events that each of so many threads makes over so many tenants.
+measure_threads() {
+    measure "$1.$2" "$built" locks steps "$((events / $1))" "$1" "$2"
+    expect "$1.$2" ": $((events / $1 * $1)) events$"
 }
 
-fastest() {
-    sort -n "$work/$1.$2" | head -n 1
-}
-
-for _ in 1 2 3 4 5; do
-    measure 1 1
-    measure 4 1
-    measure 4 4
+for _ in $(repeats 5); do
+    measure_threads 1 1
+    measure_threads 4 1
+    measure_threads 4 4
 done
 printf 'threads\ttenants\tnanoseconds\n'
-printf '1\t1\t%s\n' "$(fastest 1 1)"
-printf '4\t1\t%s\n' "$(fastest 4 1)"
-printf '4\t4\t%s\n' "$(fastest 4 4)"
+for pair in '1 1' '4 1' '4 4'; do
+    set -- $pair
+    printf '%s\t%s\t%s\n' "$1" "$2" "$(($(fastest "$1.$2") / (events / $1 * $1)))"
+done
