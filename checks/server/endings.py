@@ -192,7 +192,7 @@ def server_starts_after_one_that_was_killed():
 
 
 def killed_server_leaves_a_whole_dump():
-    """Killed at twenty moments around its dump, a server leaves the dump before it or its own, whole."""
+    """Killed at twenty moments around its dump, a server leaves the dump before it or its own, whole, and parts."""
     server = Server([tenant("acme", 1, 1)], 1, 1)
     server.ask(HELLO, {"op": "execute", "job": SEVEN})
     server.end()
@@ -216,8 +216,25 @@ def killed_server_leaves_a_whole_dump():
     assert os.stat(os.path.join(server.dumps, "acme.jsonl")).st_mode & 0o777 == 0o600
 
 
+def server_starts_while_another_one_dumps():
+    """A server that starts into the folder to which another one is dumping leaves that one's dump alone."""
+    dice = random.Random(21)
+    server = Server([tenant("acme", 1, 1)], 1, 2)
+    for _ in range(8):
+        server.ask(HELLO, {"op": "execute", "job": LONG})
+        server.stop()
+        time.sleep(dice.uniform(0, 0.05))
+        following = Server([tenant("acme", 1, 1)], 1, 2, beside=server)
+        out, err = server.process.communicate(timeout=60)
+        assert server.ended(out, err) == (["acme: closed, 10000 entries"], "", 0)
+        server = following
+    server.stop()
+    server.end()
+    assert os.listdir(server.dumps) == ["acme.jsonl"]
+
+
 ENDINGS = [client_that_collects_and_goes, clients_that_execute_at_one_slot_and_go, client_that_goes_leaves_others_waiting,
            session_ends_without_a_reply_at_a_full_history, removal_ends_sessions_that_wait,
            removal_ends_a_server_that_is_busy, server_leaves_the_socket_of_the_next,
            server_leaves_a_file_that_is_not_its_own, server_starts_after_one_that_was_killed,
-           killed_server_leaves_a_whole_dump]
+           killed_server_leaves_a_whole_dump, server_starts_while_another_one_dumps]

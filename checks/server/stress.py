@@ -7,6 +7,7 @@ usage: checks/server/stress.py [MINUTES [PROGRAM]], at the top of the repository
 said, by out/arena-server, and ends with a status other than 0 at the first thing that is not as it must be.
 """
 import collections
+import contextlib
 import json
 import os
 import random
@@ -201,9 +202,10 @@ class Round:
                 thread.start()
             if self.stop_after:
                 time.sleep(self.stop_after)
-                self.asked["server stopped"] += 1
                 self.stopped.set()
-                os.unlink(path)
+                with contextlib.suppress(FileNotFoundError):  # it has ended by itself
+                    os.unlink(path)
+                    self.asked["server stopped"] += 1
             for thread in threads:
                 thread.join()
             try:
@@ -244,4 +246,5 @@ def main():
           f"all {TENANTS} tenants closed each time")
 
 
-main()
+if __name__ == "__main__":
+    main()

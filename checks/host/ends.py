@@ -1,0 +1,67 @@
+"""How a host ends, while clients do what they like."""
+import os
+import random
+import time
+
+from hosts import Host, Load, ask, by_deadline, dump_lines, dumps, fib, hang_up, is_at_end, tenant
+
+
+def stop_under_load():
+    """Each client gets its answer or the end of its connection, and every tenant closes."""
+    host = Host([tenant("acme", steps=1_000_000), tenant("beta", steps=1_000_000)], "--connections", 16)
+    load = Load(host, 16, ("acme", "beta"))
+    time.sleep(1)
+    began = time.monotonic()
+    assert host.stop() == 0
+    assert time.monotonic() - began < 10
+    replies = load.end()
+    assert set(replies) <= {"right", "None", "FileNotFoundError", "AssertionError", "ConnectionResetError",
+                            "BrokenPipeError", "ConnectionRefusedError", "JSONDecodeError"}, replies
+    assert replies["right"] > 20 and set(host.closed()) == {"acme", "beta"}
+
+
+def stop_while_two_generations_live():
+    host = Host([tenant("acme")], "--patience", 600)
+    old = host.connect()
+    assert ask(old, fib(6))["value"] == 8
+    open(host.path("rotate"), "w").close()
+    by_deadline(lambda: len(host.told("opened")) == 2)
+    new = host.connect()
+    assert ask(new, fib(6))["value"] == 8
+    assert host.stop() == 0
+    assert sorted(host.closed()["acme"]) == [0, 1] and dumps(host, "acme") == [0, 1]
+    assert host.told("stop") and all(map(is_at_end, (old, new)))
+
+
+def kills_at_drawn_moments():
+    """A host that is killed leaves whole dumps alone, and the next one in its folder goes on."""
+    draw = random.Random(2)
+    host = Host([tenant("acme", steps=600)], "--connections", 4, "--patience", 0, "--keep", 100)
+    for _ in range(6):
+        load = Load(host, 4)
+        time.sleep(draw.uniform(0.1, 0.8))
+        host.kill()
+        load.end()
+        for number in dumps(host, "acme"):
+            dump_lines(host.path("dumps", f"acme.{number:06}.jsonl"))
+        host = Host([tenant("acme", steps=600)], "--connections", 4, "--patience", 0, "--keep", 100, after=host)
+    connection = host.connect()
+    assert ask(connection, fib(5))["value"] == 5
+    hang_up(connection)
+    assert host.stop() == 0
+    assert all(not it.endswith("part") for it in os.listdir(host.path("dumps")))
+
+
+def a_folder_that_takes_no_dumps():
+    """The host says so, tries again as long as it has patience, and goes on."""
+    host = Host([tenant("acme")], "--patience", 2)
+    os.rename(host.path("dumps"), host.path("gone"))
+    open(host.path("rotate"), "w").close()
+    by_deadline(lambda: len(host.told("fault", what="dump", generation=0)) >= 2)
+    os.rename(host.path("gone"), host.path("dumps"))
+    by_deadline(lambda: host.told("closed", generation=0))
+    assert host.stop() == 0
+    assert dumps(host, "acme")[-1] == 1
+
+
+CHECKS = [stop_under_load, stop_while_two_generations_live, kills_at_drawn_moments, a_folder_that_takes_no_dumps]

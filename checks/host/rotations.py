@@ -1,0 +1,123 @@
+"""Generations that follow one another."""
+import os
+import time
+
+from hosts import Host, Load, ask, by_deadline, dumps, fib, hang_up, is_at_end, tenant
+
+
+def serving(host):
+    """The number of the generation that serves, by the status."""
+    return [it["generation"] for it in host.status()["generations"] if it["state"] == "serving"]
+
+
+def three_by_history():
+    """Under load the host rotates by history, and no client of a generation that serves finds a full one."""
+    host = Host([tenant("acme", steps=4_000), tenant("beta")], "--connections", 8, "--patience", 5, workers=2)
+    load = Load(host, 8, ("acme", "beta"))
+    by_deadline(lambda: len(host.told("opened")) >= 4)
+    replies = load.end()
+    assert set(replies) == {"right"}, replies
+    assert host.stop() == 0
+    numbers = [it["generation"] for it in host.told("opened")]
+    assert numbers == list(range(len(numbers)))
+    assert [it["generation"] for it in host.told("rotation", why="history")] == numbers[:-1]
+    assert sorted(it["generation"] for it in host.told("closed")) == numbers
+    assert set(host.closed()) == {"acme", "beta"}
+    assert all(sorted(closed) == numbers for closed in host.closed().values())
+
+
+def one_by_file():
+    """A tenant comes and another one goes with a rotation that a file asks for."""
+    host = Host([tenant("acme"), tenant("beta")], "--patience", 0)
+    old = host.connect("beta")
+    assert ask(old, fib(6)) == {"job": 1, "status": "complete", "value": 8}
+    host.configure([tenant("acme"), tenant("gamma")])
+    open(host.path("rotate"), "w").close()
+    by_deadline(lambda: host.told("closed", generation=0))
+    assert not os.path.exists(host.path("rotate"))
+    assert is_at_end(old)
+    new = host.connect("gamma")
+    assert ask(new, fib(6)) == {"job": 1, "status": "complete", "value": 8}
+    hang_up(new)
+    assert host.stop() == 0
+    assert {name: sorted(closed) for name, closed in host.closed().items()} == {"acme": [0, 1], "beta": [0], "gamma": [1]}
+
+
+def the_old_one_goes_on():
+    """A connection belongs to its generation, whose jobs are known there alone, until its patience ends."""
+    host = Host([tenant("acme")], "--patience", 60)
+    old = host.connect()
+    assert ask(old, fib(6))["job"] == 1
+    open(host.path("rotate"), "w").close()
+    by_deadline(lambda: serving(host) == [1])
+    assert [it["state"] for it in host.status()["generations"]] == ["draining", "serving"]
+    new = host.connect()
+    assert ask(new, {"op": "poll", "job": 1})["error"] == "unknown_job"
+    assert ask(old, {"op": "poll", "job": 1})["value"] == 8
+    assert ask(old, fib(6))["job"] == 2
+    assert host.status()["generations"][0]["why"] == "file"
+    hang_up(old)
+    by_deadline(lambda: host.told("closed", generation=0))
+    hang_up(new)
+    assert host.stop() == 0
+
+
+def a_configuration_that_cannot_be_read():
+    """The generation in force goes on, and the host says so."""
+    host = Host([tenant("acme")])
+    with open(host.config, "w") as it:
+        it.write("{")
+    open(host.path("rotate"), "w").close()
+    by_deadline(lambda: host.told("fault", what="config"))
+    connection = host.connect()
+    assert ask(connection, fib(6))["value"] == 8
+    host.configure([tenant("acme")])
+    time.sleep(1.5)
+    assert len(host.told("opened")) == 1
+    open(host.path("rotate"), "w").close()
+    by_deadline(lambda: len(host.told("opened")) == 2)
+    hang_up(connection)
+    assert host.stop() == 0
+
+
+def the_newest_dumps_are_kept():
+    host = Host([tenant("acme")], "--keep", 2, "--patience", 0)
+    for number in range(1, 5):
+        open(host.path("rotate"), "w").close()
+        by_deadline(lambda: len(host.told("opened")) == number + 1)
+    assert host.stop() == 0
+    assert dumps(host, "acme") == [3, 4]
+
+
+def shown(host, jobs):
+    """The status, once its first tenant has made so many jobs."""
+    status = host.status()
+    made = [generation["tenants"][0]["jobs"] for generation in status["generations"]]
+    return status if made == [jobs] else None
+
+
+def what_it_shows():
+    """The members of the status are those of its page, with what clients have done."""
+    host = Host([tenant("acme"), tenant("beta", steps=500)], "--connections", 3, "--keep", 5, "--patience", 7)
+    connection = host.connect()
+    assert ask(connection, fib(6))["value"] == 8
+    status = by_deadline(lambda: shown(host, jobs=1))
+    assert set(status) == {"time", "began", "connections", "rotate_at", "keep", "patience", "memory", "generations", "closed"}
+    assert (status["connections"], status["rotate_at"], status["keep"], status["patience"]) == (3, 50, 5, 7)
+    assert abs(status["time"] - time.time()) < 5 and status["memory"] > 1 << 20 and status["closed"] == []
+    [generation] = status["generations"]
+    assert set(generation) == {"generation", "state", "began", "why", "connections", "served", "workers", "tenants"}
+    acme, beta = generation["tenants"]
+    assert acme["asks"] == 2 and 80 < acme["entries"] < 120 and (acme["tenant"], acme["steps"]) == ("acme", 10_000), acme
+    assert beta == {"tenant": "beta", "steps": 500, "entries": 0, "asks": 0, "jobs": 0}
+    assert [it["worker"] for it in generation["workers"]] == [0, 1]
+    assert (generation["connections"], generation["served"], generation["why"]) == (1, 1, None)
+    hang_up(connection)
+    assert host.stop() == 0
+    [closed] = host.status()["closed"]
+    assert closed["tenants"][1] == {"tenant": "beta", "entries": 0, "fault": None, "dumped": True}
+    assert closed["why"] == "stop" and closed["served"] == 1 and host.status()["generations"] == []
+
+
+CHECKS = [three_by_history, one_by_file, the_old_one_goes_on, a_configuration_that_cannot_be_read,
+          the_newest_dumps_are_kept, what_it_shows]

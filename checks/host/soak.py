@@ -1,0 +1,138 @@
+#!/usr/bin/env python3
+"""Lets a host of 64 tenants with 32 workers serve more clients than it has places, minute after minute: clients come,
+ask at random and go, some in the midst of a wait, and files ask for rotations beside those that histories bring about.
+Replies are compared with what the jobs give under any schedule. No generation that serves may have a full history, each
+tenant of each generation must close, and each dump that is kept must be whole.
+
+usage: checks/host/soak.py [MINUTES], at the top of the repository, after `rt ci`. It runs for ten minutes if none are
+said, prints what it has seen, and ends with a status other than 0 at the first thing that is not as it must be.
+"""
+import collections
+import os
+import pathlib
+import random
+import sys
+import threading
+import time
+
+from hosts import Host, ask, dump_lines, hang_up
+
+sys.path.append(str(pathlib.Path(__file__).resolve().parents[1] / "server"))
+from stress import JOBS, MAY_FAIL, TENANTS, WORKERS, tenant_config  # noqa: E402
+
+CLIENTS = 96
+PLACES = 64
+
+
+class Soak:
+    """A host, its clients, and what was seen of both."""
+
+    def __init__(self, minutes):
+        self.end = time.monotonic() + 60 * minutes
+        dice = random.Random(3)
+        tenants = [{**tenant_config(number, dice), "steps": dice.choice([5_000, 20_000, 100_000])} for number in range(TENANTS)]
+        self.names = [it["name"] for it in tenants]
+        self.host = Host(tenants, "--connections", PLACES, "--patience", 5, "--keep", 2, workers=WORKERS)
+        self.seen = collections.Counter()
+        self.most = collections.Counter()
+        self.wrong = []
+        self.lock = threading.Lock()
+
+    def is_over(self):
+        return time.monotonic() > self.end or bool(self.wrong)
+
+    def client(self, number):
+        dice = random.Random(number)
+        while not self.is_over():
+            try:
+                what = self.visit(dice)
+            except (OSError, AssertionError) as fault:
+                what = collections.Counter({f"connection ended: {type(fault).__name__}": 1})
+            with self.lock:
+                self.seen.update(what)
+
+    def visit(self, dice):
+        """What a client met that asks a few times, and goes, perhaps in the midst of a wait."""
+        met = collections.Counter({"connections": 1})
+        connection = self.host.connect(dice.choice(self.names))
+        try:
+            for _ in range(dice.randrange(1, 8)):
+                job, outcome = dice.choice(JOBS)
+                if dice.random() < 0.05:
+                    connection[0].sendall(b'{"job":1,"op":"collect"}\n')
+                    met["gone while it waits"] += 1
+                    break
+                reply = ask(connection, {"op": "execute", "job": job})
+                if reply is None:
+                    met["ended with its generation"] += 1
+                    break
+                met.update(self.judged(reply, outcome))
+                if reply.get("error") == "job_limit":
+                    ask(connection, {"op": "retire"})
+        finally:
+            hang_up(connection)
+        return met
+
+    def judged(self, reply, outcome):
+        """What a reply counts as. One that is neither the outcome nor a refusal that may be is wrong."""
+        if "code" in reply and reply["code"] in MAY_FAIL:
+            return {f"error {reply['code']}": 1}
+        if {**outcome, "job": reply.get("job")} != reply:
+            self.wrong.append((reply, outcome))
+        return {"right": 1}
+
+    def watch(self):
+        """Looks at the status as long as clients ask, and asks for a rotation now and then."""
+        dice = random.Random(4)
+        while not self.is_over():
+            time.sleep(0.5)
+            status = self.host.status()
+            self.most["memory"] = max(self.most["memory"], status["memory"])
+            self.most["generations at once"] = max(self.most["generations at once"], len(status["generations"]))
+            for generation in status["generations"]:
+                for tenant in generation["tenants"]:
+                    full = 100 * tenant["entries"] // tenant["steps"]
+                    if generation["state"] == "serving":
+                        self.most["per cent of a serving history"] = max(self.most["per cent of a serving history"], full)
+                    if generation["state"] == "serving" and full >= 100:
+                        self.wrong.append(("full while it serves", tenant))
+            if dice.random() < 0.02:
+                open(self.host.path("rotate"), "w").close()
+
+    def run(self):
+        threads = [threading.Thread(target=self.client, args=(number,), daemon=True) for number in range(CLIENTS)]
+        for thread in threads:
+            thread.start()
+        self.watch()
+        for thread in threads:
+            thread.join()
+        status = self.host.stop()
+        return status
+
+    def report(self):
+        host = self.host
+        closed = host.told("closed")
+        print(f"{len(closed)} generations closed, {sum(map(len, host.closed().values()))} tenants, "
+              f"{sum(sum(it.values()) for it in host.closed().values())} entries")
+        print(f"closing and dumping took {max(it['ms'] for it in closed)} ms at most, opening "
+              f"{max(it['ms'] for it in host.told('opened'))} ms at most")
+        print(dict(sorted(self.seen.items())))
+        print(dict(self.most))
+
+
+def main():
+    soak = Soak(float(sys.argv[1]) if len(sys.argv) > 1 else 10.0)
+    status = soak.run()
+    soak.report()
+    host = soak.host
+    opened = [it["generation"] for it in host.told("opened")]
+    closed = host.closed()
+    assert not soak.wrong, soak.wrong[:5]
+    assert status == 0 and opened == sorted(it["generation"] for it in host.told("closed"))
+    assert all(sorted(it) == opened for it in closed.values()) and len(closed) == TENANTS
+    assert not host.told("fault"), host.told("fault")
+    for name in os.listdir(host.path("dumps")):
+        dump_lines(host.path("dumps", name))
+
+
+main()

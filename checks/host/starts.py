@@ -1,0 +1,78 @@
+"""How a host starts, and how it refuses to."""
+import os
+import stat
+import subprocess
+import tempfile
+
+from hosts import PROGRAM, Host, ask, by_deadline, dump_lines, dumps, fib, hang_up, tenant
+
+
+def run(*words):
+    done = subprocess.run([PROGRAM, *words], capture_output=True, text=True, timeout=20)
+    return done.stdout, done.stderr, done.returncode
+
+
+def words_that_are_refused():
+    with tempfile.TemporaryDirectory() as folder:
+        config = os.path.join(folder, "config.json")
+        with open(config, "w") as it:
+            it.write("{}")
+        good = ["--config", config, "--run", folder]
+        for words in ([], ["--config", config], ["--run", folder], [*good, "more"], [*good, "--connections", "0"],
+                      [*good, "--connections", "65"], [*good, "--rotate-at", "0"], [*good, "--rotate-at", "101"],
+                      [*good, "--keep", "0"], [*good, "--keep", "1000000"], [*good, "--patience", "86401"],
+                      [*good, "--mode", "800"], [*good, "--mode", "1000"], [*good, "--group", "4294967295"],
+                      [*good, "--group", "staff"], [*good, "--connections", "64", "--connections", "64"]):
+            assert run(*words) == ("", "arena-host: words\n", 2), words
+        assert run(*good, "--connections", "64") == ("", "arena-host: config\n", 2)
+        assert run("--config", folder + "/none", "--run", folder) == ("", "arena-host: device\n", 3)
+        with open(config, "w") as it:
+            it.write('{"tenants":[],"workers":1}')
+        assert run(*good)[2] == 2
+        assert run("--config", config, "--run", folder + "/none") == ("", "arena-host: device\n", 3)
+
+
+def only_one_host_in_a_folder():
+    host = Host([tenant("acme")])
+    words = ["--config", host.config, "--run", host.run]
+    assert run(*words) == ("", "arena-host: device\n", 3)
+    connection = host.connect()
+    assert ask(connection, fib(6)) == {"job": 1, "status": "complete", "value": 8}
+    hang_up(connection)
+    assert host.stop() == 0
+    assert dumps(host, "acme") == [0]
+
+
+def modes():
+    """The socket has its mode and group; those may read the status who may connect; dumps are the owner's alone."""
+    group = os.getgid()
+    for mode, shown in (("660", 0o640), ("600", 0o600), ("606", 0o604)):
+        host = Host([tenant("acme")], "--mode", mode, "--group", group)
+        socket, status = os.stat(host.path("socket")), os.stat(host.path("status.json"))
+        assert stat.S_IMODE(socket.st_mode) == int(mode, 8) and socket.st_gid == group
+        assert stat.S_IMODE(status.st_mode) == shown and status.st_gid == group
+        assert host.stop() == 0
+        assert stat.S_IMODE(os.stat(host.path("dumps", "acme.000000.jsonl")).st_mode) == 0o600
+
+
+def starts_again_after_a_kill():
+    """What a killed host leaves is cleared, and numbers go on."""
+    host = Host([tenant("acme")])
+    connection = host.connect()
+    assert ask(connection, fib(6))["value"] == 8
+    assert host.stop() == 0
+    host = Host([tenant("acme")], after=host)
+    host.kill()
+    assert os.path.exists(host.path("socket"))
+    for name in ("acme.000001.jsonl.part", "acme.000001.jsonl.part2"):
+        with open(host.path("dumps", name), "w") as it:
+            it.write("{")
+    host = Host([tenant("acme")], after=host)
+    assert by_deadline(lambda: host.told("start"))[0]["generation"] == 1
+    assert host.stop() == 0
+    assert sorted(os.listdir(host.path("dumps"))) == ["acme.000000.jsonl", "acme.000001.jsonl"]
+    assert dump_lines(host.path("dumps", "acme.000001.jsonl")) == 1
+    hang_up(connection)
+
+
+CHECKS = [words_that_are_refused, only_one_host_in_a_folder, modes, starts_again_after_a_kill]
