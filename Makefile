@@ -1,34 +1,57 @@
 # The commands of this repository; `make help` lists them. `rt` is the command of the Rattle kit.
 
 .DEFAULT_GOAL := help
-.PHONY: help run build serve serve-unproved stop pictures test check examples clean
+.PHONY: help run build serve serve-unproved stop install uninstall deb dist pictures test bench check examples clean
 
 EXAMPLE ?= first_job
 
 help: ## lists the targets
 	@sed -n 's/^\([a-z-]*\):[^#]*## */    make \1|/p' Makefile | awk -F'|' '{ printf "%-20s %s\n", $$1, $$2 }'
 
-run: ## runs an example within a minute, unproved unless it is built: make run EXAMPLE=isolated_waiter
+run: ## runs an example within a minute or two, unproved unless it is built: make run EXAMPLE=isolated_waiter
 	@python3 examples/show.py $(EXAMPLE)
 
-build: ## proves arena-script and arena-server, and builds them into out/
+build: ## proves arena-script and arena-server, and builds both into out/
 	@python3 checks/build/run.py
 
 SOCKET ?= /tmp/arena.sock
 PROGRAM ?= out/arena-server
+CONFIG ?= examples/server/config.json
+CONNECTIONS ?= 64
+DUMP ?=
 
-serve: build ## serves two connections at /tmp/arena.sock; Ctrl-C stops it in order (docs/OPERATIONS.md)
-	@trap 'rm -f $(SOCKET)' INT; setsid $(PROGRAM) --config examples/server/config.json --socket $(SOCKET) \
-	    --connections 2 & server=$$!; while kill -0 $$server 2>/dev/null; do wait $$server; done; wait $$server
+serve: build ## serves 64 connections at /tmp/arena.sock (CONFIG=FILE, CONNECTIONS=N, DUMP=FOLDER); Ctrl-C stops it in order
+	@$(if $(DUMP),mkdir -p $(DUMP))
+	@trap 'rm -f $(SOCKET)' INT; setsid $(PROGRAM) --config $(CONFIG) --socket $(SOCKET) --connections $(CONNECTIONS) \
+	    $(if $(DUMP),--dump $(DUMP)) & server=$$!; while kill -0 $$server 2>/dev/null; do wait $$server; done; wait $$server
 
 serve-unproved: ## the same within a minute or two, by a server that is built without proofs
 	@checks/build/unproved.py arena-server
 	@$(MAKE) --no-print-directory -o build serve PROGRAM=out/unproved/arena-server
 
-stop: ## stops the server of `make serve` in order, by removing its socket
-	rm $(SOCKET)
+stop: ## stops the server of `make serve` in order, and waits until it has ended, ten minutes at most
+	@examples/server/stop.py $(SOCKET)
 
-test: ## passes everything: examples, each proof, edit, test and program, stored runs, scripts, a second evaluator, ranges, the server, failed allocations, drawn steps, the Python package
+DESTDIR ?=
+PREFIX ?= /usr/local
+SYSCONFDIR ?= /etc
+PYTHON ?= /usr/bin/env python3
+PROGRAMS ?= out
+PLACES = --destdir "$(DESTDIR)" --prefix "$(PREFIX)" --etc "$(SYSCONFDIR)"
+
+install: ## installs what stands in out/, the Python package, pages and units, below DESTDIR and PREFIX (/usr/local)
+	@packaging/install.py install $(PLACES) --python "$(PYTHON)" --programs "$(PROGRAMS)"
+
+uninstall: ## takes away what `make install` made
+	@packaging/install.py uninstall $(PLACES)
+
+deb: ## builds a Debian package of what stands in out/ (docs/OPERATIONS.md, Installing)
+	@packaging/deb.py --programs "$(PROGRAMS)"
+
+dist: ## packs the proved programs with the gate's last line and their checksums
+	@packaging/dist.py --programs "$(PROGRAMS)"
+
+test: ## passes everything: examples, each proof, edit, test and program, stored runs, scripts, a second evaluator, ranges, the server, failed allocations, drawn steps, the Python package, counts of instructions, the pages, installations, HAProxy before servers
 	checks/examples/run.sh
 	checks/gate/run.py
 	checks/stored_runs/run.sh
@@ -39,8 +62,15 @@ test: ## passes everything: examples, each proof, edit, test and program, stored
 	checks/failed_allocations/run.py
 	checks/fuzz/run.py
 	checks/python/run.py
+	checks/cost/run.py --built .
 	checks/build/recorded.py
+	checks/pages/run.py
+	checks/install/run.py
+	checks/haproxy/run.py
 	@tail -n 1 out/gate.md
+
+bench: ## measures everything beside its twin, and writes the table of benches/README.md
+	@benches/bench.py
 
 pictures: ## draws the pictures of the README and of docs/TRACE.md again
 	docs/pictures/make.py

@@ -2,8 +2,14 @@
 import json
 import os
 import re
+import signal
 
 from serving import arena_command
+
+
+def by_keyboard():
+    """Lets a process be interrupted, as from the keyboard, also where the check itself is run with interrupts ignored."""
+    signal.signal(signal.SIGINT, signal.SIG_DFL)
 
 
 def differs(words, done, status, out, err):

@@ -17,7 +17,7 @@ import zipfile
 
 sys.path.insert(0, os.path.abspath("python"))
 
-from calls import Calls
+from calls import Calls, by_keyboard
 from serving import (
     DIVIDES, FIB, INVALID, PACKAGE, PATIENCE, SCRIPT, SEVEN, SPIN, Server, arena_command, arena_process, job, tenant)
 
@@ -242,7 +242,7 @@ def interrupt_is_a_status(it):
     with arena.Client(it.server.path, "still") as client:
         number = client.submit(SEVEN)
         process = subprocess.Popen(words, stdin=subprocess.PIPE, stdout=subprocess.PIPE, stderr=subprocess.PIPE,
-                                   text=True, env=environment)
+                                   text=True, env=environment, preexec_fn=by_keyboard)
         process.stdin.write(f"poll {number}\nwait {number}\n")
         process.stdin.flush()
         assert process.stdout.readline() == f"job {number}: running\n"

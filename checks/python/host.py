@@ -18,7 +18,7 @@ from unittest import mock
 
 sys.path.insert(0, os.path.abspath("python"))
 
-from calls import Calls
+from calls import Calls, by_keyboard
 from fake_host import FakeHost, Folder, closed, closed_tenant, example, generation, tenant
 from serving import PACKAGE, PATIENCE, arena_process
 
@@ -280,7 +280,7 @@ def top_ends_with_the_keyboard():
     with FakeHost() as host:
         words = [sys.executable, "-m", "arena", "top", host.path, "--every", "0.1"]
         process = subprocess.Popen(words, stdout=subprocess.PIPE, stderr=subprocess.PIPE, text=True,
-                                   env={**os.environ, "PYTHONPATH": PACKAGE})
+                                   env={**os.environ, "PYTHONPATH": PACKAGE}, preexec_fn=by_keyboard)
         assert process.stdout.readline().startswith("host: generation 5 serves"), process
         process.send_signal(signal.SIGINT)
         _, err = process.communicate(timeout=PATIENCE)

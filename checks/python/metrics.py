@@ -22,7 +22,7 @@ from unittest import mock
 
 sys.path.insert(0, os.path.abspath("python"))
 
-from calls import Calls
+from calls import Calls, by_keyboard
 from exposition import parsed
 from fake_host import FakeHost, Folder, closed, closed_tenant, example, generation, tenant
 from serving import PACKAGE, PATIENCE
@@ -247,7 +247,7 @@ def command_serves():
     with FakeHost() as host:
         words = [sys.executable, "-m", "arena", "metrics", host.path, "--listen", "127.0.0.1:0"]
         process = subprocess.Popen(words, stdout=subprocess.PIPE, stderr=subprocess.PIPE, text=True,
-                                   env={**os.environ, "PYTHONPATH": PACKAGE})
+                                   env={**os.environ, "PYTHONPATH": PACKAGE}, preexec_fn=by_keyboard)
         found = re.fullmatch(r"listening at http://127\.0\.0\.1:(\d+)/\n", process.stdout.readline())
         assert found, process.communicate()
         connection = http.client.HTTPConnection("127.0.0.1", int(found[1]), timeout=PATIENCE)

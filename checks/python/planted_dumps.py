@@ -62,7 +62,7 @@ def job_near_its_fuel_is_found():
 
 def tenant_that_waits_for_workers_is_found():
     """One worker, which other jobs keep: while it is with acme, beta polls a job that waits beside an empty slot."""
-    hog, cost = {**COUNT, "args": [32_500, 0]}, 130_003
+    hog, cost = {**COUNT, "args": [240_000, 0]}, 960_003
     with Server(tenant(slots=1, reserved=0), tenant("beta", slots=1, reserved=0), workers=1) as server:
         with arena.Client(server.path, "acme") as acme, arena.Client(server.path, "beta") as beta:
             with acme.pipeline() as line:
