@@ -1,6 +1,5 @@
 #!/usr/bin/env python3
-"""Proves the crates that arena-script, arena-server and arena-host stand on, from the lowest up, and builds all three
-into out/.
+"""Proves the crates that arena-script and arena-server stand on, from the lowest up, and builds both into out/.
 
 usage: checks/build/run.py, at the top of the repository. It prints a line before and after each crate,
 with the minutes since the start; a crate that has not changed since its last proof takes seconds.
