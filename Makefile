@@ -11,7 +11,7 @@ help: ## lists the targets
 run: ## runs an example within a minute or two, unproved unless it is built: make run EXAMPLE=isolated_waiter
 	@python3 examples/show.py $(EXAMPLE)
 
-build: ## proves arena-script and arena-server, and builds both into out/
+build: ## proves arena-script, arena-server and arena-host, and builds them into out/
 	@python3 checks/build/run.py
 
 SOCKET ?= /tmp/arena.sock
@@ -51,7 +51,7 @@ deb: ## builds a Debian package of what stands in out/ (docs/OPERATIONS.md, Inst
 dist: ## packs the proved programs with the gate's last line and their checksums
 	@packaging/dist.py --programs "$(PROGRAMS)"
 
-test: ## passes everything: examples, each proof, edit, test and program, stored runs, scripts, a second evaluator, ranges, the server, failed allocations, drawn steps, the Python package, counts of instructions, the pages, installations, HAProxy before servers
+test: ## passes everything: examples, each proof, edit, test and program, stored runs, scripts, a second evaluator, ranges, the server, the host, failed allocations, drawn steps, the Python package, counts of instructions, the pages, installations, HAProxy before servers
 	checks/examples/run.sh
 	checks/gate/run.py
 	checks/stored_runs/run.sh
@@ -59,6 +59,7 @@ test: ## passes everything: examples, each proof, edit, test and program, stored
 	checks/evaluator/run.py
 	checks/ranges/run.py
 	checks/server/run.py
+	checks/host/run.py
 	checks/failed_allocations/run.py
 	checks/fuzz/run.py
 	checks/python/run.py

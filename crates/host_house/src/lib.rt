@@ -13,4 +13,4 @@ mod reports;
 pub use events::say;
 pub use hosts::{Host, Step};
 pub use lives::{Lived, millis, seconds};
-pub use living::{Setting, Terms, live};
+pub use living::{Eyes, Setting, Terms, live};

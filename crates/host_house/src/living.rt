@@ -42,13 +42,38 @@ pub struct Setting<'h> {
     pub asked: u64,
 }
 
+/// How a generation sees its connections, and how its sessions wake the thread that accepts them.
+#[derive(Drop)]
+pub struct Eyes {
+    watch: Watch,
+    waker: Waker,
+}
+
+impl Eyes {
+    /// Watches an endpoint for that many connections at a time. `Device` if the system refuses, and `Memory` if an
+    /// allocation fails.
+    pub fn open<R: Net>(
+        rt: &R,
+        alloc: Global,
+        endpoint: &Endpoint<'_>,
+        connections: u8,
+    ) -> Result<Eyes, ServerEnd> {
+        match Watch::new(rt, alloc, endpoint, connections) {
+            Ok((watch, waker)) => Ok(Eyes { watch, waker }),
+            Err(fault) if fault.kind() == ErrorKind::OutOfMemory => Err(ServerEnd::Memory),
+            Err(_) => Err(ServerEnd::Device),
+        }
+    }
+}
+
 /// Starts a generation's workers and sessions, and serves its clients until it is left and its sessions have ended.
-/// All seats come back. `Device` if a thread can't be started or the socket can't be watched, and `Memory` if an
-/// allocation fails first: nobody was served, and no generation was opened.
-pub fn live<R: Threads + Wait + Clock + Net + Sync + Print + Eprint>(
+/// All seats come back. `Device` if a thread can't be started, and `Memory` if an allocation fails first: nobody was
+/// served, and no generation was opened.
+pub fn live<R: Threads + Wait + Clock + Sync + Print + Eprint>(
     rt: &R,
     alloc: Global,
     setting: Setting<'_>,
+    eyes: Eyes,
     passes: Vec<QueuePass>,
     seats: Vec<Seat>,
 ) -> Result<(Lived, Vec<Seat>), ServerEnd>
@@ -60,11 +85,7 @@ pub fn live<R: Threads + Wait + Clock + Net + Sync + Print + Eprint>(
     let desks = new_desks(alloc, terms.connections)?;
     let threads = Vec::with_capacity(alloc, desks.len())?;
     let waiting = Mutex::new(Vec::with_capacity(alloc, desks.len())?);
-    let (watch, waker) = match Watch::new(rt, alloc, setting.endpoint, terms.connections) {
-        Ok(made) => made,
-        Err(fault) if fault.kind() == ErrorKind::OutOfMemory => return Err(ServerEnd::Memory),
-        Err(_) => return Err(ServerEnd::Device),
-    };
+    let Eyes { watch, waker } = eyes;
     let crew = Crew {
         places: places.as_slice(),
         desks: desks.as_slice(),

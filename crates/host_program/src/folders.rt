@@ -1,0 +1,140 @@
+// The folder in which a host works.
+
+use socket_server::ServerEnd;
+use std::alloc::{AllocError, Global};
+use std::fs::{DirBuilder, Files};
+use std::os::unix::fs::DirBuilderExt;
+use std::{fs, io};
+
+/// The paths in the folder.
+#[derive(Drop)]
+pub(crate) struct Folder {
+    pub(crate) lock: String,
+    pub(crate) socket: String,
+    pub(crate) rotate: String,
+    pub(crate) status: String,
+    pub(crate) dumps: String,
+}
+
+impl Folder {
+    /// The paths in a folder.
+    pub(crate) fn new(alloc: Global, run: &str) -> Result<Folder, AllocError> {
+        Ok(Folder {
+            lock: format!(in alloc; "{run}/lock")?,
+            socket: format!(in alloc; "{run}/socket")?,
+            rotate: format!(in alloc; "{run}/rotate")?,
+            status: format!(in alloc; "{run}/status.json")?,
+            dumps: format!(in alloc; "{run}/dumps")?,
+        })
+    }
+
+    /// The file of a tenant's history in a generation.
+    pub(crate) fn dump(
+        &self,
+        alloc: Global,
+        name: &str,
+        generation: u64,
+    ) -> Result<String, AllocError> {
+        format!(in alloc; "{}/{name}.{generation:06}.jsonl", self.dumps.as_str())
+    }
+
+    /// Makes the folder for dumps, removes what a host left that was killed and the dumps that are too old, and gives
+    /// the number of the first generation: the one after the greatest of which there is a dump.
+    pub(crate) fn prepare<R: Files + AllocGlobal + Clone + Drop>(
+        &self,
+        rt: &R,
+        keep: u32,
+    ) -> Result<u64, ServerEnd> {
+        // It may be there.
+        let _ = DirBuilder::new()
+            .mode(0o700)
+            .create(rt, self.dumps.as_str());
+        let _ = fs::remove_file(rt, self.socket.as_str());
+        let _ = fs::remove_file(rt, self.rotate.as_str());
+        let paths = listed(rt, self.dumps.as_str())?;
+        let mut next = 0;
+        for entry in &paths {
+            let path = entry.as_str();
+            if is_part(path) || is_too_old(paths.as_slice(), path, keep) {
+                let _ = fs::remove_file(rt, path);
+            }
+            if let Some((_, number)) = parts_of(path) {
+                next = next.max(number.saturating_add(1));
+            }
+        }
+        Ok(next)
+    }
+
+    /// Removes the dump of a tenant that is too old once the one of this generation is there.
+    pub(crate) fn prune<R: Files>(
+        &self,
+        rt: &R,
+        alloc: Global,
+        name: &str,
+        generation: u64,
+        keep: u32,
+    ) -> Result<(), AllocError> {
+        if let Some(old) = generation.checked_sub(u64::from(keep)) {
+            // It may be gone, or the tenant was not there.
+            let _ = fs::remove_file(rt, self.dump(alloc, name, old)?.as_str());
+        }
+        Ok(())
+    }
+}
+
+/// The paths of the files in a folder.
+fn listed<R: Files + AllocGlobal + Clone + Drop>(
+    rt: &R,
+    folder: &str,
+) -> Result<Vec<String>, ServerEnd> {
+    match list(rt, folder) {
+        Ok(paths) => Ok(paths),
+        Err(fault) if fault.kind() == io::ErrorKind::OutOfMemory => Err(ServerEnd::Memory),
+        Err(_) => Err(ServerEnd::Device),
+    }
+}
+
+fn list<R: Files + AllocGlobal + Clone + Drop>(rt: &R, folder: &str) -> io::Result<Vec<String>> {
+    let alloc = rt.alloc();
+    let mut paths = Vec::new(alloc);
+    for entry in fs::read_dir(rt, folder)? {
+        let entry = entry?;
+        paths.push(format!(in alloc; "{folder}/{}", entry.file_name())?)?;
+    }
+    Ok(paths)
+}
+
+/// Whether a path is that of a dump that was not written whole.
+fn is_part(path: &str) -> bool {
+    match path.rsplit_once(".jsonl.part") {
+        Some((_, number)) => number.bytes().all(|byte| byte.is_ascii_digit()),
+        None => false,
+    }
+}
+
+/// The name of the tenant and the number of the generation of a dump's path.
+fn parts_of(path: &str) -> Option<(&str, u64)> {
+    let (_, file) = path.rsplit_once('/')?;
+    let (name, rest) = file.split_once('.')?;
+    let number = rest.strip_suffix(".jsonl")?;
+    Some((name, number.parse::<u64>().ok()?))
+}
+
+/// Whether a path is that of a dump whose tenant has enough newer ones.
+fn is_too_old(paths: &[String], path: &str, keep: u32) -> bool {
+    match parts_of(path) {
+        Some((name, number)) => newer(paths, name, number) >= keep as usize,
+        None => false,
+    }
+}
+
+/// How many of the paths are dumps of a tenant in a later generation.
+fn newer(paths: &[String], name: &str, number: u64) -> usize {
+    paths
+        .iter()
+        .filter(|path| match parts_of(path.as_str()) {
+            Some((tenant, other)) => tenant == name && other > number,
+            None => false,
+        })
+        .count()
+}

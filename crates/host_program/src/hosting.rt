@@ -1,0 +1,311 @@
+// The thread that opens generations, and has the files.
+
+use crate::archive::Archive;
+use crate::ends::told_fault;
+use crate::filing::{Filing, Office};
+use crate::folders::Folder;
+use crate::generations::{Plan, Site, run_generation};
+use crate::showing::show;
+use crate::writing::{Writer, write_histories};
+use generation_life::Why;
+use host_house::{Eyes, Host, Step, Terms, millis, say, seconds};
+use host_status::Event;
+use host_words::Words;
+use job_language::Config;
+use socket_server::{Access, Endpoint, MAX_CONFIG, ServerEnd, config_of};
+use std::alloc::Global;
+use std::fs::{File, Files};
+use std::io::{ErrorKind, Read};
+use std::net::Net;
+use std::sync::Wait;
+use std::thread::Threads;
+use std::time::{Clock, Duration};
+use std::{fs, thread};
+
+/// How long the thread waits at most before it looks again, in milliseconds.
+const TICK: u64 = 50;
+
+/// How often the status is written, and how long a generation that can't be opened rests, in milliseconds.
+const SECOND: u64 = 1000;
+
+/// Hosts tenants in a folder until its socket is removed.
+pub(crate) fn host_tenants<'h, R>(
+    rt: &R,
+    alloc: Global,
+    words: Words<'h>,
+    folder: &'h Folder,
+) -> Result<ServerEnd, ServerEnd>
+where
+    R: Files<File = File>
+        + Net
+        + Threads
+        + Wait
+        + Clock
+        + Sync
+        + Print
+        + Eprint
+        + AllocGlobal
+        + Clone
+        + Drop,
+{
+    let terms = terms_of(words)?;
+    read_config(rt, alloc, words.config)?;
+    let first = folder.prepare(rt, words.keep)?;
+    let access = Access {
+        mode: words.mode,
+        group: words.group,
+    };
+    let endpoint = Endpoint::bind(rt, alloc, folder.socket.as_str(), access)?;
+    say(rt, alloc, Event::Start { generation: first });
+    let host = Host::new(alloc, first);
+    let archive = Archive::new();
+    let writer = Writer::new();
+    let office = Office {
+        host: &host,
+        archive: &archive,
+        writer: &writer,
+        words,
+        folder,
+    };
+    let end = keep_hosting(rt, alloc, office, &endpoint, terms);
+    endpoint.remove(rt);
+    end
+}
+
+/// Opens generations, each in a thread of its own, and keeps the histories that they leave, until the host stops.
+/// `Device` if the thread that writes can't be started.
+fn keep_hosting<'h, R>(
+    rt: &R,
+    alloc: Global,
+    office: Office<'h>,
+    endpoint: &'h Endpoint<'h>,
+    terms: Terms,
+) -> Result<ServerEnd, ServerEnd>
+where
+    R: Files<File = File> + Net + Threads + Wait + Clock + Sync + Print + Eprint + AllocGlobal,
+{
+    let Office {
+        host,
+        archive,
+        writer,
+        ..
+    } = office;
+    let site = Site {
+        host,
+        archive,
+        endpoint,
+        terms,
+    };
+    thread::scope(thread::scope_env(), rt, move |scope| {
+        if scope
+            .spawn(move || write_histories(rt, alloc, writer))
+            .is_err()
+        {
+            return Err(ServerEnd::Device);
+        }
+        let mut keeper = Keeper::new(rt, office);
+        let mut filing = None;
+        let mut end = Ok(());
+        for _turn in rt.forever() {
+            match keeper.step(rt) {
+                Step::Wait => {}
+                Step::Open(left) => match keeper.prepare(rt, alloc, left, site) {
+                    Ok(plan) => {
+                        let life = move || run_generation(rt, alloc, site, plan);
+                        if scope.spawn(life).is_err() {
+                            host.give_up(rt, ServerEnd::Device);
+                        }
+                    }
+                    Err(fault) => host.give_up(rt, fault),
+                },
+                Step::Failed(fault) => {
+                    end = keeper.note_failure(rt, alloc, fault);
+                    if end.is_err() {
+                        break;
+                    }
+                }
+                Step::End => break,
+            }
+            keeper.look(rt, alloc, endpoint);
+            filing = keeper.file(rt, alloc, filing);
+        }
+        writer.close(rt);
+        keeper.show(rt);
+        end?;
+        Ok(keeper.end(rt))
+    })
+}
+
+/// What the thread that opens generations keeps.
+#[derive(Clone, Copy)]
+struct Keeper<'h> {
+    office: Office<'h>,
+    /// When the host began, in seconds since 1970.
+    began: u64,
+    /// Whether a generation has served, and `listening` was printed.
+    has_served: bool,
+    is_stopping: bool,
+    /// When the status was last written, and until when nothing is opened, in milliseconds of the monotonic clock.
+    shown: u64,
+    rest: u64,
+}
+
+impl<'h> Keeper<'h> {
+    fn new<R: Clock>(rt: &R, office: Office<'h>) -> Keeper<'h> {
+        Keeper {
+            office,
+            began: seconds(rt),
+            has_served: false,
+            is_stopping: false,
+            shown: 0,
+            rest: 0,
+        }
+    }
+
+    /// What is to be done next.
+    fn step<R: Wait + Clock>(&self, rt: &R) -> Step {
+        if millis(rt) < self.rest && !self.is_stopping {
+            return Step::Wait;
+        }
+        self.office.host.step(rt)
+    }
+
+    /// What the next generation is opened with.
+    fn prepare<R: Files + Net + Clock + Print + Eprint + AllocGlobal>(
+        &self,
+        rt: &R,
+        alloc: Global,
+        left: Option<(u64, Why)>,
+        site: Site<'_>,
+    ) -> Result<Plan, ServerEnd> {
+        if let Some((generation, why)) = left {
+            say(rt, alloc, Event::Rotation { generation, why });
+        }
+        let config = read_config(rt, alloc, self.office.words.config)?;
+        let eyes = Eyes::open(rt, alloc, site.endpoint, site.terms.connections)?;
+        Ok(Plan { config, eyes })
+    }
+
+    /// A generation could not be opened. The host ends if it is the first one.
+    fn note_failure<R: Clock + Print + Eprint>(
+        &mut self,
+        rt: &R,
+        alloc: Global,
+        end: ServerEnd,
+    ) -> Result<(), ServerEnd> {
+        if !self.has_served {
+            return Err(end);
+        }
+        self.rest = millis(rt).saturating_add(SECOND);
+        say(
+            rt,
+            alloc,
+            Event::Fault {
+                what: told_fault(end),
+                generation: None,
+            },
+        );
+        Ok(())
+    }
+
+    /// Looks whether somebody asks for a stop or for a rotation, and shows what the host does.
+    fn look<R>(&mut self, rt: &R, alloc: Global, endpoint: &Endpoint<'_>)
+    where
+        R: Files + Wait + Clock + Print + Eprint + AllocGlobal,
+    {
+        let Office { host, folder, .. } = self.office;
+        if !self.has_served && host.is_serving(rt) {
+            self.has_served = true;
+            self.shown = 0;
+            // Whoever waits for it learns the same from the status.
+            let _ = println!(rt; "listening");
+        }
+        if !self.is_stopping && !endpoint.is_there(rt) && host.stop(rt).is_ok() {
+            self.is_stopping = true;
+            say(rt, alloc, Event::Stop);
+        }
+        let rotate = folder.rotate.as_str();
+        if fs::symlink_metadata(rt, rotate).is_ok() && host.wish(rt, Why::File) {
+            // If it can't be removed, the next generation is left as well.
+            let _ = fs::remove_file(rt, rotate);
+        }
+        if millis(rt).saturating_sub(self.shown) >= SECOND {
+            self.shown = millis(rt);
+            self.show(rt);
+        }
+    }
+
+    /// Writes the status. Where that fails, the older one stays.
+    fn show<R: Files + Wait + Clock + AllocGlobal>(&self, rt: &R) {
+        let Office {
+            host,
+            words,
+            folder,
+            ..
+        } = self.office;
+        let _ = show(rt, host, words, folder, self.began);
+    }
+
+    /// Goes on with the histories that a generation has left, if one has, or waits for a tick at most: what is left to
+    /// write.
+    fn file<R>(&self, rt: &R, alloc: Global, filing: Option<Filing>) -> Option<Filing>
+    where
+        R: Files<File = File> + Wait + Clock + Print + Eprint,
+    {
+        let office = self.office;
+        let tick = Duration::from_millis(TICK);
+        if office.writer.is_busy(rt) {
+            let work = office.writer.take(rt, tick)?;
+            return Some(Filing::keep(rt, alloc, office, work));
+        }
+        let filing = match filing {
+            Some(filing) => Some(filing),
+            None => Filing::next(rt, alloc, office),
+        };
+        match filing {
+            Some(filing) if !filing.is_resting(rt) => filing.go_on(rt, alloc, office),
+            resting => {
+                office.host.wait(rt, tick);
+                resting
+            }
+        }
+    }
+
+    /// How the host ends.
+    fn end<R: Wait>(&self, rt: &R) -> ServerEnd {
+        if self.office.host.has_close_fault(rt) {
+            ServerEnd::Close
+        } else {
+            ServerEnd::Done
+        }
+    }
+}
+
+/// How generations are to live.
+fn terms_of(words: Words<'_>) -> Result<Terms, ServerEnd> {
+    match u8::try_from(words.connections) {
+        Ok(connections) if connections > 0 => Ok(Terms {
+            connections,
+            rotate_at: words.rotate_at,
+            patience: words.patience,
+        }),
+        _ => Err(ServerEnd::Words),
+    }
+}
+
+/// The configuration in a file.
+fn read_config<R: Files + AllocGlobal>(
+    rt: &R,
+    alloc: Global,
+    path: &str,
+) -> Result<Config, ServerEnd> {
+    let mut bytes = Vec::new(alloc);
+    let Ok(file) = File::open(rt, path) else {
+        return Err(ServerEnd::Device);
+    };
+    match file.take(MAX_CONFIG as u64 + 1).read_to_end(&mut bytes) {
+        Ok(_) => config_of(alloc, bytes.as_slice()),
+        Err(fault) if fault.kind() == ErrorKind::OutOfMemory => Err(ServerEnd::Memory),
+        Err(_) => Err(ServerEnd::Device),
+    }
+}
