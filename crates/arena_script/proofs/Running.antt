@@ -11,7 +11,8 @@ use Rattle.world_model.specs.declared.outcomes.Outcome.TheVariants.{NotNow}
 use Rattle.world_script.specs.Knowing.{Knows, Named, Starts}
 use Rattle.world_script.specs.Named.{raw_of}
 use Rattle.world_script.specs.RawLines.{RawData}
-use Rattle.world_script.specs.Takes.{TakesRaw, TakesStep, config_in, step_in, told}
+use Rattle.market_config.specs.Lines.{config_in}
+use Rattle.world_script.specs.Takes.{TakesRaw, TakesStep, step_in, told}
 use Rattle.arena_script.specs.Answered.{AnswersLater, AnswersPart}
 use Rattle.arena_script.specs.RunAnswers.{StartsRun, TakesLine, TellsOutcome}
 use Rattle.arena_script.proofs.Parts.{TakesAll, starts_from_none}

@@ -4,7 +4,8 @@ use Rattle.job_language.specs.Configuration.{Configuration, names_of}
 use Rattle.request_reader.specs.Lines.{Line, whole, too_long}
 use Rattle.world_model.specs.World.{World, start}
 use Rattle.world_model.specs.declared.outcomes.Outcome.{Outcome}
-use Rattle.world_script.specs.Takes.{TakesStep, config_in, step_in, told}
+use Rattle.market_config.specs.Lines.{config_in}
+use Rattle.world_script.specs.Takes.{TakesStep, step_in, told}
 use Rattle.arena_script.specs.Answered.{AnswersFrom, StartsFrom, HasNoFirst}
 
 abbrev pub TakesLine : List (List ℕ) → Line → World → Option Outcome → World → Type 0

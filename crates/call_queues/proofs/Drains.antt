@@ -2,7 +2,7 @@
 use Rattle.std.specs.List.{remove}
 use Rattle.std.proofs.Common.{◌<◌, ◌+◌, ℕ, suc, length, get_or, arith, length-append, ◌≡◌, List, [], ◌∷◌, ◌++◌, map, sym, ap, ◌∙◌, subst}
 use Rattle.std.proofs.lemmas.List.{map-append, length-map}
-use Rattle.world_model.specs.declared.calls.Call.{Call}
+use Rattle.market_config.specs.declared.calls.Call.{Call}
 use Rattle.call_queues.specs.declared.marks.Marked.{Marked}
 use Rattle.call_queues.specs.declared.marks.PassLog.{PassLog}
 use Rattle.job_language.specs.declared.tenants.Level.{Level}

@@ -1,7 +1,7 @@
 -- What pops of the three levels tell together.
 use Rattle.std.proofs.Common.{◌≡◌, ℕ, ◌<◌, List, Option, Some, None, MatchOption, subst, arith}
 use Rattle.crossbeam_queue.specs.Fifo.{Held}
-use Rattle.world_model.specs.declared.calls.Call.{Call}
+use Rattle.market_config.specs.declared.calls.Call.{Call}
 use Rattle.call_queues.specs.declared.marks.Marked.{Marked}
 use Rattle.call_queues.specs.declared.marks.PassLog.{PassLog}
 use Rattle.job_language.specs.declared.tenants.Level.{Level}

@@ -8,7 +8,7 @@ use Rattle.crossbeam_queue.specs.Fifo.{Pushes, Pops, Forks, Merges, Learns, Held
 use Rattle.crossbeam_queue.proofs.Lists.{at_set, set_here, set_else, at_longer, at_last}
 use Rattle.std.proofs.Common.{map}
 use Rattle.std.proofs.lemmas.List.{map-append, length-map}
-use Rattle.world_model.specs.declared.calls.Call.{Call}
+use Rattle.market_config.specs.declared.calls.Call.{Call}
 use Rattle.call_queues.specs.declared.marks.Marked.{Marked}
 use Rattle.call_queues.specs.declared.marks.PassLog.{PassLog}
 use Rattle.call_queues.specs.declared.marks.View.{View}

@@ -1,4 +1,3 @@
-pub mod Config
 pub mod Order
 pub mod Rule
 pub mod Levels

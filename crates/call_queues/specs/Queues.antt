@@ -1,12 +1,12 @@
 -- The three levels together, as contracts see them.
 use Rattle.std.specs.Prelude.{◌≡◌, ℕ, ◌<◌, List, length, map, slice_index_or}
 use Rattle.atomic_table.specs.Seated.{TableId}
-use Rattle.world_model.specs.declared.calls.Call.{Call}
+use Rattle.market_config.specs.declared.calls.Call.{Call}
 use Rattle.call_queues.specs.declared.marks.Marked.{Marked}
 use Rattle.call_queues.specs.declared.marks.PassLog.{PassLog}
 use Rattle.job_language.specs.declared.tenants.Level.{Level}
 use Rattle.job_language.specs.declared.tenants.Level.TheVariants.{High, Normal, Low}
-use Rattle.call_queues.specs.declared.config.MarketTenant.{MarketTenant}
+use Rattle.market_config.specs.declared.config.MarketTenant.{MarketTenant}
 use Rattle.crossbeam_queue.specs.Fifo.{Held}
 use Rattle.call_queues.specs.Order.{no_log, LevelOrder}
 use Rattle.call_queues.specs.Rule.{Sees, with_popped}

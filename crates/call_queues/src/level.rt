@@ -8,10 +8,10 @@ ghost use Rattle.call_queues.specs.Rule.{Sees, with_pushed, with_popped};
 
 use crate::marks::Marked;
 use crate::rule::{Drains, Numbering, Puts, Queue, Seat, Takes};
+use market_config::Call;
 use std::alloc::{AllocError, Global};
 use std::marker::Model;
 use std::sync::Wait;
-use world_model::Call;
 
 /// A pass of one level. The first one makes the others.
 #[derive(Drop)]

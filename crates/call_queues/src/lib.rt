@@ -1,11 +1,9 @@
 //! Queues of calls for workers that threads share, one for each level of priority.
 #![tactic(auto)]
 
-mod config;
 mod level;
 mod marks;
 mod queues;
 mod rule;
 
-pub use config::{MarketConfig, MarketTenant};
 pub use queues::{CallQueues, QueuePass};

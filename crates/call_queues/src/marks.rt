@@ -1,7 +1,7 @@
 // Marked calls, and what passes know of a level.
 use job_language::{MAX_SLOTS, MAX_TENANTS};
+use market_config::Call;
 use std::collections::LinkedList;
-use world_model::Call;
 
 /// How many calls a level holds at most: one for each slot of each tenant that there may be.
 pub const MAX_CALLS: usize = 1_024;

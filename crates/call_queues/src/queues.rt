@@ -4,18 +4,17 @@ ghost use Rattle.std.specs.List.{All};
 ghost use Rattle.job_language.specs.declared.tenants.Level.{Level};
 ghost use Rattle.call_queues.specs.declared.marks.Marked.{Marked};
 ghost use Rattle.job_language.specs.declared.tenants.Level.TheVariants.{High, Normal, Low};
-ghost use Rattle.call_queues.specs.Config.{level_in, room_at};
+ghost use Rattle.market_config.specs.Config.{level_in, room_at};
 ghost use Rattle.call_queues.specs.Rule.{with_pushed, with_popped};
 ghost use Rattle.call_queues.specs.Queues.{Three, at, with_at, rank, PassSeen, fresh, marked, HeldAt, FoundNone, Found, AreNumbered, IsLeft};
 
-use crate::config::MarketConfig;
 use crate::level::{LevelPass, LevelQueue};
 use crate::marks::MAX_CALLS;
 use job_language::Level;
+use market_config::{Call, MarketConfig};
 use std::alloc::{AllocError, Global};
 use std::marker::Model;
 use std::sync::Wait;
-use world_model::Call;
 
 /// The right of one thread to push and pop. The passes of some queues are numbered from 0.
 #[derive(Drop)]
@@ -75,7 +74,7 @@ impl Model for CallQueues {
     ghost use Rattle.std.specs.Prelude.{◌≡◌, ◌<◌, ◌≤◌, []};
     ghost use Rattle.std.specs.Vec.{vec_capacity};
     ghost use Rattle.job_language.specs.declared.tenants.Level.TheVariants.{High, Normal, Low};
-    ghost use Rattle.call_queues.specs.Config.{room_at};
+    ghost use Rattle.market_config.specs.Config.{room_at};
     ghost use Rattle.call_queues.specs.Queues.{QueuesSeen, three};
 
     ghost Value = { QueuesSeen };

@@ -3,11 +3,11 @@ use crate::jobs::{MOVES, fibonacci, status_of, tenant};
 use crate::retries::again;
 use job_language::{Error, Moved, Reply, Request, Status};
 use job_step::{Segment, View, segment_of};
+use market_config::Call;
 use std::alloc::Global;
 use std::sync::Wait;
 use tenant_lock::TenantDoor;
 use tenant_record::{Advanced, Asked, Pass, Seat};
-use world_model::Call;
 
 /// The call of the slot for workers.
 const CALL: Call = Call { tenant: 0, slot: 1 };

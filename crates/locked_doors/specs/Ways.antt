@@ -12,7 +12,7 @@ use Rattle.tenant_model.specs.Told.{placed_on}
 use Rattle.tenant_record.specs.SeatData.{SeatData}
 use Rattle.tenant_slots.specs.Seen.{SlotsSeen}
 use Rattle.tenant_slots.specs.Ways.{Moves, MayBeHigh, MayBeSeen, Pauses, AsksBy}
-use Rattle.world_model.specs.declared.calls.Call.{Call}
+use Rattle.market_config.specs.declared.calls.Call.{Call}
 use Rattle.worker_main.specs.Pushes.{PushesDue}
 use Rattle.worker_main.specs.Slots.{SlotSeen}
 use Rattle.session_core.specs.declared.doors.Answered.{Answered}

@@ -5,7 +5,7 @@ use Rattle.std.proofs.lemmas.List.{length-replicate, drop_more}
 use Rattle.world_model.specs.declared.calls.SlotState.{SlotState}
 use Rattle.world_model.specs.declared.calls.SlotState.TheVariants as slot
 use Rattle.world_model.specs.Market.{is_home, lowest_home}
-use Rattle.call_queues.specs.declared.config.MarketTenant.{MarketTenant}
+use Rattle.market_config.specs.declared.config.MarketTenant.{MarketTenant}
 use Rattle.market.specs.First.{first_slots}
 
 take_all : {X : Type 0} (n : ℕ) (xs : List X) → length xs ≤ n → take n xs ≡ xs

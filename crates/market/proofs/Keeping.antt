@@ -5,13 +5,14 @@ use Rattle.std.proofs.lemmas.Option.{slice_get_within}
 use Rattle.std.proofs.lemmas.List.{length_push, get_or_read, set-get_or}
 use Rattle.job_language.specs.declared.tenants.Level.{Level}
 use Rattle.job_language.specs.declared.tenants.Level.TheVariants.{High, Normal, Low}
-use Rattle.world_model.specs.declared.calls.Call.{Call}
+use Rattle.market_config.specs.declared.calls.Call.{Call}
 use Rattle.world_model.specs.declared.calls.SlotState.{SlotState}
 use Rattle.world_model.specs.declared.calls.SlotState.TheVariants as slot
 use Rattle.world_model.specs.declared.calls.WorkerState.{WorkerState}
 use Rattle.world_model.specs.declared.calls.WorkerState.TheVariants as worker
 use Rattle.world_model.specs.Market.{Market, call, slots_of, slot_at, with_slot, with_worker, worker_at, level_of, calls_at, with_calls, is_due, is_free, lowest_home, with_due, wake, push, first_call, hold, hand_over, pop, go_home, go_in, came, left, held_by, call_of}
-use Rattle.world_model.specs.Orderly.{is_reserved, is_level, room, IsOrderly}
+use Rattle.market_config.specs.Config.{is_level}
+use Rattle.world_model.specs.Orderly.{is_reserved, room, IsOrderly}
 use Rattle.world_model.proofs.Ruling.{due_is, free_is, held_at, in_at, IsFirst, first_is, first_queued, calls_with, calls_at-slots, wake_orderly, push_orderly, pop_orderly, came_orderly, left_orderly}
 use Rattle.world_model.proofs.Counting.{there_is, wake_counted, push_counted, pop_counted, came_counted, left_counted, has_room}
 use Rattle.market.specs.declared.waiting.WaitingCalls.{WaitingCalls}

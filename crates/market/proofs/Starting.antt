@@ -8,7 +8,7 @@ use Rattle.job_language.specs.declared.tenants.Level.TheVariants.{High, Normal, 
 use Rattle.job_language.specs.declared.tenants.Isolation.TheVariants.{Exact}
 use Rattle.job_language.specs.declared.tenants.Tenant.{Tenant}
 use Rattle.job_language.specs.Configuration.{Configuration}
-use Rattle.world_model.specs.declared.calls.Call.{Call}
+use Rattle.market_config.specs.declared.calls.Call.{Call}
 use Rattle.world_model.specs.declared.calls.SlotState.{SlotState}
 use Rattle.world_model.specs.declared.calls.SlotState.TheVariants as slot
 use Rattle.world_model.specs.declared.calls.WorkerState.{WorkerState}
@@ -16,12 +16,13 @@ use Rattle.world_model.specs.declared.calls.WorkerState.TheVariants as worker
 use Rattle.world_model.specs.Market.{Market}
 use Rattle.world_model.specs.World.{start}
 use Rattle.world_model.specs.World as world
-use Rattle.world_model.specs.Orderly.{is_level, is_for_workers, tally, room, IsOrderly, IsCounted}
+use Rattle.market_config.specs.Config.{is_level}
+use Rattle.world_model.specs.Orderly.{is_for_workers, tally, room, IsOrderly, IsCounted}
 use Rattle.world_model.proofs.Forgetting.{start_orderly}
 use Rattle.world_model.proofs.Counting.{start_counted}
 use Rattle.world_model.proofs.Rooms.{counted_none, counted_all}
-use Rattle.call_queues.specs.declared.config.MarketTenant.{MarketTenant}
-use Rattle.call_queues.specs.Config.{slots_at, room_at}
+use Rattle.market_config.specs.declared.config.MarketTenant.{MarketTenant}
+use Rattle.market_config.specs.Config.{slots_at, room_at}
 use Rattle.market.specs.declared.waiting.WaitingCalls.{WaitingCalls}
 use Rattle.market.specs.First.{first_slots, first_market}
 use Rattle.market.specs.Waiting.{ring_at, market_of, IsKept}

@@ -1,6 +1,6 @@
 -- The market in which nothing was done yet.
 use Rattle.std.specs.Prelude.{ℕ, ◌-◌, List, [], ◌++◌, map, replicate}
-use Rattle.call_queues.specs.declared.config.MarketTenant.{MarketTenant}
+use Rattle.market_config.specs.declared.config.MarketTenant.{MarketTenant}
 use Rattle.world_model.specs.declared.calls.SlotState.{SlotState}
 use Rattle.world_model.specs.declared.calls.SlotState.TheVariants as slot
 use Rattle.world_model.specs.declared.calls.WorkerState.TheVariants as worker

@@ -3,7 +3,7 @@ use Rattle.std.specs.Prelude.{◌≤◌, List, Option, Some, None}
 use Rattle.circular_buffer.specs.Buffer.{Buffer}
 use Rattle.job_language.specs.declared.tenants.Level.{Level}
 use Rattle.job_language.specs.declared.tenants.Level.TheVariants.{High, Normal, Low}
-use Rattle.world_model.specs.declared.calls.Call.{Call}
+use Rattle.market_config.specs.declared.calls.Call.{Call}
 use Rattle.world_model.specs.declared.calls.SlotState.{SlotState}
 use Rattle.world_model.specs.declared.calls.WorkerState.{WorkerState}
 use Rattle.world_model.specs.Market.{Market}

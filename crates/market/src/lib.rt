@@ -6,5 +6,5 @@ mod slots;
 mod state;
 mod waiting;
 
-pub use call_queues::{MarketConfig, MarketTenant};
+pub use market_config::{MarketConfig, MarketTenant};
 pub use state::MarketState;

@@ -6,7 +6,7 @@ ghost use Rattle.world_model.specs.Market.{is_home, lowest_home};
 ghost use Rattle.market.specs.First.{first_slots};
 ghost use Rattle.market.specs.Slots.{woken};
 
-use call_queues::MarketTenant;
+use market_config::MarketTenant;
 use std::alloc::{AllocError, Global};
 use std::marker::Model;
 use world_model::SlotState;

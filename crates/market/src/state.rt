@@ -5,11 +5,11 @@ ghost use Rattle.market.specs.First.{first_market};
 
 use crate::slots::TenantSlots;
 use crate::waiting::WaitingCalls;
-use call_queues::MarketConfig;
 use job_language::Level;
+use market_config::{Call, MarketConfig};
 use std::alloc::{AllocError, Global};
 use std::marker::Model;
-use world_model::{Call, SlotState, WorkerState};
+use world_model::{SlotState, WorkerState};
 
 /// Where the slots and the workers are, and which calls wait. Tenants, slots and workers are
 /// numbered from 0.

@@ -2,15 +2,14 @@
 ghost use Rattle.std.specs.Prelude.{◌≡◌, ◌<◌, ◌++◌, [], ◌∷◌, length, IfOk, IfNone};
 ghost use Rattle.circular_buffer.specs.Buffer.{buffer};
 ghost use Rattle.job_language.specs.declared.tenants.Level.{Level};
-ghost use Rattle.call_queues.specs.Config.{room_at};
+ghost use Rattle.market_config.specs.Config.{room_at};
 ghost use Rattle.world_model.specs.Market.{Market, calls_at, with_calls, first_call};
 ghost use Rattle.market.specs.Waiting.{ring_at, holding, leaving};
 
-use call_queues::MarketConfig;
 use circular_buffer::HeapCircularBuffer;
 use job_language::Level;
+use market_config::{Call, MarketConfig};
 use std::alloc::{AllocError, Global};
-use world_model::Call;
 
 /// A ring of calls for each level, the oldest first.
 pub struct WaitingCalls {

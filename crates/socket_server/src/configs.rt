@@ -1,12 +1,12 @@
 // The configuration of a server, from the bytes of its file.
 ghost use Rattle.std.specs.Prelude.{◌≡◌, ◌≤◌, ◌⊎◌, ◌<◌, Some, None, Err, IfOk, length};
 ghost use Rattle.socket_server.specs.declared.ends.ServerEnd.TheVariants as end;
-ghost use Rattle.world_script.specs.Takes.{config_in};
+ghost use Rattle.market_config.specs.Lines.{config_in};
 
 use crate::ends::ServerEnd;
 use job_language::Config;
+use market_config::config_in;
 use std::alloc::Global;
-use world_script::config_in;
 
 /// How many bytes the file of a configuration may have.
 pub const MAX_CONFIG: usize = 1_048_576;

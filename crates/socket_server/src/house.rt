@@ -10,14 +10,13 @@ ghost use Rattle.tenant_slots.specs.Seen.{AreNumbered};
 use crate::starting::open_doors;
 use call_queues::{CallQueues, QueuePass};
 use job_language::{Config, TenantName};
+use market_config::{market_config, names_of};
 use std::alloc::{AllocError, Global};
 use std::marker::Model;
 use std::sync::Wait;
 use tenant_lock::TenantDoor;
 use tenant_record::Seat;
 use worker_main::Bell;
-use world_core::market_config;
-use world_script::names_of;
 
 /// What all threads of a server share: the doors of all tenants with their names, the queues of
 /// calls for workers, and the bell that is rung after each push.

@@ -20,12 +20,12 @@ use crate::held::Held;
 use crate::stop_flag::StopFlag;
 use job_language::{Answer, Entry, Reply, Request, TenantConfig};
 use job_step::{Segment, View};
+use market_config::Call;
 use std::alloc::{AllocError, Global};
 use std::marker::Model;
 use std::sync::atomic::{AtomicU64, Ordering};
 use std::sync::{Condvar, Mutex, Wait};
 use tenant_record::{Advanced, Arrived, Asked, Pass, Seat, TenantCell, first_seats};
-use world_model::Call;
 
 /// What a door that was closed gives.
 #[derive(Drop)]

@@ -16,8 +16,8 @@ ghost use Rattle.job_language.specs.Brought.{job_of};
 use crate::counts::Counts;
 use job_language::{Came, Error, Moved, Reply, Request, Status};
 use job_step::Segment;
+use market_config::Call;
 use tenant_record::{Advanced, Arrived, Asked, Pass, Seat, TenantCell};
-use world_model::Call;
 
 /// A tenant's cell, and whether those who wait for it must stop.
 #[derive(Drop)]

@@ -6,11 +6,11 @@ ghost use Rattle.tenant_slots.specs.Ways.{Moves, MayBeHigh, MayBeSeen, Pauses, G
 
 use job_language::{Came, Moved, Reply, Request};
 use job_step::{Segment, View};
+use market_config::Call;
 use std::marker::Model;
 use std::sync::Wait;
 use tenant_lock::{StopFlag, TenantDoor};
 use tenant_record::{Pass, Seat};
-use world_model::Call;
 
 /// One thread's way to the slots of all tenants. It is at one slot at most, whose pass it has.
 #[derive(Drop)]

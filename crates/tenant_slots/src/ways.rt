@@ -4,9 +4,9 @@ ghost use Rattle.std.specs.Prelude.{◌≡◌, length};
 use crate::slots::TenantSlots;
 use job_language::{Came, Moved};
 use job_step::{Segment, View};
+use market_config::Call;
 use std::sync::Wait;
 use worker_main::{CallDoors, DueDoor};
-use world_model::Call;
 
 impl<'d, R: Wait> DueDoor for TenantSlots<'d, R> {
     ghost use Rattle.std.specs.Prelude.{length};

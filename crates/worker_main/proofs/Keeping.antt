@@ -6,7 +6,7 @@ use Rattle.job_language.specs.declared.answers.Came.{Came}
 use Rattle.job_language.specs.declared.answers.Came.TheVariants as came
 use Rattle.job_step.specs.declared.segments.View.{View}
 use Rattle.job_step.specs.declared.segments.View.TheVariants as view
-use Rattle.world_model.specs.declared.calls.Call.{Call}
+use Rattle.market_config.specs.declared.calls.Call.{Call}
 use Rattle.nested_wait.specs.Turns.{Turn, TurnFrom, MovesBy}
 use Rattle.nested_wait.specs.Runs.{GoesOn, Leads}
 use Rattle.nested_wait.specs.declared.attending.Attended.{Attended}

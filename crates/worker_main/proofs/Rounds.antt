@@ -3,7 +3,7 @@ use Rattle.std.proofs.Common.{◌≡◌, inl, inr, ◌⊎◌, ℕ, suc, ◌+◌,
 use Rattle.job_language.specs.declared.answers.Moved.{Moved}
 use Rattle.job_language.specs.declared.answers.Came.{Came}
 use Rattle.job_language.specs.declared.answers.Came.TheVariants as came
-use Rattle.world_model.specs.declared.calls.Call.{Call}
+use Rattle.market_config.specs.declared.calls.Call.{Call}
 use Rattle.nested_wait.specs.Runs.{most_turns}
 use Rattle.nested_wait.specs.declared.attending.Attended.{Attended}
 use Rattle.nested_wait.specs.declared.attending.Attended.TheVariants.{Below, Full, Stopped}

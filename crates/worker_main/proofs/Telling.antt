@@ -1,6 +1,6 @@
 -- What the calls of a ringer and of a slot's door tell, in the words of their models.
 use Rattle.std.proofs.Common.{◌≡◌, Option, MatchOption, refl, subst}
-use Rattle.world_model.specs.declared.calls.Call.{Call}
+use Rattle.market_config.specs.declared.calls.Call.{Call}
 use Rattle.call_queues.specs.Queues.{QueuesSeen, PassSeen, FoundNone, Found}
 use Rattle.worker_main.specs.Pushes.{RingerSeen, PushesDue, Pops}
 use Rattle.worker_main.specs.Slots.{SlotSeen, PopsAt}

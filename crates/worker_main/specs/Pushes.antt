@@ -1,7 +1,7 @@
 -- One thread at the queues: what its pushes and pops lead to.
 use Rattle.std.specs.Prelude.{◌≡◌, ◌-◌, ◌^◌, ◌⊎◌, length, Option, Some, None, MatchOption}
-use Rattle.world_model.specs.declared.calls.Call.{Call}
-use Rattle.call_queues.specs.Config.{level_in, room_at}
+use Rattle.market_config.specs.declared.calls.Call.{Call}
+use Rattle.market_config.specs.Config.{level_in, room_at}
 use Rattle.call_queues.specs.Rule.{with_pushed}
 use Rattle.call_queues.specs.Queues.{at, with_at, PassSeen, QueuesSeen, marked, HeldAt, FoundNone, Found}
 

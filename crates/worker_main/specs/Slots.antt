@@ -4,7 +4,7 @@ use Rattle.job_language.specs.declared.answers.Moved.{Moved}
 use Rattle.job_language.specs.declared.answers.Came.{Came}
 use Rattle.job_step.specs.declared.segments.Top.{Top}
 use Rattle.job_step.specs.declared.segments.View.{View}
-use Rattle.world_model.specs.declared.calls.Call.{Call}
+use Rattle.market_config.specs.declared.calls.Call.{Call}
 use Rattle.nested_wait.specs.Turns.{Turn}
 use Rattle.nested_wait.specs.Runs.{Attends}
 use Rattle.nested_wait.specs.declared.attending.Attended.{Attended}

@@ -4,7 +4,7 @@ use Rattle.job_language.specs.declared.answers.Moved.{Moved}
 use Rattle.job_language.specs.declared.answers.Moved.TheVariants as moved
 use Rattle.job_language.specs.declared.answers.Came.{Came}
 use Rattle.job_language.specs.declared.answers.Came.TheVariants as came
-use Rattle.world_model.specs.declared.calls.Call.{Call}
+use Rattle.market_config.specs.declared.calls.Call.{Call}
 use Rattle.nested_wait.specs.Runs.{most_turns}
 use Rattle.nested_wait.specs.declared.attending.Attended.{Attended}
 use Rattle.nested_wait.specs.declared.attending.Attended.TheVariants.{Below, Full, Stopped}

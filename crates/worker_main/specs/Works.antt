@@ -1,6 +1,6 @@
 -- What a worker does until the signal says to stop.
 use Rattle.std.specs.Prelude.{◌≡◌, ℕ, zero, suc, ◌≤◌, ◌⊎◌, Option, Some, None}
-use Rattle.world_model.specs.declared.calls.Call.{Call}
+use Rattle.market_config.specs.declared.calls.Call.{Call}
 use Rattle.nested_wait.specs.Runs.{most_turns}
 use Rattle.worker_main.specs.Slots.{SlotSeen, Ways, PopsAt}
 use Rattle.worker_main.specs.Visits.{Comes}

@@ -4,12 +4,12 @@ ghost use Rattle.job_language.specs.declared.answers.Moved.{Moved};
 ghost use Rattle.job_language.specs.declared.answers.Came.{Came};
 ghost use Rattle.job_step.specs.declared.segments.Top.{Top};
 ghost use Rattle.job_step.specs.declared.segments.View.{View};
-ghost use Rattle.world_model.specs.declared.calls.Call.{Call};
+ghost use Rattle.market_config.specs.declared.calls.Call.{Call};
 
 use job_language::{Came, Moved};
 use job_step::{Segment, View};
+use market_config::Call;
 use nested_wait::MAX_HEIGHT;
-use world_model::Call;
 
 /// One activity's way to the slots of tenants, which leads to at most one slot at a time. Others may
 /// act on the tenants between two calls, so what each call may see and do is a relation that the

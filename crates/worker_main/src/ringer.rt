@@ -4,9 +4,9 @@ ghost use Rattle.worker_main.specs.Pushes.{Pushes, PushesDue, Pops};
 
 use crate::signal::Signal;
 use call_queues::{CallQueues, QueuePass};
+use market_config::Call;
 use std::marker::Model;
 use std::sync::Wait;
-use world_model::Call;
 
 /// One thread's pass of the queues of calls, and what it rings after each push.
 #[derive(Drop)]

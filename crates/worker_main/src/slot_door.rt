@@ -9,10 +9,10 @@ use crate::signal::Signal;
 use call_queues::QueuePass;
 use job_language::{Came, Moved};
 use job_step::{Segment, View};
+use market_config::Call;
 use nested_wait::Door;
 use std::marker::Model;
 use std::sync::Wait;
-use world_model::Call;
 
 /// The door of a worker, a caller or a session. It pushes the call of each slot that becomes due and
 /// rings, and its segments pass a gate.

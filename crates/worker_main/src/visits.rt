@@ -8,9 +8,9 @@ use crate::gate::Gate;
 use crate::signal::Signal;
 use crate::slot_door::SlotDoor;
 use job_language::{Came, Moved};
+use market_config::Call;
 use nested_wait::{Attended, Door, attend};
 use std::sync::Wait;
-use world_model::Call;
 
 /// How a round of a visit ends.
 #[derive(Clone, Copy, Debug, PartialEq, Eq)]

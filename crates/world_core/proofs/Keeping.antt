@@ -1,7 +1,7 @@
 -- What each rule of the market keeps.
 use Rattle.std.proofs.Common.{◌≡◌, ℕ, ◌<◌, List, [], ◌∷◌, length, Option, Some, None, Bool, true, false, refl, ap, ◌∙◌, arith, length-set}
 use Rattle.std.specs.Prelude.{slice_set}
-use Rattle.world_model.specs.declared.calls.Call.{Call}
+use Rattle.market_config.specs.declared.calls.Call.{Call}
 use Rattle.world_model.specs.declared.calls.SlotState.TheVariants as slot
 use Rattle.world_model.specs.Market.{Market, slots_of, slot_at, with_slot, worker_at, level_of, is_due, is_free, home_slot, with_due, wake, push, first_call, hand_over, pop, go_home, go_in, came, left, held_by, call_of}
 use Rattle.world_model.specs.Orderly.{is_reserved}

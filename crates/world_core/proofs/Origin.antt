@@ -3,9 +3,8 @@ use Rattle.std.proofs.Common.{◌≡◌, ℕ, ◌<◌, List, [], ◌∷◌, leng
 use Rattle.std.specs.Prelude.{slice_index_or}
 use Rattle.std.proofs.lemmas.List.{get_or-map, length-map}
 use Rattle.job_language.specs.declared.tenants.Tenant.{Tenant}
-use Rattle.job_language.specs.Configuration.{Configuration, IsValidConfig}
-use Rattle.call_queues.specs.Config.{IsMarketConfig}
-use Rattle.call_queues.specs.declared.config.MarketTenant.{MarketTenant}
+use Rattle.job_language.specs.Configuration.{Configuration}
+use Rattle.market_config.specs.declared.config.MarketTenant.{MarketTenant}
 use Rattle.market.specs.First.{first_market}
 use Rattle.market.specs.First as market
 use Rattle.tenant_model.specs.State.{State, empty}
@@ -13,7 +12,7 @@ use Rattle.world_model.specs.declared.calls.WorkerState.TheVariants.{Free}
 use Rattle.world_model.specs.Market.{Market}
 use Rattle.world_model.specs.World.{start, first_slots, no_tenant, state_of}
 use Rattle.world_model.proofs.Forgetting.{start_orderly}
-use Rattle.world_core.specs.First.{market_tenant}
+use Rattle.market_config.specs.Told.{market_tenant}
 use Rattle.world_core.specs.WorldData.{IsAligned}
 use Rattle.world_core.specs.Represents.{Represents}
 
@@ -47,15 +46,3 @@ module _ {A : Type 0} (arenas : List A) (m : Market) (c : Configuration) (long :
         let state : state_of (start c) t ≡ empty (slice_index_or c.tenants t no_tenant) = get_or-map empty c.tenants t no_tenant (empty no_tenant) (omega (arith, there, long)) in
         rw state (each t d there);
   }
-
--- The market's part of valid tenants is valid.
-pub told_valid : (c : Configuration) (told : List MarketTenant) → IsValidConfig c → told ≡ map market_tenant c.tenants → IsMarketConfig told
-told_valid c told valid same =
-    let long : length (map market_tenant c.tenants) ≡ length c.tenants = length-map c.tenants market_tenant in
-    rw same (
-      omega (arith, long, valid.most_tenants),
-      λ i d within.
-          let there : i < length c.tenants = omega (arith, within, long) in
-          let t = valid.each i no_tenant there in
-          rw (get_or-map market_tenant c.tenants i no_tenant d there) (t.most_slots, t.reserved),
-    )

@@ -8,7 +8,7 @@ use Rattle.job_language.specs.declared.steps.Step.TheVariants.{Ask, Arrive, Adva
 use Rattle.request_reader.specs.LineAsks.{IsShortText}
 use Rattle.tenant_model.specs.State.{State}
 use Rattle.tenant_model.specs.Solo as solo
-use Rattle.world_model.specs.declared.calls.Call.{Call}
+use Rattle.market_config.specs.declared.calls.Call.{Call}
 use Rattle.world_model.specs.declared.outcomes.Outcome.{Outcome}
 use Rattle.world_model.specs.declared.outcomes.Outcome.TheVariants as outcome
 use Rattle.world_model.specs.Market.{Market, worker_at, held_by, call_of}

@@ -1,5 +1,4 @@
 pub mod WorldData
 pub mod Represents
 pub mod RawOf
-pub mod First
 pub mod Steps

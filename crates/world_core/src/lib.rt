@@ -11,5 +11,4 @@ mod worlds;
 
 pub use arenas::TenantArena;
 pub use raws::Raw;
-pub use starting::market_config;
 pub use worlds::World;

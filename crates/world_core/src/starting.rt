@@ -2,11 +2,11 @@
 ghost use Rattle.std.specs.Prelude.{◌≡◌, ◌<◌, ℕ, length, map, slice_index_or, IfOk};
 ghost use Rattle.tenant_model.specs.State.{empty};
 ghost use Rattle.world_model.specs.World.{start, no_tenant};
-ghost use Rattle.world_core.specs.First.{market_tenant};
 
 use crate::arenas::TenantArena;
 use job_language::Config;
-use market::{MarketConfig, MarketState, MarketTenant};
+use market::MarketState;
+use market_config::market_config;
 use std::alloc::{AllocError, Global};
 
 /// An arena of each tenant, numbered from 0.
@@ -23,23 +23,6 @@ pub(crate) fn first_arenas<A: TenantArena>(
         arenas.push(A::new(alloc, *tenant)?)?;
     }
     Ok(arenas)
-}
-
-/// What the market knows of the tenants of a configuration.
-pub fn market_config(alloc: Global, config: &Config) -> Result<MarketConfig, AllocError>
-    ensures { IfOk result (λ m. m ≡ map market_tenant config.now.tenants) }
-{
-    let tenants = config.tenants();
-    let mut told = Vec::with_capacity(alloc, tenants.len())?;
-    for tenant in tenants {
-        let tenant = tenant.tenant();
-        told.push(MarketTenant {
-            level: tenant.priority,
-            slots: tenant.slots,
-            reserved: tenant.reserved,
-        })?;
-    }
-    Ok(MarketConfig::new(told))
 }
 
 /// The market in which nothing was done yet.

@@ -11,8 +11,8 @@ ghost use Rattle.world_core.specs.Steps.{IsTaken};
 use crate::arenas::TenantArena;
 use job_language::{Answer, Came, Moved, Request};
 use market::MarketState;
+use market_config::Call;
 use std::alloc::{AllocError, Global};
-use world_model::Call;
 
 /// After an entry, a slot of the tenant wakes if a row of it is unstarted.
 fn wake_after<A: TenantArena>(market: &mut MarketState, arena: &A, tenant: usize, answer: &Answer)

@@ -17,9 +17,10 @@ use crate::starting::{first_arenas, first_market};
 use crate::{lines, steps};
 use job_language::{Answer, Config, Error, Reply};
 use market::MarketState;
+use market_config::Call;
 use std::alloc::{AllocError, Global};
 use std::marker::Model;
-use world_model::{Call, Outcome, SlotState, WorkerState};
+use world_model::{Outcome, SlotState, WorkerState};
 
 /// Many tenants and the market between them.
 pub struct World<A: TenantArena> {

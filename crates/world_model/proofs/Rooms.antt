@@ -20,11 +20,12 @@ use Rattle.world_model.specs.OwnSteps.{OwnStep, step_of}
 use Rattle.world_model.specs.Raw.{Raw}
 use Rattle.world_model.specs.Raw as raw
 use Rattle.world_model.specs.World.{World, start, first_slots, state_of, own_of, is_in, market_after, wake_after, answer_step, pop_outcome, at_market, step_own, step}
-use Rattle.world_model.specs.declared.calls.Call.{Call}
+use Rattle.market_config.specs.declared.calls.Call.{Call}
 use Rattle.world_model.specs.declared.calls.SlotState.{SlotState}
 use Rattle.world_model.specs.declared.calls.SlotState.TheVariants as slot
 use Rattle.world_model.specs.Market.{Market, call, slot_at, with_slot, worker_at, level_of, calls_at, is_due, is_free, home_slot, with_due, wake, push, first_call, hold, hand_over, pop, go_home, go_in, came, left, held_by, call_of}
-use Rattle.world_model.specs.Orderly.{is_reserved, is_level, is_for_workers, tally, room, worker_slots, IsOrderly}
+use Rattle.market_config.specs.Config.{is_level}
+use Rattle.world_model.specs.Orderly.{is_reserved, is_for_workers, tally, room, worker_slots, IsOrderly}
 use Rattle.world_model.proofs.Ruling.{home_at, due_is, held_at, in_at, IsFirst, first_is, first_queued, calls_rest}
 
 abbrev one_if : Bool → ℕ

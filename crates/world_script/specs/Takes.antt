@@ -3,14 +3,12 @@ use Rattle.std.specs.Prelude.{ℕ, ◌≡◌, List, Option, Some, None, Result, 
 use Rattle.std.specs.Option.{option_map_or}
 use Rattle.serde_json.specs.Data.{Data}
 use Rattle.job_language.specs.declared.errors.Error.{Error}
-use Rattle.job_language.specs.Configuration.{Configuration}
-use Rattle.job_language.specs.ConfigOf.{config_of}
 use Rattle.job_language.specs.Json.{◌>>=◌}
 use Rattle.request_reader.specs.LineAsks.{value_of}
 use Rattle.reply_writer.specs.AnswerText.{answer_text}
 use Rattle.reply_writer.specs.MarketText.{market_text}
 use Rattle.reply_writer.specs.declared.markets.MarketAnswer.TheVariants as market
-use Rattle.world_model.specs.declared.calls.Call.{Call}
+use Rattle.market_config.specs.declared.calls.Call.{Call}
 use Rattle.world_model.specs.declared.outcomes.Outcome.{Outcome}
 use Rattle.world_model.specs.declared.outcomes.Outcome.TheVariants as outcome
 use Rattle.world_model.specs.Raw.{Raw}
@@ -18,14 +16,6 @@ use Rattle.world_model.specs.Refusals.{IsAnswer, next}
 use Rattle.world_model.specs.World.{World}
 use Rattle.world_script.specs.Named.{raw_of}
 use Rattle.world_script.specs.RawLines.{RawData, raw_line}
-
-abbrev config_of_value : Result Data Error → Option Configuration
-config_of_value (Ok d) = config_of d
-config_of_value (Err error) = None
-
--- the configuration that a script's first line is
-abbrev pub config_in : List ℕ → Option Configuration
-config_in line = config_of_value (value_of line)
 
 abbrev pub step_of_value : Result Data Error → Option RawData
 step_of_value (Ok d) = raw_line d

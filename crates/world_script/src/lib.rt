@@ -4,4 +4,4 @@
 mod raw_lines;
 mod worlds;
 
-pub use worlds::{NamedWorld, config_in, names_of};
+pub use worlds::NamedWorld;

@@ -1,7 +1,6 @@
 // A world whose tenants are known by their names.
 ghost use Rattle.std.specs.Prelude.{◌≡◌, ℕ, List, map, IfOk, OnErr, option_map, Some};
 ghost use Rattle.serde_json.specs.View.{view};
-ghost use Rattle.job_language.specs.Configuration.{names_of};
 ghost use Rattle.job_language.specs.ConfigOf.{config_of};
 ghost use Rattle.request_reader.specs.Exact.{ExactOrNoMemory};
 ghost use Rattle.request_reader.specs.LineAsks.{IsText};
@@ -11,17 +10,19 @@ ghost use Rattle.world_script.specs.RawLines.{raw_line, line, master, push};
 ghost use Rattle.world_script.specs.Named.{raw_of, slot_named, tenant_named};
 ghost use Rattle.world_script.specs.Spelled.{data_of};
 ghost use Rattle.world_script.specs.Knowing.{Knows, Starts};
-ghost use Rattle.world_script.specs.Takes.{config_in, step_in, told, outcome_text, held_text, TakesRaw, TakesStep};
+ghost use Rattle.market_config.specs.Lines.{config_in};
+ghost use Rattle.world_script.specs.Takes.{step_in, told, outcome_text, held_text, TakesRaw, TakesStep};
 
 use crate::raw_lines::{RawLine, raw_line};
-use job_language::{Config, Error, Refused, TenantConfig, TenantName, read_config};
+use job_language::TenantName;
+use market_config::{Call, config_in, names_of};
 use reply_writer::{MarketAnswer, ReplyBuf, answer_line, bad_step_line, market_line};
 use request_reader::value_of;
 use serde_json::Value;
 use std::alloc::{AllocError, Global};
 use std::marker::Model;
 use world_core::{Raw, TenantArena, World};
-use world_model::{Call, Outcome};
+use world_model::Outcome;
 
 /// A world whose tenants are known by their names.
 pub struct NamedWorld<A: TenantArena> {
@@ -114,33 +115,6 @@ impl<A: TenantArena> NamedWorld<A> {
             None => bad_step_line(),
         }
     }
-}
-
-/// The configuration that a line holds, if it holds one. It fails only if an allocation failed.
-pub fn config_in(alloc: Global, line: &[u8]) -> Result<Option<Config>, AllocError>
-    ensures { IfOk result (λ config. config ≡ config_in line.now) }
-{
-    let value = match value_of(alloc, line) {
-        Ok(value) => value,
-        Err(Error::NoMemory) => return Err(AllocError),
-        Err(_) => return Ok(None),
-    };
-    match read_config(alloc, &value) {
-        Ok(config) => Ok(Some(config)),
-        Err(Refused::Bad { .. }) => Ok(None),
-        Err(Refused::Memory(error)) => Err(error),
-    }
-}
-
-/// The names of tenants, in order. It fails only if an allocation failed.
-pub fn names_of(alloc: Global, tenants: &[TenantConfig]) -> Result<Vec<TenantName>, AllocError>
-    ensures { IfOk result (λ names. names.items ≡ names_of tenants.now) }
-{
-    let mut names = Vec::with_capacity(alloc, tenants.len())?;
-    for tenant in tenants {
-        names.push(tenant.tenant().name)?;
-    }
-    Ok(names)
 }
 
 /// The number of the tenant of a name.

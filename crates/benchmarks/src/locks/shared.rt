@@ -3,8 +3,9 @@ ghost use Rattle.std.specs.Prelude.{◌≡◌, IfOk, length};
 ghost use Rattle.benchmarks.specs.Shared.{AreThreeOf};
 
 use crate::stops::Stop;
-use call_queues::{CallQueues, MarketConfig, MarketTenant, QueuePass};
+use call_queues::{CallQueues, QueuePass};
 use job_language::TenantConfig;
+use market_config::{MarketConfig, MarketTenant};
 use std::alloc::{AllocError, Global};
 use std::marker::Model;
 use std::sync::Wait;

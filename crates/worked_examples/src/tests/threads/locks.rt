@@ -7,6 +7,7 @@ use job_language::{
     Request, Status, Tenant, TenantConfig, TenantName,
 };
 use job_step::{Segment, View, segment_of};
+use market_config::Call;
 use std::alloc::{AllocError, Global};
 use std::sync::Wait;
 use std::test::Fail;
@@ -14,7 +15,6 @@ use std::thread;
 use std::thread::Threads;
 use tenant_lock::{CloseFault, Closed, StopFlag, TenantDoor};
 use tenant_record::{Advanced, Pass, Seat};
-use world_model::Call;
 
 /// The call of the only slot for workers.
 const CALL: Call = Call { tenant: 0, slot: 1 };

@@ -1,10 +1,10 @@
 use Rattle.std.proofs.Common.{◌≡◌, map, ap, ◌∙◌, subst, IfOk}
-use Rattle.call_queues.specs.declared.config.MarketTenant.{MarketTenant}
+use Rattle.market_config.specs.declared.config.MarketTenant.{MarketTenant}
 use Rattle.market.specs.First.{first_market}
 use Rattle.std.specs.Prelude.{List}
 use Rattle.world_model.specs.Market.{Market}
 use Rattle.world_model.specs.World.{start}
-use Rattle.world_core.specs.First.{market_tenant}
+use Rattle.market_config.specs.Told.{market_tenant}
 use Rattle.world_core.proofs.Origin.{first_is}
 use Rattle.world_core.proofs.starting.first_market.Goals as goal
 

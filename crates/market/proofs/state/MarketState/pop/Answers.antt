@@ -1,5 +1,5 @@
 use Rattle.std.proofs.Common.{◌≡◌, true, Option, sym, ap, ◌∙◌, subst, arith}
-use Rattle.world_model.specs.declared.calls.Call.{Call}
+use Rattle.market_config.specs.declared.calls.Call.{Call}
 use Rattle.world_model.specs.declared.calls.SlotState.TheVariants as slot
 use Rattle.world_model.specs.declared.calls.WorkerState.TheVariants as worker
 use Rattle.world_model.specs.Market.{Market, worker_at, is_free, pop}

@@ -3,15 +3,15 @@ ghost use Rattle.std.specs.Prelude.{◌≡◌, ◌<◌, length, IfOk};
 ghost use Rattle.std.specs.Arc.{arc_value};
 
 use crate::tests::assert_same;
-use call_queues::{CallQueues, MarketConfig, MarketTenant, QueuePass};
+use call_queues::{CallQueues, QueuePass};
 use job_language::Level;
+use market_config::{Call, MarketConfig, MarketTenant};
 use std::alloc::{AllocError, Global};
 use std::snapshot::Snapshot;
 use std::sync::{Arc, Wait};
 use std::test::*;
 use std::thread;
 use std::thread::{Promise, Threads};
-use world_model::Call;
 
 const FIRST: Call = Call { tenant: 0, slot: 1 };
 

@@ -1,15 +1,14 @@
 // Doors in memory whose answers are given by a table.
 ghost use Rattle.std.specs.Prelude.{◌≡◌, ◌<◌, ◌≤◌, IfOk, IfSome, length};
 
-use call_queues::{MarketConfig, MarketTenant};
 use job_language::{Came, Instr, Level, Moved, Proc, Program, Register};
 use job_step::{Frame, Segment, Top, View};
+use market_config::{Call, MarketConfig, MarketTenant};
 use nested_wait::MAX_HEIGHT;
 use std::alloc::{AllocError, Global};
 use std::sync::Wait;
 use std::test::Fail;
 use worker_main::{Bell, CallDoors, DueDoor};
-use world_model::Call;
 
 /// How high the slot is before a turn, what the turn is answered, and which slot it makes due.
 pub(super) type Row = (usize, Moved, Option<u8>);

@@ -5,12 +5,12 @@ use super::tours::{Row, Tour, one_tenant, returns_its_slot};
 use crate::tests::assert_same;
 use call_queues::{CallQueues, QueuePass};
 use job_language::{Came, Moved, Program};
+use market_config::Call;
 use nested_wait::Door;
 use std::alloc::Global;
 use std::sync::Wait;
 use std::test::*;
 use worker_main::{Bell, NoGate, Ringer, Signal, SlotDoor, worker};
-use world_model::Call;
 
 const FIRST: Call = Call { tenant: 0, slot: 5 };
 

@@ -1,6 +1,6 @@
-// What the queues know of the tenants.
+// What the market knows of the tenants.
 ghost use Rattle.std.specs.Prelude.{◌≡◌, ◌+◌, ◌*◌, ◌<◌, ◌≤◌, length};
-ghost use Rattle.call_queues.specs.Config.{IsMarketConfig, level_in, room_at};
+ghost use Rattle.market_config.specs.Config.{IsMarketConfig, level_in, room_at};
 
 use job_language::Level;
 use std::marker::Model;
@@ -25,8 +25,8 @@ pub struct MarketConfig {
 
 impl Model for MarketConfig {
     ghost use Rattle.std.specs.Prelude.{List};
-    ghost use Rattle.call_queues.specs.declared.config.MarketTenant.{MarketTenant};
-    ghost use Rattle.call_queues.specs.Config.{IsMarketConfig};
+    ghost use Rattle.market_config.specs.declared.config.MarketTenant.{MarketTenant};
+    ghost use Rattle.market_config.specs.Config.{IsMarketConfig};
 
     ghost Value = { List MarketTenant };
 

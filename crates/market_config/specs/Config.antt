@@ -1,12 +1,17 @@
--- What the queues know of the tenants, and how many calls each level holds.
-use Rattle.std.specs.Prelude.{ℕ, ◌-◌, ◌≤◌, List, length, max, if◌then◌else◌, slice_index_or}
+-- What the market knows of the tenants, and how many calls each level holds.
+use Rattle.std.specs.Prelude.{ℕ, Bool, true, false, ◌-◌, ◌≤◌, List, length, max, if◌then◌else◌, slice_index_or}
 use Rattle.std.specs.List.{sum_by, All}
 use Rattle.job_language.specs.declared.configs.TheConstants.{MAX_TENANTS}
 use Rattle.job_language.specs.declared.tenants.TheConstants.{MAX_SLOTS}
 use Rattle.job_language.specs.declared.tenants.Level.{Level}
-use Rattle.job_language.specs.declared.tenants.Level.TheVariants.{Normal}
-use Rattle.world_model.specs.Orderly.{is_level}
-use Rattle.call_queues.specs.declared.config.MarketTenant.{MarketTenant}
+use Rattle.job_language.specs.declared.tenants.Level.TheVariants.{High, Normal, Low}
+use Rattle.market_config.specs.declared.config.MarketTenant.{MarketTenant}
+
+abbrev pub is_level : Level → Level → Bool
+is_level High High = true
+is_level Normal Normal = true
+is_level Low Low = true
+is_level k l = false
 
 -- as many tenants and slots as a configuration may have
 abbrev pub IsMarketConfig : List MarketTenant → Type 0

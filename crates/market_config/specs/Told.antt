@@ -1,6 +1,6 @@
 -- The market's part of a configuration.
 use Rattle.job_language.specs.declared.tenants.Tenant.{Tenant}
-use Rattle.call_queues.specs.declared.config.MarketTenant.{MarketTenant}
+use Rattle.market_config.specs.declared.config.MarketTenant.{MarketTenant}
 
 -- what the market knows of a tenant
 abbrev pub market_tenant : Tenant → MarketTenant

@@ -1,7 +1,7 @@
 use Rattle.std.proofs.Common.{◌≡◌, ◌≤◌, length, map, take_all, ap, ◌∙◌, rules}
-use Rattle.world_core.specs.First.{market_tenant}
-use Rattle.world_core.proofs.Origin.{told_valid}
-use Rattle.world_core.proofs.starting.market_config.Goals as goal
+use Rattle.market_config.specs.Told.{market_tenant}
+use Rattle.market_config.proofs.Valid.{told_valid}
+use Rattle.market_config.proofs.telling.market_config.Goals as goal
 
 pub new-requires : goal.new-requires
 new-requires c =
