@@ -1,7 +1,7 @@
 # The commands of this repository; `make help` lists them. `rt` is the command of the Rattle kit.
 
 .DEFAULT_GOAL := help
-.PHONY: help run build serve serve-unproved stop install uninstall deb dist pictures test bench check examples clean
+.PHONY: help run build serve serve-unproved host stop install uninstall deb dist pictures test bench check examples clean
 
 EXAMPLE ?= first_job
 
@@ -29,6 +29,13 @@ serve-unproved: ## the same within a minute or two, by a server that is built wi
 	@checks/build/unproved.py arena-server
 	@$(MAKE) --no-print-directory -o build serve PROGRAM=out/unproved/arena-server
 
+RUN ?= /tmp/arena
+
+host: build ## hosts the same tenants for any number of connections, in the folder RUN (/tmp/arena); Ctrl-C stops it in order
+	@mkdir -p $(RUN)
+	@trap 'rm -f $(RUN)/socket' INT; setsid out/arena-host --config $(CONFIG) --run $(RUN) & host=$$!; \
+	    while kill -0 $$host 2>/dev/null; do wait $$host; done; wait $$host
+
 stop: ## stops the server of `make serve` in order, and waits until it has ended, ten minutes at most
 	@examples/server/stop.py $(SOCKET)
 
@@ -51,7 +58,7 @@ deb: ## builds a Debian package of what stands in out/ (docs/OPERATIONS.md, Inst
 dist: ## packs the proved programs with the gate's last line and their checksums
 	@packaging/dist.py --programs "$(PROGRAMS)"
 
-test: ## passes everything: examples, each proof, edit, test and program, stored runs, scripts, a second evaluator, ranges, the server, the host, failed allocations, drawn steps, the Python package, counts of instructions, the pages, installations, HAProxy before servers
+test: ## passes everything: examples, each proof, edit, test and program, stored runs, scripts, a second evaluator, ranges, the server, the host, failed allocations, drawn steps, the Python package, counts of instructions, the pages, the crates' groups, installations, HAProxy before servers
 	checks/examples/run.sh
 	checks/gate/run.py
 	checks/stored_runs/run.sh
@@ -66,6 +73,7 @@ test: ## passes everything: examples, each proof, edit, test and program, stored
 	checks/cost/run.py --built .
 	checks/build/recorded.py
 	checks/pages/run.py
+	checks/edges/run.py
 	checks/install/run.py
 	checks/haproxy/run.py
 	@tail -n 1 out/gate.md

@@ -1,0 +1,92 @@
+#!/usr/bin/env python3
+"""Holds the crates to the groups of crates.txt: a crate stands on crates of its own group and of the groups that its
+heading names, each of which comes before. A group that is named and not needed is refused too. The README's table and
+docs/PROOFS.md must have the groups in the same order, and the table each crate in its group.
+
+usage: checks/edges/run.py, at the top of the repository. It exits with a status other than 0 if something differs.
+"""
+import dataclasses
+import pathlib
+import re
+import sys
+
+HEADING = re.compile(r"# == (?P<name>\w+): (?P<what>[^\[]+?)(?: \[on (?P<below>[\w ]+)\])?$")
+TABLE_HEADING = re.compile(r"\| \*\*(\w+)\*\*")
+
+
+@dataclasses.dataclass
+class Group:
+    name: str
+    below: list[str]
+    crates: dict[str, list[str]] = dataclasses.field(default_factory=dict)
+
+
+def read_groups(text):
+    """The groups of crates.txt, each with its crates and what these stand on."""
+    groups = []
+    for line in text.splitlines():
+        if heading := HEADING.match(line):
+            groups.append(Group(heading["name"], (heading["below"] or "").split()))
+        elif line and not line.startswith("#"):
+            crate, on = line.split(":")
+            groups[-1].crates[crate.split()[0]] = on.split()
+    return groups
+
+
+def wrong_edges(groups):
+    """Yields what is wrong between crates."""
+    group_of = {crate: group.name for group in groups for crate in group.crates}
+    names = [group.name for group in groups]
+    seen = set()
+    for place, group in enumerate(groups):
+        needed = set()
+        for crate, on in group.crates.items():
+            for other in filter(group_of.__contains__, on):
+                needed.add(group_of[other])
+                if other not in seen:
+                    yield f"crates.txt: {crate} comes before {other}, on which it stands"
+                if group_of[other] not in (group.name, *group.below):
+                    yield f"crates.txt: {crate} of {group.name} stands on {other} of {group_of[other]}"
+            seen.add(crate)
+        yield from (f"crates.txt: {group.name} need not stand on {name}" for name in group.below if name not in needed)
+        yield from (f"crates.txt: {group.name} names {name}, which does not come before"
+                    for name in group.below if name not in names[:place])
+
+
+def table_of(page):
+    """The groups of the README's table, each with the crates of its rows."""
+    groups = {}
+    for line in page.splitlines():
+        if heading := TABLE_HEADING.match(line):
+            groups[heading[1]] = []
+        elif groups and line.startswith("| `"):
+            groups[heading_of(groups)] += re.findall(r"`(\w+)`", line.split("|")[1])
+        elif groups and not line:
+            break
+    return groups
+
+
+def heading_of(groups):
+    return list(groups)[-1]
+
+
+def main():
+    groups = read_groups(pathlib.Path("crates.txt").read_text())
+    wrong = list(wrong_edges(groups))
+    table = table_of(pathlib.Path("README.md").read_text())
+    for group in groups:
+        if sorted(table.get(group.name, [])) != sorted(group.crates):
+            wrong.append(f"README.md: {group.name} has other crates than in crates.txt")
+    sections = re.findall(r"^## The (\w+)$", pathlib.Path("docs/PROOFS.md").read_text(), re.M)
+    names = [group.name for group in groups]
+    if list(table) != names:
+        wrong.append(f"README.md: the groups are {list(table)}")
+    if sections != [name for name in names if name != "tests"]:
+        wrong.append(f"docs/PROOFS.md: the groups are {sections}")
+    print(*wrong, sep="\n", end="\n" if wrong else "")
+    count = sum(len(group.crates) for group in groups)
+    print(f"{count} crates in {len(groups)} groups: {len(wrong)} edges or headings are wrong")
+    sys.exit(bool(wrong))
+
+
+main()
