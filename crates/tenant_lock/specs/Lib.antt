@@ -3,3 +3,4 @@ pub mod Doors
 pub mod Closing
 pub mod FaultCodes
 pub mod DoorFields
+pub mod Looks

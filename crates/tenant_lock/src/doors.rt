@@ -16,7 +16,7 @@ ghost use Rattle.job_language.specs.declared.errors.Error.TheVariants.{NoMemory}
 use crate::closing::fault_of;
 use crate::counts::Counts;
 use crate::faults::CloseFault;
-use crate::held::Held;
+use crate::held::{Held, News, Turned};
 use crate::stop_flag::StopFlag;
 use job_language::{Answer, Entry, Reply, Request, TenantConfig};
 use job_step::{Segment, View};
@@ -41,7 +41,10 @@ pub struct TenantDoor {
     config: TenantConfig,
     seats: usize,
     held: Mutex<Held>,
+    /// Who waits at a slot.
     changed: Condvar,
+    /// Who waits for a job.
+    outcomes: Condvar,
     /// How many jobs were made. Nothing that is answered depends on it.
     jobs: AtomicU64,
 }
@@ -55,6 +58,7 @@ impl Drop for TenantDoor {
             seats: _seats,
             held: _held,
             changed: _changed,
+            outcomes: _outcomes,
             jobs: _jobs,
         } = self;
     }
@@ -89,6 +93,7 @@ impl TenantDoor {
             seats,
             held: Mutex::new(held),
             changed: Condvar::new(),
+            outcomes: Condvar::new(),
             jobs: AtomicU64::new(0),
         };
         Ok((door, all_seats))
@@ -110,10 +115,13 @@ impl TenantDoor {
         ensures placed { GoesWith self.now.tenant (placed_on result.reply) result.pass }
         ensures pending { result.reply ≡ Reply.Pending → (job : ℕ) × (request ≡ Request.Collect job) }
     {
-        let asked = self.held.lock(rt).ask(self.tenant, seat, request);
-        if asked.reply.is_recorded() {
-            self.changed.notify_all();
-        }
+        let (asked, news) = {
+            let mut held = self.held.lock(rt);
+            let asked = held.ask(self.tenant, seat, request);
+            let news = held.news(asked.reply.is_recorded());
+            (asked, news)
+        };
+        self.tell(news);
         if let Reply::Made(_) | Reply::Placed(..) = asked.reply {
             self.jobs.fetch_add(1, Ordering::SeqCst);
         }
@@ -126,10 +134,13 @@ impl TenantDoor {
     pub fn arrive<R: Wait>(&self, rt: &R, call: Call) -> Arrived
         ensures { ComesWith self.now.tenant call.slot result.came result.pass }
     {
-        let arrived = self.held.lock(rt).arrive(self.tenant, call);
-        if Answer::Came(arrived.came).is_entry() {
-            self.changed.notify_all();
-        }
+        let (arrived, news) = {
+            let mut held = self.held.lock(rt);
+            let arrived = held.arrive(self.tenant, call);
+            let news = held.news(Answer::Came(arrived.came).is_entry());
+            (arrived, news)
+        };
+        self.tell(news);
         arrived
     }
 
@@ -139,10 +150,13 @@ impl TenantDoor {
         ensures carries { IfSome result.pass (λ q. Carries pass result.moved q) }
         ensures home { is_some result.pass ≡ not (goes_home result.moved) }
     {
-        let advanced = self.held.lock(rt).advance(pass);
-        if Answer::Moved(advanced.moved).is_entry() {
-            self.changed.notify_all();
-        }
+        let (advanced, news) = {
+            let mut held = self.held.lock(rt);
+            let advanced = held.advance(pass);
+            let news = held.news(Answer::Moved(advanced.moved).is_entry());
+            (advanced, news)
+        };
+        self.tell(news);
         advanced
     }
 
@@ -153,11 +167,58 @@ impl TenantDoor {
         ensures carries { IfSome result.pass (λ q. Carries pass result.moved q) }
         ensures home { is_some result.pass ≡ not (goes_home result.moved) }
     {
-        let advanced = self.held.lock(rt).commit(pass, segment);
-        if Answer::Moved(advanced.moved).is_entry() {
-            self.changed.notify_all();
-        }
+        let (advanced, news) = {
+            let mut held = self.held.lock(rt);
+            let advanced = held.commit(pass, segment);
+            let news = held.news(Answer::Moved(advanced.moved).is_entry());
+            (advanced, news)
+        };
+        self.tell(news);
         advanced
+    }
+
+    /// Advances the slot of a pass as `advance`, and under the same lock looks at the slot: the view is
+    /// that after it, or `Unshared` where no other pass of the tenant is out.
+    pub fn advance_and_look<R: Wait>(&self, rt: &R, pass: Pass, view: &mut View) -> Turned
+        requires { pass.tenant ≡ self.now.tenant }
+        ensures carries { IfSome result.advanced.pass (λ q. Carries pass result.advanced.moved q) }
+        ensures home { is_some result.advanced.pass ≡ not (goes_home result.advanced.moved) }
+        ensures look { is_some result.height ≡ is_some result.advanced.pass }
+        ensures most { IfSome result.height (λ height. height ≤ MAX_HEIGHT) }
+    {
+        let (turned, news) = {
+            let mut held = self.held.lock(rt);
+            let turned = held.advance_and_look(pass, view);
+            let news = held.news(Answer::Moved(turned.advanced.moved).is_entry());
+            (turned, news)
+        };
+        self.tell(news);
+        turned
+    }
+
+    /// Puts a private run in the place of an advance as `commit`, and under the same lock looks at the
+    /// slot as `advance_and_look`.
+    pub fn commit_and_look<R: Wait>(
+        &self,
+        rt: &R,
+        pass: Pass,
+        segment: Segment,
+        view: &mut View,
+    ) -> Turned
+        requires { pass.tenant ≡ self.now.tenant }
+        ensures carries { IfSome result.advanced.pass (λ q. Carries pass result.advanced.moved q) }
+        ensures home { is_some result.advanced.pass ≡ not (goes_home result.advanced.moved) }
+        ensures look { is_some result.height ≡ is_some result.advanced.pass }
+        ensures most { IfSome result.height (λ height. height ≤ MAX_HEIGHT) }
+    {
+        let (turned, news) = {
+            let mut held = self.held.lock(rt);
+            let turned = held.commit_and_look(pass, segment, view);
+            let news = held.news(Answer::Moved(turned.advanced.moved).is_entry());
+            (turned, news)
+        };
+        self.tell(news);
+        turned
     }
 
     /// What is seen of a pass's slot: its topmost frame, if another handle on the frame's program is
@@ -225,9 +286,12 @@ impl TenantDoor {
     pub fn pause_for_until<R: Wait>(&self, rt: &R, _seat: &Seat, job: u64, stop: &StopFlag) -> bool
         requires { _seat.now.tenant ≡ self.now.tenant }
     {
-        let held = self.changed.wait_while(rt, self.held.lock(rt), |held| {
+        let mut held = self.held.lock(rt);
+        held.awaited.add(job);
+        let mut held = self.outcomes.wait_while(rt, held, |held| {
             !stop.is_raised() && held.is_job_open(job)
         });
+        held.awaited.remove(job);
         stop.is_raised() || held.is_stopped
     }
 
@@ -235,13 +299,27 @@ impl TenantDoor {
     pub fn wake<R: Wait>(&self, rt: &R) {
         // Who looked at its flag before that was raised waits by now, since it looks under the lock.
         let _held = self.held.lock(rt);
-        self.changed.notify_all();
+        self.wake_all();
     }
 
     /// Tells all that wait to stop, from now on.
     pub fn stop<R: Wait>(&self, rt: &R) {
         self.held.lock(rt).is_stopped = true;
+        self.wake_all();
+    }
+
+    /// Wakes who may go on.
+    fn tell(&self, news: News) {
+        match news {
+            News::Nothing => {}
+            News::Entry => self.changed.notify_all(),
+            News::Outcome => self.wake_all(),
+        }
+    }
+
+    fn wake_all(&self) {
         self.changed.notify_all();
+        self.outcomes.notify_all();
     }
 
     /// Closes the door, to which all seats come back: the tenant's history, if it agrees with what the
@@ -256,6 +334,7 @@ impl TenantDoor {
             seats: count,
             held,
             changed: _changed,
+            outcomes: _outcomes,
             jobs: _jobs,
         } = self;
         let cell = held.into_inner().cell;

@@ -3,6 +3,7 @@ ghost use Rattle.std.specs.Prelude.{ℕ, ◌≡◌, ◌≢◌, ◌≤◌, ◌||�
 ghost use Rattle.std.specs.Option.{is_some};
 ghost use Rattle.job_language.specs.declared.answers.Moved.{Moved};
 ghost use Rattle.tenant_model.specs.Told.{placed_on};
+ghost use Rattle.tenant_model.specs.declared.rows.TheConstants.{MAX_HEIGHT};
 ghost use Rattle.tenant_record.specs.PassData.{GoesWith, goes_home, has_room};
 ghost use Rattle.tenant_record.specs.SeatData.{asked};
 ghost use Rattle.tenant_record.specs.Cell.{AnswersAsk, arrival, state_of};
@@ -10,20 +11,43 @@ ghost use Rattle.tenant_record.specs.Locked.{IsMoved, IsArrived, IsAsked, given_
 ghost use Rattle.arena_steps.specs.Within.{advance_within};
 ghost use Rattle.arena_core.specs.Views.{Commits};
 ghost use Rattle.tenant_lock.specs.Doors.{Carries, ComesWith, has_slot_of};
+ghost use Rattle.tenant_lock.specs.Looks.{IsLook, IsShown};
 ghost use Rattle.std.specs.Prelude.{IsSome};
 ghost use Rattle.job_language.specs.Brought.{job_of};
 
+use crate::awaited::Awaited;
 use crate::counts::Counts;
+use crate::looks::by_length;
 use job_language::{Came, Error, Moved, Reply, Request, Status};
-use job_step::Segment;
+use job_step::{Segment, View};
 use market_config::Call;
 use tenant_record::{Advanced, Arrived, Asked, Pass, Seat, TenantCell};
 
-/// A tenant's cell, and whether those who wait for it must stop.
+/// A tenant's cell, whether those who wait for it must stop, and which jobs they wait for.
 #[derive(Drop)]
 pub(crate) struct Held {
     pub(crate) cell: TenantCell,
     pub(crate) is_stopped: bool,
+    pub(crate) awaited: Awaited,
+}
+
+/// Who may go on after a call.
+#[derive(Clone, Copy, PartialEq, Eq)]
+pub(crate) enum News {
+    /// Nobody: there is no entry.
+    Nothing,
+    /// Those who wait at slots.
+    Entry,
+    /// Those too who wait for a job.
+    Outcome,
+}
+
+/// What a move of a slot came to.
+#[derive(Drop)]
+pub struct Turned {
+    pub advanced: Advanced,
+    /// How many rows are on the slot after it, unless its pass went home.
+    pub height: Option<usize>,
 }
 
 impl Held {
@@ -31,6 +55,7 @@ impl Held {
         Held {
             cell,
             is_stopped: false,
+            awaited: Awaited::new(),
         }
     }
 
@@ -104,6 +129,68 @@ impl Held {
         self.cell.commit(pass, segment)
     }
 
+    /// Advances the slot of a pass, and looks at it.
+    pub(crate) fn advance_and_look(&mut self, pass: Pass, view: &mut View) -> Turned
+        ensures carries { IfSome result.advanced.pass (λ q. Carries pass result.advanced.moved q) }
+        ensures home { is_some result.advanced.pass ≡ not (goes_home result.advanced.moved) }
+        ensures answer { has_slot_of self.old.cell pass ≡ true → result.advanced.moved ≡ (advance_within (has_room pass) (state_of self.old.cell) pass.slot).0 }
+        ensures moved { has_slot_of self.old.cell pass ≡ true → IsMoved self.old.cell pass result.advanced.moved result.advanced.due result.advanced.pass self.new.cell }
+        ensures kept { has_slot_of self.old.cell pass ≡ false → self.new ≡ self.old }
+        ensures stopped { self.new.is_stopped ≡ self.old.is_stopped }
+        ensures look { IsLook self.new.cell result.advanced.pass view.new result.height }
+        ensures most { IfSome result.height (λ height. height ≤ MAX_HEIGHT) }
+    {
+        let advanced = self.advance(pass);
+        let height = self.look(&advanced.pass, view);
+        Turned { advanced, height }
+    }
+
+    /// Puts a private run in the place of an advance of the slot of a pass, and looks at the slot.
+    pub(crate) fn commit_and_look(
+        &mut self,
+        pass: Pass,
+        segment: Segment,
+        view: &mut View,
+    ) -> Turned
+        ensures carries { IfSome result.advanced.pass (λ q. Carries pass result.advanced.moved q) }
+        ensures home { is_some result.advanced.pass ≡ not (goes_home result.advanced.moved) }
+        ensures answer { has_slot_of self.old.cell pass ≡ true → Commits (has_room pass) (state_of self.old.cell) pass.slot segment result.advanced.moved (state_of self.new.cell) }
+        ensures moved { has_slot_of self.old.cell pass ≡ true → IsMoved self.old.cell pass result.advanced.moved result.advanced.due result.advanced.pass self.new.cell }
+        ensures kept { has_slot_of self.old.cell pass ≡ false → self.new ≡ self.old }
+        ensures stopped { self.new.is_stopped ≡ self.old.is_stopped }
+        ensures look { IsLook self.new.cell result.advanced.pass view.new result.height }
+        ensures most { IfSome result.height (λ height. height ≤ MAX_HEIGHT) }
+    {
+        let advanced = self.commit(pass, segment);
+        let height = self.look(&advanced.pass, view);
+        Turned { advanced, height }
+    }
+
+    /// Shows the slot of a pass, if there is one, and gives how many rows are on it.
+    fn look(&self, pass: &Option<Pass>, view: &mut View) -> Option<usize>
+        ensures look { IsLook self.now.cell pass.now view.new result }
+        ensures most { IfSome result (λ height. height ≤ MAX_HEIGHT) }
+    {
+        let Some(pass) = pass else {
+            *view = View::Bare;
+            return None;
+        };
+        *view = self.show(pass);
+        Some(self.cell.height(pass))
+    }
+
+    /// What the slot of a pass is to be moved by. Where no other pass is out nothing runs beside a
+    /// private run, so the slot is to be advanced under the lock. So is one with a long program.
+    fn show(&self, pass: &Pass) -> View
+        ensures { IsShown self.now.cell pass.now result }
+    {
+        if self.cell.is_one_out(pass) {
+            View::Unshared
+        } else {
+            by_length(self.cell.view(pass))
+        }
+    }
+
     /// Puts a pass home, if its slot is one of the cell's.
     pub(crate) fn give_home(&mut self, pass: Pass)
         ensures home { has_slot_of self.old.cell pass ≡ true → self.new.cell ≡ given_home self.old.cell pass }
@@ -137,6 +224,34 @@ impl Held {
         Counts {
             entries: self.cell.history().len(),
             asks: self.cell.askers().len(),
+        }
+    }
+
+    /// Who may go on after a call that made an entry, or none.
+    pub(crate) fn news(&self, has_entered: bool) -> News {
+        if !has_entered {
+            News::Nothing
+        } else if self.has_outcome() {
+            News::Outcome
+        } else {
+            News::Entry
+        }
+    }
+
+    /// Whether one of those who wait for a job may have nothing to wait for any more.
+    fn has_outcome(&self) -> bool {
+        if self.awaited.is_empty() {
+            return false;
+        }
+        let jobs = self.awaited.jobs();
+        self.awaited.has_others() || jobs.iter().any(|noted| self.is_done(*noted))
+    }
+
+    /// Whether a job is named for which nobody has to wait.
+    fn is_done(&self, noted: Option<u64>) -> bool {
+        match noted {
+            Some(job) => !self.is_job_open(job),
+            None => false,
         }
     }
 

@@ -1,11 +1,13 @@
 //! A tenant behind a lock: its door, which any thread may use, and how the door is closed.
 #![tactic(auto)]
 
+mod awaited;
 mod closing;
 mod counts;
 mod doors;
 mod faults;
 mod held;
+mod looks;
 mod seat_logs;
 mod stop_flag;
 
@@ -13,5 +15,7 @@ pub use closing::fault_of;
 pub use counts::Counts;
 pub use doors::{Closed, TenantDoor};
 pub use faults::CloseFault;
+pub use held::Turned;
+pub use looks::MOST_COMPARED;
 pub use seat_logs::is_seat_log;
 pub use stop_flag::StopFlag;

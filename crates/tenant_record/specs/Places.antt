@@ -1,6 +1,7 @@
 -- Where the passes of a tenant's slots are.
-use Rattle.std.specs.Prelude.{ℕ, nat_lt, Bool, true, false, List, Option, Some, None, if◌then◌else◌, slice_get, unwrap_or, slice_set, find, length, map}
+use Rattle.std.specs.Prelude.{ℕ, nat_lt, ◌==◌, not, Bool, true, false, List, Option, Some, None, if◌then◌else◌, slice_get, unwrap_or, slice_set, find, length, map}
 use Rattle.std.specs.List.{range_with_len}
+use Rattle.std.specs.Option.{is_some}
 use Rattle.job_language.specs.declared.answers.Came.{Came}
 use Rattle.job_language.specs.declared.answers.Came.TheVariants.{At}
 use Rattle.job_language.specs.declared.answers.Moved.{Moved}
@@ -50,6 +51,18 @@ is_worker_home reserved home slot = if nat_lt slot reserved then false else is_h
 -- the lowest such slot, if a row waits to be started
 abbrev pub due_slot : Tenant → State → List Place → Option ℕ
 due_slot c s home = if has_unstarted s then find (is_worker_home c.reserved home) (range_with_len 0 c.slots) else None
+
+-- Is that another slot than the one of that number, whose pass is out?
+unfoldable pub is_other_out : List Place → (slot other : ℕ) → Bool
+is_other_out home slot other = if other == slot then false else not (is_in (place home other))
+
+-- the lowest such slot
+abbrev pub other_out : (slots : ℕ) → List Place → (slot : ℕ) → Option ℕ
+other_out slots home slot = find (is_other_out home slot) (range_with_len 0 slots)
+
+-- Is no pass out but that of the slot?
+abbrev pub is_one_out : (slots : ℕ) → List Place → (slot : ℕ) → Bool
+is_one_out slots home slot = not (is_some (other_out slots home slot))
 
 -- what is due after an answer: nothing, if it is no entry
 abbrev pub due_after : (is_entry : Bool) → Tenant → State → List Place → Option ℕ

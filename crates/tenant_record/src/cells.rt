@@ -11,12 +11,12 @@ ghost use Rattle.tenant_model.specs.Walks.{height};
 ghost use Rattle.tenant_record.specs.Cell.{IsRight, state_of, first_cell, is_on, arrival, entered, AnswersAsk, askers_of};
 ghost use Rattle.tenant_record.specs.Locked.{IsMoved, IsArrived, IsAsked, given_home};
 ghost use Rattle.tenant_record.specs.PassData.{has_room, GoesWith};
-ghost use Rattle.tenant_record.specs.Places.{place, pass_in, is_told_full};
+ghost use Rattle.tenant_record.specs.Places.{place, pass_in, is_one_out, is_told_full};
 ghost use Rattle.arena_steps.specs.Within.{advance_within};
 ghost use Rattle.arena_core.specs.Views.{Commits, IsSeen};
 
 use crate::passes::Pass;
-use crate::places::{pass_at, put, room_at};
+use crate::places::{is_one_out, pass_at, put, room_at};
 use crate::replay::Replay;
 use crate::seats::Seat;
 use crate::slots::{Advanced, Arrived, SlotBooks};
@@ -172,6 +172,14 @@ impl TenantCell {
         ensures most { result ≤ MAX_HEIGHT }
     {
         self.replay.height(pass.slot())
+    }
+
+    /// Whether no pass of the tenant is out but that of a pass's slot.
+    pub fn is_one_out(&self, pass: &Pass) -> bool
+        ensures { result ≡ is_one_out self.now.config.slots self.now.home pass.now.slot }
+    {
+        let slots = self.config().slots;
+        is_one_out(self.slots.home.as_slice(), slots, pass.slot())
     }
 
     /// How far a job is, if it was made and is not retired.

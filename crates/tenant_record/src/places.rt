@@ -4,7 +4,7 @@ ghost use Rattle.std.specs.List.{range_with_len};
 ghost use Rattle.job_language.specs.Recorded.{is_entry};
 ghost use Rattle.job_language.specs.declared.answers.Answer.{Answer};
 ghost use Rattle.tenant_record.specs.PassData.{has_room, goes_home};
-ghost use Rattle.tenant_record.specs.Places.{place, is_home, is_told_full, pass_in, is_worker_home, due_place, due_after, arrived_pass, arrived_place, taken, placed_pass, returned, woken, first_places};
+ghost use Rattle.tenant_record.specs.Places.{place, is_home, is_told_full, pass_in, is_worker_home, is_in, is_other_out, is_one_out, other_out, due_place, due_after, arrived_pass, arrived_place, taken, placed_pass, returned, woken, first_places};
 ghost use Rattle.tenant_record.specs.Replayed.{state_of};
 ghost use Rattle.tenant_record.specs.declared.places.Place.{Place};
 
@@ -28,6 +28,16 @@ impl Place {
         ensures { result ≡ is_home self.now }
     {
         matches!(self, Place::Home(_))
+    }
+
+    /// Whether the pass is there.
+    fn is_in(&self) -> bool
+        ensures { result ≡ is_in self.now }
+    {
+        match self {
+            Place::Home(_) | Place::Due(_) => true,
+            Place::Out => false,
+        }
     }
 
     /// Whether the pass is there and reports a full history.
@@ -101,6 +111,32 @@ pub(crate) fn pass_at(home: &[Place], slot: u8) -> Option<&Pass>
     ensures { option_map (λ pass. pass.now) result ≡ pass_in (place home.now slot) }
 {
     home.get(slot as usize)?.pass()
+}
+
+/// Whether no pass of these slots is out but that of one slot.
+pub(crate) fn is_one_out(home: &[Place], slots: u8, slot: u8) -> bool
+    ensures { result ≡ is_one_out slots home.now slot }
+{
+    other_out(home, slots, slot).is_none()
+}
+
+fn other_out(home: &[Place], slots: u8, slot: u8) -> Option<u8>
+    ensures { result ≡ other_out slots home.now slot }
+{
+    (0..slots).find(|other| is_other_out(home, slot, *other))
+}
+
+#[tactic(auto, unfolding(crate::specs::Places::is_other_out))]
+fn is_other_out(home: &[Place], slot: u8, other: u8) -> bool
+    ensures { result ≡ is_other_out home.now slot other }
+{
+    if other == slot {
+        return false;
+    }
+    match home.get(other as usize) {
+        Some(place) => !place.is_in(),
+        None => true,
+    }
 }
 
 /// Puts a place in place of another one, and gives that.

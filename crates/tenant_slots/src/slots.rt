@@ -7,9 +7,10 @@ ghost use Rattle.tenant_slots.specs.Ways.{Moves, MayBeHigh, MayBeSeen, Pauses, G
 use job_language::{Came, Moved, Reply, Request};
 use job_step::{Segment, View};
 use market_config::Call;
+use std::cell::Cell;
 use std::marker::Model;
 use std::sync::Wait;
-use tenant_lock::{StopFlag, TenantDoor};
+use tenant_lock::{StopFlag, TenantDoor, Turned};
 use tenant_record::{Pass, Seat};
 
 /// One thread's way to the slots of all tenants. It is at one slot at most, whose pass it has.
@@ -19,6 +20,10 @@ pub struct TenantSlots<'d, R: Wait> {
     doors: &'d [TenantDoor],
     stop: &'d StopFlag,
     pass: Option<Pass>,
+    /// What its last move saw of its slot under the lock, which nobody else moves, if that is known. A view that
+    /// was taken is `Bare`.
+    height: Option<usize>,
+    view: Cell<View>,
 }
 
 impl<'d, R: Wait> Model for TenantSlots<'d, R> {
@@ -28,7 +33,10 @@ impl<'d, R: Wait> Model for TenantSlots<'d, R> {
 
     ghost view = { λ s. record { doors = s.doors.now; pass = s.pass } };
 
-    ghost invariant = { λ s. IsAtDoors (record { doors = s.doors.now; pass = s.pass }) };
+    ghost use Rattle.std.specs.Prelude.{◌≤◌, IfSome};
+    ghost use Rattle.tenant_model.specs.declared.rows.TheConstants.{MAX_HEIGHT};
+
+    ghost invariant = { λ s. IsAtDoors (record { doors = s.doors.now; pass = s.pass }) × IfSome s.height (λ height. height ≤ MAX_HEIGHT) };
 }
 
 impl<'d, R: Wait> TenantSlots<'d, R> {
@@ -43,6 +51,8 @@ impl<'d, R: Wait> TenantSlots<'d, R> {
             doors,
             stop,
             pass: None,
+            height: None,
+            view: Cell::new(View::Bare),
         }
     }
 
@@ -81,9 +91,12 @@ impl<'d, R: Wait> TenantSlots<'d, R> {
     pub(crate) fn seen(&self) -> View
         ensures { MayBeSeen self.now result }
     {
-        match &self.pass {
-            Some(pass) => self.doors[pass.tenant()].view(self.rt, pass),
-            None => View::Bare,
+        let Some(pass) = &self.pass else {
+            return View::Bare;
+        };
+        match self.view.replace(View::Bare) {
+            View::Bare => self.doors[pass.tenant()].view(self.rt, pass),
+            view => view,
         }
     }
 
@@ -92,9 +105,12 @@ impl<'d, R: Wait> TenantSlots<'d, R> {
         ensures value { MayBeHigh self.now result }
         ensures most { result ≤ MAX_HEIGHT }
     {
-        match &self.pass {
-            Some(pass) => self.doors[pass.tenant()].height(self.rt, pass),
-            None => 0,
+        let Some(pass) = &self.pass else {
+            return 0;
+        };
+        match self.height {
+            Some(height) => height,
+            None => self.doors[pass.tenant()].height(self.rt, pass),
         }
     }
 
@@ -117,8 +133,14 @@ impl<'d, R: Wait> TenantSlots<'d, R> {
             return (Moved::Idle, None);
         };
         let tenant = pass.tenant();
-        let advanced = self.doors[tenant].advance(self.rt, pass);
+        let (rt, doors) = (self.rt, self.doors);
+        let Turned { advanced, height } = doors[tenant].advance_and_look(
+            rt,
+            pass,
+            self.view.get_mut(),
+        );
         self.pass = advanced.pass;
+        self.height = height;
         (advanced.moved, call_of(tenant, advanced.due))
     }
 
@@ -131,8 +153,15 @@ impl<'d, R: Wait> TenantSlots<'d, R> {
             return (Moved::Idle, None);
         };
         let tenant = pass.tenant();
-        let advanced = self.doors[tenant].commit(self.rt, pass, segment);
+        let (rt, doors) = (self.rt, self.doors);
+        let Turned { advanced, height } = doors[tenant].commit_and_look(
+            rt,
+            pass,
+            segment,
+            self.view.get_mut(),
+        );
         self.pass = advanced.pass;
+        self.height = height;
         (advanced.moved, call_of(tenant, advanced.due))
     }
 
@@ -140,6 +169,8 @@ impl<'d, R: Wait> TenantSlots<'d, R> {
     pub(crate) fn leave(&mut self)
         ensures { GoesHome self.old self.new }
     {
+        self.height = None;
+        self.view.set(View::Bare);
         if let Some(pass) = self.pass.take() {
             self.doors[pass.tenant()].give_home(self.rt, pass);
         }

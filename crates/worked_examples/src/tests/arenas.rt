@@ -3,6 +3,7 @@ mod arena_served;
 mod attending;
 mod desk_served;
 mod tenants;
+mod turns;
 mod waits;
 
 use std::test::Fail;

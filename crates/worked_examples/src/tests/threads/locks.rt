@@ -426,3 +426,72 @@ fn a_worker_that_waits_at_its_slot_stops_at_a_full_history(rt: HostRuntime) -> R
     assert_same(&rt, &seen, &Some((Moved::Idle, true)));
     Ok(())
 }
+
+/// Waits for the job by two seats at once, in a thread each, while a worker runs it: what each wait says.
+fn wait_beside_the_worker<R: Threads + Wait + Sync>(
+    rt: &R,
+    door: &TenantDoor,
+    one: &Seat,
+    two: &Seat,
+) -> [bool; 2] {
+    let (first, second) = (&StopFlag::new(), &StopFlag::new());
+    let waits = move || {
+        thread::join(
+            rt,
+            move || is_stopped(rt, door, one, first),
+            move || is_stopped(rt, door, two, second),
+        )
+    };
+    let (both, _worked) = thread::join(rt, waits, move || work_and_leave(rt, door).is_some());
+    [both.0, both.1]
+}
+
+/// Submits the job, and lets two seats wait for its outcome.
+fn wait_for_the_outcome<R: Threads + Wait + Sync>(
+    rt: &R,
+    alloc: Global,
+    door: &TenantDoor,
+    seats: &mut [Seat],
+) -> Option<([bool; 2], Option<Reply>)> {
+    let [one, two] = seats else {
+        return None;
+    };
+    let _made = submit(rt, alloc, door, one);
+    let stopped = wait_beside_the_worker(rt, door, one, two);
+    Some((stopped, poll(rt, door, one, 1)))
+}
+
+#[test]
+fn all_waits_for_a_job_end_with_its_outcome(rt: HostRuntime) -> Result<(), Fail> {
+    let (door, mut seats) = TenantDoor::new(rt.alloc(), 0, two_slots()?, 2)?;
+    let seen = wait_for_the_outcome(&rt, rt.alloc(), &door, seats.as_mut_slice());
+    let complete = Some(Reply::Job(1, Status::Complete(7)));
+    assert_same(&rt, &seen, &Some(([false, false], complete)));
+    Ok(())
+}
+
+/// A seat waits for the job, which nobody runs, in one thread, while another thread fills the history by a poll: what
+/// the wait says.
+fn wait_until_full<R: Threads + Wait + Sync>(
+    rt: &R,
+    alloc: Global,
+    door: &TenantDoor,
+    seats: &mut [Seat],
+) -> Option<bool> {
+    let [one, two] = seats else {
+        return None;
+    };
+    let _made = submit(rt, alloc, door, two);
+    let never = &StopFlag::new();
+    let one = &*one;
+    let fill = move || poll(rt, door, two, 1);
+    Some(thread::join(rt, move || is_stopped(rt, door, one, never), fill).0)
+}
+
+#[test]
+fn a_wait_for_a_job_ends_at_a_full_history(rt: HostRuntime) -> Result<(), Fail> {
+    let (door, mut seats) = TenantDoor::new(rt.alloc(), 0, tenant(2, 2)?, 2)?;
+    let stopped = wait_until_full(&rt, rt.alloc(), &door, seats.as_mut_slice());
+    assert_same(&rt, &stopped, &Some(false));
+    Ok(())
+}
