@@ -1,9 +1,11 @@
 -- Turns of an arena's door are advances of its slot.
-use Rattle.std.proofs.Common.{◌≡◌, ◌∙◌, ℕ, true, false, Option, Some, None, List, [], ◌∷◌, length, refl, sym, ap, arith, inl, inr, subst}
+use Rattle.std.proofs.Common.{◌≡◌, ◌≢◌, ◌∙◌, ◌+◌, ◌≤◌, ◌⊎◌, ℕ, true, false, Option, Some, None, List, [], ◌∷◌, length, refl, sym, ap, arith, inl, inr, subst}
 use Rattle.job_language.specs.declared.answers.Answer.TheVariants as answer
 use Rattle.job_language.specs.declared.answers.Moved.{Moved}
 use Rattle.job_language.specs.declared.answers.Moved.TheVariants as moved
 use Rattle.job_language.specs.declared.steps.Step.TheVariants.{Advance}
+use Rattle.job_language.specs.declared.tenants.Tenant.{Tenant}
+use Rattle.job_language.specs.declared.tenants.TheConstants.{MAX_STEPS}
 use Rattle.job_language.specs.Recorded.{is_entry}
 use Rattle.job_step.specs.declared.segments.Top.{Top}
 use Rattle.job_step.specs.declared.segments.View.{View}
@@ -21,6 +23,7 @@ use Rattle.arena_steps.proofs.Rooms.{within-open}
 use Rattle.arena_core.specs.Stands.{StandsFor, Takes}
 use Rattle.arena_core.specs.Views.{IsSeenOf, IsTopmost}
 use Rattle.arena_core.specs.Views.{Commits as CommitsIn}
+use Rattle.arena_door.proofs.Counting.{is_counted}
 use Rattle.arena_door.specs.Doors.{IsSameDoor, Sees, IsAsHigh, Advances, Commits, Pauses}
 use Rattle.arena_door.specs.Attending.{advanced, Attends}
 use Rattle.arena_door.specs.declared.door.ArenaDoor.{ArenaDoor}
@@ -47,6 +50,16 @@ moves d e (view.Top t) m s sees by stands =
     (by.0, takes e.arena.now m s commits.0 d.slot t (topmost s d.slot (top s.rows d.slot) t refl (sees s stands)) commits.1.0 commits.1.1)
 moves d e view.Bare m s sees by stands = (by.0, by.1 s stands)
 moves d e view.Unshared m s sees by stands = (by.0, by.1 s stands)
+
+-- after Idle and Full no turn is counted
+goes_counted : (m : Moved) (f g : ArenaDoor) → GoesOn Pauses m f g → (m ≢ moved.Idle) × (m ≢ moved.Full)
+goes_counted moved.Idle f g goes = absurd (grind (arith, goes.0))
+goes_counted moved.Full f g goes = absurd goes
+goes_counted moved.Ran f g goes = (λ e. absurd (grind (arith, e)), λ e. absurd (grind (arith, e)))
+goes_counted (moved.Nested n) f g goes = (λ e. absurd (grind (arith, e)), λ e. absurd (grind (arith, e)))
+goes_counted moved.Freed f g goes = (λ e. absurd (grind (arith, e)), λ e. absurd (grind (arith, e)))
+goes_counted moved.Left f g goes = (λ e. absurd (grind (arith, e)), λ e. absurd (grind (arith, e)))
+goes_counted moved.Stale f g goes = (λ e. absurd (grind (arith, e)), λ e. absurd (grind (arith, e)))
 
 -- a pause never says to go on
 goes_same : (m : Moved) (f g : ArenaDoor) → GoesOn Pauses m f g → g ≡ f
@@ -120,27 +133,51 @@ module _ (floor : ℕ) (base : ArenaDoor) where
       let still = unmoved d.arena.now t base.slot m there.1 last.1.0 none in
       (last.0, (subst (StandsFor e.arena.now) (ap (λ (r : Moved × State). r.1) still) last.1.1, still))
 
-  pub ends : (how : Attended) (e : ArenaDoor) (s : State) → Ends turn IsAsHigh Pauses floor how base e → StandsFor base.arena.now s → Attends floor how base.slot s e.arena.now
-  ends Below e s is stands =
+  -- Turns that are counted are entries, so there are no more of them than the history has room for.
+  counts : (ms : List Moved) (d e : ArenaDoor) (s : State) → 1 ≤ floor → Leads turn Pauses ms d e → IsSameDoor base d → StandsFor d.arena.now s → (length ms ≡ 0) ⊎ (s.entries + length ms ≤ s.config.steps)
+  counts [] d e s from leads same stands = inl refl
+  counts (m ∷ ms) d e s from leads same stands =
+      let t = (advance s base.slot).1 in
+      let one = turned d leads.0 m s leads.2.0 same stands in
+      let on = goes_counted m leads.0 leads.1 leads.2.1 in
+      let there = subst (λ (x : ArenaDoor). IsSameDoor base x × StandsFor x.arena.now t) (sym (goes_same m leads.0 leads.1 leads.2.1)) (one.0, one.1.1) in
+      let tall : leads.2.0.0 ≡ height s.rows d.slot = leads.2.0.1.0 s stands in
+      let here : height s.rows d.slot ≡ height s.rows base.slot = ap (height s.rows) same.1 in
+      let high : 1 ≤ height s.rows base.slot = omega (arith, from, leads.2.0.1.1, tall, here) in
+      let first = is_counted s base.slot stands.rests.holds.steady.formed high (λ idle. on.0 (one.1.0 ∙ idle)) (λ full. on.1 (one.1.0 ∙ full)) in
+      let limit : t.config.steps ≡ s.config.steps = ap (λ (c : Tenant). c.steps) first.config in
+      elim (counts ms leads.1 e t from leads.2.2 there.0 there.1) [
+        | inl none ↦ inr (omega (arith, none, first.room))
+        | inr more ↦ inr (omega (arith, more, first.entries, limit))
+      ]
+
+  few : (ms : List Moved) (e : ArenaDoor) (s : State) → 1 ≤ floor → Leads turn Pauses ms base e → StandsFor base.arena.now s → s.config.steps ≤ MAX_STEPS → length ms ≤ MAX_STEPS
+  few ms e s from leads stands limit = elim (counts ms base e s from leads (refl, refl) stands) [
+    | inl none ↦ omega (arith, none)
+    | inr more ↦ omega (arith, more, limit)
+  ]
+
+  pub ends : (how : Attended) (e : ArenaDoor) (s : State) → 1 ≤ floor → s.config.steps ≤ MAX_STEPS → Ends turn IsAsHigh Pauses floor how base e → StandsFor base.arena.now s → Attends floor how base.slot s e.arena.now
+  ends Below e s from limit is stands =
       let ms = is.0.answers in
       let there = led ms base e s is.0.leads (refl, refl) stands in
       let t = advanced s base.slot (length ms) in
       let high : is.1.0 ≡ height t.rows e.slot = is.1.1.0 t there.1 in
       let here : height t.rows e.slot ≡ height t.rows base.slot = ap (height t.rows) there.0.1 in
       (length ms, (there.1, omega (arith, high, here, is.1.1.1)))
-  ends Full e s is stands =
+  ends Full e s from limit is stands =
       let ms = is.1.0.answers in
       let there = stops moved.Full ms is.0 e s stands is.1.0.leads is.1.1 refl in
       (length ms, there.1)
-  ends Stopped e s is stands = elim is [
+  ends Stopped e s from limit is stands = elim is [
     | inl idle ↦
         let ms = idle.2.0.answers in
         let there = stops moved.Idle ms idle.0 idle.1 s stands idle.2.0.leads idle.2.1 refl in
         let last : e ≡ idle.1 = idle.2.2.1 in
         let t = advanced s base.slot (length ms) in
         let here = subst (λ (x : ArenaDoor). StandsFor x.arena.now t) (sym last) there.1.0 in
-        (length ms, (here, inl there.1.1))
+        (length ms, (here, there.1.1))
     | inr long ↦
-        let there = led long.answers base e s long.leads (refl, refl) stands in
-        (length long.answers, (there.1, inr long.long))
+        let most = few long.answers e s from long.leads stands limit in
+        absurd (omega (arith, most, long.long))
   ]

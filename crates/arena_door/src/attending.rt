@@ -23,5 +23,7 @@ fn attend_door(door: &mut ArenaDoor<'_>, floor: usize) -> Attended
     ensures same { door.new.arena.ghost_name ≡ door.old.arena.ghost_name }
     ensures attends { (s : State) → StandsFor door.old.arena.now s → Attends floor result door.old.slot s door.new.arena.now }
 {
+    // Proof hint: the tenant is valid.
+    let _ = door.arena.config();
     attend(door, floor)
 }
