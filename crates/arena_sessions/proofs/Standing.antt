@@ -5,6 +5,7 @@ use Rattle.std.proofs.lemmas.Bool.{cases_eq}
 use Rattle.std.proofs.lemmas.List.{get_or-set_same, get_or-set_other}
 use Rattle.std.proofs.lemmas.Option.{slice_get-get_or, slice_get_past}
 use Rattle.job_language.specs.declared.answers.Moved.{Moved}
+use Rattle.job_language.specs.declared.tenants.TheConstants.{MAX_STEPS}
 use Rattle.job_language.specs.declared.answers.Reply.{Reply}
 use Rattle.job_language.specs.declared.answers.Reply.TheVariants as reply
 use Rattle.job_language.specs.declared.requests.Request.{Request}
@@ -20,7 +21,7 @@ use Rattle.arena_core.specs.Stands.{StandsFor, Takes}
 use Rattle.arena_core.specs.Views.{IsSeen}
 use Rattle.arena_core.specs.Views.{Commits as CommitsIn}
 use Rattle.session_core.specs.declared.doors.Answered.{Answered}
-use Rattle.arena_sessions.specs.Tenants.{Tenants, IsNoneBefore, answered, bound_state, with_state, moved_of, asked_of, asked_in, height_of}
+use Rattle.arena_sessions.specs.Tenants.{Tenants, IsNoneBefore, answered, bound_state, with_state, moved_of, asked_of, asked_in, height_of, IsLimited}
 use Rattle.arena_sessions.specs.Doors.{StandForAll, AreAt, Sees, IsSeenIn, IsAsHigh, Advances, Commits, CommitsOf, Asks}
 use Rattle.arena_sessions.specs.declared.doors.ArenaDoors.{ArenaDoors}
 
@@ -96,10 +97,10 @@ module _ (d : ArenaDoors) (x : Held) (within : d.tenant < length d.arenas.items)
       let there = bound_at d d x x within is ts at in
       subst (λ o. IsSeenIn ts.slot seen o) (sym there.1.0) (subst (λ slot. IsSeen there.0 slot seen) at.slot (took there.0 there.1.1))
 
-  pub high_at : (h : ℕ) → ((s : State) → StandsFor x s → h ≡ height s.rows d.slot) → IsAsHigh d h
-  high_at h took = λ ts at.
+  pub high_at : (h : ℕ) → ((s : State) → StandsFor x s → h ≡ height s.rows d.slot) → ((s : State) → StandsFor x s → s.config.steps ≤ MAX_STEPS) → IsAsHigh d h
+  high_at h took limited = λ ts at.
       let there = bound_at d d x x within is ts at in
-      subst (λ o. h ≡ height_of ts o) (sym there.1.0) (subst (λ slot. h ≡ height there.0.rows slot) at.slot (took there.0 there.1.1))
+      subst (λ o. (h ≡ height_of ts o) × IsLimited o) (sym there.1.0) (subst (λ slot. h ≡ height there.0.rows slot) at.slot (took there.0 there.1.1), limited there.0 there.1.1)
 
 pub unplaced : (r : Reply) → ((n slot : ℕ) → r ≡ reply.Placed n slot → ⊥) → placed_on r ≡ None
 unplaced (reply.Placed n slot) none = absurd (none n slot refl)

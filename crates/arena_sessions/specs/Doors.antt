@@ -13,7 +13,7 @@ use Rattle.arena_core.specs.Views.{IsSeen}
 use Rattle.arena_core.specs.Views.{Commits as CommitsIn}
 use Rattle.session_core.specs.declared.doors.Answered.{Answered}
 use Rattle.arena_sessions.specs.Tenants as tenants
-use Rattle.arena_sessions.specs.Tenants.{Tenants, bound_state, with_state, moved_by, height_in}
+use Rattle.arena_sessions.specs.Tenants.{Tenants, bound_state, with_state, moved_by, height_in, IsLimited}
 use Rattle.arena_sessions.specs.declared.doors.ArenaDoors.{ArenaDoors}
 
 -- Each arena stands for the state of its tenant.
@@ -50,8 +50,9 @@ IsSeenIn slot seen (Some s) = IsSeen s slot seen
 abbrev pub Sees : ArenaDoors → View → Type 0
 Sees d seen = (ts : Tenants) → AreAt d ts → IsSeenIn ts.slot seen (bound_state ts)
 
+-- the height of the stack, whose tenant's history is limited
 abbrev pub IsAsHigh : ArenaDoors → ℕ → Type 0
-IsAsHigh d h = (ts : Tenants) → AreAt d ts → h ≡ height_in ts
+IsAsHigh d h = (ts : Tenants) → AreAt d ts → (h ≡ height_in ts) × IsLimited (bound_state ts)
 
 -- An advance is the definitions' advance.
 abbrev pub Moves : Moved → Tenants → Tenants → Type 0

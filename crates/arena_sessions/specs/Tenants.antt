@@ -1,17 +1,17 @@
 -- What a session does to the tenants by the definitions, where nobody else acts on them.
-use Rattle.std.specs.Prelude.{ℕ, zero, suc, ◌≡◌, ◌≢◌, ◌<◌, ◌≤◌, ◌⊎◌, Bool, true, List, length, Option, Some, None, is_some, unwrap_or, slice_get, slice_set}
+use Rattle.std.specs.Prelude.{ℕ, zero, suc, ◌≡◌, ◌≢◌, ◌<◌, ◌≤◌, Bool, true, List, length, Option, Some, None, is_some, unwrap_or, slice_get, slice_set}
 use Rattle.job_language.specs.declared.answers.Moved.{Moved}
 use Rattle.job_language.specs.declared.answers.Moved.TheVariants as moved
 use Rattle.job_language.specs.declared.answers.Reply.{Reply}
 use Rattle.job_language.specs.declared.answers.Reply.TheVariants.{Refused}
 use Rattle.job_language.specs.declared.errors.Error.TheVariants.{NoTenant}
 use Rattle.job_language.specs.declared.requests.Request.{Request}
+use Rattle.job_language.specs.declared.tenants.TheConstants.{MAX_STEPS}
 use Rattle.tenant_model.specs.State.{State}
 use Rattle.tenant_model.specs.Told.{placed_on}
 use Rattle.tenant_model.specs.Walks.{height}
 use Rattle.tenant_model.specs.Advance.{advance}
 use Rattle.tenant_model.specs.Asks.{ask}
-use Rattle.nested_wait.specs.Runs.{most_turns}
 use Rattle.nested_wait.specs.declared.attending.Attended.{Attended}
 use Rattle.nested_wait.specs.declared.attending.Attended.TheVariants.{Below, Full, Stopped}
 use Rattle.session_core.specs.declared.doors.Answered.{Answered}
@@ -77,6 +77,11 @@ abbrev pub height_of : Tenants → Option State → ℕ
 height_of ts None = 0
 height_of ts (Some s) = height s.rows ts.slot
 
+-- A history of the bound tenant has a limit of at most 1,048,576 entries.
+abbrev pub IsLimited : Option State → Type 0
+IsLimited None = Unit {0}
+IsLimited (Some s) = s.config.steps ≤ MAX_STEPS
+
 -- how many rows are on the slot that is attended
 abbrev pub height_in : Tenants → ℕ
 height_in ts = height_of ts (bound_state ts)
@@ -86,12 +91,12 @@ abbrev pub Works : ℕ → Tenants → Tenants → Type 0
 Works zero ts us = us ≡ ts
 Works (suc n) ts us = (1 ≤ height_in ts) × ((moved_by ts).0 ≢ moved.Idle) × ((moved_by ts).0 ≢ moved.Full) × Works n (moved_by ts).1 us
 
--- Below: the stack is empty. Full and Stopped: it is not, and one more advance is Full or Idle; or the advances were counted out.
-abbrev pub EndsAs : Attended → (n : ℕ) → (us vs : Tenants) → Type 0
-EndsAs Below n us vs = (height_in us ≡ 0) × (vs ≡ us)
-EndsAs Full n us vs = (1 ≤ height_in us) × ((moved_by us).0 ≡ moved.Full) × (vs ≡ (moved_by us).1)
-EndsAs Stopped n us vs = ((1 ≤ height_in us) × ((moved_by us).0 ≡ moved.Idle) × (vs ≡ (moved_by us).1)) ⊎ ((most_turns ≤ n) × (vs ≡ us))
+-- Below: the stack is empty. Full and Stopped: it is not, and one more advance is Full or Idle.
+abbrev pub EndsAs : Attended → (us vs : Tenants) → Type 0
+EndsAs Below us vs = (height_in us ≡ 0) × (vs ≡ us)
+EndsAs Full us vs = (1 ≤ height_in us) × ((moved_by us).0 ≡ moved.Full) × (vs ≡ (moved_by us).1)
+EndsAs Stopped us vs = (1 ≤ height_in us) × ((moved_by us).0 ≡ moved.Idle) × (vs ≡ (moved_by us).1)
 
 -- The slot is advanced until its stack is empty, or an advance is Full or Idle.
 abbrev pub AttendsSlot : Attended → Tenants → Tenants → Type 0
-AttendsSlot how ts vs = (n : ℕ) × (us : Tenants) × (Works n ts us × EndsAs how n us vs)
+AttendsSlot how ts vs = (n : ℕ) × (us : Tenants) × (Works n ts us × EndsAs how us vs)

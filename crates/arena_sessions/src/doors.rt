@@ -72,7 +72,10 @@ impl Door for ArenaDoors {
         if self.tenant >= self.arenas.len() {
             return 0;
         }
-        self.arenas[self.tenant].height(self.slot)
+        let arena = &self.arenas[self.tenant];
+        // Proof hint: the tenant is valid.
+        let _ = arena.config();
+        arena.height(self.slot)
     }
 
     fn pause(&mut self) -> bool {

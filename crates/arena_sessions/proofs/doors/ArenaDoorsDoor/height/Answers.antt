@@ -1,4 +1,6 @@
-use Rattle.std.proofs.Common.{◌≡◌, ◌<◌, length, arith, refl, sym, ◌∙◌, ap, subst}
+use Rattle.std.proofs.Common.{◌≡◌, ◌<◌, ◌≤◌, length, arith, subst}
+use Rattle.job_language.specs.declared.tenants.Tenant.{Tenant}
+use Rattle.job_language.specs.declared.tenants.TheConstants.{MAX_STEPS}
 use Rattle.arena_sessions.proofs.Standing.{high_at}
 use Rattle.arena_sessions.proofs.doors.ArenaDoorsDoor.height.Goals as goal
 
@@ -6,4 +8,5 @@ pub returns-clause-value : goal.returns-clause-value
 returns-clause-value c =
     let d = c.args.self.now in
     let within : d.tenant < length d.arenas.items = (let len = d.arenas.ok.0 in omega (arith, len, c.len.ensures, c.if-self-len.false)) in
-    high_at d c.index.result.now within c.index.ensures c.height.result c.height.ensures.value
+    high_at d c.index-arena.result.now within c.index-arena.ensures c.height.result c.height.ensures.value
+    (λ s stands. subst (λ (t : Tenant). t.steps ≤ MAX_STEPS) (c.config.ensures.value s stands) c.config.ensures.valid.most_steps)
