@@ -1,1 +1,2 @@
 mod Nests
+mod Makers

@@ -1,1 +1,2 @@
 pub mod InsideNest
+pub mod Makes

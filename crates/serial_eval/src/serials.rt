@@ -1,11 +1,12 @@
 // The serial value of a program: each task runs as soon as it is made, and to its end.
-ghost use Rattle.std.specs.Prelude.{◌≡◌, ◌<◌, true, false, IfOk};
+ghost use Rattle.std.specs.Prelude.{◌≡◌, ◌<◌, true, false, IfOk, OnErr};
 ghost use Rattle.job_language.specs.Program.{is_last};
 ghost use Rattle.job_language.specs.Serial.{is_serial};
 ghost use Rattle.job_step.specs.declared.frames.TheConstants.{LAST_PLACE};
 ghost use Rattle.job_step.specs.Frame.{effect, instr_at};
 ghost use Rattle.tenant_model.specs.Serial.{new_task, is_owing, make_task, root_task, serial_value, sum_of, turn_at, turn_by, turn_of, after_wait, with_value_to};
 ghost use Rattle.serial_eval.specs.InsideNest.{Turns};
+ghost use Rattle.serial_eval.specs.Makes.{HasMaker, MakesTask};
 
 use job_language::{GROUPS, Group, Instr, Program, Register};
 use job_step::{Effect, Frame, effect_on};
@@ -30,7 +31,8 @@ enum Turned {
 
 /// The serial value of a program with its two arguments: the result of its root if each task runs as
 /// soon as it is made. It is `None` if that takes more than `n` instructions, at a divisor of 0, and
-/// if a task ends that did not wait for one of its groups. It fails only if an allocation failed.
+/// if a task ends that did not wait for one of its groups. It fails only if an instruction makes a task
+/// and an allocation failed.
 pub fn serial(
     alloc: Global,
     program: &Program,
@@ -38,7 +40,8 @@ pub fn serial(
     n: u64,
 ) -> Result<Option<i64>, AllocError>
     requires { is_serial program.now ≡ true }
-    ensures { IfOk result (λ value. value ≡ serial_value program.now args n) }
+    ensures value { IfOk result (λ value. value ≡ serial_value program.now args n) }
+    ensures makes { OnErr result ((0 < n) × HasMaker program.now) }
 {
     let mut nest = Nest {
         makers: Vec::new(alloc),
@@ -55,7 +58,8 @@ pub fn serial(
 impl Nest {
     /// Executes the next instruction. If an allocation failed, the nest is unchanged.
     fn turn(&mut self, program: &Program) -> Result<Turned, AllocError>
-        ensures { IfOk result (λ turned. Turns program.now self.old turned self.new) }
+        ensures turned { IfOk result (λ turned. Turns program.now self.old turned self.new) }
+        ensures makes { OnErr result (MakesTask (instr_at program.now self.old.task.frame)) }
     {
         match turn_at(program, &self.task) {
             SerialTurn::Goes(task) => self.task = task,
