@@ -139,7 +139,7 @@ SERVER = Bench("server", ("python3", "server/run.py"), ("0.5", "@server_program"
     Pair("`arena`, 1 connection", "an echo server in C", over("the plain server, 1", "`arena`, one tenant, 1", 0)),
     Pair("`arena`, 64 connections", "an echo server in C", over("the plain server, 64", "`arena`, one tenant, 64", 0)),
     Pair("an entry, by jobs that their own session executes", "", None, of("server_program", an_entry)),
-    Pair("a step of such a job, by view, segment and commit", "", None, of("server_program", a_step)),
+    Pair("a step of such a job, by view and advance", "", None, of("server_program", a_step)),
 ), ("cc",), ("server_program",), keys=2)
 
 BENCHES = (ARENA, CHECK, HOST, LEAF_ROUNDS, LOCK, PRIVATE_RUN, READING, SERVER)

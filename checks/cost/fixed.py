@@ -74,7 +74,7 @@ FIXED = (
     Fixed("step", "a step of an arena", "benchmarks", by_words("arena fib 20 1 0", "arena fib 1 1 0", printed("# steps"))),
     Fixed("recorded_step", "a step of a tenant's cell, recorded", "benchmarks",
           by_words("arena recorded 20 1", "arena recorded 1 1", printed("# steps"))),
-    Fixed("server_step", "a step of the server, by view, segment and commit", "server_program", a_step),
+    Fixed("server_step", "a step of the server, by view and advance", "server_program", a_step),
     Fixed("locked_event", "a poll at a tenant's lock, recorded", "benchmarks",
           by_words("locks steps 20000 1 1", "locks steps 1000 1 1", printed("# events"))),
     Fixed("request_read", "a small request read, 64 bytes at a call", "benchmarks",

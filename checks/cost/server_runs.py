@@ -9,19 +9,22 @@ from dataclasses import dataclass
 
 from callgrind import Count, Failed, Run, command, count_in, environment
 
-# Jobs of the sixth Fibonacci number, by tasks, make 87 entries each; those of the first are a single leaf.
+# Jobs of the sixth Fibonacci number, by tasks, make 87 entries each, 85 of them steps of a slot; those of the first are a
+# single leaf.
 FIB = json.loads((pathlib.Path(__file__).resolve().parents[2] / "benches" / "private_run" / "leaf.json").read_text())
 VALUES = {6: 8, 1: 1}
 TENANT = {"name": "acme", "priority": "normal", "reserved": 1, "rows": 200, "slots": 1, "steps": 100_000}
+STEPS = 85
 JOBS = 100
 # How many jobs are made between two retires.
 BATCH = 50
 
 
-# A step of a slot, as a session's thread takes it: it looks at the topmost row under the lock, makes the private run
-# outside of it, and commits that under the lock, where it is recorded.
+# A step of a slot, as a session's thread takes it: a job's first one looks at the topmost row under the lock, makes the
+# private run outside of it, and commits that under the lock, where it is recorded. The others, since nobody else is out,
+# are advances under the lock.
 STEP = ("tenant_slots::ways::TenantSlotsDueDoor::view*", "job_step::segments::segment_of",
-        "tenant_slots::ways::TenantSlotsDueDoor::commit*")
+        "tenant_slots::ways::TenantSlotsDueDoor::commit*", "tenant_slots::ways::TenantSlotsDueDoor::advance*")
 
 
 @dataclass(frozen=True)
@@ -84,8 +87,8 @@ def an_entry(program: pathlib.Path) -> float:
 
 
 def a_step(program: pathlib.Path) -> float:
-    """What a step of a slot takes, by view, segment and commit."""
-    return serve(program, JOBS, within=STEP).counted.a_call
+    """What a step of a slot takes, by view, segment and commit, or by view and advance."""
+    return serve(program, JOBS, within=STEP).counted.instructions / (JOBS * STEPS)
 
 
 def a_leaf(program: pathlib.Path) -> float:

@@ -9,7 +9,7 @@ import time
 from hosts import Host, ask, by_deadline, execute, fib, hang_up, tenant
 
 # How long a session may outlive its client, in seconds.
-SOON = 2
+SOON = 10
 ENDLESS = {"args": [0, 0], "fuel": 1_000_000, "procs": [[["jmp", 0]]]}
 WAITS = {"args": [0, 0], "fuel": 10, "procs": [[["ret", 0]]]}
 

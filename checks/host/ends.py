@@ -13,7 +13,7 @@ def stop_under_load():
     time.sleep(1)
     began = time.monotonic()
     assert host.stop() == 0
-    assert time.monotonic() - began < 10
+    assert time.monotonic() - began < 20, "it waited for its patience"
     replies = load.end()
     assert set(replies) <= {"right", "None", "FileNotFoundError", "AssertionError", "ConnectionResetError",
                             "BrokenPipeError", "ConnectionRefusedError", "JSONDecodeError"}, replies

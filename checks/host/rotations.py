@@ -12,9 +12,10 @@ def serving(host):
 
 def three_by_history():
     """Under load the host rotates by history, and no client of a generation that serves finds a full one."""
-    host = Host([tenant("acme", steps=4_000), tenant("beta")], "--connections", 8, "--patience", 5, workers=2)
+    tenants = [tenant("acme", steps=40_000), tenant("beta", steps=60_000)]
+    host = Host(tenants, "--connections", 8, "--patience", 5, workers=2)
     load = Load(host, 8, ("acme", "beta"))
-    by_deadline(lambda: len(host.told("opened")) >= 4)
+    by_deadline(lambda: len(host.told("opened")) >= 4, seconds=60)
     replies = load.end()
     assert set(replies) == {"right"}, replies
     assert host.stop() == 0

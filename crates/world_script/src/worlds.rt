@@ -14,7 +14,7 @@ ghost use Rattle.market_config.specs.Lines.{config_in};
 ghost use Rattle.world_script.specs.Takes.{step_in, told, outcome_text, held_text, TakesRaw, TakesStep};
 
 use crate::raw_lines::{RawLine, raw_line};
-use job_language::TenantName;
+use job_language::{Error, TenantName};
 use market_config::{Call, config_in, names_of};
 use reply_writer::{MarketAnswer, ReplyBuf, answer_line, bad_step_line, market_line};
 use request_reader::value_of;

@@ -5,6 +5,7 @@ mod desk_served;
 mod tenants;
 mod turns;
 mod waits;
+mod worlds;
 
 use std::test::Fail;
 

@@ -3,4 +3,5 @@ mod lines;
 mod readers;
 mod refusals;
 mod replies;
+mod requests;
 mod writers;

@@ -5,7 +5,7 @@ use super::tenants::{FIB, job_of, tenant};
 use crate::tests::assert_same;
 use arena_core::Arena;
 use arena_door::attend_slot;
-use job_language::{Came, Error, Moved, Reply, Request, Status};
+use job_language::{Came, Error, JobFault, Moved, Reply, Request, Status};
 use job_step::{View, segment_of};
 use nested_wait::Attended;
 use std::alloc::Global;
@@ -18,6 +18,10 @@ const ISOLATED: &str =
 /// As many procedures as a program may have.
 const LONG: &str =
     r#"{"args":[7,0],"fuel":10,"procs":[[["ret",0]],[["ret",0]],[["ret",0]],[["ret",0]],[["ret",0]],[["ret",0]],[["ret",0]],[["ret",0]],[["ret",0]],[["ret",0]],[["ret",0]],[["ret",0]],[["ret",0]],[["ret",0]],[["ret",0]],[["ret",0]]]}"#;
+
+/// As many tasks as its first argument, each below the one before.
+const CHAIN: &str =
+    r#"{"args":[128,7],"fuel":1000,"procs":[[["jz",0,6],["set",2,1],["sub",3,0,2],["spawn",0,0,3,1],["wait",4,5,0],["ret",4],["ret",1]]]}"#;
 
 /// Executes a job, which is placed on the first slot.
 fn execute(alloc: Global, text: &str, arena: &mut Arena) -> Result<(), Fail> {
@@ -162,5 +166,70 @@ fn a_frame_of_the_longest_program_is_seen(rt: HostRuntime) -> Result<(), Fail> {
     let arena = executed(rt.alloc(), LONG, 1, 100)?;
     let is_seen = matches!(arena.view(0), View::Top(_));
     assert_same(&rt, &is_seen, &true);
+    Ok(())
+}
+
+/// An arena with one slot for workers, where one has arrived at the job, and room for that many entries.
+fn arrived(alloc: Global, text: &str, steps: usize) -> Result<Arena, Fail> {
+    let config = tenant("acme", 1, 0, steps).ok_or("each number is in its range")?;
+    let mut arena = Arena::new(alloc, config)?;
+    submit_and_arrive(alloc, text, &mut arena)?;
+    Ok(arena)
+}
+
+fn submit_and_arrive(alloc: Global, text: &str, arena: &mut Arena) -> Result<(), Fail> {
+    let job = job_of(alloc, text)?;
+    if arena.ask(Request::Submit(job)) == Reply::Made(1) && arena.arrive(0) == Came::At(1) {
+        Ok(())
+    } else {
+        Err("a worker arrives at the job")?
+    }
+}
+
+#[test]
+fn nothing_is_committed_to_a_full_history(rt: HostRuntime) -> Result<(), Fail> {
+    let mut full = arrived(rt.alloc(), FIB, 2)?;
+    let answers = [committed_with(&mut full, 1), committed_with(&mut full, 0)];
+    assert_same(&rt, &answers, &[Some(Moved::Stale), Some(Moved::Full)]);
+    Ok(())
+}
+
+/// The answers to an advance of the first slot, and to a commit of the frame that was seen before it.
+fn committed_late(arena: &mut Arena) -> Option<(Moved, Moved)> {
+    let View::Top(top) = arena.view(0) else {
+        return None;
+    };
+    let segment = segment_of(top);
+    Some((arena.advance(0), arena.commit(0, &segment)))
+}
+
+#[test]
+fn a_frame_that_has_moved_is_not_committed(rt: HostRuntime) -> Result<(), Fail> {
+    let mut arena = arrived(rt.alloc(), FIB, 100)?;
+    assert_same(
+        &rt,
+        &committed_late(&mut arena),
+        &Some((Moved::Ran, Moved::Stale)),
+    );
+    Ok(())
+}
+
+/// How high the first slot gets until it is left, and what is reported of its job then.
+fn greatest_height(arena: &mut Arena) -> (usize, Reply) {
+    let mut greatest = 0;
+    for _advance in 0..600u32 {
+        greatest = greatest.max(arena.height(0));
+        if arena.advance(0) == Moved::Left {
+            break;
+        }
+    }
+    (greatest, arena.ask(Request::Poll(1)))
+}
+
+#[test]
+fn a_chain_of_128_tasks_is_too_deep(rt: HostRuntime) -> Result<(), Fail> {
+    let mut arena = arrived(rt.alloc(), CHAIN, 10_000)?;
+    let too_deep = Reply::Job(1, Status::Fault(JobFault::TooDeep));
+    assert_same(&rt, &greatest_height(&mut arena), &(128, too_deep));
     Ok(())
 }

@@ -293,6 +293,123 @@ fn a_pass_that_is_kept_is_missed(rt: HostRuntime) -> Result<(), Fail> {
     Ok(())
 }
 
+/// A pass of another door of the tenant, which knows of one entry: a worker arrived at the first row.
+fn pass_of_another_door<R: Wait>(rt: &R, alloc: Global) -> Result<Pass, Fail> {
+    let (door, mut seats) = TenantDoor::new(alloc, 0, two_slots()?, 1)?;
+    let pass = submit_and_arrive(rt, alloc, &door, seats.as_mut_slice());
+    Ok(pass.ok_or("a row waits")?)
+}
+
+/// Submits the job by the first seat, and lets a worker arrive at it and run it.
+fn submit_and_run<R: Wait>(
+    rt: &R,
+    alloc: Global,
+    door: &TenantDoor,
+    seats: &mut [Seat],
+) -> Option<Advanced> {
+    let pass = submit_and_arrive(rt, alloc, door, seats);
+    advance(rt, door, pass)
+}
+
+#[test]
+fn a_pass_that_was_told_of_fewer_entries_is_refused(rt: HostRuntime) -> Result<(), Fail> {
+    let (door, mut seats) = TenantDoor::new(rt.alloc(), 0, two_slots()?, 1)?;
+    let _ran = submit_and_run(&rt, rt.alloc(), &door, seats.as_mut_slice());
+    give_home(&rt, &door, pass_of_another_door(&rt, rt.alloc())?);
+    let fault = door.close(seats).err();
+    assert_same(&rt, &fault, &Some(CloseFault::CountWrong(1)));
+    Ok(())
+}
+
+/// Submits the job twice by the first seat, cancels it the first time, and lets a worker arrive at the second
+/// row. The worker's pass.
+fn submit_twice_and_arrive<R: Wait>(
+    rt: &R,
+    alloc: Global,
+    door: &TenantDoor,
+    seats: &mut [Seat],
+) -> Option<Pass> {
+    let seat = seats.first_mut()?;
+    let _made = submit(rt, alloc, door, seat);
+    let _cancelled = ask(rt, door, seat, Request::Cancel(1));
+    let _other = submit(rt, alloc, door, seat);
+    door.arrive(rt, CALL).pass
+}
+
+#[test]
+fn a_pass_that_was_told_of_another_row_is_refused(rt: HostRuntime) -> Result<(), Fail> {
+    let (door, mut seats) = TenantDoor::new(rt.alloc(), 0, two_slots()?, 1)?;
+    let _pass = submit_twice_and_arrive(&rt, rt.alloc(), &door, seats.as_mut_slice());
+    give_home(&rt, &door, pass_of_another_door(&rt, rt.alloc())?);
+    let fault = door.close(seats).err();
+    assert_same(&rt, &fault, &Some(CloseFault::LogWrong(1)));
+    Ok(())
+}
+
+/// Submits the job by the first seat.
+fn submit_first<R: Wait>(
+    rt: &R,
+    alloc: Global,
+    door: &TenantDoor,
+    seats: &mut [Seat],
+) -> Option<Answer> {
+    submit(rt, alloc, door, seats.first_mut()?)
+}
+
+/// The seats of another door of the tenant, by which nothing was asked.
+fn seats_of_another_door(alloc: Global) -> Result<Vec<Seat>, Fail> {
+    let (_door, seats) = TenantDoor::new(alloc, 0, two_slots()?, 1)?;
+    Ok(seats)
+}
+
+#[test]
+fn a_seat_that_was_told_of_other_asks_is_refused(rt: HostRuntime) -> Result<(), Fail> {
+    let (door, mut seats) = TenantDoor::new(rt.alloc(), 0, two_slots()?, 1)?;
+    let _made = submit_first(&rt, rt.alloc(), &door, seats.as_mut_slice());
+    let fault = door.close(seats_of_another_door(rt.alloc())?).err();
+    assert_same(&rt, &fault, &Some(CloseFault::AskWrong(0)));
+    Ok(())
+}
+
+/// The seats of another door of the tenant, which has room for one entry: the job was made, and then refused.
+fn seats_of_a_full_door<R: Wait>(rt: &R, alloc: Global) -> Result<Vec<Seat>, Fail> {
+    let (door, mut seats) = TenantDoor::new(alloc, 0, tenant(2, 1)?, 1)?;
+    let _made = submit_first(rt, alloc, &door, seats.as_mut_slice());
+    let _refused = submit_first(rt, alloc, &door, seats.as_mut_slice());
+    Ok(seats)
+}
+
+#[test]
+fn a_seat_that_was_told_of_a_full_history_is_refused(rt: HostRuntime) -> Result<(), Fail> {
+    let (door, mut seats) = TenantDoor::new(rt.alloc(), 0, two_slots()?, 1)?;
+    let _made = submit_first(&rt, rt.alloc(), &door, seats.as_mut_slice());
+    let fault = door.close(seats_of_a_full_door(&rt, rt.alloc())?).err();
+    assert_same(&rt, &fault, &Some(CloseFault::FullWrong));
+    Ok(())
+}
+
+/// A worker arrives at the job and runs it; the job is submitted again, and another worker arrives while the
+/// pass is out. What the first is answered, and what the other, and whether that one gets a pass.
+fn arrive_twice<R: Wait>(
+    rt: &R,
+    alloc: Global,
+    door: &TenantDoor,
+    seats: &mut [Seat],
+) -> Option<(Moved, Came, bool)> {
+    let ran = submit_and_run(rt, alloc, door, seats)?;
+    let _made = submit_first(rt, alloc, door, seats);
+    let other = door.arrive(rt, CALL);
+    Some((ran.moved, other.came, other.pass.is_some()))
+}
+
+#[test]
+fn nothing_is_found_while_the_pass_is_out(rt: HostRuntime) -> Result<(), Fail> {
+    let (door, mut seats) = TenantDoor::new(rt.alloc(), 0, two_slots()?, 1)?;
+    let seen = arrive_twice(&rt, rt.alloc(), &door, seats.as_mut_slice());
+    assert_same(&rt, &seen, &Some((Moved::Ran, Came::Nothing, false)));
+    Ok(())
+}
+
 /// Waits for job 1 by a seat, if that is one of the door's, and says whether the wait was told to stop.
 fn is_stopped<R: Wait>(rt: &R, door: &TenantDoor, seat: &Seat, stop: &StopFlag) -> bool {
     seat.tenant() == door.tenant() && door.pause_for_until(rt, seat, 1, stop)

@@ -1,6 +1,7 @@
-// Sessions whose reader is interrupted at every call.
-use super::{BOUND, HELLO, both, served_from};
+// Sessions whose reader is interrupted at every call, or whose writer has too little room.
+use super::{BOUND, HELLO, RETURNS, both, served, served_from};
 use crate::tests::assert_same;
+use arena_sessions::{ArenaDoors, serve_arenas};
 use session_core::SessionEnd;
 use std::alloc::Global;
 use std::io;
@@ -40,5 +41,47 @@ fn a_reader_that_is_always_interrupted_is_left(rt: HostRuntime) -> Result<(), Fa
         interrupted_after(rt.alloc(), HELLO, BOUND)?,
     ];
     assert_same(&rt, &ends, &[SessionEnd::TurnLimit, SessionEnd::TurnLimit]);
+    Ok(())
+}
+
+/// How a session ends that is sent these lines and has that room for its replies.
+fn served_into(
+    alloc: Global,
+    lines: &[&str],
+    room: &mut [u8],
+    doors: &mut ArenaDoors,
+) -> Result<SessionEnd, Fail> {
+    let text = lines.concat(alloc)?;
+    let mut writer = room;
+    Ok(serve_arenas(alloc, &mut text.as_bytes(), &mut writer, doors)?)
+}
+
+#[test]
+fn a_hello_is_cut_after_ten_bytes(rt: HostRuntime) -> Result<(), Fail> {
+    let mut doors = both(rt.alloc(), 100)?;
+    let mut written = [0; 10];
+    let end = served_into(rt.alloc(), &[HELLO], written.as_mut_slice(), &mut doors)?;
+    let cut = SessionEnd::WriteFault { sent: 10 };
+    assert_same(&rt, &(end, written), &(cut, *b"{\"tenant\":"));
+    Ok(())
+}
+
+const POLL: &str = "{\"job\":1,\"op\":\"poll\"}\n";
+
+const POLLED: &str = "{\"tenant\":\"acme\"}\n{\"job\":1,\"status\":\"complete\",\"value\":7}\n";
+
+#[test]
+fn a_job_whose_reply_is_lost_is_complete(rt: HostRuntime) -> Result<(), Fail> {
+    let mut doors = both(rt.alloc(), 100)?;
+    let mut written = [0; 18];
+    let lost = served_into(
+        rt.alloc(),
+        &[HELLO, RETURNS],
+        written.as_mut_slice(),
+        &mut doors,
+    )?;
+    let later = served(rt.alloc(), &[HELLO, POLL], POLLED, &mut doors)?;
+    let nothing_went_out = SessionEnd::WriteFault { sent: 0 };
+    assert_same(&rt, &[lost, later], &[nothing_went_out, SessionEnd::Ended]);
     Ok(())
 }

@@ -44,3 +44,22 @@ impl Write for Full {
         Ok(())
     }
 }
+
+/// A writer that takes some bytes at a call, and never fails.
+#[derive(Drop)]
+pub(super) struct Slow {
+    pub taken: Vec<u8>,
+    pub at_a_call: usize,
+}
+
+impl Write for Slow {
+    fn write(&mut self, bytes: &[u8]) -> io::Result<usize> {
+        let count = bytes.len().min(self.at_a_call);
+        self.taken.extend_from_slice(&bytes[..count])?;
+        Ok(count)
+    }
+
+    fn flush(&mut self) -> io::Result<()> {
+        Ok(())
+    }
+}

@@ -1,6 +1,6 @@
 // Sessions whose reader or writer fails.
 use super::desks::Desk;
-use super::devices::{Few, Full};
+use super::devices::{Few, Full, Slow};
 use crate::tests::assert_same;
 use session_core::{SessionEnd, serve};
 use std::alloc::Global;
@@ -53,16 +53,22 @@ fn served_until(alloc: Global, mut reader: Few<'_>) -> Result<(SessionEnd, Optio
     Ok((end, count_of(written.as_slice())))
 }
 
-/// How many bytes of the lines are given, and how many bytes of the replies are written for them.
-const GIVEN: [(usize, usize); 4] = [(6, 0), (7, FIRST), (20, FIRST), (23, WANTED.len())];
+/// How many bytes of the replies are written for that many bytes of the lines.
+fn answered(given: usize) -> usize {
+    match given {
+        0..7 => 0,
+        7..23 => FIRST,
+        _ => WANTED.len(),
+    }
+}
 
-/// The first of these after which a session ends or writes otherwise, by a reader that gives `at_a_call`
-/// bytes at a call.
+/// After how many bytes of the lines a session first ends or writes otherwise, by a reader that gives
+/// `at_a_call` bytes at a call.
 fn first_wrong(alloc: Global, at_a_call: usize) -> Result<Option<usize>, Fail> {
-    for (given, answered) in GIVEN {
+    for given in 0..=LINES.len() {
         let bytes = LINES.as_bytes().get(..given).ok_or("fewer bytes")?;
         let served = served_until(alloc, Few { bytes, at_a_call })?;
-        if served != (SessionEnd::ReadFault, Some(answered)) {
+        if served != (SessionEnd::ReadFault, Some(answered(given))) {
             return Ok(Some(given));
         }
     }
@@ -74,5 +80,26 @@ fn a_reader_that_fails_ends_the_session(rt: HostRuntime) -> Result<(), Fail> {
     for at_a_call in [1, 7, 100] {
         assert_same(&rt, &first_wrong(rt.alloc(), at_a_call)?, &None);
     }
+    Ok(())
+}
+
+/// How a session ends whose writer takes `at_a_call` bytes at a call, and how many bytes of the replies it took.
+fn served_by(alloc: Global, at_a_call: usize) -> Result<(SessionEnd, Option<usize>), Fail> {
+    let mut reader = LINES.as_bytes();
+    let mut writer = Slow {
+        taken: Vec::new(alloc),
+        at_a_call,
+    };
+    let mut desk = Desk::new(&[], &[], &[], 0);
+    let end = serve(alloc, &mut reader, &mut writer, &mut desk)?;
+    Ok((end, count_of(writer.taken.as_slice())))
+}
+
+#[test]
+fn a_writer_takes_few_bytes_at_a_call(rt: HostRuntime) -> Result<(), Fail> {
+    let ends = [served_by(rt.alloc(), 0)?, served_by(rt.alloc(), 1)?];
+    let none = (SessionEnd::WriteFault { sent: 0 }, Some(0));
+    let all = (SessionEnd::Ended, Some(WANTED.len()));
+    assert_same(&rt, &ends, &[none, all]);
     Ok(())
 }
