@@ -8,7 +8,7 @@ use std::test::Fail;
 /// A request with spaces before its end, so that it has that length.
 fn padded(alloc: Global, length: usize) -> Result<Vec<u8>, Fail> {
     let mut line = b"{\"op\":\"arena\"".to_vec(alloc)?;
-    while line.len() + 1 < length {
+    for _blank in line.len() + 1..length {
         line.push(b' ')?;
     }
     line.push(b'}')?;

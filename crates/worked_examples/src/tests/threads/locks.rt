@@ -587,8 +587,21 @@ fn all_waits_for_a_job_end_with_its_outcome(rt: HostRuntime) -> Result<(), Fail>
     Ok(())
 }
 
-/// A seat waits for the job, which nobody runs, in one thread, while another thread fills the history by a poll: what
-/// the wait says.
+/// Waits for the job, which nobody runs, by one seat in a thread, while another thread fills the history by a poll of the
+/// other: what the wait says.
+fn wait_beside_a_poll<R: Threads + Wait + Sync>(
+    rt: &R,
+    door: &TenantDoor,
+    one: &Seat,
+    two: &mut Seat,
+) -> bool {
+    let never = &StopFlag::new();
+    let waits = move || is_stopped(rt, door, one, never);
+    let (stopped, _reply) = thread::join(rt, waits, move || poll(rt, door, two, 1));
+    stopped
+}
+
+/// Submits the job to a history of two, and lets a seat wait until that is full.
 fn wait_until_full<R: Threads + Wait + Sync>(
     rt: &R,
     alloc: Global,
@@ -599,10 +612,7 @@ fn wait_until_full<R: Threads + Wait + Sync>(
         return None;
     };
     let _made = submit(rt, alloc, door, two);
-    let never = &StopFlag::new();
-    let one = &*one;
-    let fill = move || poll(rt, door, two, 1);
-    Some(thread::join(rt, move || is_stopped(rt, door, one, never), fill).0)
+    Some(wait_beside_a_poll(rt, door, one, two))
 }
 
 #[test]
