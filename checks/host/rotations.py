@@ -21,7 +21,9 @@ def three_by_history():
     assert host.stop() == 0
     numbers = [it["generation"] for it in host.told("opened")]
     assert numbers == list(range(len(numbers)))
-    assert [it["generation"] for it in host.told("rotation", why="history")] == numbers[:-1]
+    rotations = [it["generation"] for it in host.told("rotation", why="history")]
+    assert rotations in (numbers[:-1], numbers), rotations  # the stop may come while one more is being opened
+    assert not host.told("fault"), host.told("fault")
     assert sorted(it["generation"] for it in host.told("closed")) == numbers
     assert set(host.closed()) == {"acme", "beta"}
     assert all(sorted(closed) == numbers for closed in host.closed().values())

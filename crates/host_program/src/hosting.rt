@@ -193,6 +193,10 @@ impl<'h> Keeper<'h> {
         alloc: Global,
         end: ServerEnd,
     ) -> Result<(), ServerEnd> {
+        // A generation that is being opened when the host stops is given up.
+        if self.is_stopping {
+            return Ok(());
+        }
         if !self.has_served {
             return Err(end);
         }
