@@ -37,7 +37,7 @@ PROMISES = [
     ("workers, over any doors", ["worker_main::CallDoors", "worker_main::worker"]),
     ("queues that threads share", ["call_queues::CallQueues"]),
     ("the market's lists", ["market::MarketState"]),
-    ("the words of the server", ["server_words::read_words"]),
+    ("the words of the server", ["program_words::read_server_words"]),
     ("a server's tenants, from its start to its end", ["socket_server::House"]),
 ]
 # A definition begins in the first column with one of these words, or with the name alone.

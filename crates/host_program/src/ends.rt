@@ -2,7 +2,7 @@
 
 use dump_lines::DumpFault;
 use host_status::Fault;
-use host_words::WordsFault;
+use program_words::WordsFault;
 use socket_server::ServerEnd;
 
 /// What the process writes to standard error.

@@ -9,7 +9,7 @@ use dump_files::{Part, make_part};
 use dump_lines::DumpFault;
 use host_house::{Host, millis, say, seconds};
 use host_status::{ClosedGeneration, ClosedTenant, Event, Fault};
-use host_words::Words;
+use program_words::HostWords;
 use std::alloc::{AllocError, Global};
 use std::fs::{File, Files};
 use std::sync::Wait;
@@ -24,7 +24,7 @@ pub(crate) struct Office<'h> {
     pub(crate) host: &'h Host,
     pub(crate) archive: &'h Archive,
     pub(crate) writer: &'h Writer,
-    pub(crate) words: Words<'h>,
+    pub(crate) words: HostWords<'h>,
     pub(crate) folder: &'h Folder,
 }
 

@@ -10,8 +10,8 @@ use crate::writing::{Writer, write_histories};
 use generation_life::Why;
 use host_house::{Eyes, Host, Step, Terms, millis, say, seconds};
 use host_status::Event;
-use host_words::Words;
 use job_language::Config;
+use program_words::HostWords;
 use socket_server::{Access, Endpoint, MAX_CONFIG, ServerEnd, config_of};
 use std::alloc::Global;
 use std::fs::{File, Files};
@@ -32,7 +32,7 @@ const SECOND: u64 = 1000;
 pub(crate) fn host_tenants<'h, R>(
     rt: &R,
     alloc: Global,
-    words: Words<'h>,
+    words: HostWords<'h>,
     folder: &'h Folder,
 ) -> Result<ServerEnd, ServerEnd>
 where
@@ -286,7 +286,7 @@ impl<'h> Keeper<'h> {
 }
 
 /// How generations are to live.
-fn terms_of(words: Words<'_>) -> Result<Terms, ServerEnd> {
+fn terms_of(words: HostWords<'_>) -> Result<Terms, ServerEnd> {
     match u8::try_from(words.connections) {
         Ok(connections) if connections > 0 => Ok(Terms {
             connections,

@@ -14,7 +14,7 @@ mod writing;
 use crate::ends::{fault_text, words_fault};
 use crate::folders::Folder;
 use crate::hosting::host_tenants;
-use host_words::{Words, read_words};
+use program_words::{HostWords, read_host_words};
 use socket_server::ServerEnd;
 use std::alloc::Global;
 use std::env::Env;
@@ -73,7 +73,7 @@ where
             return ServerEnd::Memory;
         }
     }
-    let words = match read_words(rt.alloc(), texts.as_slice()) {
+    let words = match read_host_words(rt.alloc(), texts.as_slice()) {
         Ok(words) => words,
         Err(fault) => return words_fault(fault),
     };
@@ -84,7 +84,7 @@ where
 }
 
 /// Hosts the tenants, if no other host works in the folder.
-fn host_alone<R>(rt: &R, words: Words<'_>) -> Result<ServerEnd, ServerEnd>
+fn host_alone<R>(rt: &R, words: HostWords<'_>) -> Result<ServerEnd, ServerEnd>
 where
     R: Files<File = File>
         + Net

@@ -4,7 +4,7 @@ use crate::folders::Folder;
 use generation_life::Why;
 use host_house::{Host, seconds};
 use host_status::Status;
-use host_words::Words;
+use program_words::HostWords;
 use socket_server::ServerEnd;
 use std::alloc::Global;
 use std::fs::{Files, OpenFile, OpenOptions};
@@ -21,7 +21,7 @@ const PAGE: u64 = 4096;
 pub(crate) fn show<R: Files + Wait + Clock + AllocGlobal>(
     rt: &R,
     host: &Host,
-    words: Words<'_>,
+    words: HostWords<'_>,
     folder: &Folder,
     began: u64,
 ) -> io::Result<()> {
@@ -49,7 +49,7 @@ pub(crate) fn show<R: Files + Wait + Clock + AllocGlobal>(
 }
 
 /// Writes a line to a new file, which those may read who may connect.
-fn write_private<R: Files>(rt: &R, path: &str, words: Words<'_>, line: &str) -> io::Result<()> {
+fn write_private<R: Files>(rt: &R, path: &str, words: HostWords<'_>, line: &str) -> io::Result<()> {
     // It is there if the last one could not be renamed.
     let _ = fs::remove_file(rt, path);
     let mut options = OpenOptions::new();

@@ -6,7 +6,7 @@ ghost use Rattle.std.specs.Prelude.{◌≤◌};
 use dump_files::{can_dump, dump_history};
 use dump_lines::DumpFault;
 use job_language::TenantConfig;
-use server_words::{Words, WordsFault, read_words};
+use program_words::{ServerWords, WordsFault, read_server_words};
 use socket_server::{
     Access, Endpoint, House, MAX_CONFIG, Opened, ServerEnd, config_of, serve_connections,
 };
@@ -67,7 +67,7 @@ where
             return Err(ServerEnd::Memory);
         }
     }
-    let words = match read_words(rt.alloc(), texts.as_slice()) {
+    let words = match read_server_words(rt.alloc(), texts.as_slice()) {
         Ok(words) => words,
         Err(WordsFault::Words) => return Err(ServerEnd::Words),
         Err(WordsFault::Memory) => return Err(ServerEnd::Memory),
@@ -80,7 +80,7 @@ where
 }
 
 /// Opens the tenants of the configuration, serves them, and closes them.
-fn serve_tenants<R>(rt: &R, words: Words<'_>) -> Result<ServerEnd, ServerEnd>
+fn serve_tenants<R>(rt: &R, words: ServerWords<'_>) -> Result<ServerEnd, ServerEnd>
 where
     R: Files + Net + Threads + Wait + Sync + Print + AllocGlobal,
     requires { 1 ≤ words.connections }

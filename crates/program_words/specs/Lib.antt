@@ -1,0 +1,4 @@
+pub mod Rules
+pub mod Numbers
+pub mod ServerOptions
+pub mod HostOptions

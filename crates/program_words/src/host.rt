@@ -1,0 +1,131 @@
+// The words that the host is called with, as clap reads them.
+ghost use Rattle.std.specs.Prelude.{◌≡◌, ◌≤◌, IfOk, MatchOption, map, option_map, Err, false};
+ghost use Rattle.clap.specs.Words.{found_of, rows_of, app_of, takes};
+ghost use Rattle.program_words.specs.Numbers.{IsMisgiven};
+ghost use Rattle.program_words.specs.HostOptions.{host_app, needed_app, serving_app, options_in, group_range, AreRead, AreRefused, LackValues, IsGivenOption, IsHostCommand};
+ghost use Rattle.program_words.specs.declared.faults.WordsFault.{WordsFault};
+
+use crate::faults::{WordsFault, fault_of};
+use crate::numbers::Range;
+use crate::options::{option, required, value_of};
+use clap::{ArgMatches, Command};
+use std::alloc::{AllocError, Global};
+
+/// What the host is called with.
+#[derive(Clone, Copy, Debug, PartialEq, Eq)]
+pub struct HostWords<'a> {
+    /// The path of the configuration.
+    pub config: &'a str,
+    /// The folder in which the host works.
+    pub run: &'a str,
+    /// How many connections are served at a time, from 1 to 64.
+    pub connections: u32,
+    /// At how many per cent of its steps a tenant's history ends a generation, from 1 to 100.
+    pub rotate_at: u32,
+    /// How many dumps of each tenant are kept, from 1 to 999,999.
+    pub keep: u32,
+    /// How many seconds the sessions of a generation have to end, up to 86,400.
+    pub patience: u32,
+    /// The mode of the socket, up to 0o777.
+    pub mode: u32,
+    /// The group of the socket, if it is not the process' own.
+    pub group: Option<u32>,
+}
+
+/// Reads the words of a command line, the program's name first: `arena-host --config F --run D [--connections N]
+/// [--rotate-at P] [--keep K] [--patience S] [--mode M] [--group G]`, in any order, also as `--config=F`. M is in
+/// octal digits, all other numbers are in decimal ones.
+pub fn read_host_words<'a>(alloc: Global, words: &'a [&'a str]) -> Result<HostWords<'a>, WordsFault>
+    ensures read { IfOk result (λ read. AreRead (options_in (map (λ word. word.now) words.entry.now)) read) }
+    ensures refused { result ≡ Err WordsFault.Words → AreRefused (map (λ word. word.now) words.entry.now) }
+{
+    let matches = matches_in(alloc, words)?;
+    values_of(&matches).ok_or(WordsFault::Words)
+}
+
+/// What clap makes of the words.
+fn matches_in<'a>(alloc: Global, words: &'a [&'a str]) -> Result<ArgMatches<'a>, WordsFault>
+    ensures options { IfOk result (λ matches. rows_of (found_of matches) ≡ options_in (map (λ word. word.now) words.entry.now)) }
+    ensures refused { result ≡ Err WordsFault.Words → takes host_app (map (λ word. word.now) words.entry.now) ≡ false }
+{
+    match command(alloc)?.try_get_matches_from(words) {
+        Ok(matches) => Ok(matches),
+        Err(error) => Err(fault_of(error.kind())),
+    }
+}
+
+/// The values that the options must have, and may.
+fn values_of<'a>(matches: &ArgMatches<'a>) -> Option<HostWords<'a>>
+    ensures { MatchOption result (LackValues (rows_of (found_of matches.now))) (AreRead (rows_of (found_of matches.now))) }
+{
+    let config = value_of(matches, "config")?;
+    let run = value_of(matches, "run")?;
+    let connections = Range::decimal(1, 64).given_or(value_of(matches, "connections"), 64)?;
+    let rotate_at = Range::decimal(1, 100).given_or(value_of(matches, "rotate-at"), 50)?;
+    let keep = Range::decimal(1, 999_999).given_or(value_of(matches, "keep"), 8)?;
+    let patience = Range::decimal(0, 86_400).given_or(value_of(matches, "patience"), 30)?;
+    let mode = octal().given_or(value_of(matches, "mode"), 0o600)?;
+    let group = group_in(value_of(matches, "group"))?;
+    Some(HostWords {
+        config,
+        run,
+        connections,
+        rotate_at,
+        keep,
+        patience,
+        mode,
+        group,
+    })
+}
+
+/// The modes of a file.
+fn octal() -> Range
+    ensures { result ≡ record { radix = 8; least = 0; most = 511 } }
+{
+    Range {
+        radix: 8,
+        least: 0,
+        most: 0o777,
+    }
+}
+
+/// The number of a group, if the option was given one. None if it was given a text that names no group.
+fn group_in(value: Option<&str>) -> Option<Option<u32>>
+    ensures { MatchOption result (IsMisgiven group_range (option_map (λ text. text.now) value.entry)) (IsGivenOption group_range (option_map (λ text. text.now) value.entry)) }
+{
+    let Some(text) = value else {
+        return Some(None);
+    };
+    let group = Range::decimal(0, 4_294_967_294).number_in(text)?;
+    Some(Some(group))
+}
+
+/// The host's command.
+fn command<'a>(alloc: Global) -> Result<Command<'a>, AllocError>
+    ensures { IfOk result (λ command. IsHostCommand command) }
+{
+    serving(alloc, needed(alloc)?)?
+        .arg(option(alloc, "mode"))?
+        .arg(option(alloc, "group"))
+}
+
+/// What it must be called with.
+fn needed<'a>(alloc: Global) -> Result<Command<'a>, AllocError>
+    ensures { IfOk result (λ command. app_of command ≡ needed_app) }
+{
+    Command::new(alloc, "arena-host")
+        .arg(required(alloc, "config"))?
+        .arg(required(alloc, "run"))
+}
+
+/// The same with how it serves.
+fn serving<'a>(alloc: Global, needed: Command<'a>) -> Result<Command<'a>, AllocError>
+    requires { app_of needed ≡ needed_app }
+    ensures { IfOk result (λ command. app_of command ≡ serving_app) }
+{
+    needed
+        .arg(option(alloc, "connections"))?
+        .arg(option(alloc, "rotate-at"))?
+        .arg(option(alloc, "keep"))?
+        .arg(option(alloc, "patience"))
+}
