@@ -33,7 +33,7 @@ RUN ?= /tmp/arena
 
 host: build ## hosts the same tenants for any number of connections, in the folder RUN (/tmp/arena); Ctrl-C stops it in order
 	@mkdir -p $(RUN)
-	@trap 'rm -f $(RUN)/socket' INT; setsid out/arena-host --config $(CONFIG) --run $(RUN) & host=$$!; \
+	@trap 'rm -f $(RUN)/socket' INT; MALLOC_MMAP_THRESHOLD_=16384 setsid out/arena-host --config $(CONFIG) --run $(RUN) & host=$$!; \
 	    while kill -0 $$host 2>/dev/null; do wait $$host; done; wait $$host
 
 stop: ## stops the server of `make serve` in order, and waits until it has ended, ten minutes at most

@@ -17,6 +17,7 @@ import time
 
 from hosts import Host, ask, dump_lines, hang_up
 
+os.environ["MALLOC_MMAP_THRESHOLD_"] = "16384"  # as docs/HOST.md says, Memory
 sys.path.append(str(pathlib.Path(__file__).resolve().parents[1] / "server"))
 from stress import JOBS, MAY_FAIL, TENANTS, WORKERS, tenant_config  # noqa: E402
 
