@@ -24,7 +24,7 @@ pub(crate) fn words_fault(fault: WordsFault) -> ServerEnd {
     }
 }
 
-/// What is told of a generation that could not be opened.
+/// What an event says of a generation that could not be opened.
 pub(crate) fn told_fault(end: ServerEnd) -> Fault {
     match end {
         ServerEnd::Config | ServerEnd::Words => Fault::Config,
@@ -34,7 +34,7 @@ pub(crate) fn told_fault(end: ServerEnd) -> Fault {
     }
 }
 
-/// What is told of a dump that was not written.
+/// What an event says of a dump that was not written.
 pub(crate) fn told_dump(fault: DumpFault) -> Fault {
     match fault {
         DumpFault::Memory => Fault::Memory,

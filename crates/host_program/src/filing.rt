@@ -47,7 +47,7 @@ pub(crate) struct Filing {
     failures: u32,
     /// Until when to wait before it is tried again, in milliseconds of the monotonic clock.
     rest: u64,
-    /// What is told of the tenants that are done with.
+    /// What the status will show of the tenants that are done with.
     tenants: Vec<ClosedTenant>,
 }
 
@@ -162,6 +162,7 @@ impl Filing {
         }
     }
 
+    /// Lets a part that was written take its place, or removes it.
     fn keep_part<R>(
         &self,
         rt: &R,
@@ -191,6 +192,7 @@ impl Filing {
         Ok(())
     }
 
+    /// Removes the tenant's dump that is too old.
     fn prune<R: Files>(&self, rt: &R, alloc: Global, office: Office<'_>) -> Result<(), AllocError> {
         let Some(tenant) = self.left.config.tenants().get(self.at) else {
             return Ok(());
@@ -246,7 +248,7 @@ impl Filing {
         filing
     }
 
-    /// Keeps what is told of the next tenant.
+    /// Keeps what the status will show of the next tenant.
     fn note(
         &mut self,
         alloc: Global,

@@ -105,35 +105,39 @@ where
         }
         let mut keeper = Keeper::new(rt, office);
         let mut filing = None;
-        let mut end = Ok(());
+        let mut end = Ok(ServerEnd::Done);
         for _turn in rt.forever() {
-            match keeper.step(rt) {
-                Step::Wait => {}
-                Step::Open(left) => match keeper.prepare(rt, alloc, left, site) {
-                    Ok(plan) => {
-                        let life = move || run_generation(rt, alloc, site, plan);
-                        if scope.spawn(life).is_err() {
-                            host.give_up(rt, ServerEnd::Device);
-                        }
-                    }
-                    Err(fault) => host.give_up(rt, fault),
-                },
-                Step::Failed(fault) => {
-                    end = keeper.note_failure(rt, alloc, fault);
-                    if end.is_err() {
-                        break;
+            match keeper.take_step(rt, alloc, site) {
+                Next::Stay => {}
+                Next::Open(plan) => {
+                    let life = move || run_generation(rt, alloc, site, plan);
+                    if scope.spawn(life).is_err() {
+                        host.give_up(rt, ServerEnd::Device);
                     }
                 }
-                Step::End => break,
+                Next::End(how) => {
+                    end = how;
+                    break;
+                }
             }
             keeper.look(rt, alloc, endpoint);
             filing = keeper.file(rt, alloc, filing);
         }
         writer.close(rt);
         keeper.show(rt);
-        end?;
-        Ok(keeper.end(rt))
+        end
     })
+}
+
+/// What is left to do of a step.
+#[derive(Drop)]
+enum Next {
+    /// Nothing.
+    Stay,
+    /// A generation is to be started.
+    Open(Plan),
+    /// The host ends.
+    End(Result<ServerEnd, ServerEnd>),
 }
 
 /// What the thread that opens generations keeps.
@@ -170,6 +174,28 @@ impl<'h> Keeper<'h> {
         self.office.host.step(rt)
     }
 
+    /// Takes the host's next step, but for starting a thread.
+    fn take_step<R>(&mut self, rt: &R, alloc: Global, site: Site<'_>) -> Next
+    where
+        R: Files + Net + Wait + Clock + Print + Eprint + AllocGlobal,
+    {
+        match self.step(rt) {
+            Step::Wait => Next::Stay,
+            Step::Open(left) => match self.prepare(rt, alloc, left, site) {
+                Ok(plan) => Next::Open(plan),
+                Err(fault) => {
+                    site.host.give_up(rt, fault);
+                    Next::Stay
+                }
+            },
+            Step::Failed(fault) => match self.note_failure(rt, alloc, fault) {
+                Ok(()) => Next::Stay,
+                Err(end) => Next::End(Err(end)),
+            },
+            Step::End => Next::End(Ok(self.end(rt))),
+        }
+    }
+
     /// What the next generation is opened with.
     fn prepare<R: Files + Net + Clock + Print + Eprint + AllocGlobal>(
         &self,
@@ -187,7 +213,7 @@ impl<'h> Keeper<'h> {
     }
 
     /// A generation could not be opened. The host ends if it is the first one.
-    fn note_failure<R: Clock + Print + Eprint>(
+    fn note_failure<R: Wait + Clock + Print + Eprint>(
         &mut self,
         rt: &R,
         alloc: Global,
@@ -197,7 +223,7 @@ impl<'h> Keeper<'h> {
         if self.is_stopping {
             return Ok(());
         }
-        if !self.has_served {
+        if !self.has_served && !self.office.host.is_serving(rt) {
             return Err(end);
         }
         self.rest = millis(rt).saturating_add(SECOND);
@@ -239,7 +265,7 @@ impl<'h> Keeper<'h> {
         }
     }
 
-    /// Writes the status. Where that fails, the older one stays.
+    /// Writes the status. If that fails, the older one stays.
     fn show<R: Files + Wait + Clock + AllocGlobal>(&self, rt: &R) {
         let Office {
             host,
@@ -250,8 +276,8 @@ impl<'h> Keeper<'h> {
         let _ = show(rt, host, words, folder, self.began);
     }
 
-    /// Goes on with the histories that a generation has left, if one has, or waits for a tick at most: what is left to
-    /// write.
+    /// Writes more of the histories that a generation has left, if one has, or waits for a tick at most: what is still
+    /// to be written.
     fn file<R>(&self, rt: &R, alloc: Global, filing: Option<Filing>) -> Option<Filing>
     where
         R: Files<File = File> + Wait + Clock + Print + Eprint,
