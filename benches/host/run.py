@@ -1,6 +1,6 @@
 #!/usr/bin/env python3
-"""Measures arena-host beside arena-server, in turn, by the same clients, and how long a request waits while the host
-rotates.
+"""Measures arena-host beside arena-server, in turn, by the same clients, how long a quiet tenant's small job waits beside
+a noisy tenant, and how long a request waits while the host rotates.
 
 usage: benches/host/run.py [SECONDS [ROUNDS [SERVER HOST]]], at the top of the repository. Each measure takes SECONDS, two
 if none are said, and there are ROUNDS of each, five if none are said. It needs `cc`, and out/arena-server and
@@ -14,6 +14,7 @@ import statistics
 import subprocess
 import sys
 import tempfile
+import threading
 import time
 
 HERE = pathlib.Path(__file__).resolve().parent
@@ -24,18 +25,26 @@ HELLO = '{"op":"hello","tenant":"acme"}'
 SMALL = json.dumps({"op": "execute", "job": {"args": [7, 0], "fuel": 10, "procs": [[["ret", 0]]]}}, separators=(",", ":"))
 CONFIG = {"tenants": [{"name": "acme", "priority": "normal", "reserved": 1, "rows": 200, "slots": 2, "steps": 1_048_576}],
           "workers": 1}
+# Four workers, a noisy tenant with eight slots for them, and a quiet one with one.
+NOISY = {"tenants": [{"name": "acme", "priority": "normal", "reserved": 1, "rows": 200, "slots": 2, "steps": 1_048_576},
+                     {"name": "noisy", "priority": "normal", "reserved": 0, "rows": 200, "slots": 8, "steps": 1_048_576}],
+         "workers": 4}
+SUBMIT = SMALL.replace("execute", "submit")
+COLLECT = '{"job":@,"op":"collect"}'
+COUNTING = [[["set", 2, 1], ["jz", 0, 6], ["sub", 0, 0, 2], ["add", 1, 1, 2], ["lt", 3, 1, 0], ["jmp", 1], ["ret", 1]]]
+LARGE = {"args": [150_000, 0], "fuel": 1_000_000, "procs": COUNTING}     # 750,003 instructions
 
 
 class Running:
     """A server or a host, until its socket is removed."""
 
-    def __init__(self, program):
+    def __init__(self, program, setting=CONFIG):
         self.folder = tempfile.TemporaryDirectory()
         self.path = os.path.join(self.folder.name, "socket")
         config = os.path.join(self.folder.name, "config.json")
         with open(config, "w") as it:
-            json.dump(CONFIG, it)
-        where = ["--run", self.folder.name] if program == "arena-host" else ["--socket", self.path]
+            json.dump(setting, it)
+        where = ["--run", self.folder.name, "--rotate-at", "100"] if program == "arena-host" else ["--socket", self.path]
         command = [PROGRAMS.get(program, os.path.abspath(f"out/{program}")), "--config", config, *where, "--connections", "64"]
         self.process = subprocess.Popen(command, stdout=subprocess.PIPE, stderr=subprocess.DEVNULL, text=True)
         assert self.process.stdout.readline() == "listening\n"
@@ -65,6 +74,62 @@ def compared(clients, name, connections, line):
     server, host = (statistics.median(it) for it in zip(*rounds))
     ratio = statistics.median(host / server for server, host in rounds)
     print(f"| {name} | {connections} | {server:,.0f} | {host:,.0f} | {ratio:.2f} |", flush=True)
+
+
+class Noise:
+    """A client that submits a hundred large jobs, collects and retires them, and begins again until it is told to end."""
+
+    def __init__(self, path):
+        self.socket = socket.socket(socket.AF_UNIX)
+        self.socket.connect(path)
+        self.lines = self.socket.makefile()
+        self.jobs, self.began, self.is_over = 0, time.monotonic(), threading.Event()
+        self.ask([HELLO.replace("acme", "noisy")])
+        self.thread = threading.Thread(target=self.run)
+
+    def ask(self, requests):
+        self.socket.sendall("".join(line + "\n" for line in requests).encode())
+        replies = [json.loads(self.lines.readline()) for _ in requests]
+        assert not any("error" in reply for reply in replies), replies
+        return replies
+
+    def run(self):
+        while not self.is_over.is_set():
+            made = self.ask([json.dumps({"job": LARGE, "op": "submit"})] * 100)
+            done = self.ask([COLLECT.replace("@", str(reply["job"])) for reply in made])
+            assert all(reply["value"] == 150_000 for reply in done), done
+            self.ask(['{"op":"retire"}'])
+            self.jobs += len(done)
+        self.rate = self.jobs / (time.monotonic() - self.began)
+
+    def __enter__(self):
+        self.thread.start()
+        return self
+
+    def __exit__(self, *_):
+        self.is_over.set()
+        self.thread.join()
+        self.lines.close()
+        self.socket.close()
+
+
+def beside(clients, program):
+    """A quiet tenant's small jobs beside a noisy tenant: how many a second, the 50th and 99th wait of 100 in milliseconds, and
+    how many large jobs a second the noisy tenant has."""
+    with Running(program, NOISY) as running, Noise(running.path) as noise:
+        words = [clients, running.path, "1", str(SECONDS), HELLO, SUBMIT, COLLECT]
+        out = subprocess.run(words, check=True, capture_output=True, text=True).stdout
+    _, rate, middle, late = (float(word) for word in out.split())
+    return rate, middle / 1000, late / 1000, noise.rate
+
+
+def quiet(clients):
+    print("\n| A small job of a quiet tenant beside a noisy one | A second | p50, ms | p99, ms | large jobs a second |\n|---|---|---|---|---|")
+    rounds = [[beside(clients, program) for program in ("arena-server", "arena-host")] for _ in range(ROUNDS)]
+    for number, name in enumerate(("the server's workers, which stay", "the host's, which share")):
+        rate, middle, late, jobs = (statistics.median(it) for it in zip(*(both[number] for both in rounds)))
+        print(f"| {name} | {rate:,.0f} | {middle:.2f} | {late:.2f} | {jobs:,.0f} |", flush=True)
+    print(f"| the noisy tenant's jobs, host to server | | | | {statistics.median(host[3] / server[3] for server, host in rounds):.2f} |")
 
 
 def visit(path):
@@ -107,6 +172,7 @@ def main():
         compared(clients, "`arena`, one after another", 1, '{"op":"arena"}')
         compared(clients, "`arena`, one after another", 64, '{"op":"arena"}')
         compared(clients, "a small job, executed", 1, SMALL)
+        quiet(clients)
     rotations()
 
 

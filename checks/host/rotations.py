@@ -112,7 +112,10 @@ def what_it_shows():
     assert set(generation) == {"generation", "state", "began", "why", "connections", "served", "workers", "tenants"}
     acme, beta = generation["tenants"]
     assert acme["asks"] == 2 and 80 < acme["entries"] < 120 and (acme["tenant"], acme["steps"]) == ("acme", 10_000), acme
-    assert beta == {"tenant": "beta", "steps": 500, "entries": 0, "asks": 0, "jobs": 0}
+    assert acme["jobs_now"] == {"running": 0, "complete": 1, "canceled": 0, "fault": 0}, acme
+    assert acme["rows"] == {"open": 0, "waiting": 0}, acme
+    assert beta == {"tenant": "beta", "steps": 500, "entries": 0, "asks": 0, "jobs": 0, "rows": {"open": 0, "waiting": 0},
+                    "jobs_now": {"running": 0, "complete": 0, "canceled": 0, "fault": 0}}
     assert [it["worker"] for it in generation["workers"]] == [0, 1]
     assert (generation["connections"], generation["served"], generation["why"]) == (1, 1, None)
     hang_up(connection)

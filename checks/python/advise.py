@@ -49,6 +49,7 @@ def fewer_workers_than_worker_slots(it):
     it.call("advise", it.file("together.json", {"tenants": greedy, "workers": 5}), status=1, out=re.compile(
         ".*: all tenants: 5 workers for 6 worker slots: while some tenants have work they can keep all workers, and another "
         "one gets none; raise workers to 6\n"))
+    assert found(greedy, workers=4, rotate_at=50) == []  # a host's workers share
     # With one tenant nobody waits for another, and one without worker slots waits for no worker.
     assert found([tenant(slots=16, reserved=0)], workers=1) == []
     assert found([tenant(slots=16, reserved=0), tenant("beta", reserved=2)], workers=1) == [(About.NO_WORKER_SLOT, "beta")]

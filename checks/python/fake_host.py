@@ -26,7 +26,8 @@ def example():
 
 def tenant(name="acme", steps=10_000, entries=0, asks=0, jobs=0):
     """A tenant of a generation."""
-    return {"tenant": name, "steps": steps, "entries": entries, "asks": asks, "jobs": jobs}
+    return {"tenant": name, "steps": steps, "entries": entries, "asks": asks, "jobs": jobs,
+            "jobs_now": {"running": jobs, "complete": 0, "canceled": 0, "fault": 0}, "rows": {"open": jobs, "waiting": 0}}
 
 
 def generation(number, state="serving", why=None, tenants=(), workers=(), began=None, connections=0, served=0):

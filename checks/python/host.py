@@ -32,8 +32,8 @@ SHOWN = """host: generation 123 serves, up 2 min 3 s, 77.5 MiB of memory
 
 generation 122: draining (history), opened 1 min 53 s ago, 1 connection now, 40 so far
 workers: 1 with a tenant, 1 waiting for a call
-tenant  entries      steps     %  asks  jobs  workers
-acme    524,300  1,048,576  50.0    88    40        1
+tenant  entries      steps     %  asks  jobs  running  rows  waiting  workers
+acme    524,300  1,048,576  50.0    88    40        2     7        3        1
 
 generation 123: serving, opened 13 s ago, 2 connections now, 7 so far
 
@@ -63,7 +63,7 @@ def status_of_now_is_done(it, folder):
         closed(5, closed_tenant(fault=5, dumped=False), closed_tenant("beta", dumped=False)), closed(6)])
     folder.write(now)
     rows = re.compile(r"(?s)host: generation 7 serves, .*\nworkers: 3 with a tenant, 1 waiting for a call\n.*"
-                      r"\nacme +50 +200 +25\.0 +0 +0 +2\nbeta +0 +10,000 +0\.0 +0 +0 +1\n.*"
+                      r"\nacme +50 +200 +25\.0 +0 +0 +0 +0 +0 +2\nbeta +0 +10,000 +0\.0 +0 +0 +0 +0 +0 +1\n.*"
                       r"\n +5 .* 2 +0 +acme: close fault 5; beta: no dump\n +6 .* 0 +0 +all dumped\n")
     it.call("status", folder.path, out=rows, how=arena_process)
     it.call("status", out=rows, ARENA_RUN=folder.path)
@@ -246,13 +246,13 @@ def two_readings(folder, every):
 
 def rates_are_shown(it, folder):
     """500 entries, one request and three jobs more in two seconds; 4,400 entries are left to the 5,000 of 10,000."""
-    line = r"acme +600 +10,000 +6\.0 +11 +4 +0 +250\.0 +0\.5 +1\.5 +17 s"
+    line = r"acme +600 +10,000 +6\.0 +11 +4 +4 +4 +0 +0 +250\.0 +0\.5 +1\.5 +17 s"
     with contextlib.closing(folder.lock()):
         with slept(two_readings(folder, 2.0)):
             it.call("top", folder.path, "--once", out=re.compile(
                 rf"(?s)host: .*\n250\.0 entries, 0\.5 requests and 1\.5 jobs a second\n.*\n{line}\n\n"))
         with slept(two_readings(folder, 0.5), interrupt):
-            first = r"acme +100 +10,000 +1\.0 +10 +1 +0 +- +- +- +-"
+            first = r"acme +100 +10,000 +1\.0 +10 +1 +1 +1 +0 +0 +- +- +- +-"
             it.call("top", "--every", "0.5", out=re.compile(rf"(?s)host: .*\n{first}\n\nhost: .*\n{line}\n\n"),
                     ARENA_RUN=folder.path)
         with slept(two_readings(folder, 2.0)):

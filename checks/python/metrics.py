@@ -56,6 +56,11 @@ SAMPLES = {
     "arena_history_entries": {"generation=122 tenant=acme": 524300},
     "arena_requests_total": {"generation=122 tenant=acme": 88},
     "arena_jobs_total": {"generation=122 tenant=acme": 40},
+    "arena_jobs": {
+        "generation=122 status=running tenant=acme": 2, "generation=122 status=complete tenant=acme": 36,
+        "generation=122 status=canceled tenant=acme": 1, "generation=122 status=fault tenant=acme": 1},
+    "arena_rows_open": {"generation=122 tenant=acme": 7},
+    "arena_rows_waiting": {"generation=122 tenant=acme": 3},
     "arena_workers_at_tenant": {"generation=122 tenant=acme": 1},
     "arena_close_duration_seconds": {"generation=121 why=file": 0.035},
     "arena_close_entries": {"generation=121 tenant=acme": 9000},

@@ -60,9 +60,9 @@ def job_near_its_fuel_is_found():
     assert not advice(found, "slow") and not advice(found, "workers")
 
 
-def tenant_that_waits_for_workers_is_found():
-    """One worker, which other jobs keep: while it is with acme, beta polls a job that waits beside an empty slot."""
-    hog, cost = {**COUNT, "args": [240_000, 0]}, 960_003
+def statistics_of_a_kept_worker(hog):
+    """What `arena stat` finds of beta, which polls a job beside an empty slot while the one worker is with acme, and of
+    acme, whose three jobs came at once; or nothing, if the machine was too busy for that to be seen."""
     with Server(tenant(slots=1, reserved=0), tenant("beta", slots=1, reserved=0), workers=1) as server:
         with arena.Client(server.path, "acme") as acme, arena.Client(server.path, "beta") as beta:
             with acme.pipeline() as line:
@@ -71,10 +71,21 @@ def tenant_that_waits_for_workers_is_found():
             with beta.pipeline() as line:
                 line.submit(SEVEN)
                 polls = [line.poll(1) for _ in range(40)]
-            assert arena.Running(1) in {it.result() for it in polls}, "acme's jobs are too short to see beta wait"
+            beta_waited = arena.Running(1) in {it.result() for it in polls}
             assert beta.collect(1) == arena.Complete(7, 1)
         server.dump("acme")
         found, other = statistics(f"{server.dumps}/beta.jsonl"), statistics(f"{server.dumps}/acme.jsonl")
+    came_at_once = max(it["asked"] for it in other["jobs"]) < min(it["ended"] for it in other["jobs"])
+    return (found, other) if beta_waited and came_at_once else None
+
+
+def tenant_that_waits_for_workers_is_found():
+    """One worker, which other jobs keep, in the first of twenty runs in which the jobs met as they should."""
+    hog, cost = {**COUNT, "args": [240_000, 0]}, 960_003
+    runs = (statistics_of_a_kept_worker(hog) for _ in range(20))
+    seen = next((run for run in runs if run), None)
+    assert seen, "twenty times acme's jobs were over before beta's, or before they had all come"
+    found, other = seen
     (jobs, text), = advice(found, "workers")
     assert jobs == [1] and "a slot was empty" in text and "raise `workers`" in text, text
     assert found["jobs"][0]["waited_instructions"] == 0 and found["asks"]["poll"] == 40

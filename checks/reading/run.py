@@ -18,7 +18,7 @@ PROMISES = [
     ("what every state keeps, what no step undoes", ["tenant_model::never_stuck", "tenant_model::states_are_sound", "tenant_model::nothing_is_undone", "tenant_model::answers_tell"]),
     ("regions protect cells", ["tenant_model::regions_protect_cells"]),
     ("serial values", ["serial_law::serial_values"]),
-    ("the check of a history", ["history_check::check"]),
+    ("the check of a history", ["solo_eval::check"]),
     ("lines in", ["request_reader::LineReader", "request_reader::read_request"]),
     ("lines out", ["reply_writer::reply_line", "reply_writer::answer_line"]),
     ("the program's scripts", ["arena_script::script"]),
@@ -29,7 +29,7 @@ PROMISES = [
     ("the fast arena", ["arena_core::Arena"]),
     ("waiting, over any door", ["nested_wait::Door", "nested_wait::attend"]),
     ("sessions over any doors", ["session_core::Doors", "session_core::serve"]),
-    ("sessions on one thread", ["arena_sessions::serve_arenas"]),
+    ("sessions on one thread", ["session_law::serve_arenas"]),
     ("what a tenant's lock holds", ["tenant_record::TenantCell"]),
     ("a tenant's lock, and how it is closed", ["tenant_lock::TenantDoor"]),
     ("threads at the slots of locked tenants", ["tenant_slots::TenantSlots"]),
@@ -39,6 +39,7 @@ PROMISES = [
     ("the market's lists", ["market::MarketState"]),
     ("the words of the server", ["program_words::read_server_words"]),
     ("a server's tenants, from its start to its end", ["socket_server::House"]),
+    ("a session of a server", ["socket_server::serve_client"]),
 ]
 # A definition begins in the first column with one of these words, or with the name alone.
 HEAD = re.compile(r"^((?:(?:abbrev|unfoldable|pub|private|record|data) )*)([^\s:(]+)")

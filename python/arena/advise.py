@@ -73,7 +73,7 @@ def advice_of(config: Mapping[str, Any], machine: Machine) -> list[Advice]:
     """What is unwise in a valid configuration: first what is so of a tenant, in their order, then what of all."""
     tenants: Sequence[Mapping[str, Any]] = config["tenants"]
     return [*(it for tenant in tenants for it in (*_no_worker_slot(tenant), *_short_history(tenant, machine))),
-            *_few_workers(tenants, config["workers"]), *_memory(tenants, machine)]
+            *_few_workers(tenants, config["workers"], machine), *_memory(tenants, machine)]
 
 
 def _no_worker_slot(tenant: Mapping[str, Any]) -> Iterator[Advice]:
@@ -99,8 +99,11 @@ def _short_history(tenant: Mapping[str, Any], machine: Machine) -> Iterator[Advi
     yield Advice(About.SHORT_HISTORY, tenant["name"], text, f"raise steps to {min(fewest, GREATEST_STEPS):,} or more")
 
 
-def _few_workers(tenants: Sequence[Mapping[str, Any]], workers: int) -> Iterator[Advice]:
-    """Fewer workers than worker slots, if there is a second tenant that has to wait for them."""
+def _few_workers(tenants: Sequence[Mapping[str, Any]], workers: int, machine: Machine) -> Iterator[Advice]:
+    """Fewer workers than worker slots, if there is a second tenant that has to wait for them. A host's workers leave a tenant
+    after a row, where another one's call waits."""
+    if machine.rotate_at is not None:
+        return
     slots = {it["name"]: it["slots"] - it["reserved"] for it in tenants if it["slots"] > it["reserved"]}
     total = sum(slots.values())
     if workers >= total or len(slots) < 2:

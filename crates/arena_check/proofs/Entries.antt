@@ -7,7 +7,7 @@ use Rattle.job_language.specs.declared.steps.Entry.{Entry}
 use Rattle.job_language.specs.declared.steps.Step.{Step}
 use Rattle.tenant_model.specs.Solo.{answers, step}
 use Rattle.tenant_model.specs.State.{State}
-use Rattle.history_check.specs.Verdicts.{IsRight}
+use Rattle.solo_eval.specs.Verdicts.{IsRight}
 
 abbrev steps_in : List Entry → List Step
 steps_in es = map (λ (e : Entry). e.step) es

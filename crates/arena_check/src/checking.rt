@@ -7,12 +7,12 @@ ghost use Rattle.tenant_model.specs.Asks.{ask};
 ghost use Rattle.tenant_model.specs.Solo.{answers, step};
 ghost use Rattle.tenant_model.specs.State.{State, empty};
 ghost use Rattle.arena_core.specs.Stands.{StandsFor, Takes};
-ghost use Rattle.history_check.specs.Verdicts.{IsVerdict, IsVerdictFrom};
+ghost use Rattle.solo_eval.specs.Verdicts.{IsVerdict, IsVerdictFrom};
 
 use arena_core::Arena;
-use history_check::Verdict;
 use job_language::{Answer, Entry, Reply, Request, Step, TenantConfig};
 use same_values::is_same_answer;
+use solo_eval::Verdict;
 use std::alloc::{AllocError, Global};
 
 /// Takes the steps of a history again, from a tenant that has done nothing yet, and compares the

@@ -1,12 +1,14 @@
 // The arena of one tenant, and its steps.
-ghost use Rattle.std.specs.Prelude.{◌≡◌, ◌≤◌, [], ◌∷◌, true, IfOk};
+ghost use Rattle.std.specs.Prelude.{◌≡◌, ◌≢◌, ◌≤◌, [], ◌∷◌, true, false, IfOk, count_by, length};
 ghost use Rattle.std.specs.Option.{option_map};
+ghost use Rattle.job_language.specs.declared.answers.Moved.TheVariants as moved;
 ghost use Rattle.job_language.specs.declared.steps.Step.{Step};
 ghost use Rattle.job_language.specs.Tenant.{IsValidTenant};
 ghost use Rattle.tenant_model.specs.declared.rows.TheConstants.{MAX_HEIGHT};
 ghost use Rattle.tenant_model.specs.State.{State, empty};
-ghost use Rattle.tenant_model.specs.Walks.{has_unstarted, height};
+ghost use Rattle.tenant_model.specs.Walks.{has_unstarted, height, is_unstarted};
 ghost use Rattle.tenant_model.specs.Advance.{advance, arrive};
+ghost use Rattle.tenant_model.specs.Changes.{open_rows};
 ghost use Rattle.tenant_model.specs.Asks.{ask, known_job, status};
 ghost use Rattle.tenant_model.specs.Regions.{KeepsRegions};
 ghost use Rattle.arena_steps.specs.Within.{advance_within, arrive_within};
@@ -78,11 +80,40 @@ impl Arena {
         views::view(&self.parts, slot)
     }
 
+    /// Whether an advance of a slot would be idle.
+    pub fn is_idle(&self, slot: u8) -> bool
+        ensures idle { (s : State) → StandsFor self.now s → result ≡ true → (advance s slot).0 ≡ moved.Idle }
+        ensures moves { (s : State) → StandsFor self.now s → result ≡ false → (advance s slot).0 ≢ moved.Idle }
+    {
+        arena_steps::is_idle(&self.parts, slot)
+    }
+
     /// Whether a row waits to be started.
     pub fn has_unstarted(&self) -> bool
         ensures { (s : State) → StandsFor self.now s → result ≡ has_unstarted s }
     {
         self.parts.has_unstarted()
+    }
+
+    /// How many rows are open: they wait to be started, or are live on a slot.
+    pub fn open_rows(&self) -> usize
+        ensures { (s : State) → StandsFor self.now s → result ≡ open_rows s.rows }
+    {
+        self.parts.open_rows()
+    }
+
+    /// How many rows wait to be started.
+    pub fn waiting_rows(&self) -> usize
+        ensures { (s : State) → StandsFor self.now s → result ≡ count_by (λ r. is_unstarted r.phase) s.rows }
+    {
+        self.parts.waiting_rows()
+    }
+
+    /// How many jobs were made, the number of the last one.
+    pub fn job_count(&self) -> u64
+        ensures { (s : State) → StandsFor self.now s → result ≡ length s.jobs }
+    {
+        self.parts.job_count()
     }
 
     /// How far a job is, if it was made and is not retired.

@@ -15,11 +15,13 @@ use Rattle.tenant_model.specs.Walks.{NumberedRow, height, is_open, is_unstarted,
 use Rattle.tenant_model.specs.Changes.{open_rows, is_row_limit_met}
 use Rattle.thread_cells.specs.Cells.{Table, cell_sum, cell_count}
 use Rattle.tenant_model.specs.Asks.{free_slot}
+use Rattle.tenant_model.proofs.Stacking.{one_if}
 use Rattle.tenant_model.proofs.Within.{either_way}
 use Rattle.arena_rows.specs.declared.rows.OpenRow.{OpenRow}
 use Rattle.arena_rows.specs.Held.{Held}
 use Rattle.arena_rows.specs.Represents.{waiting, waiting_of, Holds}
 use Rattle.arena_rows.specs.HeldReads.{least_empty}
+use Rattle.arena_rows.proofs.Alike.{count_cons}
 use Rattle.arena_rows.proofs.Counters.{any_counted}
 use Rattle.arena_rows.proofs.Tops.{height_is}
 
@@ -28,6 +30,22 @@ any_listed k [] = refl
 any_listed k (x ∷ rows) = elim (either_way (is_unstarted x.phase)) [
   | inl waits ↦ rw waits (grind arith)
   | inr started ↦ rw started (any_listed (k + 1) rows)
+]
+
+abbrev listed : (k : ℕ) → List Row → ℕ
+listed k rows = length (filter (λ (p : NumberedRow). is_unstarted p.1.phase) (enumerate_from k rows))
+
+counted_listed : (k : ℕ) (rows : List Row) → listed k rows ≡ count_by (λ (r : Row). is_unstarted r.phase) rows
+counted_listed k [] = refl
+counted_listed k (x ∷ rows) = elim (either_way (is_unstarted x.phase)) [
+  | inl waits ↦
+      let one : one_if (is_unstarted x.phase) ≡ 1 = rw waits refl in
+      let more : listed k (x ∷ rows) ≡ suc (listed (k + 1) rows) = rw waits refl in
+      omega (arith, more, counted_listed (k + 1) rows, count_cons (λ (r : Row). is_unstarted r.phase) x rows, one)
+  | inr started ↦
+      let nothing : one_if (is_unstarted x.phase) ≡ 0 = rw started refl in
+      let same : listed k (x ∷ rows) ≡ listed (k + 1) rows = rw started refl in
+      omega (arith, same, counted_listed (k + 1) rows, count_cons (λ (r : Row). is_unstarted r.phase) x rows, nothing)
 ]
 
 some_left : (n : ℕ) → nat_lt 0 n ≡ not (n == 0)
@@ -78,14 +96,22 @@ module _ (a : Held) (s : State) (is : Holds a s) where
       let most = count_by-le-length (λ (o : Option OpenRow). is_some o) a.table in
       grind (arith, count, long, most, limit)
 
+  pub open_told : count_by is_some a.table ≡ open_rows s.rows
+  open_told = sym is.free.count
+
   pub busy_told : not (count_by is_some a.table == 0) ≡ list_any (λ (r : Row). is_open r.phase) s.rows
   busy_told = ap (λ n. not (n == 0)) (sym is.free.count) ∙ sym (some_left (open_rows s.rows)) ∙ sym (any_counted (λ (r : Row). is_open r.phase) s.rows)
 
-  pub unstarted_told : not (length a.pool.rows == 0) ≡ has_unstarted s
-  unstarted_told =
+  pool_long : length a.pool.rows ≡ length (waiting s.rows)
+  pool_long =
       let rows : a.pool.rows ≡ map (waiting_of s.rows is.places) (waiting s.rows) = ap (λ (p : Ready). p.rows) is.waiting in
-      let many : length a.pool.rows ≡ length (waiting s.rows) = ap (λ (ws : List Waiting). length ws) rows ∙ length-map (waiting s.rows) (waiting_of s.rows is.places) in
-      ap (λ n. not (n == 0)) many ∙ sym (some_left (length (waiting s.rows))) ∙ sym (any_listed 1 s.rows)
+      ap (λ (ws : List Waiting). length ws) rows ∙ length-map (waiting s.rows) (waiting_of s.rows is.places)
+
+  pub waiting_told : length a.pool.rows ≡ count_by (λ (r : Row). is_unstarted r.phase) s.rows
+  waiting_told = pool_long ∙ counted_listed 1 s.rows
+
+  pub unstarted_told : not (length a.pool.rows == 0) ≡ has_unstarted s
+  unstarted_told = ap (λ n. not (n == 0)) pool_long ∙ sym (some_left (length (waiting s.rows))) ∙ sym (any_listed 1 s.rows)
 
   pub sum_told : (k : ℕ) → cell_sum a.cells k ≡ cell_sum s.cells k
   sum_told k = ap (λ (t : Table). cell_sum t k) is.cells

@@ -42,7 +42,7 @@ impl Parts {
         let entry = self.top_entry(slot);
         let (job, context) = (entry.job, entry.context);
         let height = self.height(slot) as u64 + 1;
-        let stage = Stage::Live(slot, height);
+        let stage = Stage::Live(slot as usize, height);
         let source = Source::Region(maker);
         let row = self.enter_row(source, job, Some(slot), stage, context);
         self.count_row(job);

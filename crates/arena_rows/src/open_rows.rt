@@ -87,6 +87,13 @@ impl OpenRows {
         self.table.len()
     }
 
+    /// How many places are taken.
+    pub(crate) fn count(&self) -> usize
+        ensures { result ≡ count_by is_some self.now.table }
+    {
+        self.table.count()
+    }
+
     /// Whether no place is free.
     pub(crate) fn is_full(&self) -> bool
         ensures { result ≡ (count_by is_some self.now.table == length self.now.table) }
@@ -156,7 +163,7 @@ impl OpenRows {
         ensures { self.new ≡ record self.old { table = changed_at self.old.table place (λ e. record e { stage = stage.Live slot height }) } }
     {
         let entry = self.table.at_mut(place);
-        entry.stage = Stage::Live(slot, height);
+        entry.stage = Stage::Live(slot as usize, height);
         self.filing.unfile(place);
     }
 

@@ -24,8 +24,9 @@ pub enum Source {
 pub enum Stage {
     /// It waits to be started, with that frame.
     Waiting(Frame),
-    /// It is on the stack of a slot, at a height from 1. Its frame is there.
-    Live(u8, u64),
+    /// It is on the stack of a slot, at a height from 1. Its frame is there. The slot takes
+    /// eight bytes, so that the frame of a row that waits is copied in aligned pieces.
+    Live(usize, u64),
 }
 
 /// An open row.

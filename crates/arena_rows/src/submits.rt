@@ -81,7 +81,7 @@ impl Parts {
         ensures { (s : State) → Rests self.old s → Rests self.new (add_job s job (Live slot 1)) }
     {
         let frame = root_frame(&job);
-        let row = self.begin(job, Stage::Live(slot, 1));
+        let row = self.begin(job, Stage::Live(slot as usize, 1));
         self.push_root(slot, frame, row);
     }
 }

@@ -1,13 +1,13 @@
 // What the parts tell of the state that they stand for.
-ghost use Rattle.std.specs.Prelude.{◌≡◌, ◌<◌, ◌≤◌, ◌-◌, false, nat_le, length, IfSome, OnSome, option_copied};
+ghost use Rattle.std.specs.Prelude.{◌≡◌, ◌<◌, ◌≤◌, ◌-◌, false, nat_le, count_by, length, IfSome, OnSome, option_copied};
 ghost use Rattle.job_language.specs.declared.tenants.TheConstants.{MAX_SLOTS};
 ghost use Rattle.nest_stack.specs.Nest.{stack};
 ghost use Rattle.std.specs.List.{list_any};
 ghost use Rattle.std.specs.Option.{option_map};
 ghost use Rattle.tenant_model.specs.declared.works.TheConstants.{MAX_JOBS};
 ghost use Rattle.tenant_model.specs.State.{State};
-ghost use Rattle.tenant_model.specs.Walks.{is_open, has_unstarted};
-ghost use Rattle.tenant_model.specs.Changes.{is_row_limit_met};
+ghost use Rattle.tenant_model.specs.Walks.{is_open, is_unstarted, has_unstarted};
+ghost use Rattle.tenant_model.specs.Changes.{open_rows, is_row_limit_met};
 ghost use Rattle.thread_cells.specs.Cells.{cell_sum, cell_count};
 ghost use Rattle.tenant_model.specs.Asks.{current_jobs, free_slot, known_job, status};
 ghost use Rattle.arena_rows.specs.Held.{HasFreePlace};
@@ -27,6 +27,21 @@ impl Parts {
         ensures room { result ≡ false → HasFreePlace self.now }
     {
         self.rows.is_full()
+    }
+
+    /// How many rows are open: they wait to be started, or are live on a slot.
+    #[tactic(auto, using(crate::proofs::Told::open_told))]
+    pub fn open_rows(&self) -> usize
+        ensures { (s : State) → Holds self.now s → result ≡ open_rows s.rows }
+    {
+        self.rows.count()
+    }
+
+    /// How many rows wait to be started.
+    pub fn waiting_rows(&self) -> usize
+        ensures { (s : State) → Holds self.now s → result ≡ count_by (λ r. is_unstarted r.phase) s.rows }
+    {
+        self.pool.len()
     }
 
     /// Whether a row is open.

@@ -3,9 +3,9 @@ use Rattle.std.proofs.Common.{◌≡◌, ℕ, ◌+◌, Bool, true, false, List, 
 use Rattle.std.specs.Prelude.{fold, is_err, IsErr, IsOk}
 use Rattle.std.specs.Io.KnownBytes.{Appends}
 use Rattle.std.specs.Option.{option_map_or}
-use Rattle.history_check.specs.declared.checking.Verdict.{Verdict}
-use Rattle.history_check.specs.declared.checking.Verdict.TheVariants.{No}
-use Rattle.history_check.specs.Verdicts.{IsVerdictFrom}
+use Rattle.solo_eval.specs.declared.checking.Verdict.{Verdict}
+use Rattle.solo_eval.specs.declared.checking.Verdict.TheVariants.{No}
+use Rattle.solo_eval.specs.Verdicts.{IsVerdictFrom}
 use Rattle.job_language.specs.declared.steps.Entry.{Entry}
 use Rattle.job_language.specs.declared.tenants.Tenant.{Tenant}
 use Rattle.job_language.specs.Json.{result_map}

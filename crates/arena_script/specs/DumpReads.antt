@@ -1,9 +1,9 @@
 -- A dump as it is read, line by line.
 use Rattle.std.specs.Prelude.{◌≡◌, ℕ, ◌+◌, List, [], ◌∷◌, ◌++◌, length, Bool, false, true, if◌then◌else◌, Option, Some, None, Result, Ok, Err}
 use Rattle.std.specs.Option.{option_map_or}
-use Rattle.history_check.specs.declared.checking.Verdict.{Verdict}
-use Rattle.history_check.specs.declared.checking.Verdict.TheVariants.{Yes, No}
-use Rattle.history_check.specs.Verdicts.{IsVerdict}
+use Rattle.solo_eval.specs.declared.checking.Verdict.{Verdict}
+use Rattle.solo_eval.specs.declared.checking.Verdict.TheVariants.{Yes, No}
+use Rattle.solo_eval.specs.Verdicts.{IsVerdict}
 use Rattle.job_language.specs.declared.tenants.Tenant.{Tenant}
 use Rattle.request_reader.specs.Lines.{Line, whole, too_long}
 use Rattle.dump_lines.specs.declared.lines.Said.{Said}

@@ -1,6 +1,6 @@
 -- The answer to a dump.
 use Rattle.std.specs.Prelude.{◌≡◌, ℕ, List, Result, Ok, Err}
-use Rattle.history_check.specs.declared.checking.Verdict.{Verdict}
+use Rattle.solo_eval.specs.declared.checking.Verdict.{Verdict}
 use Rattle.job_language.specs.declared.tenants.Tenant.{Tenant}
 use Rattle.tenant_model.specs.State.{empty}
 use Rattle.dump_lines.specs.declared.lines.Said.{Said}

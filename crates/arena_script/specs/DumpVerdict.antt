@@ -1,8 +1,8 @@
 -- The verdict on what a dump says.
 use Rattle.std.specs.Prelude.{◌≡◌, ◌⊎◌, ℕ, ◌+◌, List, [], ◌∷◌}
-use Rattle.history_check.specs.declared.checking.Verdict.{Verdict}
-use Rattle.history_check.specs.declared.checking.Verdict.TheVariants.{Yes, No}
-use Rattle.history_check.specs.Verdicts.{IsRight}
+use Rattle.solo_eval.specs.declared.checking.Verdict.{Verdict}
+use Rattle.solo_eval.specs.declared.checking.Verdict.TheVariants.{Yes, No}
+use Rattle.solo_eval.specs.Verdicts.{IsRight}
 use Rattle.tenant_model.specs.Solo.{step}
 use Rattle.tenant_model.specs.State.{State}
 use Rattle.dump_lines.specs.declared.lines.Said.{Said}

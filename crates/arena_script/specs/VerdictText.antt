@@ -1,7 +1,7 @@
 -- What the check of a dump prints.
 use Rattle.std.specs.Prelude.{ℕ, List, ◌++◌, codes, decimal}
-use Rattle.history_check.specs.declared.checking.Verdict.{Verdict}
-use Rattle.history_check.specs.declared.checking.Verdict.TheVariants.{Yes, No}
+use Rattle.solo_eval.specs.declared.checking.Verdict.{Verdict}
+use Rattle.solo_eval.specs.declared.checking.Verdict.TheVariants.{Yes, No}
 
 abbrev pub verdict_text : Verdict → List ℕ
 verdict_text Yes = codes "yes\n"

@@ -12,7 +12,7 @@ ghost use Rattle.arena_script.specs.VerdictText.{verdict_text, bad_line_text};
 use crate::devices::put;
 use crate::dumps::{DumpRead, read_dump};
 use crate::ends::ScriptEnd;
-use history_check::Verdict;
+use solo_eval::Verdict;
 use std::alloc::{AllocError, Global};
 use std::io::{Read, Write};
 

@@ -7,3 +7,4 @@ pub mod Paying
 pub mod Rooms
 pub mod RunEnds
 pub mod Takes
+mod Idling

@@ -29,7 +29,7 @@ use Rattle.arena_steps.specs.Within.{within}
 abbrev pub IsEntry : Moved × State → Type 0
 IsEntry r = is_entry (answer.Moved r.0) ≡ true
 
-is_recorded : (m : Moved) → is_entry (answer.Moved m) ≡ true → would_be_recorded m ≡ true
+pub is_recorded : (m : Moved) → is_entry (answer.Moved m) ≡ true → would_be_recorded m ≡ true
 is_recorded moved.Ran enters = refl
 is_recorded (moved.Nested n) enters = refl
 is_recorded moved.Freed enters = refl

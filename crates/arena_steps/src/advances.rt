@@ -1,5 +1,5 @@
 // Advances of a slot, and arrivals at one.
-ghost use Rattle.std.specs.Prelude.{◌≡◌, ◌<◌, ◌≤◌, ◌||◌, not, ℕ, false, length, Some};
+ghost use Rattle.std.specs.Prelude.{◌≡◌, ◌≢◌, ◌<◌, ◌≤◌, ◌||◌, not, ℕ, false, true, length, Some};
 ghost use Rattle.job_language.specs.declared.answers.Moved.TheVariants as moved;
 ghost use Rattle.job_language.specs.declared.instructions.Instr.{Instr};
 ghost use Rattle.job_language.specs.Program.{is_last};
@@ -125,6 +125,33 @@ fn advance_row(parts: &mut Parts, slot: u8, has_room: bool) -> Moved
 {
     let run = run_top(parts, slot);
     advance_by(parts, slot, &run, has_room)
+}
+
+/// Whether an advance of a slot would be idle.
+pub fn is_idle(parts: &Parts, slot: u8) -> bool
+    requires { RestsSomehow parts.now }
+    ensures idle { (s : State) → Rests parts.now s → result ≡ true → (advance s slot).0 ≡ moved.Idle }
+    ensures moves { (s : State) → Rests parts.now s → result ≡ false → (advance s slot).0 ≢ moved.Idle }
+{
+    if parts.config().slots <= slot {
+        return true;
+    }
+    match parts.top(slot) {
+        Some(_top) => is_row_idle(parts, slot),
+        None => slot < parts.config().reserved,
+    }
+}
+
+/// Whether an advance of a slot by its topmost row would be idle.
+fn is_row_idle(parts: &Parts, slot: u8) -> bool
+    requires { RestsWithTop parts.now slot }
+    ensures idle { (s : State) (n : ℕ) → Rests parts.now s → top s.rows slot ≡ Some n → result ≡ true
+        → (unless_full s (advance_run s slot n (run_on s slot n))).0 ≡ moved.Idle }
+    ensures moves { (s : State) (n : ℕ) → Rests parts.now s → top s.rows slot ≡ Some n → result ≡ false
+        → (unless_full s (advance_run s slot n (run_on s slot n))).0 ≢ moved.Idle }
+{
+    let run = run_top(parts, slot);
+    is_idle_wait(parts, slot, &run) && parts.pick(slot).is_none()
 }
 
 /// Advances a slot by the private run of its topmost row, which was made before.

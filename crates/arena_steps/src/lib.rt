@@ -9,7 +9,7 @@ mod returns;
 mod runs;
 mod steps;
 
-pub use advances::{advance, advance_within, commit_within};
+pub use advances::{advance, advance_within, commit_within, is_idle};
 pub use arrivals::arrive_within;
 pub use execution::execute;
 pub use makes::{isolate, post, spawn};

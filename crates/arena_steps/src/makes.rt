@@ -13,8 +13,8 @@ use job_step::Frame;
 use tenant_model::MAX_HEIGHT;
 
 /// A new frame at a procedure, with the values of two registers.
-fn called_frame(frame: Frame, procedure: u8, first: Register, second: Register) -> Frame
-    ensures { result ≡ called_frame frame procedure first second }
+fn called_frame(frame: &Frame, procedure: u8, first: Register, second: Register) -> Frame
+    ensures { result ≡ called_frame frame.now procedure first second }
 {
     let first = frame.registers[first.index()];
     let second = frame.registers[second.index()];
@@ -44,7 +44,7 @@ pub fn spawn(
         return parts.fault(slot, JobFault::TaskLimit);
     }
     parts.move_on(slot, frame.next());
-    parts.spawn_settled(slot, group, called_frame(frame, procedure, first, second));
+    parts.spawn_settled(slot, group, called_frame(&frame, procedure, first, second));
     parts.finish_step(slot)
 }
 
@@ -68,7 +68,7 @@ pub fn post(
         return parts.fault(slot, JobFault::TaskLimit);
     }
     parts.move_on(slot, frame.next());
-    parts.post_settled(slot, called_frame(frame, procedure, first, second));
+    parts.post_settled(slot, called_frame(&frame, procedure, first, second));
     parts.finish_step(slot)
 }
 
@@ -97,6 +97,6 @@ pub fn isolate(
         return parts.fault(slot, JobFault::TaskLimit);
     }
     parts.move_on(slot, frame);
-    parts.isolate(slot, called_frame(frame, procedure, first, second));
+    parts.isolate(slot, called_frame(&frame, procedure, first, second));
     parts.finish_step(slot)
 }

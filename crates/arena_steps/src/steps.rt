@@ -1,7 +1,7 @@
 // Shared instructions of a slot's topmost row that make no row.
 ghost use Rattle.std.specs.Prelude.{slice_set, ◌≡◌, ◌<◌, ℕ, false, Some};
 ghost use Rattle.job_step.specs.declared.frames.TheConstants.{LAST_PLACE};
-ghost use Rattle.job_step.specs.Frame.{register};
+ghost use Rattle.job_step.specs.Frame.{register, write_and_step};
 ghost use Rattle.tenant_model.specs.State.{State, row};
 ghost use Rattle.tenant_model.specs.Walks.{top, is_pending};
 ghost use Rattle.tenant_model.specs.Changes.{finish_step, with_frame};
@@ -20,13 +20,23 @@ pub(crate) fn read(frame: &Frame, from: Register) -> i64
     frame.registers[from.index()]
 }
 
-/// The frame with another value in a register.
-fn with_register(frame: Frame, to: Register, value: i64) -> Frame
-    ensures { result ≡ record frame { registers = slice_set frame.registers to value } }
+/// The frame at the next place of its procedure, with two registers changed, one after the other.
+#[inline(always)]
+fn waited_frame(
+    frame: Frame,
+    total_to: Register,
+    total: i64,
+    status_to: Register,
+    status: i64,
+) -> Frame
+    requires { frame.place < LAST_PLACE }
+    ensures { result ≡ write_and_step (record frame { registers = slice_set frame.registers total_to total }) status_to status }
 {
-    let mut written = frame;
-    written.registers[to.index()] = value;
-    written
+    let mut waited = frame;
+    waited.registers[total_to.index()] = total;
+    waited.registers[status_to.index()] = status;
+    waited.place += 1;
+    waited
 }
 
 /// Gives the topmost row of a slot on to a frame, and ends the step.
@@ -100,7 +110,7 @@ pub fn wait(
 {
     let total = parts.group_total(slot, group);
     let status = parts.group_status(slot, group);
-    let waited = with_register(frame, total_to, total);
-    parts.pass_wait(slot, group, waited.write_and_step(status_to, status));
+    let waited = waited_frame(frame, total_to, total, status_to, status);
+    parts.pass_wait(slot, group, waited);
     parts.finish_step(slot)
 }

@@ -1,5 +1,5 @@
 // One level: a queue of marked calls that threads share.
-ghost use Rattle.std.specs.Prelude.{◌≡◌, ◌≢◌, ◌+◌, ◌<◌, ◌≤◌, ◌^◌, ◌-◌, ◌⊎◌, List, [], ◌∷◌, ◌++◌, length, map, vec_capacity, IfOk, MatchResult, MatchOption};
+ghost use Rattle.std.specs.Prelude.{◌≡◌, ◌≢◌, ◌+◌, ◌<◌, ◌≤◌, ◌^◌, ◌-◌, ◌⊎◌, List, [], ◌∷◌, ◌++◌, length, map, true, vec_capacity, IfOk, MatchResult, MatchOption};
 ghost use Rattle.crossbeam_queue.specs.Fifo.{Held};
 ghost use Rattle.call_queues.specs.declared.marks.Marked.{Marked};
 ghost use Rattle.call_queues.specs.Order.{no_log, LevelOrder};
@@ -142,6 +142,16 @@ impl LevelQueue {
     {
         let marked = self.queue.pop_as::<Takes, R>(rt, &mut pass.seat)?;
         Some(marked.call)
+    }
+
+    /// Whether the level had no call at one moment of the call. Nothing is taken, and others may push
+    /// and pop meanwhile.
+    pub fn is_empty(&self, pass: &mut LevelPass) -> bool
+        requires { pass.old.queue ≡ self.now.queue }
+        ensures pass { pass.new ≡ pass.old }
+        ensures empty { result ≡ true → Held 0 (Sees pass.old.number pass.old.log) }
+    {
+        self.queue.is_empty_as::<Takes>(&mut pass.seat)
     }
 
     /// A pass comes back.

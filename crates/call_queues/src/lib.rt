@@ -6,4 +6,4 @@ mod marks;
 mod queues;
 mod rule;
 
-pub use queues::{CallQueues, QueuePass};
+pub use queues::{CallQueues, Pushed, QueuePass};

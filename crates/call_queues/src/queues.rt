@@ -1,5 +1,5 @@
 // The queues of all levels, which threads share.
-ghost use Rattle.std.specs.Prelude.{◌≡◌, ◌+◌, ◌*◌, ◌^◌, ◌-◌, ◌<◌, ◌≤◌, ◌⊎◌, ℕ, List, ◌++◌, [], length, map, slice_index_or, IfOk, MatchResult, MatchOption};
+ghost use Rattle.std.specs.Prelude.{◌≡◌, ◌+◌, ◌*◌, ◌^◌, ◌-◌, ◌<◌, ◌≤◌, ◌⊎◌, ℕ, List, ◌++◌, [], length, map, false, slice_index_or, IfOk, MatchResult, MatchOption};
 ghost use Rattle.std.specs.List.{All};
 ghost use Rattle.job_language.specs.declared.tenants.Level.{Level};
 ghost use Rattle.call_queues.specs.declared.marks.Marked.{Marked};
@@ -85,10 +85,30 @@ impl Model for CallQueues {
         × (q.low.room ≡ room_at q.config Low) × (q.room.items ≡ []) × (3072 ≤ vec_capacity q.room) };
 }
 
+/// A call was pushed, and a worker is to hear of it. Only `CallQueues::push_call` makes one, and it can't
+/// be dropped: whoever has one hands it to a signal, or ends it by `rung`. So no ring comes before its
+/// push, and none is forgotten unless somebody says that nobody listens.
+#[derive(Debug)]
+pub struct Pushed {
+    _made_here: (),
+}
+
+impl Pushed {
+    /// Ends it: the signal was given, or nobody listens.
+    pub fn rung(self) {
+        let Pushed { _made_here } = self;
+    }
+}
+
 impl CallQueues {
     /// Adds a call at the end of its tenant's level. It comes back only where that level was full
     /// at one moment, or the pass had made `u64::MAX` pushes there.
-    pub fn push_call<R: Wait>(&self, rt: &R, pass: &mut QueuePass, call: Call) -> Result<(), Call>
+    pub fn push_call<R: Wait>(
+        &self,
+        rt: &R,
+        pass: &mut QueuePass,
+        call: Call,
+    ) -> Result<Pushed, Call>
         requires pass { pass.old.queues ≡ self.now.queues }
         requires tenant { call.tenant < length self.now.config }
         ensures pass { (pass.new.number ≡ pass.old.number) × (pass.new.queues ≡ pass.old.queues) }
@@ -97,10 +117,11 @@ impl CallQueues {
             (λ back. (back ≡ call) × (pass.new.logs ≡ pass.old.logs) × ((length log.pushed ≡ 2 ^ 64 - 1) ⊎ HeldAt pass.old level (room_at self.now.config level))) }
     {
         match self.config.level(call.tenant) {
-            Level::High => self.high.push(rt, &mut pass.high, call),
-            Level::Normal => self.normal.push(rt, &mut pass.normal, call),
-            Level::Low => self.low.push(rt, &mut pass.low, call),
+            Level::High => self.high.push(rt, &mut pass.high, call)?,
+            Level::Normal => self.normal.push(rt, &mut pass.normal, call)?,
+            Level::Low => self.low.push(rt, &mut pass.low, call)?,
         }
+        Ok(Pushed { _made_here: () })
     }
 
     /// Takes the first call of the highest level that has one. It looks at one level after
@@ -117,6 +138,26 @@ impl CallQueues {
             return Some(call);
         }
         self.low.pop(rt, &mut pass.low)
+    }
+
+    /// Whether a call waits that is of a tenant's level or of a higher one. Nothing is taken. If it
+    /// says no, each of these levels was empty at some moment of the call; if it says yes, others
+    /// may have popped that call by now.
+    pub fn has_call_for(&self, pass: &mut QueuePass, tenant: usize) -> bool
+        requires pass { pass.old.queues ≡ self.now.queues }
+        requires tenant { tenant < length self.now.config }
+        ensures pass { pass.new ≡ pass.old }
+        ensures none { result ≡ false → (level : Level) → rank level ≤ rank (level_in self.now.config tenant) → HeldAt pass.old level 0 }
+    {
+        let no_high = self.high.is_empty(&mut pass.high);
+        match self.config.level(tenant) {
+            Level::High => !no_high,
+            Level::Normal => !(no_high && self.normal.is_empty(&mut pass.normal)),
+            Level::Low => {
+                let no_normal = self.normal.is_empty(&mut pass.normal);
+                !(no_high && no_normal && self.low.is_empty(&mut pass.low))
+            }
+        }
     }
 }
 

@@ -1,8 +1,7 @@
 // The calls of the evaluator, each made again if an allocation failed.
 use crate::jobs::{status_of, steps, tenant};
-use history_check::{Verdict, check};
 use job_language::{Answer, Entry, Status, Step};
-use solo_eval::Solo;
+use solo_eval::{Solo, Verdict, check};
 use std::alloc::{AllocError, Global};
 
 /// The outcome that the last step reports, if each step that fails is taken again on the same evaluator.

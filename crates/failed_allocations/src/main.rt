@@ -13,8 +13,8 @@ mod texts;
 mod worlds;
 
 use evaluators::{checked, run_whole, stepped};
-use history_check::Verdict;
 use job_language::Status;
+use solo_eval::Verdict;
 use std::alloc::Global;
 use std::io;
 use std::sync::Wait;

@@ -2,10 +2,10 @@
 use crate::jobs::{SERIAL, tenant};
 use crate::retries::again;
 use arena_core::Arena;
-use arena_sessions::{ArenaDoors, serve_arenas};
 use call_queues::{CallQueues, QueuePass};
 use job_language::Level;
 use market_config::{MarketConfig, MarketTenant};
+use session_law::{ArenaDoors, serve_arenas};
 use std::alloc::{AllocError, Global};
 
 /// What a session is sent that executes the job.

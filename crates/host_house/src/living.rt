@@ -18,6 +18,7 @@ use std::thread;
 use std::thread::{JoinHandle, Threads};
 use std::time::Clock;
 use tenant_record::Seat;
+use worker_main::Visiting;
 
 /// How a generation is to live.
 #[derive(Clone, Copy, Debug, PartialEq, Eq)]
@@ -107,7 +108,7 @@ pub fn live<R: Threads + Wait + Clock + Sync + Print + Eprint>(
                 place,
             };
             if scope
-                .spawn(move || serve_calls(rt, post, &bell, place))
+                .spawn(move || serve_calls(rt, post, &bell, place, Visiting::Sharing))
                 .is_err()
             {
                 ready = Err(ServerEnd::Device);

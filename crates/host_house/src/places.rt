@@ -1,5 +1,6 @@
 // Where the workers of a generation are.
 
+use call_queues::Pushed;
 use std::sync::Wait;
 use std::sync::atomic::{AtomicU64, Ordering};
 use worker_main::{Bell, Gate, Signal};
@@ -47,8 +48,10 @@ pub(crate) struct HeardBell<'b, 'p> {
 impl<'b, 'p> Signal for HeardBell<'b, 'p> {
     ghost stops = { λ _. Unit {0} };
 
-    fn ring<R: Wait>(&self, rt: &R) {
-        self.bell.ring(rt);
+    ghost hears = { λ _ _. Unit {0} };
+
+    fn ring<R: Wait>(&self, rt: &R, pushed: Pushed) {
+        self.bell.ring(rt, pushed);
     }
 
     fn listen<R: Wait>(&self, rt: &R) -> Option<u64> {

@@ -2,11 +2,12 @@
 
 use crate::places::Place;
 use generation_life::{Stage, Why};
-use host_status::{Generation, Tenant, Worker};
+use host_status::{Generation, Jobs, Rows, Tenant, Worker};
 use job_language::Config;
 use socket_server::House;
 use std::alloc::{AllocError, Global};
 use std::sync::Wait;
+use tenant_lock::JobTally;
 
 /// What is told of a generation beside its tenants and workers.
 #[derive(Clone, Copy)]
@@ -80,16 +81,31 @@ fn tenants<R: Wait>(
 ) -> Result<Vec<Tenant>, AllocError> {
     let mut tenants = Vec::with_capacity(alloc, config.tenants().len())?;
     for (door, tenant) in house.doors().iter().zip(config.tenants()) {
-        let counts = door.counts(rt);
+        let (counts, tally) = (door.counts(rt), door.tally(rt));
         tenants.push(Tenant {
             tenant: String::from_str(alloc, tenant.tenant().name.as_str())?,
             steps: tenant.tenant().steps,
             entries: counts.entries,
             asks: counts.asks,
             jobs: door.jobs(),
+            jobs_now: jobs(tally.jobs),
+            rows: Rows {
+                open: tally.open_rows,
+                waiting: tally.waiting_rows,
+            },
         })?;
     }
     Ok(tenants)
+}
+
+/// How far jobs are, in the words of the status.
+fn jobs(tally: JobTally) -> Jobs {
+    Jobs {
+        running: tally.running,
+        complete: tally.complete,
+        canceled: tally.cancelled,
+        fault: tally.faulted,
+    }
 }
 
 /// Whether a tenant's history has that many per cent of its steps.

@@ -5,4 +5,6 @@ mod events;
 mod status;
 
 pub use events::{Event, Fault};
-pub use status::{ClosedGeneration, ClosedTenant, Generation, Status, Tenant, Worker, status_line};
+pub use status::{
+    ClosedGeneration, ClosedTenant, Generation, Jobs, Rows, Status, Tenant, Worker, status_line,
+};

@@ -12,7 +12,23 @@ pub struct Worker {
     pub slot: Option<u8>,
 }
 
-/// How much of a tenant's history is used.
+/// How many jobs of a tenant are how far, of those that are not retired.
+#[derive(Clone, Copy, Debug, PartialEq, Eq, Serialize)]
+pub struct Jobs {
+    pub running: u64,
+    pub complete: u64,
+    pub canceled: u64,
+    pub fault: u64,
+}
+
+/// How many rows of a tenant are open, and how many of these wait to be started.
+#[derive(Clone, Copy, Debug, PartialEq, Eq, Serialize)]
+pub struct Rows {
+    pub open: usize,
+    pub waiting: usize,
+}
+
+/// How much of a tenant's history is used, and what it has at this moment.
 #[derive(Drop, Serialize)]
 pub struct Tenant {
     pub tenant: String,
@@ -23,6 +39,8 @@ pub struct Tenant {
     pub asks: usize,
     /// How many jobs were made.
     pub jobs: u64,
+    pub jobs_now: Jobs,
+    pub rows: Rows,
 }
 
 /// A generation that is not closed. Times are in seconds since 1970.

@@ -1,5 +1,5 @@
 -- A private run, an instruction at a time.
-use Rattle.std.proofs.Common.{◌≡◌, ℕ, suc, ◌+◌, ◌-◌, ◌<◌, ◌≤◌, List, [], length, get_or, Some, None, false, refl, sym, ap, subst, inl, inr, ◌∙◌, arith}
+use Rattle.std.proofs.Common.{◌≡◌, ℕ, zero, suc, ◌+◌, ◌-◌, ◌<◌, ◌≤◌, List, [], length, get_or, Option, Some, None, false, refl, sym, ap, subst, inl, inr, ◌∙◌, arith}
 use Rattle.std.specs.Prelude.{slice_index_or, slice_get}
 use Rattle.std.proofs.lemmas.List.{get_or_past}
 use Rattle.std.proofs.lemmas.Option.{slice_get-get_or, slice_get_past}
@@ -7,10 +7,12 @@ use Rattle.std.proofs.lemmas.Bool.{both_ways, cases_lt}
 use Rattle.job_language.specs.Program.{IsValidProc, IsInRange, is_last}
 use Rattle.job_language.specs.declared.instructions.Instr.{Instr}
 use Rattle.job_step.specs.declared.frames.Frame.{Frame}
+use Rattle.job_step.specs.declared.runs.Run.{Run}
 use Rattle.job_step.specs.declared.runs.Stop.TheVariants.{Shared, Yield, Fault}
+use Rattle.job_step.specs.declared.effects.Effect.{Effect}
 use Rattle.job_step.specs.declared.effects.Effect.TheVariants.{Moves, DividesByZero, IsShared}
 use Rattle.job_step.specs.Frame.{instr_at, effect}
-use Rattle.job_step.specs.Run.{run_for, run_of}
+use Rattle.job_step.specs.Run.{effect_at, run_on, run_for, run_of}
 
 -- one more turn is left
 one_more : (n c : ℕ) → c < n → n - c ≡ suc (n - (c + 1))
@@ -66,3 +68,19 @@ follows is k i valid within found goes_on =
           let last : length is - 1 ≡ k = omega arith in
           absurd (both_ways (is_last i) goes_on (rw (last, here) at valid.ends))
     ]
+
+-- the instruction that a run stops at
+pub stop_instr : {i j : Instr} → Shared i ≡ Shared j → i ≡ j
+stop_instr e = cc
+
+run_on-start : (start f : Frame) (c : ℕ) (e : Effect) (i : Option Instr) (next : Frame → Run) → ((g : Frame) → (next g).start ≡ start) → (run_on start f c e i next).start ≡ start
+run_on-start start f c (Moves g) i next each = each g
+run_on-start start f c DividesByZero i next each = refl
+run_on-start start f c IsShared i next each = refl
+
+-- a run keeps the frame that it started from
+pub run_for-start : (left : ℕ) (procs : List (List Instr)) (slot width : ℕ) (start : Frame) (c : ℕ) (f : Frame) → (run_for left procs slot width start c f).start ≡ start
+unfolding run_for
+run_for-start zero procs slot width start c f = refl
+run_for-start (suc left) procs slot width start c f =
+    run_on-start start f c (effect_at (instr_at procs f) slot width f) (instr_at procs f) (run_for left procs slot width start (c + 1)) (run_for-start left procs slot width start (c + 1))

@@ -8,6 +8,6 @@ use Rattle.job_step.specs.declared.segments.Segment.TheInside.{Inside}
 use Rattle.job_step.specs.Segment.{run_of_top}
 
 pub record IsSegment (s : Inside) : Type 0 where
-  pub run : s.run ≡ run_of_top s.top
+  pub run : record { start = s.top.frame; end = s.end; count = s.count; stop = s.stop } ≡ run_of_top s.top
   -- An instruction follows a shared one that may not be the last.
-  pub next : (i : Instr) → s.run.stop ≡ Shared i → is_last i ≡ false → s.run.end.place < LAST_PLACE
+  pub next : (i : Instr) → s.stop ≡ Shared i → is_last i ≡ false → s.end.place < LAST_PLACE

@@ -26,10 +26,17 @@ pub fn effect_on(frame: &Frame, instr: &Instr, slot: u8, width: u8) -> Effect
 {
     let procedure = frame.procedure;
     let mut registers = frame.registers;
-    match execute(instr, slot, width, procedure, frame.place, &mut registers) {
+    match execute(
+        instr,
+        slot,
+        width,
+        procedure,
+        usize::from(frame.place),
+        &mut registers,
+    ) {
         Next::Place(place) => Effect::Moves(Frame {
             procedure,
-            place,
+            place: place as u8,
             registers,
         }),
         Next::DividesByZero => Effect::DividesByZero,

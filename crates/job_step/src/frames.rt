@@ -39,12 +39,9 @@ impl Frame {
         requires { self.now.place < LAST_PLACE }
         ensures { result ≡ at_place self.now (self.now.place + 1) }
     {
-        let registers = self.registers;
-        Frame {
-            procedure: self.procedure,
-            place: self.place + 1,
-            registers,
-        }
+        let mut next = *self;
+        next.place += 1;
+        next
     }
 
     /// The frame at the next place of its procedure, with one register changed.
@@ -52,13 +49,10 @@ impl Frame {
         requires { self.now.place < LAST_PLACE }
         ensures { result ≡ write_and_step self.now register value }
     {
-        let mut registers = self.registers;
-        registers[register.index()] = value;
-        Frame {
-            procedure: self.procedure,
-            place: self.place + 1,
-            registers,
-        }
+        let mut written = *self;
+        written.registers[register.index()] = value;
+        written.place += 1;
+        written
     }
 
     /// The instruction of a program that comes next.

@@ -1,5 +1,5 @@
 // Private runs: what a frame executes before it meets a shared instruction.
-ghost use Rattle.std.specs.Prelude.{◌≡◌, ◌+◌, ◌<◌, [], ℕ, List, length, false, slice_index_or};
+ghost use Rattle.std.specs.Prelude.{◌≡◌, ◌+◌, ◌<◌, ◌≤◌, [], ℕ, List, length, false, slice_index_or};
 ghost use Rattle.job_language.specs.declared.instructions.Instr.{Instr};
 ghost use Rattle.job_language.specs.Program.{IsValidProc, IsInRange, is_last};
 ghost use Rattle.job_language.specs.declared.programs.TheConstants.{MAX_INSTRS};
@@ -38,7 +38,7 @@ pub struct Run {
 /// What follows an instruction that a frame executes by itself.
 #[derive(Clone, Copy)]
 pub(crate) enum Next {
-    Place(u8),
+    Place(usize),
     DividesByZero,
     IsShared,
 }
@@ -51,75 +51,62 @@ pub fn run_private(program: &Program, start: Frame, slot: u8, width: u8) -> Run
     // Only a `ret` or a `jmp` ends a procedure, so another shared instruction has one after it.
     ensures next { (i : Instr) → result.stop ≡ Stop.Shared i → is_last i ≡ false → result.end.place < LAST_PLACE }
 {
+    let mut end = start;
+    let (count, stop) = run_frame(program, &mut end, slot, width);
+    Run {
+        start,
+        end,
+        count,
+        stop,
+    }
+}
+
+/// Leads a frame to the end of its private run. Answers how many instructions that executes, and
+/// why it ends.
+#[inline(always)]
+fn run_frame(program: &Program, frame: &mut Frame, slot: u8, width: u8) -> (u32, Stop)
+    ensures run { record { start = frame.old; end = frame.new; count = result.0; stop = result.1 } ≡ run_of program.now slot width frame.old }
+    ensures next { (i : Instr) → result.1 ≡ Stop.Shared i → is_last i ≡ false → frame.new.place < LAST_PLACE }
+{
     let procs = program.procs();
-    let procedure = usize::from(start.procedure);
+    let procedure = usize::from(frame.procedure);
     if procedure >= procs.len() {
-        return Run::none(start);
+        return (0, Stop::Yield);
     }
     let instrs = procs[procedure].instrs();
-    if usize::from(start.place) >= instrs.len() {
-        return Run::none(start);
+    if usize::from(frame.place) >= instrs.len() {
+        return (0, Stop::Yield);
     }
-    run_in(instrs, start, slot, width)
+    run_in(instrs, frame, slot, width)
 }
 
-impl Run {
-    /// The run of no instruction.
-    #[inline(always)]
-    fn none(start: Frame) -> Run
-        ensures { result ≡ record { start = start; end = start; count = 0; stop = Stop.Yield } }
-    {
-        Run {
-            start,
-            end: start,
-            count: 0,
-            stop: Stop::Yield,
-        }
-    }
-
-    /// The run that left a frame at a place of its procedure, with these registers.
-    #[inline(always)]
-    fn ended(start: Frame, place: u8, registers: [i64; REGISTERS], count: u32, stop: Stop) -> Run
-        ensures { result ≡ record { start = start; end = frame_of start.procedure place registers; count = count; stop = stop } }
-    {
-        let procedure = start.procedure;
-        Run {
-            start,
-            end: Frame {
-                procedure,
-                place,
-                registers,
-            },
-            count,
-            stop,
-        }
-    }
-}
-
+/// Leads a frame that is at one of its procedure's instructions to the end of its private run.
 #[inline(always)]
-fn run_in(instrs: &[Instr], start: Frame, slot: u8, width: u8) -> Run
+fn run_in(instrs: &[Instr], frame: &mut Frame, slot: u8, width: u8) -> (u32, Stop)
     requires valid { IsValidProc instrs.now }
-    requires place { start.place < length instrs.now }
-    ensures run { (procs : List (List Instr)) → slice_index_or procs start.procedure [] ≡ instrs.now
-        → result ≡ run_of procs slot width start }
-    ensures next { (i : Instr) → result.stop ≡ Stop.Shared i → is_last i ≡ false → result.end.place < LAST_PLACE }
+    requires place { frame.old.place < length instrs.now }
+    ensures run { (procs : List (List Instr)) → slice_index_or procs frame.old.procedure [] ≡ instrs.now
+        → record { start = frame.old; end = frame.new; count = result.0; stop = result.1 } ≡ run_of procs slot width frame.old }
+    ensures next { (i : Instr) → result.1 ≡ Stop.Shared i → is_last i ≡ false → frame.new.place < LAST_PLACE }
 {
-    let procedure = start.procedure;
-    let mut place = start.place;
-    let mut registers = start.registers;
+    let procedure = frame.procedure;
+    let mut place = usize::from(frame.place);
     for count in 0..RUN_LIMIT {
-        let instr = &instrs[usize::from(place)];
-        match execute(instr, slot, width, procedure, place, &mut registers) {
+        let instr = &instrs[place];
+        match execute(instr, slot, width, procedure, place, &mut frame.registers) {
             Next::Place(next) => place = next,
             Next::DividesByZero => {
-                return Run::ended(start, place, registers, count + 1, Stop::Fault);
+                frame.place = place as u8;
+                return (count + 1, Stop::Fault);
             }
             Next::IsShared => {
-                return Run::ended(start, place, registers, count, Stop::Shared(*instr));
+                frame.place = place as u8;
+                return (count, Stop::Shared(*instr));
             }
         }
     }
-    Run::ended(start, place, registers, RUN_LIMIT, Stop::Yield)
+    frame.place = place as u8;
+    (RUN_LIMIT, Stop::Yield)
 }
 
 #[inline(always)]
@@ -128,7 +115,7 @@ pub(crate) fn execute(
     slot: u8,
     width: u8,
     procedure: u8,
-    place: u8,
+    place: usize,
     registers: &mut [i64; REGISTERS],
 ) -> Next
     requires { is_last instr.now ≡ false → place + 1 < MAX_INSTRS }
@@ -136,6 +123,7 @@ pub(crate) fn execute(
         ≡ effect_of procedure result registers.new }
     ensures shared { result ≡ Next.IsShared → registers.new ≡ registers.old }
     ensures divides { result ≡ Next.DividesByZero → registers.new ≡ registers.old }
+    ensures fits { (k : ℕ) → result ≡ Next.Place k → k ≤ LAST_PLACE }
     ensures within { (instrs : ℕ) → IsInRange instrs instr.now → (is_last instr.now ≡ false → place + 1 < instrs)
         → GoesWithin instrs result }
 {
@@ -161,12 +149,12 @@ pub(crate) fn execute(
         }
         Instr::Jz(a, t) => {
             return Next::Place(if registers[a.index()] == 0 {
-                t
+                usize::from(t)
             } else {
                 place + 1
             });
         }
-        Instr::Jmp(t) => return Next::Place(t),
+        Instr::Jmp(t) => return Next::Place(usize::from(t)),
         Instr::Slot(d) => registers[d.index()] = i64::from(slot),
         Instr::Width(d) => registers[d.index()] = i64::from(width),
         _ => return Next::IsShared,

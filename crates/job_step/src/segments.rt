@@ -34,7 +34,10 @@ pub enum View {
 #[derive(Drop)]
 pub struct Segment {
     top: Top,
-    run: Run,
+    /// Where the run ends.
+    end: Frame,
+    count: u32,
+    stop: Stop,
 }
 
 impl Model for Segment {
@@ -54,7 +57,12 @@ pub fn segment_of(top: Top) -> Segment
     ensures { result ≡ top }
 {
     let run = run_private(&top.program, top.frame, top.slot, top.width);
-    Segment { top, run }
+    Segment {
+        top,
+        end: run.end,
+        count: run.count,
+        stop: run.stop,
+    }
 }
 
 impl Segment {
@@ -64,7 +72,12 @@ impl Segment {
         // Only a `ret` or a `jmp` ends a procedure, so another shared instruction has one after it.
         ensures next { (i : Instr) → result.stop ≡ Stop.Shared i → is_last i ≡ false → result.end.place < LAST_PLACE }
     {
-        self.run
+        Run {
+            start: self.top.frame,
+            end: self.end,
+            count: self.count,
+            stop: self.stop,
+        }
     }
 
     /// The frame that it is the run of.

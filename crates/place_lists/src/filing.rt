@@ -6,13 +6,16 @@ use crate::lists::Lists;
 use std::alloc::{AllocError, Global};
 use std::marker::Model;
 
+/// How many lists there may be.
+const MAX_LISTS: usize = 65_536;
+
 /// Places that are each filed in one list, or in none. It knows where each place is filed, so a place is
 /// filed elsewhere without a search. No call takes memory but `new`, and none walks a list but
 /// `file_all`.
 pub struct Filing {
     lists: Lists,
     /// By place, the list that it is filed in.
-    by_place: Vec<Option<usize>>,
+    by_place: Vec<Option<u16>>,
 }
 
 impl Drop for Filing {
@@ -26,22 +29,25 @@ impl Drop for Filing {
 }
 
 impl Model for Filing {
-    ghost use Rattle.std.specs.Prelude.{length};
+    ghost use Rattle.std.specs.Prelude.{◌≤◌, ◌^◌, length};
     ghost use Rattle.place_lists.specs.Filing.{Filing, AreFiled};
 
     ghost Value = { Filing };
 
     ghost view = { λ b. record { lists = length b.lists.lists; by_place = b.by_place.items } };
 
-    ghost invariant = { λ b. AreFiled b.lists b.by_place.items };
+    ghost invariant = { λ b. AreFiled b.lists b.by_place.items × (length b.lists.lists ≤ 2 ^ 16) };
 }
 
 impl Filing {
     /// `lists` empty lists, and `places` places that are filed in none. It fails only if an allocation
-    /// failed.
+    /// failed, or if there are more than 65,536 lists or places.
     pub fn new(alloc: Global, lists: usize, places: usize) -> Result<Filing, AllocError>
         ensures { IfOk result (λ filing. filing ≡ record { lists = lists; by_place = replicate places None }) }
     {
+        if lists > MAX_LISTS {
+            return Err(AllocError);
+        }
         Ok(Filing {
             lists: Lists::new(alloc, lists, places)?,
             by_place: vec![in alloc; None; places]?,
@@ -56,7 +62,7 @@ impl Filing {
     {
         self.unfile(place);
         self.lists.push(list, place);
-        self.by_place[place] = Some(list);
+        self.by_place[place] = Some(list as u16);
     }
 
     /// Takes a place from where it is filed, if it is.
@@ -65,6 +71,7 @@ impl Filing {
         ensures { self.new ≡ with_filed self.old place None }
     {
         if let Some(list) = self.by_place[place] {
+            let list = usize::from(list);
             self.lists.remove(list, place);
         }
         self.by_place[place] = None;

@@ -6,13 +6,16 @@ ghost use Rattle.place_lists.specs.Links.{link_at, set_at, joined, left};
 use std::alloc::{AllocError, Global};
 use std::marker::Model;
 
+/// How many places there may be: a link has 16 bits.
+const MAX_PLACES: usize = 65_536;
+
 /// For each list its first and its last place, and for each place what comes after and before it in the
 /// list that it is in.
 pub(crate) struct Links {
-    heads: Vec<Option<usize>>,
-    tails: Vec<Option<usize>>,
-    next: Vec<Option<usize>>,
-    previous: Vec<Option<usize>>,
+    heads: Vec<Option<u16>>,
+    tails: Vec<Option<u16>>,
+    next: Vec<Option<u16>>,
+    previous: Vec<Option<u16>>,
 }
 
 impl Drop for Links {
@@ -28,18 +31,25 @@ impl Drop for Links {
 }
 
 impl Model for Links {
+    ghost use Rattle.std.specs.Prelude.{◌≤◌, ◌^◌, length};
     ghost use Rattle.place_lists.specs.Links.{Links};
 
     ghost Value = { Links };
 
     ghost view = { λ b. record { heads = b.heads.items; tails = b.tails.items; next = b.next.items; previous = b.previous.items } };
+
+    ghost invariant = { λ b. length b.next.items ≤ 2 ^ 16 };
 }
 
 impl Links {
-    /// `lists` empty lists over `places` places.
+    /// `lists` empty lists over `places` places. It fails only if an allocation failed, or if there are
+    /// more than `MAX_PLACES` places.
     pub(crate) fn new(alloc: Global, lists: usize, places: usize) -> Result<Links, AllocError>
         ensures { IfOk result (λ links. links ≡ record { heads = replicate lists None; tails = replicate lists None; next = replicate places None; previous = replicate places None }) }
     {
+        if places > MAX_PLACES {
+            return Err(AllocError);
+        }
         Ok(Links {
             heads: vec![in alloc; None; lists]?,
             tails: vec![in alloc; None; lists]?,
@@ -52,21 +62,21 @@ impl Links {
     pub(crate) fn head(&self, list: usize) -> Option<usize>
         ensures { result ≡ link_at self.now.heads list }
     {
-        *self.heads.get(list)?
+        Some(usize::from((*self.heads.get(list)?)?))
     }
 
     /// The last place of a list.
     pub(crate) fn tail(&self, list: usize) -> Option<usize>
         ensures { result ≡ link_at self.now.tails list }
     {
-        *self.tails.get(list)?
+        Some(usize::from((*self.tails.get(list)?)?))
     }
 
     /// What comes after a place in the list that it is in.
     pub(crate) fn next(&self, place: usize) -> Option<usize>
         ensures { result ≡ link_at self.now.next place }
     {
-        *self.next.get(place)?
+        Some(usize::from((*self.next.get(place)?)?))
     }
 
     /// The number of places.
@@ -87,8 +97,9 @@ impl Links {
     {
         let last = self.tails[list];
         self.next[place] = None;
-        link(&mut self.next, last, Some(place));
         self.previous[place] = last;
+        let place = place as u16;
+        link(&mut self.next, last, Some(place));
         if last.is_none() {
             self.heads[list] = Some(place);
         }
@@ -119,11 +130,11 @@ impl Links {
 }
 
 /// Links a place, if there is one, to another.
-fn link(links: &mut [Option<usize>], place: Option<usize>, to: Option<usize>)
+fn link(links: &mut [Option<u16>], place: Option<u16>, to: Option<u16>)
     requires { ForSome place (λ p. p < length links.old) }
     ensures { links.new ≡ set_at links.old place to }
 {
     if let Some(place) = place {
-        links[place] = to;
+        links[usize::from(place)] = to;
     }
 }

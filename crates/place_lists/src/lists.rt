@@ -26,7 +26,8 @@ impl Model for Lists {
 }
 
 impl Lists {
-    /// `lists` empty lists over `places` places. It fails only if an allocation failed.
+    /// `lists` empty lists over `places` places. It fails only if an allocation failed, or if there
+    /// are more than 65,536 places.
     pub fn new(alloc: Global, lists: usize, places: usize) -> Result<Lists, AllocError>
         ensures count { IfOk result (λ made. length made.lists ≡ lists) }
         ensures places { IfOk result (λ made. made.places ≡ places) }

@@ -51,6 +51,13 @@ impl<T: Drop> PlaceTable<T> {
         self.places
     }
 
+    /// How many places are taken.
+    pub fn count(&self) -> usize
+        ensures { result ≡ count_by is_some self.now }
+    {
+        self.values.len()
+    }
+
     /// Whether no place is free.
     pub fn is_full(&self) -> bool
         ensures { result ≡ (count_by is_some self.now == length self.now) }

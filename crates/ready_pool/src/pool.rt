@@ -171,6 +171,13 @@ impl Pool {
         true
     }
 
+    /// How many rows wait.
+    pub fn len(&self) -> usize
+        ensures { result ≡ length self.now.rows }
+    {
+        self.rows.len()
+    }
+
     /// Whether no row waits.
     pub fn is_empty(&self) -> bool
         ensures { result ≡ (length self.now.rows == 0) }

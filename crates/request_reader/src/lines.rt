@@ -3,10 +3,11 @@ ghost use Rattle.std.specs.Prelude.{◌≡◌, ℕ, List, [], ◌++◌, ◌<◌,
 ghost use Rattle.std.specs.Io.KnownBytes.{Consumes, IsAtEnd};
 
 use crate::newlines::newline_from;
+use crate::sources::Source;
 use crate::turns::{MAX_TURNS, Turns};
 use crate::windows::Window;
 use std::alloc::{AllocError, Global};
-use std::io::{ErrorKind, Read};
+use std::io::ErrorKind;
 use std::marker::Model;
 
 /// How many bytes are asked for at once, at least.
@@ -80,7 +81,7 @@ impl LineReader {
 
     /// Reads on to the end of the next line. A line that is longer than the limit is read to its
     /// newline and told once. An interrupted call of `read` counts, and is tried again.
-    pub fn read_line<R: Read>(&mut self, reader: &mut R) -> LineRead
+    pub fn read_line<R: Source>(&mut self, reader: &mut R) -> LineRead
         // Where the bytes are known, the lines that were left are those reported now, followed by
         // those that are left.
         ensures lines { IsSome (R.remaining reader.old) → lines_left self.old (unwrap_or (R.remaining reader.old) [])
@@ -95,16 +96,20 @@ impl LineReader {
         // A line that is held whole is reported without a call of the reader, and so is the end.
         ensures at_once { NeedsBytes self.old ⊎ (self.new.turns ≡ self.old.turns) }
         ensures lowers { LowersWork result self.old self.new }
+
+        // The reader's fault is its own.
+        ensures fault { result ≡ LineRead.ReadFault → R.failed reader.new }
     {
         self.read_on(reader)
     }
 
-    fn read_on<R: Read>(&mut self, reader: &mut R) -> LineRead
+    fn read_on<R: Source>(&mut self, reader: &mut R) -> LineRead
         ensures reads { Reads self.old self.new (R.remaining reader.old) (R.remaining reader.new) (told_by result self.new) }
         ensures comes_to { ComesTo result self.old self.new }
         ensures unread { self.new.turns ≡ self.old.turns → reader.new ≡ reader.old }
         ensures at_once { NeedsBytes self.old ⊎ (self.new.turns ≡ self.old.turns) }
         ensures lowers { LowersWork result self.old self.new }
+        ensures fault { result ≡ LineRead.ReadFault → R.failed reader.new }
     {
         if self.is_ended {
             self.window.cut(0, 0);
@@ -122,12 +127,13 @@ impl LineReader {
     }
 
     /// Calls the reader once, and tells a line that is whole then.
-    fn turn<R: Read>(&mut self, reader: &mut R) -> Option<LineRead>
+    fn turn<R: Source>(&mut self, reader: &mut R) -> Option<LineRead>
         requires pending { IsPending self.old }
         requires turns { 0 < self.old.turns }
         ensures turns_to { TurnsTo result self.old self.new (R.remaining reader.old) (R.remaining reader.new) }
         ensures turns { self.new.turns + 1 ≡ self.old.turns }
         ensures room { length self.new.held ≤ self.new.limit + BLOCK }
+        ensures fault { result ≡ Some LineRead.ReadFault → R.failed reader.new }
     {
         let start = self.window.held().len();
         match self.window.fill(&mut self.turns, reader) {

@@ -1,10 +1,10 @@
 // The calls of a reader, counted.
-ghost use Rattle.std.specs.Prelude.{◌≡◌, ◌<◌, ◌+◌, ◌↔◌, IsTrue};
+ghost use Rattle.std.specs.Prelude.{◌≡◌, ◌<◌, ◌+◌, ◌↔◌, IsTrue, OnErr};
 ghost use Rattle.std.specs.Io.{ReadsAtMost};
 ghost use Rattle.std.specs.Io.KnownBytes.{ReadConsumes};
 
+use crate::sources::Source;
 use std::io;
-use std::io::Read;
 use std::marker::Model;
 
 /// How often a `LineReader` calls `read`.
@@ -42,13 +42,14 @@ impl Turns {
     }
 
     /// Calls the reader once.
-    pub(crate) fn read<R: Read>(&mut self, reader: &mut R, room: &mut [u8]) -> io::Result<usize>
+    pub(crate) fn read<R: Source>(&mut self, reader: &mut R, room: &mut [u8]) -> io::Result<usize>
         requires { 0 < self.old }
         ensures turns { self.new + 1 ≡ self.old }
         ensures bound { ReadsAtMost result room.new }
         ensures bytes { ReadConsumes (R.remaining reader.old) (R.remaining reader.new) result room.new }
+        ensures failed { OnErr result (R.failed reader.new) }
     {
         self.left -= 1;
-        reader.read(room)
+        reader.read_once(room)
     }
 }

@@ -2,10 +2,10 @@
 ghost use Rattle.std.specs.Prelude.{◌≡◌, ℕ, List, [], ◌++◌, ◌<◌, ◌≤◌, ◌+◌, ◌-◌, length, take, drop, slice_range, vec_len, IfOk, OnErr};
 ghost use Rattle.std.specs.Io.KnownBytes.{Keeps, Consumes, IsAtEnd};
 
+use crate::sources::Source;
 use crate::turns::Turns;
 use std::alloc::{AllocError, Global};
 use std::io;
-use std::io::Read;
 use std::marker::Model;
 
 /// A buffer of a fixed size: the line that was cut off last, and after it the bytes that are held.
@@ -73,7 +73,7 @@ impl Window {
     }
 
     /// Reads once, as many bytes as there is room for. The line is gone afterwards.
-    pub(crate) fn fill<R: Read>(&mut self, turns: &mut Turns, reader: &mut R) -> io::Result<usize>
+    pub(crate) fn fill<R: Source>(&mut self, turns: &mut Turns, reader: &mut R) -> io::Result<usize>
         requires room { length self.old.held < self.old.size }
         requires turns { 0 < turns.old }
         ensures turns { turns.new + 1 ≡ turns.old }
@@ -84,6 +84,7 @@ impl Window {
             × Consumes (R.remaining reader.old) (R.remaining reader.new) came) }
         ensures end { IfOk result (λ n. n ≡ 0 → IsAtEnd (R.remaining reader.new)) }
         ensures err { OnErr result ((self.new.held ≡ self.old.held) × Keeps (R.remaining reader.old) (R.remaining reader.new)) }
+        ensures failed { OnErr result (R.failed reader.new) }
     {
         let (start, end) = (self.start, self.end);
         move_to_front(&mut self.bytes, start, end);
@@ -110,7 +111,7 @@ fn move_to_front(bytes: &mut Vec<u8>, start: usize, end: usize)
 }
 
 /// Reads once into the bytes from a place on.
-fn read_from<R: Read>(
+fn read_from<R: Source>(
     turns: &mut Turns,
     reader: &mut R,
     bytes: &mut Vec<u8>,
@@ -125,6 +126,7 @@ fn read_from<R: Read>(
     ensures ok { IfOk result (λ n. Consumes (R.remaining reader.old) (R.remaining reader.new) (take n (drop start bytes.new.items))) }
     ensures end { IfOk result (λ n. n ≡ 0 → IsAtEnd (R.remaining reader.new)) }
     ensures err { OnErr result (Keeps (R.remaining reader.old) (R.remaining reader.new)) }
+    ensures failed { OnErr result (R.failed reader.new) }
 {
     let room = &mut bytes.as_mut_slice()[start..];
     turns.read(reader, room)

@@ -1,18 +1,17 @@
 // The loop of a session.
-ghost use Rattle.std.specs.Prelude.{◌≡◌, false, IfOk, OnErr};
+ghost use Rattle.std.specs.Prelude.{◌≡◌, false, IfErr, IfOk, OnErr};
 ghost use Rattle.nested_wait.specs.Runs.{Attends};
 ghost use Rattle.nested_wait.specs.Turns.{Turn};
 ghost use Rattle.session_core.specs.Replies.{Replies};
-ghost use Rattle.session_core.specs.Sessions.{Serves, Answers, RefusesLong};
+ghost use Rattle.session_core.specs.Sessions.{Serves, Answers, HasCause, RefusesLong};
 ghost use Rattle.session_core.specs.declared.serving.SessionEnd.TheVariants as session_end;
 
 use crate::doors::Doors;
 use crate::replying::reply_to;
 use job_language::{Error, Reply};
-use reply_writer::{WriteFault, reply_line, write_all_of};
-use request_reader::{LineRead, LineReader, MAX_REQUEST, is_blank};
+use reply_writer::{Sink, WriteFault, reply_line, write_all_of};
+use request_reader::{LineRead, LineReader, MAX_REQUEST, Source, is_blank};
 use std::alloc::{AllocError, Global};
-use std::io::{Read, Write};
 
 /// How a session ended.
 #[derive(Clone, Copy, Debug, PartialEq, Eq)]
@@ -39,7 +38,7 @@ impl From<WriteFault> for SessionEnd {
 
 /// Serves one client: each line is read and answered, one after another, until an end comes. Its
 /// only memory of its own is the room for a line, so an error has read and written nothing.
-pub fn serve<R: Read, W: Write, D: Doors>(
+pub fn serve<R: Source, W: Sink, D: Doors>(
     alloc: Global,
     reader: &mut R,
     writer: &mut W,
@@ -49,6 +48,7 @@ pub fn serve<R: Read, W: Write, D: Doors>(
         Serves (Replies D.finds D.binds D.asks D.waits (Attends (Turn D.views D.commits D.advances) D.heights D.pauses 1))
         (R.remaining reader.old) (R.remaining reader.new) (W.contents writer.old) (W.contents writer.new)
         (false, doors.old) doors.new end) }
+    ensures cause { IfOk result (λ end. HasCause (R.failed reader.new) (W.failed writer.new) end) }
     ensures refused { OnErr result ((reader.new ≡ reader.old) × (writer.new ≡ writer.old) × (doors.new ≡ doors.old)) }
 {
     let mut lines = LineReader::new(alloc, MAX_REQUEST)?;
@@ -68,8 +68,9 @@ pub fn serve<R: Read, W: Write, D: Doors>(
 }
 
 /// Answers a line that is too long.
-fn refuse<W: Write>(writer: &mut W) -> Result<(), SessionEnd>
-    ensures { RefusesLong (W.contents writer.old) (W.contents writer.new) result }
+fn refuse<W: Sink>(writer: &mut W) -> Result<(), SessionEnd>
+    ensures refuses { RefusesLong (W.contents writer.old) (W.contents writer.new) result }
+    ensures cause { IfErr result (λ end. HasCause ⊥ (W.failed writer.new) end) }
 {
     let reply = reply_line(&Reply::Refused(Error::LineTooLong));
     write_all_of(writer, reply.line())?;
@@ -77,15 +78,16 @@ fn refuse<W: Write>(writer: &mut W) -> Result<(), SessionEnd>
 }
 
 /// Answers a line. A blank one has no answer.
-fn answer<W: Write, D: Doors>(
+fn answer<W: Sink, D: Doors>(
     alloc: Global,
     line: &[u8],
     writer: &mut W,
     doors: &mut D,
     is_bound: &mut bool,
 ) -> Result<(), SessionEnd>
-    ensures { Answers (Replies D.finds D.binds D.asks D.waits (Attends (Turn D.views D.commits D.advances) D.heights D.pauses 1))
+    ensures answers { Answers (Replies D.finds D.binds D.asks D.waits (Attends (Turn D.views D.commits D.advances) D.heights D.pauses 1))
         line.now (is_bound.old, doors.old) (is_bound.new, doors.new) (W.contents writer.old) (W.contents writer.new) result }
+    ensures cause { IfErr result (λ end. HasCause ⊥ (W.failed writer.new) end) }
 {
     if is_blank(line) {
         return Ok(());

@@ -1,4 +1,5 @@
 pub mod Shared
 pub mod Posts
+pub mod Sessions
 pub mod Ends
 pub mod Houses

@@ -21,5 +21,5 @@ pub use ends::ServerEnd;
 pub use house::{House, Opened};
 pub use posts::{Client, Post, Posts};
 pub use serving::{Served, serve_connections};
-pub use sessions::serve_calls;
+pub use sessions::{serve_calls, serve_client};
 pub use watching::Watch;

@@ -1,6 +1,7 @@
 // The places of threads in a server.
 ghost use Rattle.std.specs.Prelude.{◌≡◌, IfSome, IfOk, length};
 ghost use Rattle.locked_doors.specs.Seen.{AreOwn};
+ghost use Rattle.socket_server.specs.Sessions.{first_session};
 ghost use Rattle.socket_server.specs.Shared.{ArePassesOf};
 
 use crate::house::House;
@@ -102,11 +103,9 @@ impl<'h> Posts<'h> {
 
 impl<'h> Client<'h> {
     /// The doors of a session that has asked nothing yet. Where it waits it stops once the flag is raised.
-    pub fn into_doors<R: Wait>(
-        self,
-        rt: &'h R,
-        stop: &'h StopFlag,
-    ) -> LockedDoors<'h, 'h, R, Bell> {
+    pub fn into_doors<R: Wait>(self, rt: &'h R, stop: &'h StopFlag) -> LockedDoors<'h, 'h, R, Bell>
+        ensures { result ≡ first_session self.entry }
+    {
         let Client { post, seats } = self;
         let Post { house, pass } = post;
         let slots = TenantSlots::new(rt, house.doors.as_slice(), stop);

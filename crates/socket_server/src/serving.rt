@@ -21,7 +21,7 @@ use std::sync::{Mutex, Wait};
 use std::thread::Threads;
 use std::{io, thread};
 use tenant_record::Seat;
-use worker_main::NoGate;
+use worker_main::{NoGate, Visiting};
 
 /// How the connections of a server ended.
 #[derive(Drop)]
@@ -67,7 +67,7 @@ pub fn serve_connections<R: Threads + Wait + Files + Net + Sync + Print>(
                 break;
             };
             if scope
-                .spawn(move || serve_calls(rt, post, &house.bell, &NoGate))
+                .spawn(move || serve_calls(rt, post, &house.bell, &NoGate, Visiting::Staying))
                 .is_err()
             {
                 house.stop(rt);

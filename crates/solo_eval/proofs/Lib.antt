@@ -2,3 +2,4 @@ mod Mapped
 mod Holding
 mod Present
 pub mod Fuel
+pub mod Verdicts

@@ -1,9 +1,10 @@
-//! The plain evaluator of one tenant's steps, over the list of all its rows.
+//! The plain evaluator of one tenant's steps, over the list of all its rows, and the check of a history by it.
 #![tactic(auto)]
 
 mod advances;
 mod asks;
 mod chains;
+mod checking;
 mod execution;
 mod groups;
 mod shared;
@@ -11,4 +12,5 @@ mod solo;
 mod stacks;
 mod state;
 
+pub use checking::{Verdict, check};
 pub use solo::Solo;

@@ -4,3 +4,4 @@ pub mod Closing
 pub mod FaultCodes
 pub mod DoorFields
 pub mod Looks
+pub mod Pauses

@@ -14,14 +14,16 @@ ghost use Rattle.job_language.specs.Brought.{job_of};
 ghost use Rattle.job_language.specs.declared.errors.Error.TheVariants.{NoMemory};
 
 use crate::closing::fault_of;
-use crate::counts::Counts;
+use crate::counts::{Counts, Tally};
 use crate::faults::CloseFault;
 use crate::held::{Held, News, Turned};
 use crate::stop_flag::StopFlag;
-use job_language::{Answer, Entry, Reply, Request, TenantConfig};
+use crate::waits::{Slots, Waits};
+use job_language::{Answer, Entry, MAX_SLOTS, Reply, Request, TenantConfig};
 use job_step::{Segment, View};
 use market_config::Call;
 use std::alloc::{AllocError, Global};
+use std::array;
 use std::marker::Model;
 use std::sync::atomic::{AtomicU64, Ordering};
 use std::sync::{Condvar, Mutex, Wait};
@@ -41,8 +43,8 @@ pub struct TenantDoor {
     config: TenantConfig,
     seats: usize,
     held: Mutex<Held>,
-    /// Who waits at a slot.
-    changed: Condvar,
+    /// Who waits at each slot.
+    at_slots: [Condvar; MAX_SLOTS as usize],
     /// Who waits for a job.
     outcomes: Condvar,
     /// How many jobs were made. Nothing that is answered depends on it.
@@ -57,7 +59,7 @@ impl Drop for TenantDoor {
             config: _config,
             seats: _seats,
             held: _held,
-            changed: _changed,
+            at_slots: _at_slots,
             outcomes: _outcomes,
             jobs: _jobs,
         } = self;
@@ -92,7 +94,7 @@ impl TenantDoor {
             config,
             seats,
             held: Mutex::new(held),
-            changed: Condvar::new(),
+            at_slots: array::from_fn(|_slot| Condvar::new()),
             outcomes: Condvar::new(),
             jobs: AtomicU64::new(0),
         };
@@ -196,6 +198,24 @@ impl TenantDoor {
         turned
     }
 
+    /// Advances the slot of a pass as `advance`, and under the same lock counts the rows on it.
+    pub fn advance_and_count<R: Wait>(&self, rt: &R, pass: Pass) -> Turned
+        requires { pass.tenant ≡ self.now.tenant }
+        ensures carries { IfSome result.advanced.pass (λ q. Carries pass result.advanced.moved q) }
+        ensures home { is_some result.advanced.pass ≡ not (goes_home result.advanced.moved) }
+        ensures count { is_some result.height ≡ is_some result.advanced.pass }
+        ensures most { IfSome result.height (λ height. height ≤ MAX_HEIGHT) }
+    {
+        let (turned, news) = {
+            let mut held = self.held.lock(rt);
+            let turned = held.advance_and_count(pass);
+            let news = held.news(Answer::Moved(turned.advanced.moved).is_entry());
+            (turned, news)
+        };
+        self.tell(news);
+        turned
+    }
+
     /// Puts a private run in the place of an advance as `commit`, and under the same lock looks at the
     /// slot as `advance_and_look`.
     pub fn commit_and_look<R: Wait>(
@@ -242,6 +262,11 @@ impl TenantDoor {
         self.held.lock(rt).counts()
     }
 
+    /// How far the tenant's jobs are, and how many of its rows are open.
+    pub fn tally<R: Wait>(&self, rt: &R) -> Tally {
+        self.held.lock(rt).tally()
+    }
+
     /// How many jobs were made at the tenant.
     pub fn jobs(&self) -> u64 {
         self.jobs.load(Ordering::SeqCst)
@@ -254,9 +279,17 @@ impl TenantDoor {
         self.held.lock(rt).give_home(pass);
     }
 
-    /// Waits while nothing has happened since the pass's slot was found idle. If it was not idle, or was
-    /// touched since, it doesn't wait. It says whether to stop: those who wait were told to, or the
-    /// history is full.
+    /// Puts a pass home, and under the same lock calls a worker to the lowest slot for workers whose pass
+    /// is home with nobody called, if a row waits. That slot is given, and who asks for it has to call
+    /// the worker. It is no entry, so nobody is woken.
+    pub fn hand_over<R: Wait>(&self, rt: &R, pass: Pass) -> Option<u8>
+        requires { pass.tenant ≡ self.now.tenant }
+    {
+        self.held.lock(rt).hand_over(pass)
+    }
+
+    /// Waits while an advance of the pass's slot would be idle. It says whether to stop: those who wait were told
+    /// to, or the history is full.
     pub fn pause<R: Wait>(&self, rt: &R, pass: &Pass) -> bool
         requires { pass.now.tenant ≡ self.now.tenant }
     {
@@ -267,11 +300,25 @@ impl TenantDoor {
     pub fn pause_until<R: Wait>(&self, rt: &R, pass: &Pass, stop: &StopFlag) -> bool
         requires { pass.now.tenant ≡ self.now.tenant }
     {
-        let still = pass.still();
-        let held = self.changed.wait_while(rt, self.held.lock(rt), |held| {
-            !stop.is_raised() && held.is_idle_since(still)
+        let held = self.held.lock(rt);
+        let Some(at_slot) = self.at_slots.get(usize::from(pass.slot())) else {
+            return stop.is_raised() || held.is_over();
+        };
+        let mut has_slept = false;
+        let held = at_slot.wait_while(rt, held, |held| {
+            let sleeps = !stop.is_raised() && held.sleeps_at(pass);
+            if has_slept {
+                held.waiting.count(sleeps);
+            }
+            has_slept = true;
+            sleeps
         });
         stop.is_raised() || held.is_over()
+    }
+
+    /// How many wait at the tenant's slots, and how often they were woken.
+    pub fn waits<R: Wait>(&self, rt: &R) -> Waits {
+        self.held.lock(rt).waiting.waits()
     }
 
     /// Waits while a job has no outcome and the history is not full. It says whether those who wait
@@ -310,15 +357,27 @@ impl TenantDoor {
 
     /// Wakes who may go on.
     fn tell(&self, news: News) {
-        match news {
-            News::Nothing => {}
-            News::Entry => self.changed.notify_all(),
-            News::Outcome => self.wake_all(),
+        if !news.slots.is_empty() {
+            self.wake_at(news.slots);
+        }
+        if news.has_outcome {
+            self.outcomes.notify_all();
+        }
+    }
+
+    /// Wakes who waits at these slots.
+    fn wake_at(&self, slots: Slots) {
+        for (slot, at_slot) in (0..MAX_SLOTS).zip(self.at_slots.iter()) {
+            if slots.has(slot) {
+                at_slot.notify_all();
+            }
         }
     }
 
     fn wake_all(&self) {
-        self.changed.notify_all();
+        for at_slot in self.at_slots.iter() {
+            at_slot.notify_all();
+        }
         self.outcomes.notify_all();
     }
 
@@ -333,7 +392,7 @@ impl TenantDoor {
             config,
             seats: count,
             held,
-            changed: _changed,
+            at_slots: _at_slots,
             outcomes: _outcomes,
             jobs: _jobs,
         } = self;

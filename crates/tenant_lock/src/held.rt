@@ -1,45 +1,50 @@
 // What a tenant's lock keeps, and the calls to which it is lent.
-ghost use Rattle.std.specs.Prelude.{ℕ, ◌≡◌, ◌≢◌, ◌≤◌, ◌||◌, not, true, false, IfSome, Some, length, nat_le};
+ghost use Rattle.std.specs.Prelude.{ℕ, ◌≡◌, ◌≢◌, ◌≤◌, ◌||◌, ◌⊎◌, not, true, false, IfSome, Some, None, count_by, length, nat_le, option_map};
 ghost use Rattle.std.specs.Option.{is_some};
 ghost use Rattle.job_language.specs.declared.answers.Moved.{Moved};
+ghost use Rattle.tenant_model.specs.Advance.{advance};
+ghost use Rattle.tenant_model.specs.Changes.{open_rows};
 ghost use Rattle.tenant_model.specs.Told.{placed_on};
+ghost use Rattle.tenant_model.specs.Walks.{height, is_unstarted};
 ghost use Rattle.tenant_model.specs.declared.rows.TheConstants.{MAX_HEIGHT};
 ghost use Rattle.tenant_record.specs.PassData.{GoesWith, goes_home, has_room};
 ghost use Rattle.tenant_record.specs.SeatData.{asked};
 ghost use Rattle.tenant_record.specs.Cell.{AnswersAsk, arrival, state_of};
-ghost use Rattle.tenant_record.specs.Locked.{IsMoved, IsArrived, IsAsked, given_home};
+ghost use Rattle.tenant_record.specs.Locked.{IsMoved, IsArrived, IsAsked, IsHandedOver, given_home};
 ghost use Rattle.arena_steps.specs.Within.{advance_within};
 ghost use Rattle.arena_core.specs.Views.{Commits};
 ghost use Rattle.tenant_lock.specs.Doors.{Carries, ComesWith, has_slot_of};
 ghost use Rattle.tenant_lock.specs.Looks.{IsLook, IsShown};
+ghost use Rattle.tenant_lock.specs.Pauses.{has_to_stop};
 ghost use Rattle.std.specs.Prelude.{IsSome};
 ghost use Rattle.job_language.specs.Brought.{job_of};
 
 use crate::awaited::Awaited;
-use crate::counts::Counts;
+use crate::counts::{Counts, JobTally, Tally};
 use crate::looks::by_length;
-use job_language::{Came, Error, Moved, Reply, Request, Status};
+use crate::waits::{Slots, Waiting};
+use job_language::{Came, Error, MAX_SLOTS, Moved, Reply, Request, Status};
 use job_step::{Segment, View};
 use market_config::Call;
+use tenant_model::MAX_JOBS;
 use tenant_record::{Advanced, Arrived, Asked, Pass, Seat, TenantCell};
 
-/// A tenant's cell, whether those who wait for it must stop, and which jobs they wait for.
+/// A tenant's cell, whether those who wait for it must stop, at which slots they wait, and for which jobs.
 #[derive(Drop)]
 pub(crate) struct Held {
     pub(crate) cell: TenantCell,
     pub(crate) is_stopped: bool,
+    pub(crate) waiting: Waiting,
     pub(crate) awaited: Awaited,
 }
 
 /// Who may go on after a call.
 #[derive(Clone, Copy, PartialEq, Eq)]
-pub(crate) enum News {
-    /// Nobody: there is no entry.
-    Nothing,
-    /// Those who wait at slots.
-    Entry,
-    /// Those too who wait for a job.
-    Outcome,
+pub(crate) struct News {
+    /// Those who wait at these slots.
+    pub(crate) slots: Slots,
+    /// Whether those too who wait for jobs.
+    pub(crate) has_outcome: bool,
 }
 
 /// What a move of a slot came to.
@@ -55,6 +60,7 @@ impl Held {
         Held {
             cell,
             is_stopped: false,
+            waiting: Waiting::new(),
             awaited: Awaited::new(),
         }
     }
@@ -145,6 +151,36 @@ impl Held {
         Turned { advanced, height }
     }
 
+    /// Advances the slot of a pass, and counts the rows on it.
+    pub(crate) fn advance_and_count(&mut self, pass: Pass) -> Turned
+        ensures carries { IfSome result.advanced.pass (λ q. Carries pass result.advanced.moved q) }
+        ensures home { is_some result.advanced.pass ≡ not (goes_home result.advanced.moved) }
+        ensures answer { has_slot_of self.old.cell pass ≡ true → result.advanced.moved ≡ (advance_within (has_room pass) (state_of self.old.cell) pass.slot).0 }
+        ensures moved { has_slot_of self.old.cell pass ≡ true → IsMoved self.old.cell pass result.advanced.moved result.advanced.due result.advanced.pass self.new.cell }
+        ensures kept { has_slot_of self.old.cell pass ≡ false → self.new ≡ self.old }
+        ensures stopped { self.new.is_stopped ≡ self.old.is_stopped }
+        ensures count { result.height ≡ option_map (λ p. height (state_of self.new.cell).rows p.slot) result.advanced.pass }
+        ensures most { IfSome result.height (λ height. height ≤ MAX_HEIGHT) }
+    {
+        let moved = self.advance(pass);
+        let height = self.rows_on(&moved.pass);
+        Turned {
+            advanced: moved,
+            height,
+        }
+    }
+
+    /// How many rows are on the slot of a pass, if there is one.
+    fn rows_on(&self, pass: &Option<Pass>) -> Option<usize>
+        ensures count { result ≡ option_map (λ p. height (state_of self.now.cell).rows p.slot) pass.now }
+        ensures most { IfSome result (λ height. height ≤ MAX_HEIGHT) }
+    {
+        match pass {
+            Some(pass) => Some(self.cell.height(pass)),
+            None => None,
+        }
+    }
+
     /// Puts a private run in the place of an advance of the slot of a pass, and looks at the slot.
     pub(crate) fn commit_and_look(
         &mut self,
@@ -202,6 +238,18 @@ impl Held {
         }
     }
 
+    /// Puts a pass home and calls a worker, if its slot is one of the cell's.
+    pub(crate) fn hand_over(&mut self, pass: Pass) -> Option<u8>
+        ensures handed { has_slot_of self.old.cell pass ≡ true → IsHandedOver self.old.cell pass result self.new.cell }
+        ensures kept { has_slot_of self.old.cell pass ≡ false → (result ≡ None) × (self.new ≡ self.old) }
+        ensures stopped { self.new.is_stopped ≡ self.old.is_stopped }
+    {
+        if !self.has_slot_of(&pass) {
+            return None;
+        }
+        self.cell.hand_over(pass)
+    }
+
     /// Whether the slot of a pass is one of the cell's.
     fn has_slot_of(&self, pass: &Pass) -> bool
         ensures { result ≡ has_slot_of self.now.cell pass.now }
@@ -227,15 +275,63 @@ impl Held {
         }
     }
 
-    /// Who may go on after a call that made an entry, or none.
-    pub(crate) fn news(&self, has_entered: bool) -> News {
-        if !has_entered {
-            News::Nothing
-        } else if self.has_outcome() {
-            News::Outcome
-        } else {
-            News::Entry
+    /// How far the tenant's jobs are, and how many rows are open.
+    pub(crate) fn tally(&self) -> Tally
+        ensures open { result.open_rows ≡ open_rows (state_of self.now.cell).rows }
+        ensures waiting { result.waiting_rows ≡ count_by (λ r. is_unstarted r.phase) (state_of self.now.cell).rows }
+    {
+        Tally {
+            jobs: self.job_tally(),
+            open_rows: self.cell.open_rows(),
+            waiting_rows: self.cell.waiting_rows(),
         }
+    }
+
+    /// How far the jobs are. Those that are not retired are among the last `MAX_JOBS` that were made.
+    fn job_tally(&self) -> JobTally {
+        let made = self.cell.job_count();
+        let mut jobs = JobTally::default();
+        for before in made.saturating_sub(MAX_JOBS as u64)..made {
+            if let Some(status) = self.cell.status(before + 1) {
+                jobs.add(status);
+            }
+        }
+        jobs
+    }
+
+    /// Who may go on after a call that made an entry, or none. Who is told at a slot is forgotten there: it looks
+    /// again, and is noted again if it has to sleep.
+    pub(crate) fn news(&mut self, has_entered: bool) -> News
+        ensures cell { self.new.cell ≡ self.old.cell }
+        ensures stopped { self.new.is_stopped ≡ self.old.is_stopped }
+    {
+        if !has_entered {
+            return News {
+                slots: Slots::none(),
+                has_outcome: false,
+            };
+        }
+        let slots = self.movers();
+        self.waiting.tell(slots);
+        News {
+            slots,
+            has_outcome: self.has_outcome(),
+        }
+    }
+
+    /// The slots at which somebody sleeps, and which can move now.
+    fn movers(&self) -> Slots {
+        let noted = self.waiting.noted();
+        let mut movers = Slots::none();
+        if noted.is_empty() {
+            return movers;
+        }
+        for slot in 0..MAX_SLOTS {
+            if noted.has(slot) && !self.is_idle(slot) {
+                movers.add(slot);
+            }
+        }
+        movers
     }
 
     /// Whether one of those who wait for a job may have nothing to wait for any more.
@@ -260,9 +356,26 @@ impl Held {
         !self.is_over() && matches!(self.cell.status(job), Some(Status::Running))
     }
 
-    /// Whether the slot of a pass that found it idle was idle ever since, and nobody has to stop.
-    pub(crate) fn is_idle_since(&self, still: Option<usize>) -> bool {
-        !self.is_over() && still == Some(self.cell.history().len())
+    /// Whether an advance of a slot would be idle, and nobody has to stop.
+    pub(crate) fn is_idle(&self, slot: u8) -> bool
+        ensures waits { result ≡ true → (has_to_stop self.now.is_stopped self.now.cell ≡ false) × ((advance (state_of self.now.cell) slot).0 ≡ Moved.Idle) }
+        ensures goes { result ≡ false → (has_to_stop self.now.is_stopped self.now.cell ≡ true) ⊎ ((advance (state_of self.now.cell) slot).0 ≢ Moved.Idle) }
+    {
+        !self.is_over() && self.cell.is_idle(slot)
+    }
+
+    /// Notes who has to sleep at the slot of a pass, if that is one of the cell's, and says whether to sleep.
+    pub(crate) fn sleeps_at(&mut self, pass: &Pass) -> bool
+        ensures waits { result ≡ true → (has_to_stop self.old.is_stopped self.old.cell ≡ false) × ((advance (state_of self.old.cell) pass.now.slot).0 ≡ Moved.Idle) }
+        ensures goes { result ≡ false → has_slot_of self.old.cell pass.now ≡ true → (has_to_stop self.old.is_stopped self.old.cell ≡ true) ⊎ ((advance (state_of self.old.cell) pass.now.slot).0 ≢ Moved.Idle) }
+        ensures cell { self.new.cell ≡ self.old.cell }
+        ensures stopped { self.new.is_stopped ≡ self.old.is_stopped }
+    {
+        let sleeps = self.has_slot_of(pass) && self.is_idle(pass.slot());
+        if sleeps {
+            self.waiting.note(pass.slot());
+        }
+        sleeps
     }
 }
 

@@ -10,12 +10,14 @@ mod held;
 mod looks;
 mod seat_logs;
 mod stop_flag;
+mod waits;
 
 pub use closing::fault_of;
-pub use counts::Counts;
+pub use counts::{Counts, JobTally, Tally};
 pub use doors::{Closed, TenantDoor};
 pub use faults::CloseFault;
 pub use held::Turned;
 pub use looks::MOST_COMPARED;
 pub use seat_logs::is_seat_log;
 pub use stop_flag::StopFlag;
+pub use waits::Waits;

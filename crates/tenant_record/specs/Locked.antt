@@ -11,7 +11,7 @@ use Rattle.tenant_model.specs.Told.{placed_on}
 use Rattle.tenant_record.specs.Cell.{CellData, state_of, askers_of, touched, entered}
 use Rattle.tenant_record.specs.History.{entries_of}
 use Rattle.tenant_record.specs.PassData.{PassData, advanced, still_after, goes_home}
-use Rattle.tenant_record.specs.Places.{place, pass_in, due_after, woken, returned, taken, placed_pass, arrived_pass, arrived_place}
+use Rattle.tenant_record.specs.Places.{place, pass_in, due_slot, due_after, woken, returned, taken, placed_pass, arrived_pass, arrived_place}
 use Rattle.tenant_record.specs.SeatData.{SeatData, asked}
 use Rattle.tenant_record.specs.declared.places.Place.{Place}
 use Rattle.tenant_record.specs.declared.places.Place.TheVariants.{Home}
@@ -65,3 +65,8 @@ pub record IsAsked (c : CellData) (s : SeatData) (r : Request) (reply : Reply) (
 -- the cell with a pass put home
 abbrev pub given_home : CellData → PassData → CellData
 given_home c p = record c { home = slice_set c.home p.slot (Home p) }
+
+-- A pass was put home and a worker called at the same moment: that slot is due, and the cell is d.
+pub record IsHandedOver (c : CellData) (p : PassData) (slot : Option ℕ) (d : CellData) : Type 0 where
+  pub due : slot ≡ due_slot c.config (state_of c) (given_home c p).home
+  pub cell : d ≡ record c { home = woken slot (given_home c p).home }

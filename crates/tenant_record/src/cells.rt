@@ -1,22 +1,25 @@
 // A tenant's cell: what its lock keeps.
-ghost use Rattle.std.specs.Prelude.{ℕ, ◌≡◌, ◌<◌, ◌≤◌, ◌++◌, length, IfOk, IfSome, true, None, count_by, option_map, slice_index_or, vec_len, vec_capacity};
+ghost use Rattle.std.specs.Prelude.{ℕ, ◌≡◌, ◌≢◌, ◌<◌, ◌≤◌, ◌++◌, length, IfOk, IfSome, true, false, None, count_by, option_map, slice_index_or, vec_len, vec_capacity};
 ghost use Rattle.std.specs.List.{list_any};
 ghost use Rattle.job_language.specs.Recorded.{is_entry, is_recorded_reply};
 ghost use Rattle.job_language.specs.Tenant.{IsValidTenant};
 ghost use Rattle.job_language.specs.declared.answers.Answer.{Answer};
+ghost use Rattle.job_language.specs.declared.answers.Moved.TheVariants as moved;
 ghost use Rattle.tenant_model.specs.declared.rows.TheConstants.{MAX_HEIGHT};
 ghost use Rattle.tenant_model.specs.Asks.{known_job, status};
+ghost use Rattle.tenant_model.specs.Changes.{open_rows};
 ghost use Rattle.tenant_model.specs.Told.{placed_on};
-ghost use Rattle.tenant_model.specs.Walks.{height};
+ghost use Rattle.tenant_model.specs.Walks.{height, is_unstarted};
+ghost use Rattle.tenant_model.specs.Advance.{advance};
 ghost use Rattle.tenant_record.specs.Cell.{IsRight, state_of, first_cell, is_on, arrival, entered, AnswersAsk, askers_of};
-ghost use Rattle.tenant_record.specs.Locked.{IsMoved, IsArrived, IsAsked, given_home};
+ghost use Rattle.tenant_record.specs.Locked.{IsMoved, IsArrived, IsAsked, IsHandedOver, given_home};
 ghost use Rattle.tenant_record.specs.PassData.{has_room, GoesWith};
 ghost use Rattle.tenant_record.specs.Places.{place, pass_in, is_one_out, is_told_full};
 ghost use Rattle.arena_steps.specs.Within.{advance_within};
 ghost use Rattle.arena_core.specs.Views.{Commits, IsSeen};
 
 use crate::passes::Pass;
-use crate::places::{is_one_out, pass_at, put, room_at};
+use crate::places::{call, is_one_out, pass_at, put, room_at};
 use crate::replay::Replay;
 use crate::seats::Seat;
 use crate::slots::{Advanced, Arrived, SlotBooks};
@@ -182,6 +185,35 @@ impl TenantCell {
         is_one_out(self.slots.home.as_slice(), slots, pass.slot())
     }
 
+    /// How many rows are open: they wait to be started, or are live on a slot.
+    pub fn open_rows(&self) -> usize
+        ensures { result ≡ open_rows (state_of self.now).rows }
+    {
+        self.replay.open_rows()
+    }
+
+    /// How many rows wait to be started.
+    pub fn waiting_rows(&self) -> usize
+        ensures { result ≡ count_by (λ r. is_unstarted r.phase) (state_of self.now).rows }
+    {
+        self.replay.waiting_rows()
+    }
+
+    /// How many jobs were made, the number of the last one.
+    pub fn job_count(&self) -> u64
+        ensures { result ≡ length (state_of self.now).jobs }
+    {
+        self.replay.job_count()
+    }
+
+    /// Whether an advance of a slot would be idle.
+    pub fn is_idle(&self, slot: u8) -> bool
+        ensures idle { result ≡ true → (advance (state_of self.now) slot).0 ≡ moved.Idle }
+        ensures moves { result ≡ false → (advance (state_of self.now) slot).0 ≢ moved.Idle }
+    {
+        self.replay.is_idle(slot)
+    }
+
     /// How far a job is, if it was made and is not retired.
     pub fn status(&self, job: u64) -> Option<Status>
         ensures { result ≡ option_map (status (state_of self.now).rows job) (known_job (state_of self.now) job) }
@@ -265,6 +297,18 @@ impl TenantCell {
         ensures { self.new ≡ given_home self.old pass }
     {
         put(self.slots.home.as_mut_slice(), pass);
+    }
+
+    /// Puts a pass of this tenant home, and calls a worker as an entry does: the lowest slot for
+    /// workers whose pass is home with nobody called becomes due, if a row waits. That may be the
+    /// slot that was left. Nothing else changes.
+    pub fn hand_over(&mut self, pass: Pass) -> Option<u8>
+        requires tenant { pass.tenant ≡ self.old.tenant }
+        requires slot { pass.slot < self.old.config.slots }
+        ensures { IsHandedOver self.old pass result self.new }
+    {
+        self.give_home(pass);
+        call(self.slots.home.as_mut_slice(), &self.replay, true)
     }
 }
 

@@ -1,15 +1,18 @@
 // An arena with the history that replays to it.
-ghost use Rattle.std.specs.Prelude.{◌≡◌, ◌++◌, [], ◌≤◌, ◌<◌, IfOk, true, vec_len, vec_capacity};
+ghost use Rattle.std.specs.Prelude.{◌≡◌, ◌≢◌, ◌++◌, [], ◌≤◌, ◌<◌, IfOk, true, false, count_by, length, vec_len, vec_capacity};
 ghost use Rattle.std.specs.Option.{option_map};
 ghost use Rattle.job_language.specs.Recorded.{is_entry};
 ghost use Rattle.job_language.specs.Tenant.{IsValidTenant};
+ghost use Rattle.job_language.specs.declared.answers.Moved.TheVariants as moved;
 ghost use Rattle.job_language.specs.declared.answers.Answer.{Answer};
 ghost use Rattle.job_language.specs.declared.answers.Reply.{Reply};
 ghost use Rattle.job_language.specs.declared.steps.Step.{Step};
 ghost use Rattle.tenant_model.specs.Asks.{is_hello, known_job, status};
 ghost use Rattle.tenant_model.specs.declared.rows.TheConstants.{MAX_HEIGHT};
+ghost use Rattle.tenant_model.specs.Changes.{open_rows};
 ghost use Rattle.tenant_model.specs.State.{State};
-ghost use Rattle.tenant_model.specs.Walks.{has_unstarted, height};
+ghost use Rattle.tenant_model.specs.Walks.{has_unstarted, height, is_unstarted};
+ghost use Rattle.tenant_model.specs.Advance.{advance};
 ghost use Rattle.tenant_record.specs.History.{entries_of, IsHistory};
 ghost use Rattle.tenant_record.specs.Replayed.{state_of, ask_within};
 ghost use Rattle.arena_core.specs.Stands.{StandsFor};
@@ -104,11 +107,40 @@ impl Replay {
         self.arena.height(slot)
     }
 
+    /// Whether an advance of a slot would be idle.
+    pub fn is_idle(&self, slot: u8) -> bool
+        ensures idle { result ≡ true → (advance (state_of self.now) slot).0 ≡ moved.Idle }
+        ensures moves { result ≡ false → (advance (state_of self.now) slot).0 ≢ moved.Idle }
+    {
+        self.arena.is_idle(slot)
+    }
+
     /// Whether a row waits to be started.
     pub fn has_unstarted(&self) -> bool
         ensures { result ≡ has_unstarted (state_of self.now) }
     {
         self.arena.has_unstarted()
+    }
+
+    /// How many rows are open: they wait to be started, or are live on a slot.
+    pub fn open_rows(&self) -> usize
+        ensures { result ≡ open_rows (state_of self.now).rows }
+    {
+        self.arena.open_rows()
+    }
+
+    /// How many rows wait to be started.
+    pub fn waiting_rows(&self) -> usize
+        ensures { result ≡ count_by (λ r. is_unstarted r.phase) (state_of self.now).rows }
+    {
+        self.arena.waiting_rows()
+    }
+
+    /// How many jobs were made, the number of the last one.
+    pub fn job_count(&self) -> u64
+        ensures { result ≡ length (state_of self.now).jobs }
+    {
+        self.arena.job_count()
     }
 
     /// How far a job is, if it was made and is not retired.

@@ -47,6 +47,10 @@ left s = record s { pass = None }
 abbrev pub GoesHome : SlotsSeen → SlotsSeen → Type 0
 GoesHome s t = t ≡ left s
 
+-- The thread without its pass, and a slot of the pass's tenant, if one became due. Without a pass none does.
+abbrev pub HandsOver : SlotsSeen → Option Call → SlotsSeen → Type 0
+HandsOver s due t = (t ≡ left s) × MatchOption s.pass (due ≡ None) (λ p. IsDueOf p.tenant due)
+
 -- An arrival for a call. The pass that the thread had goes home first.
 pub record ArrivesAt (s : SlotsSeen) (call : Call) (came : Came) (called : Option Call) (t : SlotsSeen) : Type 0 where
   pub doors : t.doors ≡ s.doors

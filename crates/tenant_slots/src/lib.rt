@@ -4,4 +4,4 @@
 mod slots;
 mod ways;
 
-pub use slots::TenantSlots;
+pub use slots::{MOVES_UNDER_LOCK, SHORT_RUN, TenantSlots};

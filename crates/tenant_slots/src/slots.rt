@@ -2,7 +2,7 @@
 ghost use Rattle.std.specs.Prelude.{ℕ, ◌≡◌, ◌≤◌, ◌<◌, length, IfSome, None, option_map};
 ghost use Rattle.tenant_model.specs.declared.rows.TheConstants.{MAX_HEIGHT};
 ghost use Rattle.tenant_slots.specs.Seen.{AreNumbered};
-ghost use Rattle.tenant_slots.specs.Ways.{Moves, MayBeHigh, MayBeSeen, Pauses, GoesHome, ArrivesAt, AsksBy};
+ghost use Rattle.tenant_slots.specs.Ways.{Moves, MayBeHigh, MayBeSeen, Pauses, GoesHome, HandsOver, ArrivesAt, AsksBy};
 
 use job_language::{Came, Moved, Reply, Request};
 use job_step::{Segment, View};
@@ -12,6 +12,13 @@ use std::marker::Model;
 use std::sync::Wait;
 use tenant_lock::{StopFlag, TenantDoor, Turned};
 use tenant_record::{Pass, Seat};
+
+/// A private run of fewer instructions is short: to run it away from the lock and to compare its frame and program under
+/// the lock takes longer than the run.
+pub const SHORT_RUN: u32 = 64;
+
+/// How many moves of a slot after a short run are advances under the lock, before the slot is looked at again.
+pub const MOVES_UNDER_LOCK: u8 = 16;
 
 /// One thread's way to the slots of all tenants. It is at one slot at most, whose pass it has.
 #[derive(Drop)]
@@ -24,6 +31,8 @@ pub struct TenantSlots<'d, R: Wait> {
     /// was taken is `Bare`.
     height: Option<usize>,
     view: Cell<View>,
+    /// How many of its next moves are advances under the lock, since its last private run was short.
+    under_lock: u8,
 }
 
 impl<'d, R: Wait> Model for TenantSlots<'d, R> {
@@ -53,6 +62,7 @@ impl<'d, R: Wait> TenantSlots<'d, R> {
             pass: None,
             height: None,
             view: Cell::new(View::Bare),
+            under_lock: 0,
         }
     }
 
@@ -82,7 +92,8 @@ impl<'d, R: Wait> TenantSlots<'d, R> {
 
     /// The tenant whose slot it is at.
     pub(crate) fn held_tenant(&self) -> Option<usize>
-        ensures { result ≡ option_map (λ pass. pass.tenant) self.now.pass }
+        ensures tenant { result ≡ option_map (λ pass. pass.tenant) self.now.pass }
+        ensures within { IfSome result (λ tenant. tenant < length self.now.doors) }
     {
         self.pass.as_ref().map(|pass| pass.tenant())
     }
@@ -134,11 +145,13 @@ impl<'d, R: Wait> TenantSlots<'d, R> {
         };
         let tenant = pass.tenant();
         let (rt, doors) = (self.rt, self.doors);
-        let Turned { advanced, height } = doors[tenant].advance_and_look(
-            rt,
-            pass,
-            self.view.get_mut(),
-        );
+        self.under_lock = self.under_lock.saturating_sub(1);
+        let Turned { advanced, height } = if self.under_lock > 0 {
+            self.view.set(View::Unshared);
+            doors[tenant].advance_and_count(rt, pass)
+        } else {
+            doors[tenant].advance_and_look(rt, pass, self.view.get_mut())
+        };
         self.pass = advanced.pass;
         self.height = height;
         (advanced.moved, call_of(tenant, advanced.due))
@@ -154,6 +167,7 @@ impl<'d, R: Wait> TenantSlots<'d, R> {
         };
         let tenant = pass.tenant();
         let (rt, doors) = (self.rt, self.doors);
+        let is_short = segment.run().count < SHORT_RUN;
         let Turned { advanced, height } = doors[tenant].commit_and_look(
             rt,
             pass,
@@ -162,6 +176,10 @@ impl<'d, R: Wait> TenantSlots<'d, R> {
         );
         self.pass = advanced.pass;
         self.height = height;
+        if is_short {
+            self.under_lock = MOVES_UNDER_LOCK;
+            self.view.set(View::Unshared);
+        }
         (advanced.moved, call_of(tenant, advanced.due))
     }
 
@@ -169,11 +187,32 @@ impl<'d, R: Wait> TenantSlots<'d, R> {
     pub(crate) fn leave(&mut self)
         ensures { GoesHome self.old self.new }
     {
-        self.height = None;
-        self.view.set(View::Bare);
+        self.forget();
         if let Some(pass) = self.pass.take() {
             self.doors[pass.tenant()].give_home(self.rt, pass);
         }
+    }
+
+    /// Gives its slot home, and at the same moment makes a slot of its tenant due, if a row waits there.
+    /// It gives the call for that slot.
+    pub(crate) fn give_over(&mut self) -> Option<Call>
+        ensures handed { HandsOver self.old result self.new }
+        ensures due { IfSome result (λ call. call.tenant < length self.new.doors) }
+    {
+        self.forget();
+        let pass = self.pass.take()?;
+        let tenant = pass.tenant();
+        let due = self.doors[tenant].hand_over(self.rt, pass);
+        call_of(tenant, due)
+    }
+
+    /// Forgets what its last move saw of its slot.
+    fn forget(&mut self)
+        ensures { self.new ≡ self.old }
+    {
+        self.height = None;
+        self.view.set(View::Bare);
+        self.under_lock = 0;
     }
 
     /// Arrives at the slot of a call, and gives the call for a slot that became due. It gives the slot

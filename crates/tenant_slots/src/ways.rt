@@ -10,7 +10,7 @@ use worker_main::{CallDoors, DueDoor};
 
 impl<'d, R: Wait> DueDoor for TenantSlots<'d, R> {
     ghost use Rattle.std.specs.Prelude.{length};
-    ghost use Rattle.tenant_slots.specs.Ways.{Moves, MayBeHigh, MayBeSeen, Pauses, GoesHome};
+    ghost use Rattle.tenant_slots.specs.Ways.{Moves, MayBeHigh, MayBeSeen, Pauses, GoesHome, HandsOver};
 
     ghost tenants = { λ s. length s.doors };
 
@@ -25,6 +25,8 @@ impl<'d, R: Wait> DueDoor for TenantSlots<'d, R> {
     ghost pauses = { Pauses };
 
     ghost homes = { GoesHome };
+
+    ghost hands = { HandsOver };
 
     fn tenant(&self) -> Option<usize> {
         self.held_tenant()
@@ -52,6 +54,10 @@ impl<'d, R: Wait> DueDoor for TenantSlots<'d, R> {
 
     fn give_home(&mut self) {
         self.leave();
+    }
+
+    fn hand_over(&mut self) -> Option<Call> {
+        self.give_over()
     }
 }
 

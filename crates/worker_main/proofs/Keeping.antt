@@ -16,7 +16,8 @@ use Rattle.worker_main.specs.declared.visits.Round.TheVariants.{Again, Left, End
 use Rattle.call_queues.specs.Queues.{QueuesSeen, PassSeen}
 use Rattle.worker_main.specs.Pushes.{RingerSeen, Pushes, PushesDue}
 use Rattle.worker_main.specs.Slots.{SlotSeen, Ways, views_of, commits_of, advances_of, heights_of, pauses_of, AttendsSlot}
-use Rattle.worker_main.specs.Visits.{AfterAttending, TakesRound, GoesAgain, EndsVisit, Visits, AfterArriving}
+use Rattle.worker_main.specs.Visits.{AfterBelow, AfterAttending, TakesRound, GoesAgain, EndsVisit, Visits, AfterArriving}
+use Rattle.worker_main.specs.declared.visiting.Visiting.{Visiting}
 use Rattle.worker_main.specs.Works.{AfterPopping, TakesTurns, Works}
 
 -- the same queues, and a pass of the same queues with the same number
@@ -39,7 +40,7 @@ due_kept : (due : Option Call) (s t : RingerSeen) → PushesDue s due t → IsKe
 due_kept None s t e = same s t e
 due_kept (Some call) s t pushes = pushes_kept s t call pushes
 
-module _ {D : Type 0} (w : Ways D) where
+module _ {D : Type 0} (w : Ways D) (v : Visiting) where
   abbrev Kept : SlotSeen D → SlotSeen D → Type 0
   Kept s t = IsKept s.ringer t.ringer
 
@@ -88,19 +89,25 @@ module _ {D : Type 0} (w : Ways D) where
     | inr long ↦ leads_kept long.answers s t long.leads
   ]
 
-  after_kept : (how : Attended) (r : Round) (s t : SlotSeen D) → AfterAttending w how r s t → Kept s t
-  after_kept Below r s t is = due_kept is.1.0.0 s.ringer t.ringer is.1.0.1.1
+  below_kept : (r : Round) (s t : SlotSeen D) → AfterBelow w v r s t → Kept s t
+  below_kept r s t is = elim is [
+    | inl advanced ↦ due_kept advanced.1.0.0 s.ringer t.ringer advanced.1.0.1.1
+    | inr shared ↦ due_kept shared.2.0 s.ringer t.ringer shared.2.1.1
+  ]
+
+  after_kept : (how : Attended) (r : Round) (s t : SlotSeen D) → AfterAttending w v how r s t → Kept s t
+  after_kept Below r s t is = below_kept r s t is
   after_kept Full r s t is = equal s t is.1
   after_kept Stopped r s t is = equal s t is.1
 
-  round_kept : (r : Round) (s t : SlotSeen D) → TakesRound w r s t → Kept s t
+  round_kept : (r : Round) (s t : SlotSeen D) → TakesRound w v r s t → Kept s t
   round_kept r s t is = joined s.ringer is.1.ringer t.ringer (attends_kept is.0 s is.1 is.2.0) (after_kept is.0 r is.1 t is.2.1)
 
-  again_kept : (n : ℕ) (s t : SlotSeen D) → GoesAgain w n s t → Kept s t
+  again_kept : (n : ℕ) (s t : SlotSeen D) → GoesAgain w v n s t → Kept s t
   again_kept zero s t is = equal s t is
   again_kept (suc n) s t is = joined s.ringer is.0.ringer t.ringer (again_kept n s is.0 is.1.0) (round_kept Again is.0 t is.1.1)
 
-  ends_kept : (n : ℕ) (s t : SlotSeen D) → EndsVisit w n s t → Kept s t
+  ends_kept : (n : ℕ) (s t : SlotSeen D) → EndsVisit w v n s t → Kept s t
   ends_kept n s t is = elim is [
     | inl left ↦ round_kept Left s t left
     | inr rest ↦ elim rest [
@@ -109,19 +116,19 @@ module _ {D : Type 0} (w : Ways D) where
     ]
   ]
 
-  visits_kept : (s t : SlotSeen D) → Visits w s t → Kept s t
+  visits_kept : (s t : SlotSeen D) → Visits w v s t → Kept s t
   visits_kept s t is = joined s.ringer is.1.ringer t.ringer (again_kept is.0 s is.1 is.2.0) (ends_kept is.0 is.1 t is.2.1)
 
-  arriving_kept : (answer : Came) (s t : SlotSeen D) → AfterArriving w answer s t → Kept s t
+  arriving_kept : (answer : Came) (s t : SlotSeen D) → AfterArriving w v answer s t → Kept s t
   arriving_kept (came.At row) s t is = visits_kept s t is
   arriving_kept came.Nothing s t is = equal s t is
   arriving_kept came.Full s t is = equal s t is
 
-  popping_kept : (popped : Option Call) (s t : SlotSeen D) → AfterPopping w popped s t → Kept s t
+  popping_kept : (popped : Option Call) (s t : SlotSeen D) → AfterPopping w v popped s t → Kept s t
   popping_kept None s t is = equal s t is
   popping_kept (Some call) s t is = joined s.ringer is.1.ringer t.ringer (due_kept is.2.0.0 s.ringer is.1.ringer is.2.0.1.1) (arriving_kept is.0 is.1 t is.2.1)
 
-  turns_kept : (n : ℕ) (s t : SlotSeen D) → TakesTurns w n s t → Kept s t
+  turns_kept : (n : ℕ) (s t : SlotSeen D) → TakesTurns w v n s t → Kept s t
   turns_kept zero s t is = equal s t is
   turns_kept (suc n) s t is =
       let f = is.0 in
@@ -129,27 +136,27 @@ module _ {D : Type 0} (w : Ways D) where
       let pops = is.1.1.2.0.1 in
       joined s.ringer f.ringer t.ringer (turns_kept n s f is.1.0) (joined f.ringer g.ringer t.ringer (pops.0, pops.1, pops.2) (popping_kept is.1.1.0 g t is.1.1.2.1))
 
-  works_kept : (stops : Type 0) (s t : SlotSeen D) → Works w stops s t → Kept s t
+  works_kept : (stops : Type 0) (s t : SlotSeen D) → Works w v stops s t → Kept s t
   works_kept stops s t is = turns_kept is.0 s t is.1.0
 
-  works_apart : (stops : Type 0) (s t : SlotSeen D) (q : QueuesSeen) (p : PassSeen) (d : D) → Works w stops s t → t.ringer.queues ≡ q → p ≡ t.ringer.pass → d ≡ t.doors
-      → Works w stops s (record { ringer = record { queues = q; pass = p }; doors = d })
+  works_apart : (stops : Type 0) (s t : SlotSeen D) (q : QueuesSeen) (p : PassSeen) (d : D) → Works w v stops s t → t.ringer.queues ≡ q → p ≡ t.ringer.pass → d ≡ t.doors
+      → Works w v stops s (record { ringer = record { queues = q; pass = p }; doors = d })
   works_apart stops s t q p d is eq ep ed =
       let whole : t ≡ record { ringer = record { queues = q; pass = p }; doors = d } = (λ i. record { ringer = record { queues = eq i; pass = sym ep i }; doors = sym ed i }) in
-      subst (Works w stops s) whole is
+      subst (Works w v stops s) whole is
 
   -- a worker is put together from its pass and doors, works, and is taken apart
   module _ (stops : Type 0) (q : QueuesSeen) (old new : PassSeen) (first last : D) (r : RingerSeen) (s t : SlotSeen D)
-      (er : r ≡ record { queues = q; pass = old }) (es : s ≡ record { ringer = r; doors = first }) (works : Works w stops s t) (ep : new ≡ t.ringer.pass) (ed : last ≡ t.doors) where
+      (er : r ≡ record { queues = q; pass = old }) (es : s ≡ record { ringer = r; doors = first }) (works : Works w v stops s t) (ep : new ≡ t.ringer.pass) (ed : last ≡ t.doors) where
     abbrev begin : SlotSeen D
     begin = record { ringer = record { queues = q; pass = old }; doors = first }
 
-    begins : Works w stops begin t
+    begins : Works w v stops begin t
     begins =
         let whole : s ≡ begin = es ∙ ap (λ (x : RingerSeen). record { ringer = x; doors = first }) er in
-        subst (λ x. Works w stops x t) whole works
+        subst (λ x. Works w v stops x t) whole works
 
-    pub worked : Works w stops begin (record { ringer = record { queues = q; pass = new }; doors = last })
+    pub worked : Works w v stops begin (record { ringer = record { queues = q; pass = new }; doors = last })
     worked = works_apart stops begin t q new last begins (works_kept stops begin t begins).0 ep ed
 
     pub pass_kept : (new.queues ≡ old.queues) × (new.number ≡ old.number)

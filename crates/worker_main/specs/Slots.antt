@@ -23,11 +23,12 @@ pub record Ways (D : Type 0) : Type 1 where
   pub heights : D → ℕ → Type 0
   pub pauses : D → Bool → D → Type 0
   pub homes : D → D → Type 0
+  pub hands : D → Option Call → D → Type 0
   pub arrives : D → Call → Came → Option Call → D → Type 0
 
 abbrev pub ways : {D : Type 0} → (D → View → Type 0) → (D → Top → Moved → Option Call → D → Type 0) → (D → Moved → Option Call → D → Type 0) →
-    (D → ℕ → Type 0) → (D → Bool → D → Type 0) → (D → D → Type 0) → (D → Call → Came → Option Call → D → Type 0) → Ways D
-ways {D = D} views commits advances heights pauses homes arrives = record { views = views; commits = commits; advances = advances; heights = heights; pauses = pauses; homes = homes; arrives = arrives }
+    (D → ℕ → Type 0) → (D → Bool → D → Type 0) → (D → D → Type 0) → (D → Option Call → D → Type 0) → (D → Call → Came → Option Call → D → Type 0) → Ways D
+ways {D = D} views commits advances heights pauses homes hands arrives = record { views = views; commits = commits; advances = advances; heights = heights; pauses = pauses; homes = homes; hands = hands; arrives = arrives }
 
 abbrev pub views_of : {D : Type 0} → (D → View → Type 0) → SlotSeen D → View → Type 0
 views_of {D = D} views s seen = views s.doors seen
@@ -47,6 +48,10 @@ pauses_of {D = D} pauses s stops t = pauses s.doors stops t.doors × (t.ringer �
 
 abbrev pub Homes : {D : Type 0} → (D → D → Type 0) → SlotSeen D → SlotSeen D → Type 0
 Homes {D = D} homes s t = homes s.doors t.doors × (t.ringer ≡ s.ringer)
+
+-- the slot is handed over, and the slot that this made due is pushed
+abbrev pub HandsOver : {D : Type 0} → (D → Option Call → D → Type 0) → SlotSeen D → SlotSeen D → Type 0
+HandsOver {D = D} hands s t = (due : Option Call) × (hands s.doors due t.doors × PushesDue s.ringer due t.ringer)
 
 abbrev pub Arrives : {D : Type 0} → (D → Call → Came → Option Call → D → Type 0) → SlotSeen D → Call → Came → SlotSeen D → Type 0
 Arrives {D = D} arrives s call came t = (due : Option Call) × (arrives s.doors call came due t.doors × PushesDue s.ringer due t.ringer)

@@ -3,6 +3,7 @@ ghost use Rattle.std.specs.Prelude.{◌≡◌, ◌==◌, ◌&&◌, not, true, if
 ghost use Rattle.worker_main.specs.Rings.{next_ring};
 
 use crate::signal::Signal;
+use call_queues::Pushed;
 use std::sync::{Condvar, Mutex, Wait};
 
 /// A bell for workers. A thread that waits for it sleeps. Rings are counted, so one that comes
@@ -81,9 +82,12 @@ impl Bell {
 impl Signal for Bell {
     ghost stops = { λ _. Unit {0} };
 
-    fn ring<R: Wait>(&self, rt: &R) {
+    ghost hears = { λ _ _. Unit {0} };
+
+    fn ring<R: Wait>(&self, rt: &R, pushed: Pushed) {
         self.rung.lock(rt).ring();
         self.changed.notify_one();
+        pushed.rung();
     }
 
     fn listen<R: Wait>(&self, rt: &R) -> Option<u64> {

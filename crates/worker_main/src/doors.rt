@@ -38,8 +38,12 @@ pub trait DueDoor {
     /// What giving the slot home may lead to.
     ghost homes: { Self → Self → Type 0 };
 
+    /// What handing the slot over, with this due slot, may lead to.
+    ghost hands: { Self → Option Call → Self → Type 0 };
+
     /// The tenant of the slot that it leads to.
-    fn tenant(&self) -> Option<usize>;
+    fn tenant(&self) -> Option<usize>
+        ensures { IfSome result (λ tenant. tenant < tenants self.now) };
 
     /// The topmost frame of the slot, with what its private run depends on.
     fn view(&self) -> View
@@ -71,6 +75,13 @@ pub trait DueDoor {
     /// Gives the slot home, if it leads to one. It leads to none afterwards.
     fn give_home(&mut self)
         ensures home { homes self.old self.new }
+        ensures tenants { tenants self.new ≡ tenants self.old };
+
+    /// Gives the slot home, if it leads to one, and at the same moment makes a slot of its tenant due,
+    /// if a row waits there. It leads to none afterwards.
+    fn hand_over(&mut self) -> Option<Call>
+        ensures handed { hands self.old result self.new }
+        ensures due { IfSome result (λ call. call.tenant < tenants self.new) }
         ensures tenants { tenants self.new ≡ tenants self.old };
 }
 

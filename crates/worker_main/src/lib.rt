@@ -7,6 +7,7 @@ mod gate;
 mod ringer;
 mod signal;
 mod slot_door;
+mod visiting;
 mod visits;
 mod working;
 
@@ -16,4 +17,5 @@ pub use gate::{Gate, NoGate};
 pub use ringer::Ringer;
 pub use signal::Signal;
 pub use slot_door::SlotDoor;
+pub use visiting::Visiting;
 pub use working::worker;

@@ -48,8 +48,8 @@ impl<'q, R: Wait, S: Signal> Ringer<'q, R, S> {
         requires { call.tenant < length self.old.queues.config }
         ensures { Pushes self.old call self.new }
     {
-        if self.queues.push_call(self.rt, &mut self.pass, call).is_ok() {
-            self.signal.ring(self.rt);
+        if let Ok(pushed) = self.queues.push_call(self.rt, &mut self.pass, call) {
+            self.signal.ring(self.rt, pushed);
         }
     }
 
@@ -68,6 +68,15 @@ impl<'q, R: Wait, S: Signal> Ringer<'q, R, S> {
         ensures { Pops self.old result self.new }
     {
         self.queues.pop_call(self.rt, &mut self.pass)
+    }
+
+    /// Whether a call waits that is of a tenant's level or of a higher one. Others push and pop
+    /// meanwhile.
+    pub fn has_call_for(&mut self, tenant: usize) -> bool
+        requires { tenant < length self.old.queues.config }
+        ensures { self.new ≡ self.old }
+    {
+        self.queues.has_call_for(&mut self.pass, tenant)
     }
 
     /// The pass that it was made with.

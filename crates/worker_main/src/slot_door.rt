@@ -1,6 +1,6 @@
 // A door to slots that pushes each slot that its calls make due.
 ghost use Rattle.std.specs.Prelude.{◌≡◌, ◌≤◌, length};
-ghost use Rattle.worker_main.specs.Slots.{views_of, commits_of, advances_of, heights_of, pauses_of, Homes, Arrives, PopsAt};
+ghost use Rattle.worker_main.specs.Slots.{views_of, commits_of, advances_of, heights_of, pauses_of, Homes, HandsOver, Arrives, PopsAt};
 
 use crate::doors::{CallDoors, DueDoor};
 use crate::gate::Gate;
@@ -52,6 +52,26 @@ impl<'q, R: Wait, S: Signal, G: Gate, D: DueDoor> SlotDoor<'q, R, S, G, D> {
         ensures { Homes D.homes self.old self.new }
     {
         self.doors.give_home();
+    }
+
+    /// Hands the slot over, if it leads to one: it goes home, and the slot of its tenant that this makes
+    /// due is called.
+    pub fn hand_over(&mut self)
+        ensures { HandsOver D.hands self.old self.new }
+    {
+        let called = self.doors.hand_over();
+        self.ringer.call_due(called);
+    }
+
+    /// Whether a call waits that is of the level of its slot's tenant or of a higher one. Others push
+    /// and pop meanwhile.
+    pub fn is_awaited(&mut self) -> bool
+        ensures { self.new ≡ self.old }
+    {
+        match self.doors.tenant() {
+            Some(tenant) => self.ringer.has_call_for(tenant),
+            None => false,
+        }
     }
 
     /// Takes the first call of the highest level that has one.

@@ -8,13 +8,14 @@ use crate::gate::Gate;
 use crate::ringer::Ringer;
 use crate::signal::Signal;
 use crate::slot_door::SlotDoor;
+use crate::visiting::Visiting;
 use crate::visits::answer_call;
 use call_queues::{CallQueues, QueuePass};
 use std::sync::Wait;
 
 /// Serves calls until the signal says to stop: it pops a call, arrives at its slot and attends it
-/// until the slot is left. It waits where there is no call. The queue pass and the doors come back.
-/// A worker makes at most 2^64 - 1 turns.
+/// until the slot is left, or handed over by a worker that shares. It waits where there is no call. The
+/// queue pass and the doors come back. A worker makes at most 2^64 - 1 turns.
 pub fn worker<R, S, G, D>(
     rt: &R,
     queues: &CallQueues,
@@ -22,6 +23,7 @@ pub fn worker<R, S, G, D>(
     doors: D,
     signal: &S,
     gate: &G,
+    visiting: Visiting,
 ) -> (QueuePass, D)
 where
     R: Wait,
@@ -31,43 +33,50 @@ where
     requires pass { pass.queues ≡ queues.now.queues }
     requires tenants { D.tenants doors ≤ length queues.now.config }
     ensures pass { (result.0.queues ≡ pass.queues) × (result.0.number ≡ pass.number) }
-    ensures works { Works (ways D.views D.commits D.advances D.heights D.pauses D.homes D.arrives) (S.stops signal.now)
+    ensures works { Works (ways D.views D.commits D.advances D.heights D.pauses D.homes D.hands D.arrives) visiting (S.stops signal.now)
         (record { ringer = record { queues = queues.now; pass = pass }; doors = doors })
         (record { ringer = record { queues = queues.now; pass = result.0 }; doors = result.1 }) }
 {
     let mut door = SlotDoor::new(Ringer::new(rt, signal, queues, pass), gate, doors);
-    work(rt, signal, &mut door);
+    work(rt, signal, &mut door, visiting);
     door.into_parts()
 }
 
 /// Takes turns until the signal says to stop.
-fn work<R, S, G, D>(rt: &R, signal: &S, door: &mut SlotDoor<'_, R, S, G, D>)
+fn work<R, S, G, D>(rt: &R, signal: &S, door: &mut SlotDoor<'_, R, S, G, D>, visiting: Visiting)
 where
     R: Wait,
     S: Signal,
     G: Gate,
     D: CallDoors,
-    ensures { Works (ways D.views D.commits D.advances D.heights D.pauses D.homes D.arrives) (S.stops signal.now) door.old door.new }
+    ensures { Works (ways D.views D.commits D.advances D.heights D.pauses D.homes D.hands D.arrives) visiting (S.stops signal.now) door.old door.new }
 {
     for _turn in 0..u64::MAX {
         let Some(heard) = signal.listen(rt) else {
             return;
         };
-        take_turn(rt, signal, door, heard);
+        take_turn(rt, signal, door, heard, visiting);
     }
 }
 
 /// Serves a call, or waits if there is none.
-fn take_turn<R, S, G, D>(rt: &R, signal: &S, door: &mut SlotDoor<'_, R, S, G, D>, heard: u64)
+fn take_turn<R, S, G, D>(
+    rt: &R,
+    signal: &S,
+    door: &mut SlotDoor<'_, R, S, G, D>,
+    heard: u64,
+    visiting: Visiting,
+)
 where
     R: Wait,
     S: Signal,
     G: Gate,
     D: CallDoors,
-    ensures { TakesTurn (ways D.views D.commits D.advances D.heights D.pauses D.homes D.arrives) door.old door.new }
+    requires { S.hears signal.now heard }
+    ensures { TakesTurn (ways D.views D.commits D.advances D.heights D.pauses D.homes D.hands D.arrives) visiting door.old door.new }
 {
     match door.pop() {
-        Some(call) => answer_call(door, call),
+        Some(call) => answer_call(door, call, visiting),
         None => signal.wait_past(rt, heard),
     }
 }

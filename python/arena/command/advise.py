@@ -52,8 +52,8 @@ def advise(call: Call) -> int:
 COMMANDS = (
     Command("advise", "say what is unwise in a valid configuration",
             "Says of a configuration: which tenants have no slot for workers, so that what is submitted there never "
-            "runs; which can keep all workers, since there are fewer of them than worker slots; whether its histories "
-            "have more room than the machine has memory; and which histories are so short that they are full, or that "
+            "runs; which can keep all workers of arena-server, since there are fewer of them than worker slots; whether its "
+            "histories have more room than the machine has memory; and which histories are so short that they are full, or that "
             "arena-host rotates, after a few jobs. The status is 1 if there is something to say.",
             "arena advise config.json --host", advise,
             (positional("CONFIG", "a configuration of arena-server or arena-host, in JSON; - is standard input",

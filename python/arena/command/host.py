@@ -108,7 +108,8 @@ def to_value(host: HostStatus, watch: Watch) -> dict:
     return {"time": host.time, "total": rates_value(watch.total()), "generations": [
         {"generation": it.number, "state": it.state.value, "connections": it.connections, "served": it.served,
          "tenants": [{"tenant": tenant.tenant, "steps": tenant.steps, "entries": tenant.entries, "asks": tenant.asks,
-                      "jobs": tenant.jobs, "per_second": rates_value(watch.of(it.number, tenant.tenant))}
+                      "jobs": tenant.jobs, "running": tenant.jobs_now.running, "rows": tenant.rows.open,
+                      "waiting": tenant.rows.waiting, "per_second": rates_value(watch.of(it.number, tenant.tenant))}
                      for tenant in it.tenants]} for it in host.generations]}
 
 

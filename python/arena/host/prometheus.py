@@ -12,6 +12,8 @@ from dataclasses import dataclass, field
 
 from arena.host.status import ClosedGeneration, ClosedTenant, Generation, HostStatus, State, TenantStatus
 
+JOB_STATUSES = ("running", "complete", "canceled", "fault")
+
 CONTENT_TYPE = "text/plain; version=0.0.4; charset=utf-8"
 
 
@@ -124,6 +126,12 @@ def _tenants(status: HostStatus) -> Iterator[Family]:
     yield each("arena_history_entries", Kind.GAUGE, "How many entries a tenant's history holds.", lambda it: it.entries)
     yield each("arena_requests_total", Kind.COUNTER, "Requests that were asked of a tenant.", lambda it: it.asks)
     yield each("arena_jobs_total", Kind.COUNTER, "Jobs that were made.", lambda it: it.jobs)
+    by_status = [Sample(getattr(it.jobs_now, status), {**_of(generation, it.tenant), "status": status})
+                 for generation, it in pairs for status in JOB_STATUSES]
+    yield Family("arena_jobs", Kind.GAUGE, "Jobs that are not retired, by how far they are.", by_status)
+    yield each("arena_rows_open", Kind.GAUGE, "Rows that wait to be started or are live on a slot.",
+               lambda it: it.rows.open)
+    yield each("arena_rows_waiting", Kind.GAUGE, "Rows that wait to be started.", lambda it: it.rows.waiting)
     at_tenants = [Sample(sum(worker.tenant == it.tenant for worker in generation.workers), _of(generation, it.tenant))
                   for generation, it in pairs]
     yield Family("arena_workers_at_tenant", Kind.GAUGE, "Workers that were last at a slot of a tenant.", at_tenants)

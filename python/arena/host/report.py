@@ -57,7 +57,8 @@ def _generation(status: HostStatus, it: Generation, watch: Watch | None) -> Sect
              f"{counted(it.connections, 'connection')} now, {it.served:,} so far")
     waiting = sum(worker.tenant is None for worker in it.workers)
     notes = [f"workers: {len(it.workers) - waiting} with a tenant, {waiting} waiting for a call"] if it.workers else []
-    head: tuple[str, ...] = ("tenant", "entries", "steps", "%", "asks", "jobs", "workers")
+    head: tuple[str, ...] = ("tenant", "entries", "steps", "%", "asks", "jobs", "running", "rows", "waiting",
+                             "workers")
     rows = [_tenant(it, tenant) for tenant in it.tenants]
     if watch:
         head += ("entries/s", "asks/s", "jobs/s", "rotates in")
@@ -69,7 +70,7 @@ def _generation(status: HostStatus, it: Generation, watch: Watch | None) -> Sect
 def _tenant(generation: Generation, it: TenantStatus) -> list[object]:
     workers = sum(worker.tenant == it.tenant for worker in generation.workers)
     return [it.tenant, f"{it.entries:,}", f"{it.steps:,}", f"{100 * it.share:.1f}", f"{it.asks:,}", f"{it.jobs:,}",
-            workers]
+            f"{it.jobs_now.running:,}", f"{it.rows.open:,}", f"{it.rows.waiting:,}", workers]
 
 
 def _rates(status: HostStatus, generation: Generation, tenant: TenantStatus, rates: Rates | None) -> list[object]:

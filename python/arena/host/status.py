@@ -45,15 +45,35 @@ class Why(enum.Enum):
 
 
 @dataclass(frozen=True, slots=True)
+class JobsNow:
+    """How many jobs of a tenant are how far, of those that are not retired."""
+
+    running: int
+    complete: int
+    canceled: int
+    fault: int
+
+
+@dataclass(frozen=True, slots=True)
+class RowsNow:
+    """How many rows of a tenant are open, and how many of these wait to be started."""
+
+    open: int
+    waiting: int
+
+
+@dataclass(frozen=True, slots=True)
 class TenantStatus:
     """A tenant in a generation: the room of its history and what it holds, in entries; requests that were asked of it,
-    and jobs that were made."""
+    and jobs that were made; and how far its jobs and rows are."""
 
     tenant: str
     steps: int
     entries: int
     asks: int
     jobs: int
+    jobs_now: JobsNow
+    rows: RowsNow
 
     @property
     def share(self) -> float:
@@ -196,6 +216,11 @@ class _Part:
         """A member that may be null."""
         return None if self.value.get(name, _MISSING) is None else read(name)
 
+    def part(self, name: str) -> "_Part":
+        """A member that is an object."""
+        found = self._of(name, "an object", lambda it: isinstance(it, dict))
+        return _Part(found, f"{self.path}.{name}" if self.path else name, self.file)
+
     def parts(self, name: str) -> Iterator["_Part"]:
         """The objects of a list."""
         found = self._of(name, "a list", lambda it: isinstance(it, list))
@@ -283,7 +308,15 @@ def _worker(part: _Part) -> WorkerStatus:
 
 def _tenant(part: _Part) -> TenantStatus:
     return TenantStatus(part.text("tenant"), part.number("steps", 1), part.number("entries"), part.number("asks"),
-                        part.number("jobs"))
+                        part.number("jobs"), _jobs_now(part.part("jobs_now")), _rows_now(part.part("rows")))
+
+
+def _jobs_now(part: _Part) -> JobsNow:
+    return JobsNow(part.number("running"), part.number("complete"), part.number("canceled"), part.number("fault"))
+
+
+def _rows_now(part: _Part) -> RowsNow:
+    return RowsNow(part.number("open"), part.number("waiting"))
 
 
 def _closed(part: _Part) -> ClosedGeneration:

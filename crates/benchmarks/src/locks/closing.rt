@@ -1,7 +1,7 @@
 // The end of a tenant.
 use crate::stops::Stop;
-use history_check::{Verdict, check};
 use job_language::{Entry, TenantConfig};
+use solo_eval::{Verdict, check};
 use std::alloc::Global;
 use tenant_lock::TenantDoor;
 use tenant_record::Seat;

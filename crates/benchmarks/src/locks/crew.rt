@@ -13,7 +13,7 @@ use std::{slice, thread};
 use tenant_lock::StopFlag;
 use tenant_record::Seat;
 use tenant_slots::TenantSlots;
-use worker_main::{Gate, NoGate, Ringer, SlotDoor, worker};
+use worker_main::{Gate, NoGate, Ringer, SlotDoor, Visiting, worker};
 
 /// One thread's pass of the queues of a shared tenant.
 #[derive(Drop)]
@@ -104,7 +104,15 @@ fn serve<R: Wait, G: Gate>(rt: &R, post: Post<'_>, gate: &G) {
     let Post { shared, pass } = post;
     let stop = StopFlag::new();
     let slots = TenantSlots::new(rt, slice::from_ref(shared.door), &stop);
-    let _served = worker(rt, &shared.queues, pass, slots, &shared.bell, gate);
+    let _served = worker(
+        rt,
+        &shared.queues,
+        pass,
+        slots,
+        &shared.bell,
+        gate,
+        Visiting::Staying,
+    );
 }
 
 /// Two workers serve calls until the bell tells to stop.

@@ -1,5 +1,5 @@
 // Reading jobs.
-ghost use Rattle.std.specs.Prelude.{◌≡◌, ◌≤◌, ◌<◌, map, option_map, length, true, All, IfOk, IfSome, ◌+◌, IsTrue};
+ghost use Rattle.std.specs.Prelude.{◌≡◌, ◌≤◌, ◌<◌, map, option_map, length, true, All, IfErr, IfOk, IfSome, IsSome, ◌+◌, IsTrue};
 ghost use Rattle.std.specs.List.{list_all};
 ghost use Rattle.serde_json.specs.View.{view};
 ghost use Rattle.job_language.specs.declared.jobs.TheConstants.{MAX_FUEL};
@@ -7,6 +7,7 @@ ghost use Rattle.job_language.specs.Json.{number_in};
 ghost use Rattle.job_language.specs.Outline.{shape};
 ghost use Rattle.job_language.specs.Program.{Calls, IsInRange, is_last, IsValidProc, IsValidProgram};
 ghost use Rattle.job_language.specs.Reads.{Reads};
+ghost use Rattle.job_language.specs.Refused.{IsMemory};
 ghost use Rattle.job_language.specs.Job.{args_of, is_proc, are_procs, procs_of, outline_of, outline_of_members, instr_at, instrs_from, proc_of, proc_at, procs_from, job_of};
 
 use super::instructions::instr_of;
@@ -27,9 +28,11 @@ struct Outline<'v> {
 }
 
 /// Reads a job. `Refused::Memory` comes only where an allocation failed; otherwise a value that
-/// is no job is refused with the first place where it breaks the rules.
+/// is no job is refused with the first place where it breaks the rules. What is no outline of a job is
+/// refused before any memory is asked for.
 pub fn read_job(alloc: Global, value: &Value) -> Result<Job, Refused>
-    ensures { Reads (λ job. job) result (job_of (view value.now)) }
+    ensures reads { Reads (λ job. job) result (job_of (view value.now)) }
+    ensures memory { IfErr result (λ fault. IsMemory fault → IsSome (outline_of (view value.now))) }
 {
     let Some(outline) = outline_of(value) else {
         return Err(Refused::Bad { place: Place::Head });

@@ -1,4 +1,5 @@
 // What threads share: a tenant behind its door, queues of calls, and a worker.
 mod locks;
 mod queues;
+mod sleepers;
 mod workers;

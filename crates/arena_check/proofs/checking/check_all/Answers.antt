@@ -1,7 +1,7 @@
 use Rattle.std.proofs.Common.{◌+◌, ◌∙◌}
 use Rattle.tenant_model.specs.Solo.{step}
-use Rattle.history_check.specs.declared.checking.Verdict.TheVariants.{No}
-use Rattle.history_check.proofs.Verdicts.{verdict_after, verdict_here}
+use Rattle.solo_eval.specs.declared.checking.Verdict.TheVariants.{No}
+use Rattle.solo_eval.proofs.Verdicts.{verdict_after, verdict_here}
 use Rattle.arena_check.proofs.Entries.{answered_on, right_as, wrong_as}
 use Rattle.arena_check.proofs.checking.check_all.Goals as goal
 

@@ -1,6 +1,6 @@
 use Rattle.std.proofs.Common.{◌≡◌, ◌+◌, ◌++◌, drop, take, map}
-use Rattle.history_check.specs.Verdicts.{IsVerdictFrom}
-use Rattle.history_check.specs.declared.checking.Verdict.{Verdict}
+use Rattle.solo_eval.specs.Verdicts.{IsVerdictFrom}
+use Rattle.solo_eval.specs.declared.checking.Verdict.{Verdict}
 use Rattle.tenant_model.specs.Solo.{answers}
 use Rattle.tenant_model.specs.State.{State}
 use Rattle.arena_core.specs.Stands.{StandsFor}

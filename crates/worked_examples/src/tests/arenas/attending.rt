@@ -4,10 +4,10 @@ ghost use Rattle.std.specs.Prelude.{◌≤◌};
 use super::tenants::{FIB, job_of, tenant};
 use crate::tests::assert_same;
 use arena_core::Arena;
-use arena_door::attend_slot;
 use job_language::{Came, Error, JobFault, Moved, Reply, Request, Status};
 use job_step::{View, segment_of};
 use nested_wait::Attended;
+use session_law::attend_slot;
 use std::alloc::Global;
 use std::test::Fail;
 

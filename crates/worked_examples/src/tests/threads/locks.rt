@@ -1,13 +1,13 @@
 // A tenant behind its door, from a submitted job to the history.
 
 use crate::tests::assert_same;
-use history_check::{Verdict, check};
 use job_language::{
     Came, Fuel, Group, Instr, Isolation, Job, Level, Moved, Proc, Program, Register, Reply,
     Request, Status, Tenant, TenantConfig, TenantName,
 };
 use job_step::{Segment, View, segment_of};
 use market_config::Call;
+use solo_eval::{Verdict, check};
 use std::alloc::{AllocError, Global};
 use std::sync::Wait;
 use std::test::Fail;
@@ -17,10 +17,10 @@ use tenant_lock::{CloseFault, Closed, StopFlag, TenantDoor};
 use tenant_record::{Advanced, Pass, Seat};
 
 /// The call of the only slot for workers.
-const CALL: Call = Call { tenant: 0, slot: 1 };
+pub(super) const CALL: Call = Call { tenant: 0, slot: 1 };
 
 /// A tenant of so many slots, the first of them reserved, whose history has room for so many entries.
-fn tenant(slots: u8, steps: usize) -> Result<TenantConfig, Fail> {
+pub(super) fn tenant(slots: u8, steps: usize) -> Result<TenantConfig, Fail> {
     let tenant = Tenant {
         name: TenantName::new("acme").ok_or("a name")?,
         priority: Level::Normal,
@@ -56,10 +56,15 @@ fn returning(alloc: Global, register: Register) -> Result<Program, AllocError> {
 }
 
 /// What an ask is answered, and which slot it makes due.
-type Answer = (Reply, Option<u8>);
+pub(super) type Answer = (Reply, Option<u8>);
 
 /// Asks by a seat, if that is one of the door's.
-fn ask<R: Wait>(rt: &R, door: &TenantDoor, seat: &mut Seat, request: Request) -> Option<Answer> {
+pub(super) fn ask<R: Wait>(
+    rt: &R,
+    door: &TenantDoor,
+    seat: &mut Seat,
+    request: Request,
+) -> Option<Answer> {
     if seat.tenant() != door.tenant() {
         return None;
     }
@@ -74,13 +79,13 @@ fn submit<R: Wait>(rt: &R, alloc: Global, door: &TenantDoor, seat: &mut Seat) ->
 }
 
 /// Polls a job.
-fn poll<R: Wait>(rt: &R, door: &TenantDoor, seat: &mut Seat, job: u64) -> Option<Reply> {
+pub(super) fn poll<R: Wait>(rt: &R, door: &TenantDoor, seat: &mut Seat, job: u64) -> Option<Reply> {
     let (reply, _) = ask(rt, door, seat, Request::Poll(job))?;
     Some(reply)
 }
 
 /// Advances the slot of a pass, if that is one of the door's.
-fn advance<R: Wait>(rt: &R, door: &TenantDoor, pass: Option<Pass>) -> Option<Advanced> {
+pub(super) fn advance<R: Wait>(rt: &R, door: &TenantDoor, pass: Option<Pass>) -> Option<Advanced> {
     let pass = pass?;
     if pass.tenant() != door.tenant() {
         return None;
@@ -462,7 +467,7 @@ fn a_wait_ends_at_its_flag_and_at_the_doors_stop(rt: HostRuntime) -> Result<(), 
 }
 
 /// A job that spawns a task and waits for it.
-fn waiting(alloc: Global) -> Option<Job> {
+pub(super) fn waiting(alloc: Global) -> Option<Job> {
     let fuel = Fuel::new(10)?;
     Some(Job {
         program: spawning(alloc, Register::new(0)?, Group::new(0)?).ok()?,
@@ -497,7 +502,7 @@ fn wait_for_another<R: Wait>(
 }
 
 /// Pauses at the slot of a pass, if that is one of the door's, and says whether to stop.
-fn pause<R: Wait>(rt: &R, door: &TenantDoor, pass: &Pass) -> bool {
+pub(super) fn pause<R: Wait>(rt: &R, door: &TenantDoor, pass: &Pass) -> bool {
     pass.tenant() == door.tenant() && door.pause(rt, pass)
 }
 
@@ -620,5 +625,43 @@ fn a_wait_for_a_job_ends_at_a_full_history(rt: HostRuntime) -> Result<(), Fail> 
     let (door, mut seats) = TenantDoor::new(rt.alloc(), 0, tenant(2, 2)?, 2)?;
     let stopped = wait_until_full(&rt, rt.alloc(), &door, seats.as_mut_slice());
     assert_same(&rt, &stopped, &Some(false));
+    Ok(())
+}
+
+/// Submits the job twice, and lets a worker hand its slot over once the first is run: the slots that are due after each ask
+/// and each handing over, the last of which is of a slot where nothing waits.
+fn hand_over_twice<R: Wait>(
+    rt: &R,
+    alloc: Global,
+    door: &TenantDoor,
+    seat: &mut Seat,
+) -> Option<[Option<u8>; 4]> {
+    let (_reply, first) = submit(rt, alloc, door, seat)?;
+    let (_reply, second) = submit(rt, alloc, door, seat)?;
+    let ran = advance(rt, door, door.arrive(rt, CALL).pass)?;
+    let again = hand_over(rt, door, ran.pass)?;
+    let ran = advance(rt, door, door.arrive(rt, CALL).pass)?;
+    let none = hand_over(rt, door, ran.pass)?;
+    Some([first, second, again, none])
+}
+
+/// Hands the slot of a pass over, if that is one of the door's.
+fn hand_over<R: Wait>(rt: &R, door: &TenantDoor, pass: Option<Pass>) -> Option<Option<u8>> {
+    let pass = pass?;
+    if pass.tenant() != door.tenant() {
+        return None;
+    }
+    Some(door.hand_over(rt, pass))
+}
+
+#[test]
+fn a_slot_that_is_handed_over_is_due_while_a_job_waits(rt: HostRuntime) -> Result<(), Fail> {
+    let (door, mut seats) = TenantDoor::new(rt.alloc(), 0, two_slots()?, 1)?;
+    let due = match seats.first_mut() {
+        Some(seat) => hand_over_twice(&rt, rt.alloc(), &door, seat),
+        None => None,
+    };
+    assert_same(&rt, &due, &Some([Some(1), None, Some(1), None]));
+    assert!(rt; door.close(seats).is_ok());
     Ok(())
 }

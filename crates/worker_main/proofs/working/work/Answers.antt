@@ -4,5 +4,5 @@ use Rattle.worker_main.proofs.working.work.Goals as goal
 
 pub loop-turn-preserved : goal.loop-turn-preserved
 loop-turn-preserved g c =
-    let w = ways g.D.DueDoor.views g.D.DueDoor.commits g.D.DueDoor.advances g.D.DueDoor.heights g.D.DueDoor.pauses g.D.DueDoor.homes g.D.CallDoors.arrives in
-    turns_more w c.loop-turn._turn c.args.door.now c.loop-turn.door c.take_turn.new.door c.loop-turn.invariant c.take_turn.ensures
+    let w = ways g.D.DueDoor.views g.D.DueDoor.commits g.D.DueDoor.advances g.D.DueDoor.heights g.D.DueDoor.pauses g.D.DueDoor.homes g.D.DueDoor.hands g.D.CallDoors.arrives in
+    turns_more w c.args.visiting c.loop-turn._turn c.args.door.now c.loop-turn.door c.take_turn.new.door c.loop-turn.invariant c.take_turn.ensures

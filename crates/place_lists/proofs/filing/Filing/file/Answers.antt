@@ -14,7 +14,7 @@ invariant_of-self c =
     let taken : at ≡ slice_set before place None = ap (λ (f : Filing). f.by_place) (c.self.view_is ∙ c.unfile.ensures) in
     let within : place < length at = omega (arith, c.requires.place, ap length taken, length-set before place None) in
     let free : link_at at place ≡ None = ap (λ x. link_at x place) taken ∙ get_or-set_same before place None None c.requires.place in
-    filed c.self.inside.lists c.push.new.self at place c.self.invariant within c.push.ensures.places c.args.list free c.push.ensures.pushed c.push.ensures.others
+    (filed c.self.inside.lists c.push.new.self at place c.self.invariant.0 within c.push.ensures.places c.args.list free c.push.ensures.pushed c.push.ensures.others, omega (arith, c.push.ensures.count, c.self.invariant.1))
 
 pub returns : goal.returns
 returns c =

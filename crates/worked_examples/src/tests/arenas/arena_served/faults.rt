@@ -1,8 +1,8 @@
 // Sessions whose reader is interrupted at every call, or whose writer has too little room.
 use super::{BOUND, HELLO, RETURNS, both, served, served_from};
 use crate::tests::assert_same;
-use arena_sessions::{ArenaDoors, serve_arenas};
 use session_core::SessionEnd;
+use session_law::{ArenaDoors, serve_arenas};
 use std::alloc::Global;
 use std::io;
 use std::io::{ErrorKind, Read};

@@ -2,6 +2,7 @@
 ghost use Rattle.std.specs.Prelude.{◌≡◌, ◌<◌, ℕ, length, slice_index_or, IfOk};
 ghost use Rattle.call_queues.specs.Queues.{PassSeen, fresh};
 
+use super::push;
 use crate::tests::assert_same;
 use call_queues::{CallQueues, QueuePass};
 use job_language::Level;
@@ -44,10 +45,7 @@ fn push_and_pop<R: Wait>(
     requires tenants { length queues.now.config ≡ 2 }
 {
     let number = pass.number();
-    let pushed = [
-        queues.push_call(rt, pass, ACME),
-        queues.push_call(rt, pass, BETA),
-    ];
+    let pushed = [push(rt, queues, pass, ACME), push(rt, queues, pass, BETA)];
     let popped = [
         queues.pop_call(rt, pass),
         queues.pop_call(rt, pass),
@@ -71,10 +69,7 @@ fn push_twice<R: Wait>(rt: &R, queues: &CallQueues, pass: &mut QueuePass) -> [Pu
     requires tenants { length queues.now.config ≡ 2 }
     ensures { (pass.new.number ≡ pass.old.number) × (pass.new.queues ≡ pass.old.queues) }
 {
-    [
-        queues.push_call(rt, pass, ACME),
-        queues.push_call(rt, pass, ACME),
-    ]
+    [push(rt, queues, pass, ACME), push(rt, queues, pass, ACME)]
 }
 
 #[test]
@@ -103,8 +98,8 @@ fn push_by_both<R: Wait>(
     requires tenant { length queues.now.config ≡ 1 }
 {
     let pushed = [
-        queues.push_call(rt, &mut passes[1], FIRST),
-        queues.push_call(rt, &mut passes[0], SECOND),
+        push(rt, queues, &mut passes[1], FIRST),
+        push(rt, queues, &mut passes[0], SECOND),
     ];
     let popped = [
         queues.pop_call(rt, &mut passes[0]),

@@ -2,6 +2,7 @@
 ghost use Rattle.std.specs.Prelude.{◌≡◌, ◌<◌, length, IfOk};
 ghost use Rattle.std.specs.Arc.{arc_value};
 
+use super::push;
 use crate::tests::assert_same;
 use call_queues::{CallQueues, QueuePass};
 use job_language::Level;
@@ -28,7 +29,7 @@ fn push_there<R: Wait>(rt: &R, queues: &CallQueues, mut pass: QueuePass) -> Queu
     requires tenant { 0 < length queues.now.config }
     ensures { (result.queues ≡ pass.queues) × (result.number ≡ pass.number) }
 {
-    let _ = queues.push_call(rt, &mut pass, FIRST);
+    let _ = push(rt, queues, &mut pass, FIRST);
     pass
 }
 

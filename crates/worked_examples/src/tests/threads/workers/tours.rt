@@ -129,6 +129,8 @@ impl<R: Wait> DueDoor for Tour<'_, R> {
 
     ghost homes = { λ _ _. Unit {0} };
 
+    ghost hands = { λ _ _ _. Unit {0} };
+
     fn tenant(&self) -> Option<usize> {
         self.at.map(|_| 0)
     }
@@ -165,6 +167,11 @@ impl<R: Wait> DueDoor for Tour<'_, R> {
             self.homes = self.homes.wrapping_add(1);
             self.at = None;
         }
+    }
+
+    fn hand_over(&mut self) -> Option<Call> {
+        self.give_home();
+        None
     }
 }
 

@@ -3,6 +3,7 @@ ghost use Rattle.std.specs.Prelude.{◌≡◌, length};
 
 use super::tours::{Row, Tour, one_tenant, returns_its_slot};
 use crate::tests::assert_same;
+use crate::tests::threads::queues::push;
 use call_queues::{CallQueues, QueuePass};
 use job_language::{Came, Moved, Program};
 use market_config::Call;
@@ -10,7 +11,7 @@ use nested_wait::Door;
 use std::alloc::Global;
 use std::sync::Wait;
 use std::test::*;
-use worker_main::{Bell, NoGate, Ringer, Signal, SlotDoor, worker};
+use worker_main::{Bell, NoGate, Ringer, Signal, SlotDoor, Visiting, worker};
 
 const FIRST: Call = Call { tenant: 0, slot: 5 };
 
@@ -47,11 +48,11 @@ fn served<R: Wait>(
     requires pass { pass.queues ≡ queues.now.queues }
     requires tenant { length queues.now.config ≡ 1 }
 {
-    let _ = queues.push_call(rt, &mut pass, FIRST);
-    let _ = queues.push_call(rt, &mut pass, SECOND);
+    let _ = push(rt, queues, &mut pass, FIRST);
+    let _ = push(rt, queues, &mut pass, SECOND);
     let bell = Bell::new();
     let tour = Tour::new(program, rt, &bell, rows, 2);
-    let (mut pass, tour) = worker(rt, queues, pass, tour, &bell, &NoGate);
+    let (mut pass, tour) = worker(rt, queues, pass, tour, &bell, &NoGate, Visiting::Staying);
     Counts {
         place: tour.place,
         commits: tour.commits,

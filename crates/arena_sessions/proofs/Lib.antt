@@ -1,4 +1,0 @@
-pub mod Standing
-pub mod Simulating
-pub mod Attending
-pub mod Sessions

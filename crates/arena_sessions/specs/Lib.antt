@@ -1,3 +1,0 @@
-pub mod Tenants
-pub mod Doors
-pub mod Sessions

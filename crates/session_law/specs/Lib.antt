@@ -1,0 +1,5 @@
+pub mod SlotDoor
+pub mod AttendedSlot
+pub mod Tenants
+pub mod Doors
+pub mod Sessions

@@ -1,0 +1,19 @@
+use Rattle.std.proofs.Common.{Bool, false, ap, subst, ◌∙◌}
+use Rattle.locked_doors.specs.Seen.{SessionSeen}
+use Rattle.session_core.specs.Sessions.{Serves}
+use Rattle.socket_server.specs.Sessions.{RepliesThere}
+use Rattle.socket_server.proofs.ServedOrNot.{either_way}
+use Rattle.socket_server.proofs.sessions.serve_client.Goals as goal
+
+pub returns : goal.returns
+returns g c =
+    let first = c.into_doors-doors.ensures in
+    let back = c.into_parts-seats.ensures.seats in
+    either_way c.serve-end.result c.serve-end.ensures.serves c.serve-end.ensures.refused
+    (λ end serves. record {
+      end = end;
+      session = c.serve-end.new.doors;
+      serves = subst (λ (s : SessionSeen). Serves RepliesThere (g.I.Read.remaining c.args.reader.now) (g.I.Read.remaining c.serve-end.new.reader) (g.O.Write.contents c.args.writer.now) (g.O.Write.contents c.serve-end.new.writer) (false, s) c.serve-end.new.doors end) first serves;
+      seats_are = back;
+    })
+    (λ same. (same.0, same.1, back ∙ ap (λ (s : SessionSeen). s.seats) (same.2 ∙ first)))

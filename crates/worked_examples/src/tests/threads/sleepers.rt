@@ -1,0 +1,174 @@
+// Who is woken at the slots of a tenant, by counts of wakes.
+
+use super::locks::{advance, ask, pause, poll, tenant, waiting};
+use crate::tests::assert_same;
+use job_language::{Moved, Request};
+use market_config::Call;
+use std::alloc::Global;
+use std::sync::Wait;
+use std::test::Fail;
+use std::thread;
+use std::thread::{Threads, yield_now};
+use tenant_lock::{StopFlag, TenantDoor, Waits};
+use tenant_record::{Pass, Seat};
+
+/// How many entries are made that leave a sleeper's slot idle.
+const ENTRIES: u32 = 100;
+
+/// A worker's pass whose slot waits for a task, and the pass of the slot that has the task.
+type Pair = (Pass, Pass);
+
+/// Lets a worker at that slot run a job until it waits for a task that another worker has at the next slot.
+fn pair<R: Wait>(
+    rt: &R,
+    alloc: Global,
+    door: &TenantDoor,
+    seat: &mut Seat,
+    slot: u8,
+) -> Option<Pair> {
+    let _made = ask(rt, door, seat, Request::Submit(waiting(alloc)?));
+    let spawned = advance(rt, door, door.arrive(rt, Call { tenant: 0, slot }).pass)?;
+    let next = slot.checked_add(1)?;
+    let other = door.arrive(
+        rt,
+        Call {
+            tenant: 0,
+            slot: next,
+        },
+    );
+    let idle = advance(rt, door, spawned.pass)?;
+    Some((idle.pass?, other.pass?))
+}
+
+/// Lets others run until that many slots have a sleeper, and that many were woken.
+fn watch<R: Wait>(rt: &R, door: &TenantDoor, asleep: u32, wakes: u64) {
+    for _look in rt.forever() {
+        let waits = door.waits(rt);
+        if waits.asleep == asleep && waits.wakes == wakes {
+            return;
+        }
+        yield_now();
+    }
+}
+
+/// Once somebody sleeps, makes entries that leave its slot idle: who sleeps then, and who was woken.
+fn poll_often<R: Wait>(rt: &R, door: &TenantDoor, seat: &mut Seat) -> Waits {
+    watch(rt, door, 1, 0);
+    for _entry in 0..ENTRIES {
+        let _polled = poll(rt, door, seat, 1);
+        yield_now();
+    }
+    door.waits(rt)
+}
+
+/// What a sleeper's wait says, who slept before its task was done, and what the task was answered.
+type Slept = (bool, Waits, Option<Moved>);
+
+/// One worker sleeps at its slot; another thread makes entries that leave that idle, and then does its task.
+fn sleep_beside_polls<R: Threads + Wait + Sync>(
+    rt: &R,
+    alloc: Global,
+    door: &TenantDoor,
+    seat: &mut Seat,
+) -> Option<Slept> {
+    let (waits, works) = pair(rt, alloc, door, seat, 1)?;
+    let act = move || {
+        let slept = poll_often(rt, door, seat);
+        let done = advance(rt, door, Some(works));
+        (slept, done.map(|done| done.moved))
+    };
+    let (stopped, (slept, done)) = thread::join(rt, || pause(rt, door, &waits), act);
+    Some((stopped, slept, done))
+}
+
+#[test]
+fn entries_that_leave_a_slot_idle_wake_nobody_there(rt: HostRuntime) -> Result<(), Fail> {
+    let (door, mut seats) = TenantDoor::new(rt.alloc(), 0, tenant(3, 256)?, 1)?;
+    let seat = seats.as_mut_slice().first_mut().ok_or("a seat")?;
+    let slept = sleep_beside_polls(&rt, rt.alloc(), &door, seat);
+    let before = waits(1, 0);
+    assert_same(&rt, &slept, &Some((false, before, Some(Moved::Ran))));
+    assert_same(&rt, &door.waits(&rt), &waits(0, 1));
+    Ok(())
+}
+
+/// Slots with a sleeper, and wakes, each of which found a slot that could move.
+fn waits(asleep: u32, wakes: u64) -> Waits {
+    Waits {
+        asleep,
+        wakes,
+        idle_wakes: 0,
+    }
+}
+
+/// Two workers sleep at their slots in a thread each, while a third thread does one task and then the other: who slept
+/// once the first one was woken.
+fn sleep_beside_another<R: Threads + Wait + Sync>(
+    rt: &R,
+    alloc: Global,
+    door: &TenantDoor,
+    seat: &mut Seat,
+) -> Option<([bool; 2], Waits)> {
+    let (one, works) = pair(rt, alloc, door, seat, 1)?;
+    let (two, last) = pair(rt, alloc, door, seat, 3)?;
+    let (first, second) = (&one, &two);
+    let act = move || {
+        watch(rt, door, 2, 0);
+        let _done = advance(rt, door, Some(works));
+        watch(rt, door, 1, 1);
+        let slept = door.waits(rt);
+        let _done = advance(rt, door, Some(last));
+        slept
+    };
+    let sleep = move || {
+        thread::join(
+            rt,
+            move || pause(rt, door, first),
+            move || pause(rt, door, second),
+        )
+    };
+    let (stopped, slept) = thread::join(rt, sleep, act);
+    Some(([stopped.0, stopped.1], slept))
+}
+
+#[test]
+fn an_entry_wakes_the_slot_alone_that_it_lets_move(rt: HostRuntime) -> Result<(), Fail> {
+    let (door, mut seats) = TenantDoor::new(rt.alloc(), 0, tenant(5, 256)?, 1)?;
+    let seat = seats.as_mut_slice().first_mut().ok_or("a seat")?;
+    let slept = sleep_beside_another(&rt, rt.alloc(), &door, seat);
+    assert_same(&rt, &slept, &Some(([false, false], waits(1, 1))));
+    assert_same(&rt, &door.waits(&rt), &waits(0, 2));
+    Ok(())
+}
+
+/// Sleeps at the slot of a pass until a flag is raised, and says whether to stop.
+fn pause_until<R: Wait>(rt: &R, door: &TenantDoor, pass: &Pass, stop: &StopFlag) -> bool {
+    pass.tenant() == door.tenant() && door.pause_until(rt, pass, stop)
+}
+
+/// A worker sleeps at its slot, and once it does another thread raises its flag.
+fn sleep_until_the_flag<R: Threads + Wait + Sync>(
+    rt: &R,
+    alloc: Global,
+    door: &TenantDoor,
+    seat: &mut Seat,
+) -> Option<bool> {
+    let (waits, _works) = pair(rt, alloc, door, seat, 1)?;
+    let stop = &StopFlag::new();
+    let raise = move || {
+        watch(rt, door, 1, 0);
+        stop.raise();
+        door.wake(rt);
+    };
+    let slept = || pause_until(rt, door, &waits, stop);
+    Some(thread::join(rt, slept, raise).0)
+}
+
+#[test]
+fn a_sleeper_at_a_slot_is_woken_by_its_flag(rt: HostRuntime) -> Result<(), Fail> {
+    let (door, mut seats) = TenantDoor::new(rt.alloc(), 0, tenant(3, 256)?, 1)?;
+    let seat = seats.as_mut_slice().first_mut().ok_or("a seat")?;
+    let stopped = sleep_until_the_flag(&rt, rt.alloc(), &door, seat);
+    assert_same(&rt, &stopped, &Some(true));
+    Ok(())
+}
