@@ -1,9 +1,10 @@
 #!/usr/bin/env python3
 """Draws the pictures of the README: the two waiters, from the scripts of `examples/own` with the lines that they
-print, and four workers at one tenant, from a dump of the server that stands beside this script.
+print; and the Fibonacci job by two workers and four workers at one tenant, from dumps of the server that stand beside
+this script.
 
-usage: docs/pictures/make.py [again], at the top of the repository. With the word `again` the server makes the dump of
-the four workers anew, by crates/server_program/out/server_program. """
+usage: docs/pictures/make.py [again], at the top of the repository. With the word `again` the server makes the two dumps
+anew, by crates/server_program/out/server_program. """
 import json
 import os
 import sys
@@ -34,6 +35,25 @@ def dump_of_example(name):
     return lines
 
 
+def keep(server, name):
+    """Keeps the dump of a server beside this script."""
+    with open(server.dump()) as dump, open(os.path.join(FOLDER, f"{name}.jsonl"), "w") as kept:
+        kept.write(dump.read())
+
+
+def run_fib():
+    """Lets the server run the Fibonacci job of the README with two workers, and keeps the dump."""
+    import arena
+    from arena.language import compile_source
+    from serving import Server, tenant
+    with open("examples/jobs/fib.job") as source:
+        job = compile_source(source.read(), args=(4, 0)).job
+    with Server(tenant(slots=2, reserved=0, steps=1000), workers=2) as server:
+        with arena.Client(server.path, "acme") as client:
+            client.collect(client.submit(job))
+        keep(server, "fib")
+
+
 def run_four_workers():
     """Lets the server run jobs with four workers, and keeps the dump."""
     import arena
@@ -49,8 +69,7 @@ def run_four_workers():
                 line.cancel(3)
             for number in made:
                 client.collect(number.result())
-        with open(server.dump()) as dump, open(os.path.join(FOLDER, "four_workers.jsonl"), "w") as kept:
-            kept.write(dump.read())
+        keep(server, "four_workers")
 
 
 def draw(name, lines, axis):
@@ -64,11 +83,13 @@ def draw(name, lines, axis):
 
 def main():
     if sys.argv[1:] == ["again"]:
+        run_fib()
         run_four_workers()
     for name in ("plain_waiter", "isolated_waiter"):
         draw(name, dump_of_example(name), Axis.ENTRIES)
-    with open(os.path.join(FOLDER, "four_workers.jsonl")) as dump:
-        draw("four_workers", dump.readlines(), Axis.ENTRIES)
+    for name in ("fib", "four_workers"):
+        with open(os.path.join(FOLDER, f"{name}.jsonl")) as dump:
+            draw(name, dump.readlines(), Axis.ENTRIES)
 
 
 main()
