@@ -15,6 +15,7 @@ The rules; what is in allowed.txt, with its reason, is let through:
 5. Of several words each is one of those, or stands in some string of the code.
 6. In `f(x)` by itself, f is a function, type or variant, or a whole string of the code.
 7. Where a crate's page says "seen as `X`", a type of the crate has X as its Value.
+8. A crate has a page, with the five headings of SECTIONS in their order and no others, and at most MOST_LINES lines.
 A word of one letter, or of capitals alone, stands for what a reader puts there.
 """
 import pathlib
@@ -27,6 +28,8 @@ from tree import WORD, Tree
 ENDS = "md|py|rt|antt|sh|job|jasm|json|jsonl|svg|txt|edit|bash|toml|service|crt|pem|deb"
 OWN_PARTS = ("src/", "specs/", "proofs/", "must-fail/")
 TOPS = ("benches/", "checks/", "crates/", "docs/", "examples/", "packaging/", "python/")
+SECTIONS = ("What it is for", "What a contract sees", "What is proved", "What is only tested", "Uses")
+MOST_LINES = 60
 MEMBER = re.compile(r"\b\w+(?:::\w+)+")
 
 
@@ -109,6 +112,17 @@ def faults(tree, let_through, span):
         yield f"no type is seen as {span.text}"
 
 
+def shape_faults(tree):
+    """Yields what is wrong with the pages of crates as a whole."""
+    for crate in sorted(path for path in tree.paths if re.fullmatch(r"crates/\w+", path)):
+        page = TOP / crate / "README.md"
+        lines = page.read_text().splitlines() if page.exists() else []
+        if tuple(line[3:] for line in lines if line.startswith("## ")) != SECTIONS:
+            yield f"{crate}/README.md: the headings are not {', '.join(SECTIONS)}"
+        if len(lines) > MOST_LINES:
+            yield f"{crate}/README.md: {len(lines)} lines, more than {MOST_LINES}"
+
+
 def main():
     tree, let_through = Tree(), allowed()
     count, found = 0, []
@@ -116,9 +130,10 @@ def main():
         for span in spans_of(page):
             count += not span.is_code
             found += [f"{span.page}:{span.line}: {fault}, in: {span.text}" for fault in faults(tree, let_through, span)]
-    print(*found, sep="\n", end="\n" if found else "")
+    shapes = [] if sys.argv[1:] else list(shape_faults(tree))
+    print(*found, *shapes, sep="\n", end="\n" if found or shapes else "")
     print(f"{count} names on {len(sys.argv[1:] or pages())} pages: {len(found)} are not there")
-    sys.exit(bool(found))
+    sys.exit(bool(found or shapes))
 
 
 main()
