@@ -4,7 +4,7 @@
 usage: examples/show.py [NAME]     (first_job if no NAME is given)
 
 It runs out/arena-script if `make build` has built that since the last change of a source. Otherwise it
-builds the program without proving it, in about a minute, and keeps it for the next time (checks/build/unproved.py).
+builds the program without proving it, in a minute or two, and keeps it for the next time (checks/build/unproved.py).
 """
 import json
 import pathlib

@@ -16,7 +16,7 @@ from arena.trace import DumpFault
 
 ABOUT = ("Runs jobs on arena-server, looks after them, and shows what happened to them. The server's socket and the "
          "tenant are given by options or by ARENA_SOCKET and ARENA_TENANT. It also looks after arena-host, whose run "
-         "folder D is given by a word or, where that may be left out, by ARENA_RUN.")
+         "folder D is given by a word or, if it may be left out, by ARENA_RUN.")
 
 COMMANDS: tuple[Command, ...] = (*jobs.COMMANDS, *building.COMMANDS, *advise.COMMANDS, *shell.COMMANDS, *bench.COMMANDS,
                                  *dumps.COMMANDS, *host.COMMANDS, *metrics.COMMANDS, *orders.COMMANDS, *series.COMMANDS,

@@ -132,7 +132,7 @@ COMMANDS = (
             (DUMP, MAP, option("--csv", help="the jobs as CSV", action="store_true"),
              option("--all", help="all jobs, not only the 20 of most work", action="store_true"))),
     Command("timeline", "draw a dump: SVG, a page to zoom in, or a trace for Perfetto",
-            "Draws what the slots did: a band for each slot, the rows on its stack by height, full where they execute; "
+            "Draws what the slots did: a band for each slot, the rows on its stack by height, full while they execute; "
             "requests above. Without --svg, --html or --trace it prints the SVG. The page of --html needs nothing else "
             "and zooms; --trace is for Perfetto and chrome://tracing. What is too short to be seen is merged, and the "
             "picture says so.",

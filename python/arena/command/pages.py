@@ -196,7 +196,7 @@ def _zsh_word(word: Word) -> str:
 
 
 def _zsh_names(word: Word) -> str:
-    """The names of an option; braces where there are several."""
+    """The names of an option; braces if there are several."""
     return word.names[0] if len(word.names) == 1 else "{" + ",".join(word.names) + "}"
 
 

@@ -127,7 +127,7 @@ JOB_WORDS = (
     positional("FILE", "a job: .job is compiled, .jasm assembled, and any other file is a JOB in JSON; - is standard "
                "input",
                Completes.JOB_FILE),
-    option("--args", help="the job's arguments, 0 where they are left out", nargs="+", type=int, metavar=("X", "Y")),
+    option("--args", help="the job's arguments, 0 if they are left out", nargs="+", type=int, metavar=("X", "Y")),
     option("--fuel", help="its fuel: how many instructions it may execute; 1,000,000, the most, unless this or "
            "its file says less", type=int, metavar="N"),
     option("-D", "--define", help="gives a parameter of a .job file its value", action="append", type=assignment,

@@ -90,7 +90,7 @@ class Values(Conditions):
         self.names.settle(task)
 
     def passed(self, target: Application) -> Passed:
-        """The registers with the arguments of a function, packed where it says so."""
+        """The registers with the arguments of a function, packed if it says so."""
         function = self.unit.function(target)
         values = dict(zip(function.parameters, target.arguments))
         registers = []

@@ -19,7 +19,7 @@ WAIT = NUMBERS["wait"]
 
 
 class Instr(NamedTuple):
-    """An instruction: its number in `NAMES`, and its operands, 0 where it has fewer than four."""
+    """An instruction: its number in `NAMES`, and its operands, 0 if it has fewer than four."""
 
     op: int
     x: int = 0

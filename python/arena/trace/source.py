@@ -11,7 +11,7 @@ class MapFault(ValueError):
 
 @dataclass(frozen=True, slots=True)
 class Procedure:
-    """A procedure's name, and the source line of each of its instructions, none where there is none."""
+    """A procedure's name, and the source line of each of its instructions, none if it has none."""
 
     name: str
     lines: list[int | None]
