@@ -1,4 +1,4 @@
-"""Which jobs a client made, so that one which was lost with its connection is told from one that never was."""
+"""Which jobs a client made, so that one which was lost with its connection differs from one that never was."""
 from dataclasses import dataclass, field
 from typing import TypeVar
 

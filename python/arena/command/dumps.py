@@ -35,7 +35,7 @@ def opened(path: str) -> Dump:
 
 
 def replayed(dump: Dump) -> Iterator[Happening]:
-    """What happened, with a line that tells how far the reading is."""
+    """What happened, with a line that shows how far the reading is."""
     size = os.path.getsize(dump.file) if os.path.exists(dump.file) else sys.maxsize
     progress = Progress(f"reading {dump.file}", size)
     try:
@@ -74,7 +74,7 @@ def check(call: Call) -> int:
 
 
 def stat(call: Call) -> int:
-    """Says what a dump tells of jobs and slots."""
+    """Says what a dump shows of jobs and slots."""
     words, dump, source = call.words, opened(call.words.DUMP), maps(call)
     with without_collector():
         statistics = statistics_of(replayed(dump), dump.tenant)

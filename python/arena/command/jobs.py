@@ -111,7 +111,7 @@ COMMANDS = (
             "`wait`.",
             "arena poll 1", poll, (NUMBER,), in_shell=True),
     Command("cancel", "cancel a job",
-            "Cancels a job: its rows that wait are dropped, and those that run are told so if they ask.",
+            "Cancels a job: its rows that wait are dropped, and those that run learn of it if they ask.",
             "arena cancel 1",
             cancel, (NUMBER,), in_shell=True),
     Command("cells", "print how many cells a key has, and their sum",

@@ -39,7 +39,7 @@ def output_of(as_json: bool, colour: str | None) -> Output:
 
 
 class Progress:
-    """A line on standard error that tells how far long work is. It is there on a terminal alone, and from the first
+    """A line on standard error that shows how far long work is. It is there on a terminal alone, and from the first
     half second on."""
 
     def __init__(self, what: str, total: int, stream=sys.stderr) -> None:

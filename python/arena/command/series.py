@@ -78,7 +78,7 @@ COMMANDS = (
     Command("check-dumps", "check all dumps of a host by arena-script",
             "Goes through D/dumps by tenant, in the order of generations, and lets `arena-script check` take every "
             "step of each dump again. It says which dumps are whole, of which there is only a part, and which are "
-            "missing, with what D/status.json tells of them. The status is 0 if each dump is there and answered `yes`, "
+            "missing, with what D/status.json says of them. The status is 0 if each dump is there and answered `yes`, "
             "but for those of generations that are open or that the tenant was not in. With --tenant only that "
             "tenant's are looked at.",
             "arena check-dumps /var/lib/arena", check_dumps, (ITS_FOLDER, SCRIPT)),

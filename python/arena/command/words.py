@@ -84,7 +84,7 @@ class Word:
 
 @dataclass(frozen=True)
 class Command:
-    """A subcommand: `text` tells more than its `summary`, and `example` is a line that one may type."""
+    """A subcommand: `text` says more than its `summary`, and `example` is a line that one may type."""
 
     name: str
     summary: str

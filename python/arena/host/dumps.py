@@ -14,7 +14,7 @@ NAME = re.compile(r"([a-z0-9-]{1,32})\.([0-9]{6}|[1-9][0-9]{6,17})\.jsonl(\.part
 
 
 def name_of(tenant: str, generation: int) -> str:
-    """A dump as it is told: `acme.000123`."""
+    """How a dump is named: `acme.000123`."""
     return f"{tenant}.{generation:06}"
 
 
@@ -47,7 +47,7 @@ class Hole:
 
 @dataclass(frozen=True, slots=True)
 class Known:
-    """What the host's status tells of generations: those that are open, and those that it closed last."""
+    """What the host's status says of generations: those that are open, and those that it closed last."""
 
     open: frozenset[int] = frozenset()
     closed: tuple[ClosedGeneration, ...] = ()
@@ -101,7 +101,7 @@ def _files(folder: RunFolder, known: Known) -> Iterator[DumpFile]:
 
 def _holes(tenant: str, numbers: list[int], known: Known) -> Iterator[Hole]:
     """What is missing: between two numbers of a tenant, and from the last one to that which the host closed last. A
-    tenant of no dumps misses those of which the host tells."""
+    tenant of no dumps misses those that the host names."""
     closed = [it.number for it in known.closed if any(one.tenant == tenant for one in it.tenants)]
     last = max([*numbers, *closed])
     ends = [*numbers, last + 1] if numbers else [min(closed) - 1, last + 1]

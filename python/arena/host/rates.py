@@ -25,7 +25,7 @@ class Watch:
     _known: dict[Key, Rates] = field(default_factory=dict)
 
     def take(self, reading: Reading) -> None:
-        """Takes another reading. One that was written when the last one was tells nothing new."""
+        """Takes another reading. One that was written when the last one was says nothing new."""
         if self.now is not None and reading.written == self.now.written:
             return
         self.before, self.now = self.now, reading

@@ -154,7 +154,7 @@ class HostStatus:
 @dataclass(frozen=True, slots=True)
 class Reading:
     """A status with the object that it was read from, and when it was written, in seconds since 1970 and as exactly as
-    the file tells."""
+    the file says."""
 
     status: HostStatus
     value: dict
@@ -262,7 +262,7 @@ def read_status(folder: RunFolder) -> Reading:
 
 
 def host_runs(folder: RunFolder, now: float) -> bool:
-    """Whether a host runs in a folder: its lock tells or, to those who may not open that, whether its status is of now,
+    """Whether a host runs in a folder: its lock says so or, to those who may not open that, whether its status is of now,
     which is in seconds since 1970. Raises StatusFault, OSError."""
     try:
         return folder.is_held()

@@ -1,4 +1,4 @@
-"""A timeline as one page that needs nothing else: it zooms, finds rows and jobs, and tells what a row did."""
+"""A timeline as one page that needs nothing else: it zooms, finds rows and jobs, and shows what a row did."""
 import json
 import os
 from collections.abc import Iterable
