@@ -1,16 +1,20 @@
 """`make deb`: what the package has, and that it runs from where it is unpacked."""
+import contextlib
 import hashlib
 import os
 import pathlib
 import re
 import threading
+from collections.abc import Iterator
 
+import service
 from contents import expected
 from room import TOP, Room, Skipped, need, need_built, run
 from served import serves
 from tree import differences, modes_below
 
 BUILDING = threading.Lock()
+INSTALLING = threading.Lock()
 
 
 def build(room: Room, to: pathlib.Path) -> pathlib.Path:
@@ -84,22 +88,40 @@ def host_runs_from_the_package(room: Room) -> None:
     _runs(room, "arena-host")
 
 
-def package_is_installed_and_purged(room: Room) -> None:
-    """Really installs the package on this machine, runs jobs by it, and purges it."""
+@contextlib.contextmanager
+def installed(room: Room) -> Iterator[None]:
+    """Really installs the package on this machine, and purges it at the end, after which nothing is left. One check at a time
+    does."""
     if os.environ.get("REALLY_INSTALL") != "1" or os.geteuid() != 0:
         raise Skipped("only root with REALLY_INSTALL=1 installs the package on this machine")
     package, tree = built(room), room.at("tree")
     run("dpkg-deb", "--extract", package, tree)
-    run("dpkg", "--install", package)
-    try:
+    with INSTALLING:
+        run("dpkg", "--install", package)
+        try:
+            yield
+        finally:
+            run("dpkg", "--purge", "arena")
+        left = [path for path in modes_below(tree) if os.path.lexists(f"/{path}")]
+        assert not left and not os.path.exists("/var/lib/arena") and not os.path.exists("/usr/lib/arena-python"), left
+
+
+def package_is_installed_and_purged(room: Room) -> None:
+    """The installed programs run jobs."""
+    with installed(room):
         for program in ("arena-server", "arena-host"):
             if (room.programs / program).exists():
                 serves(room, program, pathlib.Path("/usr"), pathlib.Path("/etc"))
-    finally:
-        run("dpkg", "--purge", "arena")
-    left = [path for path in modes_below(tree) if os.path.lexists(f"/{path}")]
-    assert not left and not os.path.exists("/var/lib/arena") and not os.path.exists("/usr/lib/arena-python"), left
+
+
+def service_works(room: Room) -> None:
+    """The installed unit of arena-host starts, is reloaded, comes back after a kill, and stops in order."""
+    need_built(room, "arena-host", "arena-script")
+    if not service.runs_systemd():
+        raise Skipped("systemd does not run here")
+    with installed(room):
+        service.works()
 
 
 CHECKS = (package_has_its_files, package_says_what_it_is, package_is_the_same_again, server_runs_from_the_package,
-          host_runs_from_the_package, package_is_installed_and_purged)
+          host_runs_from_the_package, package_is_installed_and_purged, service_works)
