@@ -4,8 +4,8 @@ side by side on this machine that share the tenants and connections.
 
 usage: benches/host/many.py [SECONDS [ROUNDS [SERVER HOST]]], at the top of the repository. Each measure takes SECONDS, three if
 none are said, and there are ROUNDS of each, three if none are said. It needs `cc`, and out/arena-server and out/arena-host of
-`make build` if no programs are said. Clients share the processors with what they ask. A rate is the turns of all clients by the
-time from the first one's start to the last one's end.
+`make build` if no programs are said; what is not built is left out. Clients share the processors with what they ask. A rate is
+the turns of all clients by the time from the first one's start to the last one's end.
 """
 import contextlib
 import json
@@ -30,6 +30,11 @@ SUBMIT = EXECUTE.replace("execute", "submit")
 COLLECT = '{"job":@,"op":"collect"}'
 
 
+def path_of(program: str) -> str:
+    """Where a program is."""
+    return PROGRAMS.get(program, os.path.abspath(f"out/{program}"))
+
+
 @dataclass
 class Running:
     """A server or a host with some tenants, until its socket is removed."""
@@ -44,8 +49,7 @@ class Running:
         tenants = [{"name": it, "priority": "normal", "reserved": 1, "rows": 200, "slots": 2, "steps": 262_144} for it in self.names]
         (there / "config.json").write_text(json.dumps({"tenants": tenants, "workers": WORKERS}))
         where = ["--run", there, "--rotate-at", 100] if self.program == "arena-host" else ["--socket", self.socket]
-        command = [PROGRAMS.get(self.program, os.path.abspath(f"out/{self.program}")), "--config", there / "config.json", *where,
-                   "--connections", CONNECTIONS]
+        command = [path_of(self.program), "--config", there / "config.json", *where, "--connections", CONNECTIONS]
         self.process = subprocess.Popen([str(it) for it in command], stdout=subprocess.PIPE, stderr=subprocess.DEVNULL, text=True)
         assert self.process.stdout.readline() == "listening\n"
         return self
@@ -78,23 +82,24 @@ def places(program: str, count: int, connections: int = CONNECTIONS) -> Iterator
 
 
 def measures(clients: pathlib.Path) -> dict[str, Callable[[], float]]:
-    """What is measured in each round."""
+    """What is measured in each round, by the programs that are built."""
     def by(program: str, count: int, connections: int, *lines: str) -> Callable[[], float]:
         def measured() -> float:
             with places(program, count, connections) as found:
                 return rate(clients, found, lines)
         return measured
-    return {
-        "executed, 1 connection, a host": by("arena-host", 1, 1, EXECUTE),
-        "executed, 64 connections, a host": by("arena-host", 1, CONNECTIONS, EXECUTE),
-        "executed, 64 connections, the server": by("arena-server", 1, CONNECTIONS, EXECUTE),
-        "executed, 64 connections, two hosts": by("arena-host", 2, CONNECTIONS, EXECUTE),
-        "executed, 64 connections, four hosts": by("arena-host", 4, CONNECTIONS, EXECUTE),
-        "submitted, 1 connection, a host": by("arena-host", 1, 1, SUBMIT, COLLECT),
-        "submitted, 64 connections, a host": by("arena-host", 1, CONNECTIONS, SUBMIT, COLLECT),
-        "submitted, 64 connections, the server": by("arena-server", 1, CONNECTIONS, SUBMIT, COLLECT),
-        "submitted, 64 connections, four hosts": by("arena-host", 4, CONNECTIONS, SUBMIT, COLLECT),
+    rows = {
+        "executed, 1 connection, a host": ("arena-host", 1, 1, EXECUTE),
+        "executed, 64 connections, a host": ("arena-host", 1, CONNECTIONS, EXECUTE),
+        "executed, 64 connections, the server": ("arena-server", 1, CONNECTIONS, EXECUTE),
+        "executed, 64 connections, two hosts": ("arena-host", 2, CONNECTIONS, EXECUTE),
+        "executed, 64 connections, four hosts": ("arena-host", 4, CONNECTIONS, EXECUTE),
+        "submitted, 1 connection, a host": ("arena-host", 1, 1, SUBMIT, COLLECT),
+        "submitted, 64 connections, a host": ("arena-host", 1, CONNECTIONS, SUBMIT, COLLECT),
+        "submitted, 64 connections, the server": ("arena-server", 1, CONNECTIONS, SUBMIT, COLLECT),
+        "submitted, 64 connections, four hosts": ("arena-host", 4, CONNECTIONS, SUBMIT, COLLECT),
     }
+    return {name: by(*words) for name, words in rows.items() if os.path.exists(path_of(words[0]))}
 
 
 def report(rounds: list[dict[str, float]]) -> None:
