@@ -1,5 +1,5 @@
 -- The words of the host, and what is read from them.
-use Rattle.std.specs.Prelude.{◌≡◌, ◌⊎◌, ℕ, List, Option, Some, None, true, false, codes}
+use Rattle.std.specs.Prelude.{◌≡◌, ◌⊎◌, ℕ, List, Option, Some, None, false, codes}
 use Rattle.clap.specs.Words.{App, Row, Text, app_of, first_of, matches_of, new_app, takes, with_rule}
 use Rattle.clap.specs.declared.builder.command.Command.{Command}
 use Rattle.program_words.specs.Numbers.{NamesNumber, IsGiven, IsMisgiven}

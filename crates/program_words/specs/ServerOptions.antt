@@ -1,5 +1,5 @@
 -- The words of the server, and what is read from them.
-use Rattle.std.specs.Prelude.{◌≡◌, ◌≤◌, ◌⊎◌, ℕ, List, Option, Some, None, MatchOption, true, false, codes, option_map}
+use Rattle.std.specs.Prelude.{◌≡◌, ◌≤◌, ◌⊎◌, ℕ, List, Option, Some, None, MatchOption, false, codes, option_map}
 use Rattle.std.specs.Str.Parse.{IsNumeral, digits_value, without_leading_plus}
 use Rattle.clap.specs.Words.{App, Row, Text, app_of, first_of, matches_of, new_app, takes, with_rule}
 use Rattle.clap.specs.declared.builder.command.Command.{Command}

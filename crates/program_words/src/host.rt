@@ -5,9 +5,9 @@ ghost use Rattle.program_words.specs.Numbers.{IsMisgiven};
 ghost use Rattle.program_words.specs.HostOptions.{host_app, needed_app, serving_app, options_in, group_range, AreRead, AreRefused, LackValues, IsGivenOption, IsHostCommand};
 ghost use Rattle.program_words.specs.declared.faults.WordsFault.{WordsFault};
 
-use crate::faults::{WordsFault, fault_of};
+use crate::faults::WordsFault;
 use crate::numbers::Range;
-use crate::options::{option, required, value_of};
+use crate::options::{matches_in, option, required, value_of};
 use clap::{ArgMatches, Command};
 use std::alloc::{AllocError, Global};
 
@@ -39,19 +39,8 @@ pub fn read_host_words<'a>(alloc: Global, words: &'a [&'a str]) -> Result<HostWo
     ensures read { IfOk result (λ read. AreRead (options_in (map (λ word. word.now) words.entry.now)) read) }
     ensures refused { result ≡ Err WordsFault.Words → AreRefused (map (λ word. word.now) words.entry.now) }
 {
-    let matches = matches_in(alloc, words)?;
+    let matches = matches_in(command(alloc)?, words)?;
     values_of(&matches).ok_or(WordsFault::Words)
-}
-
-/// What clap makes of the words.
-fn matches_in<'a>(alloc: Global, words: &'a [&'a str]) -> Result<ArgMatches<'a>, WordsFault>
-    ensures options { IfOk result (λ matches. rows_of (found_of matches) ≡ options_in (map (λ word. word.now) words.entry.now)) }
-    ensures refused { result ≡ Err WordsFault.Words → takes host_app (map (λ word. word.now) words.entry.now) ≡ false }
-{
-    match command(alloc)?.try_get_matches_from(words) {
-        Ok(matches) => Ok(matches),
-        Err(error) => Err(fault_of(error.kind())),
-    }
 }
 
 /// The values that the options must have, and may.

@@ -1,6 +1,6 @@
-use Rattle.std.proofs.Common.{rules, refl, ap, ap₂, codes, Option, Some, ◌≡◌, ◌∙◌, pos}
+use Rattle.std.proofs.Common.{rules, ap₂, codes, ◌≡◌, ◌∙◌}
 use Rattle.std.proofs.lemmas.Result.{IfOk-weaker}
-use Rattle.clap.specs.Words.{Rule, rule_of, with_rule}
+use Rattle.clap.specs.Words.{rule_of, with_rule}
 use Rattle.program_words.specs.Rules.{option_rule, required_rule}
 use Rattle.program_words.proofs.server.command.Goals as goal
 
