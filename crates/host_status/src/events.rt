@@ -1,4 +1,6 @@
-// What a host tells of as it happens.
+// What a host reports as it happens.
+ghost use Rattle.std.specs.Prelude.{IfOk, string_bytes};
+ghost use Rattle.host_status.specs.Lines.{IsCompact};
 
 use generation_life::Why;
 use serde::Serialize;
@@ -19,11 +21,11 @@ pub enum Fault {
     Accept,
     /// A history was not written.
     Dump,
-    /// A tenant's history and what its threads were told of it differ.
+    /// A tenant's history and what its threads noted of it differ.
     Close,
 }
 
-/// Something that happened in a host.
+/// Something that happened in a host. `generation` is the number of the generation that it happened to.
 #[derive(Clone, Copy, Debug, PartialEq, Eq, Serialize)]
 #[serde(tag = "event", rename_all = "lowercase")]
 pub enum Event {
@@ -31,13 +33,13 @@ pub enum Event {
     Start {
         generation: u64,
     },
-    /// A generation serves.
+    /// A generation of that many tenants serves, which took `ms` milliseconds to open.
     Opened {
         generation: u64,
         tenants: usize,
         ms: u64,
     },
-    /// A generation is to be left.
+    /// A generation is to be left, for that reason.
     Rotation {
         generation: u64,
         why: Why,
@@ -46,20 +48,21 @@ pub enum Event {
     Draining {
         generation: u64,
     },
-    /// A generation is closed.
+    /// A generation that was left for that reason and had `served` connections is closed, which took `ms` milliseconds
+    /// with its dumps.
     Closed {
         generation: u64,
         why: Why,
         served: u64,
         ms: u64,
     },
-    /// Something failed.
+    /// Something failed. There is no generation if none could be opened.
     Fault {
         what: Fault,
         #[serde(skip_serializing_if = "Option::is_none")]
         generation: Option<u64>,
     },
-    /// The host was told to stop.
+    /// The host is to stop.
     Stop,
 }
 
@@ -72,8 +75,11 @@ struct Timed {
 }
 
 impl Event {
-    /// The line that tells of it, without its end, at a time since 1970.
-    pub fn line(self, alloc: Global, since_1970: Duration) -> Result<String, serde_json::Error> {
+    /// The line that reports it, without its newline: its `time` is in seconds since 1970. An error if an allocation
+    /// fails.
+    pub fn line(self, alloc: Global, since_1970: Duration) -> Result<String, serde_json::Error>
+        ensures { IfOk result (λ line. IsCompact (string_bytes line)) }
+    {
         let timed = Timed {
             time: since_1970.as_secs_f64(),
             event: self,

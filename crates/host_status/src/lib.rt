@@ -1,4 +1,4 @@
-//! What a host shows of itself: its status, and the events that it tells of.
+//! What a host shows of itself: its status, and its events.
 #![tactic(auto)]
 
 mod events;
