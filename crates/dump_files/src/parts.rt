@@ -1,11 +1,19 @@
 // The file that a history is written to before it takes its place.
+ghost use Rattle.std.specs.Prelude.{◌≡◌, ◌≢◌, All, Any, Err, IfOk, None, OnOk, string_bytes};
+ghost use Rattle.std.specs.Io.KnownBytes.{Appends};
+ghost use Rattle.dump_files.specs.Paths.{IsPathOfPart, part_path};
+ghost use Rattle.dump_lines.specs.Dumps.{HasLine, ReadsBack, dump_text};
+ghost use Rattle.dump_lines.specs.Parts.{AppendsPart};
+ghost use Rattle.dump_lines.specs.Written.{entry_data};
+ghost use Rattle.dump_lines.specs.declared.whole.DumpFault.TheVariants.{NoEntry};
 
 use dump_lines::{DumpFault, write_dump};
 use job_language::{Entry, TenantConfig};
-use std::alloc::Global;
+use std::alloc::{AllocError, Global};
 use std::fs;
 use std::fs::{Files, OpenFile, OpenOptions};
 use std::io::{ErrorKind, Write};
+use std::marker::Model;
 use std::os::unix::fs::OpenOptionsExt;
 
 /// How many parts of one dump there may be: those that other processes are writing, or left when they were killed.
@@ -18,9 +26,21 @@ pub struct Part<F> {
     path: String,
 }
 
+impl<F> Model for Part<F> {
+    ghost use Rattle.std.specs.Prelude.{string_bytes};
+    ghost use Rattle.dump_files.specs.Paths.{PartSeen};
+
+    ghost Value = { PartSeen F };
+
+    ghost view = { λ p. record { file = p.file; path = string_bytes p.path } };
+}
+
 /// Makes a part of the dump at a path, which nobody else has and its owner alone may read: `PATH.part`, or
-/// `PATH.part2` and so on where that is taken. `Device` if it can't be made, and `Memory` if an allocation fails.
-pub fn make_part<R: Files>(rt: &R, alloc: Global, path: &str) -> Result<Part<R::File>, DumpFault> {
+/// `PATH.part2` and so on up to 64 if that is taken. `Device` if it can't be made, and `Memory` if an allocation fails.
+pub fn make_part<R: Files>(rt: &R, alloc: Global, path: &str) -> Result<Part<R::File>, DumpFault>
+    ensures path { IfOk result (λ part. IsPathOfPart path.now part.path) }
+    ensures no_entry { result ≢ Err NoEntry }
+{
     for number in 1..=MAX_PARTS {
         let part = path_of(alloc, path, number)?;
         let mut options = OpenOptions::new();
@@ -35,13 +55,22 @@ pub fn make_part<R: Files>(rt: &R, alloc: Global, path: &str) -> Result<Part<R::
 }
 
 impl<F: OpenFile + Write + Drop> Part<F> {
-    /// Writes a whole history to the part, and brings it to the disk.
+    /// Writes a whole history to the part, and brings it to the disk: the tenant's line and one for each entry, which all
+    /// read back. At a fault the part has a first piece of it. `Device` if the file fails, `Memory` if an allocation
+    /// fails, and `NoEntry` if no history holds one of the entries.
     pub fn fill(
         &mut self,
         alloc: Global,
         config: &TenantConfig,
         history: &[Entry],
-    ) -> Result<(), DumpFault> {
+    ) -> Result<(), DumpFault>
+        ensures path { self.new.path ≡ self.old.path }
+        ensures written { OnOk result (Appends (F.contents self.old.file) (F.contents self.new.file) (dump_text config.now history.now)) }
+        ensures piece { AppendsPart (F.contents self.old.file) (F.contents self.new.file) (dump_text config.now history.now) }
+        ensures all { OnOk result (All HasLine history.now) }
+        ensures reads_back { OnOk result (ReadsBack (dump_text config.now history.now) config.now history.now) }
+        ensures entry { result ≡ Err NoEntry → Any (λ e. entry_data e ≡ None) history.now }
+    {
         write_dump(alloc, &mut self.file, config, history)?;
         match self.file.sync_all() {
             Ok(()) => Ok(()),
@@ -49,8 +78,11 @@ impl<F: OpenFile + Write + Drop> Part<F> {
         }
     }
 
-    /// Takes the place of the file at the path for which it was made. If it can't, it is removed, and the file stays.
-    pub fn keep<R: Files>(self, rt: &R, path: &str) -> Result<(), DumpFault> {
+    /// Takes the place of the file at the path for which it was made. `Device` if it can't: it is removed then, and the
+    /// file stays.
+    pub fn keep<R: Files>(self, rt: &R, path: &str) -> Result<(), DumpFault>
+        ensures { result ≢ Err NoEntry }
+    {
         if fs::rename(rt, self.path.as_str(), path).is_ok() {
             return Ok(());
         }
@@ -60,7 +92,9 @@ impl<F: OpenFile + Write + Drop> Part<F> {
     }
 
     /// Removes the part. `Device` if it can't be removed.
-    pub fn remove<R: Files>(self, rt: &R) -> Result<(), DumpFault> {
+    pub fn remove<R: Files>(self, rt: &R) -> Result<(), DumpFault>
+        ensures { result ≢ Err NoEntry }
+    {
         match fs::remove_file(rt, self.path.as_str()) {
             Ok(()) => Ok(()),
             Err(_) => Err(DumpFault::Device),
@@ -69,9 +103,11 @@ impl<F: OpenFile + Write + Drop> Part<F> {
 }
 
 /// The path of the part of that number.
-fn path_of(alloc: Global, path: &str, number: u8) -> Result<String, DumpFault> {
-    Ok(match number {
-        1 => format!(in alloc; "{path}.part")?,
-        _ => format!(in alloc; "{path}.part{number}")?,
-    })
+fn path_of(alloc: Global, path: &str, number: u8) -> Result<String, AllocError>
+    ensures { IfOk result (λ part. string_bytes part ≡ part_path path.now number) }
+{
+    match number {
+        1 => format!(in alloc; "{path}.part"),
+        _ => format!(in alloc; "{path}.part{number}"),
+    }
 }
