@@ -33,8 +33,11 @@ pub enum Stage {
 /// A generation that serves no more.
 #[derive(Clone, Copy, Debug, PartialEq, Eq)]
 pub struct Leaving {
+    /// Its number.
     pub number: u64,
+    /// Why it is left.
     pub why: Why,
+    /// Whether its tenants are being closed.
     pub is_closing: bool,
 }
 
@@ -155,7 +158,7 @@ impl Generations {
         self.leave(why)
     }
 
-    /// Notes that a generation that drains is being closed.
+    /// Notes that the generation of that number, which drains, is being closed. Nothing changes if it doesn't drain.
     pub fn close(&mut self, number: u64)
         ensures closing { self.new ≡ closing number self.old }
         ensures forward { GoesForward self.old self.new }
@@ -163,7 +166,7 @@ impl Generations {
         self.note_close(number);
     }
 
-    /// Notes that a generation is closed.
+    /// Notes that the generation of that number is closed. Nothing changes if it is not left.
     pub fn end(&mut self, number: u64)
         ensures ended { self.new ≡ ended number self.old }
         ensures forward { GoesForward self.old self.new }
