@@ -134,6 +134,7 @@ pub(crate) fn attend_desk<R: Wait>(
         let client = &*stream;
         let _end = serve(alloc, &mut &*client, &mut &*client, &mut doors);
         doors.leave();
+        // The client may have gone before.
         let _ = client.shutdown(Shutdown::Both);
         desk.free(rt);
         // If the waker fails, the next tick shows that the desk is free.

@@ -1,6 +1,7 @@
 // What the generations of a host share.
 
-use generation_life::{Generations, Stage, Why};
+use crate::agenda::{Agenda, Look, Step};
+use generation_life::{Stage, Why};
 use host_status::{ClosedGeneration, Generation, Status, status_line};
 use socket_server::ServerEnd;
 use std::alloc::{AllocError, Global};
@@ -10,41 +11,13 @@ use std::time::{Clock, Duration};
 /// How many generations that are closed are shown.
 const SHOWN: usize = 16;
 
-/// What the thread that opens generations is to do next.
-#[derive(Clone, Copy, Debug, PartialEq, Eq)]
-pub enum Step {
-    /// Nothing but to wait.
-    Wait,
-    /// Open a generation. The one of that number serves, and is to be left for that reason.
-    Open(Option<(u64, Why)>),
-    /// A generation could not be opened.
-    Failed(ServerEnd),
-    /// All generations are closed, and the host stops.
-    End,
-}
-
-/// What a generation's thread finds of its generation.
-#[derive(Clone, Copy, Debug, PartialEq, Eq)]
-pub(crate) struct Look {
-    pub(crate) stage: Option<Stage>,
-    pub(crate) why: Option<Why>,
-    pub(crate) is_stopping: bool,
-}
-
 /// What is kept under the lock.
 #[derive(Drop)]
 struct Kept {
-    generations: Generations,
-    /// Why the generation that serves is to be left, if it is.
-    wish: Option<Why>,
-    /// Whether a generation is being opened.
-    is_opening: bool,
-    is_stopping: bool,
-    /// Why the last generation that was to be opened could not be.
-    failed: Option<ServerEnd>,
-    /// Whether some tenant's close told of a fault.
+    agenda: Agenda,
+    /// Whether some tenant was closed with a fault.
     has_close_fault: bool,
-    /// What the generations that are not closed last told of themselves.
+    /// The last report of each generation that is not closed, in the order of their first ones.
     living: Vec<Generation>,
     /// The last ones that were closed, the newest last.
     closed: Vec<ClosedGeneration>,
@@ -62,11 +35,7 @@ impl Host {
     pub fn new(alloc: Global, first: u64) -> Host {
         Host {
             kept: Mutex::new(Kept {
-                generations: Generations::new(alloc, first),
-                wish: None,
-                is_opening: false,
-                is_stopping: false,
-                failed: None,
+                agenda: Agenda::new(alloc, first),
                 has_close_fault: false,
                 living: Vec::new(alloc),
                 closed: Vec::new(alloc),
@@ -75,33 +44,10 @@ impl Host {
         }
     }
 
-    /// What is to be done next. `Open` and `Failed` are said once each.
+    /// What is to be done next. `Open` and `Failed` come once each: then a generation is being opened, or the failure is
+    /// known.
     pub fn step<R: Wait>(&self, rt: &R) -> Step {
-        let mut kept = self.kept.lock(rt);
-        if kept.is_opening {
-            return Step::Wait;
-        }
-        if let Some(end) = kept.failed.take() {
-            // Whoever asked by a file may ask again.
-            if kept.wish == Some(Why::File) {
-                kept.wish = None;
-            }
-            return Step::Failed(end);
-        }
-        if kept.is_stopping {
-            return if kept.generations.is_over() {
-                Step::End
-            } else {
-                Step::Wait
-            };
-        }
-        let left = match (kept.generations.serving(), kept.wish) {
-            (None, _) => None,
-            (Some(number), Some(why)) => Some((number, why)),
-            (Some(_), None) => return Step::Wait,
-        };
-        kept.is_opening = true;
-        Step::Open(left)
+        self.kept.lock(rt).agenda.step()
     }
 
     /// Waits until something has changed, or for that long.
@@ -110,34 +56,26 @@ impl Host {
         let _waited = self.changed.wait_timeout(rt, kept, most);
     }
 
-    /// A generation serves from now on: its number. The one that served drains. After a stop there is none.
+    /// The generation that was to be opened serves from now on: its number. The one that served drains. None if the host
+    /// stops, or no number is left. If an allocation fails, nothing has changed.
     pub(crate) fn begin<R: Wait>(&self, rt: &R) -> Result<Option<u64>, AllocError> {
-        let mut kept = self.kept.lock(rt);
-        if kept.is_stopping || kept.generations.next() == u64::MAX {
-            return Ok(None);
+        let begun = self.kept.lock(rt).agenda.begin()?;
+        if begun.is_some() {
+            self.changed.notify_all();
         }
-        let why = kept.wish.unwrap_or(Why::File);
-        let number = kept.generations.open(why)?;
-        kept.wish = None;
-        kept.is_opening = false;
-        self.changed.notify_all();
-        Ok(Some(number))
+        Ok(begun)
     }
 
-    /// The generation that was to be opened can't be.
+    /// The generation that was to be opened can't be, for that reason.
     pub fn give_up<R: Wait>(&self, rt: &R, end: ServerEnd) {
-        let mut kept = self.kept.lock(rt);
-        kept.is_opening = false;
-        kept.failed = Some(end);
+        self.kept.lock(rt).agenda.give_up(end);
         self.changed.notify_all();
     }
 
     /// Asks for the generation that serves to be left. It says whether nobody had asked before.
     pub fn wish<R: Wait>(&self, rt: &R, why: Why) -> bool {
-        let mut kept = self.kept.lock(rt);
-        let is_new = kept.wish.is_none() && kept.generations.serving().is_some();
+        let is_new = self.kept.lock(rt).agenda.ask(why);
         if is_new {
-            kept.wish = Some(why);
             self.changed.notify_all();
         }
         is_new
@@ -145,53 +83,50 @@ impl Host {
 
     /// Lets all generations end, and opens no more. It fails if an allocation fails, and is then to be tried again.
     pub fn stop<R: Wait>(&self, rt: &R) -> Result<(), AllocError> {
-        let mut kept = self.kept.lock(rt);
-        kept.generations.drain(Why::Stop)?;
-        kept.is_stopping = true;
+        self.kept.lock(rt).agenda.stop()?;
         self.changed.notify_all();
         Ok(())
     }
 
     /// What a generation's thread is to know.
     pub(crate) fn look<R: Wait>(&self, rt: &R, number: u64) -> Look {
-        let kept = self.kept.lock(rt);
-        Look {
-            stage: kept.generations.stage(number),
-            why: kept.generations.why(number),
-            is_stopping: kept.is_stopping,
-        }
+        self.kept.lock(rt).agenda.look(number)
     }
 
     /// Whether a generation serves.
     pub fn is_serving<R: Wait>(&self, rt: &R) -> bool {
-        self.kept.lock(rt).generations.serving().is_some()
+        self.kept.lock(rt).agenda.is_serving()
     }
 
-    /// Whether some tenant's close told of a fault.
+    /// Whether some tenant was closed with a fault.
     pub fn has_close_fault<R: Wait>(&self, rt: &R) -> bool {
         self.kept.lock(rt).has_close_fault
     }
 
-    /// Keeps what a generation tells of itself, in place of what it told before.
-    pub(crate) fn tell<R: Wait>(&self, rt: &R, told: Generation) -> Result<(), AllocError> {
+    /// Keeps a generation's report, in place of the one before. If an allocation fails, that one stays.
+    pub(crate) fn keep_report<R: Wait>(
+        &self,
+        rt: &R,
+        report: Generation,
+    ) -> Result<(), AllocError> {
         let mut kept = self.kept.lock(rt);
         let place = kept
             .living
             .iter()
-            .position(|known| known.generation == told.generation);
+            .position(|known| known.generation == report.generation);
         match place {
             Some(place) => {
-                kept.living[place] = told;
+                kept.living[place] = report;
                 Ok(())
             }
-            None => Ok(kept.living.push(told)?),
+            None => Ok(kept.living.push(report)?),
         }
     }
 
     /// The generation of that number is being closed.
     pub fn close<R: Wait>(&self, rt: &R, number: u64) {
         let mut kept = self.kept.lock(rt);
-        kept.generations.close(number);
+        kept.agenda.close(number);
         for known in kept.living.iter_mut() {
             if known.generation == number {
                 known.state = Stage::Closing;
@@ -211,11 +146,12 @@ impl Host {
         }
         // It is missing among those that are shown, and nowhere else.
         let _ = kept.closed.push(closed);
-        kept.generations.end(number);
+        kept.agenda.end(number);
         self.changed.notify_all();
     }
 
-    /// The line of a status, with the generations that are not closed and the last ones that were.
+    /// The line of a status, with the generations that are not closed and the last ones that were in place of its own. An
+    /// error if an allocation fails.
     pub fn status_line<R: Wait>(
         &self,
         rt: &R,

@@ -1,6 +1,7 @@
 //! The generations of a host: houses whose sessions serve one client after another, until the next house takes over.
 #![tactic(auto)]
 
+mod agenda;
 mod desks;
 mod events;
 mod hosts;
@@ -10,7 +11,8 @@ mod places;
 mod reception;
 mod reports;
 
+pub use agenda::Step;
 pub use events::say;
-pub use hosts::{Host, Step};
+pub use hosts::Host;
 pub use lives::{Lived, millis, seconds};
 pub use living::{Eyes, Setting, Terms, live};

@@ -1,7 +1,7 @@
 // The life of a generation, as the thread sees it that accepts its connections.
 
+use crate::agenda::Look;
 use crate::events::say;
-use crate::hosts::Look;
 use crate::living::Setting;
 use crate::places::Place;
 use crate::reception::Reception;
@@ -15,21 +15,23 @@ use std::sync::Wait;
 use std::thread;
 use std::time::{Clock, Duration};
 
-/// How many quiet ticks a client has to take a reply once its session is told to stop: a second.
+/// How many quiet ticks a client has to take a reply once its session is to stop: a second.
 const QUIET: u32 = 50;
 
-/// How often a generation tells of itself, in milliseconds.
-const TELL: u64 = 1000;
+/// How long a generation waits between two reports, in milliseconds.
+const BETWEEN_REPORTS: u64 = 1000;
 
-/// How long to wait where the system reports nothing, in milliseconds.
+/// How long to wait if the system can't be asked what happens, in milliseconds.
 const PAUSE: u64 = 20;
 
 /// What a generation was, once its sessions have ended.
 #[derive(Clone, Copy, Debug, PartialEq, Eq)]
 pub struct Lived {
+    /// Its number. A host numbers its generations in the order in which they are opened.
     pub number: u64,
     /// When it was opened, in seconds since 1970.
     pub began: u64,
+    /// Why it was left.
     pub why: Why,
     /// How many connections it had.
     pub served: u64,
@@ -42,7 +44,7 @@ enum Phase {
     Serving,
     /// It goes on for those that it has, until that time, in milliseconds of the monotonic clock.
     Draining { until: u64 },
-    /// Its sessions were told to stop. After so many quiet ticks they are cut off.
+    /// Its sessions are to stop. They are cut off after that many more quiet ticks.
     Stopping { quiet: u32 },
 }
 
@@ -54,8 +56,8 @@ pub(crate) struct Life<'s, 'p> {
     number: u64,
     began: u64,
     phase: Phase,
-    /// When it last told of itself, in milliseconds of the monotonic clock.
-    told: u64,
+    /// When it last reported, in milliseconds of the monotonic clock.
+    reported: u64,
 }
 
 impl<'s, 'p> Drop for Life<'s, 'p> {
@@ -67,7 +69,7 @@ impl<'s, 'p> Drop for Life<'s, 'p> {
             number: _number,
             began: _began,
             phase: _phase,
-            told: _told,
+            reported: _reported,
         } = self;
     }
 }
@@ -90,7 +92,7 @@ impl<'s, 'p> Life<'s, 'p> {
             number,
             began: seconds(rt),
             phase: Phase::Serving,
-            told: 0,
+            reported: 0,
         })
     }
 
@@ -138,9 +140,9 @@ impl<'s, 'p> Life<'s, 'p> {
         {
             self.say_refused(rt, alloc, now);
         }
-        if now.saturating_sub(self.told) >= TELL {
-            self.told = now;
-            self.tell(rt, alloc, look);
+        if now.saturating_sub(self.reported) >= BETWEEN_REPORTS {
+            self.reported = now;
+            self.report(rt, alloc, look);
         }
         false
     }
@@ -208,8 +210,8 @@ impl<'s, 'p> Life<'s, 'p> {
         }
     }
 
-    /// Tells the host what the generation is now. Where an allocation fails, what it told before stays.
-    fn tell<R: Wait>(&self, rt: &R, alloc: Global, look: Look) {
+    /// Reports to the host what the generation is now. If an allocation fails, the report before stays.
+    fn report<R: Wait>(&self, rt: &R, alloc: Global, look: Look) {
         let Setting {
             host,
             config,
@@ -224,14 +226,15 @@ impl<'s, 'p> Life<'s, 'p> {
             connections: self.reception.guests(rt),
             served: self.reception.served(),
         };
-        if let Ok(told) = report(rt, alloc, house, config, self.places, facts) {
-            let _ = host.tell(rt, told);
+        if let Ok(made) = report(rt, alloc, house, config, self.places, facts) {
+            // The next one comes within a second.
+            let _ = host.keep_report(rt, made);
         }
     }
 
     /// Says that a connection was not accepted, once in a while.
     fn say_refused<R: Clock + Print + Eprint>(&mut self, rt: &R, alloc: Global, now: u64) {
-        if now.saturating_sub(self.told) >= TELL {
+        if now.saturating_sub(self.reported) >= BETWEEN_REPORTS {
             say(
                 rt,
                 alloc,
@@ -244,7 +247,7 @@ impl<'s, 'p> Life<'s, 'p> {
     }
 }
 
-/// The time of the monotonic clock in milliseconds; 0 where the clock can't be read.
+/// The time of the monotonic clock in milliseconds; 0 if the clock can't be read.
 pub fn millis<R: Clock>(rt: &R) -> u64 {
     match rt.monotonic() {
         Ok(time) => u64::try_from(time.as_millis()).unwrap_or(u64::MAX),
@@ -252,7 +255,7 @@ pub fn millis<R: Clock>(rt: &R) -> u64 {
     }
 }
 
-/// The time in seconds since 1970; 0 where the clock can't be read.
+/// The time in seconds since 1970; 0 if the clock can't be read.
 pub fn seconds<R: Clock>(rt: &R) -> u64 {
     match rt.since_1970() {
         Ok(time) => time.as_secs(),

@@ -1,4 +1,5 @@
 // The threads of a generation.
+ghost use Rattle.std.specs.Prelude.{◌≡◌, IfOk, IfSome, length};
 ghost use Rattle.socket_server.specs.Shared.{ArePassesOf};
 
 use crate::desks::{Desk, attend_desk};
@@ -9,13 +10,13 @@ use crate::reception::Reception;
 use call_queues::QueuePass;
 use job_language::Config;
 use mio::Waker;
-use socket_server::{Client, Endpoint, House, Posts, ServerEnd, Watch, serve_calls};
+use socket_server::{Client, Endpoint, House, Post, Posts, ServerEnd, Watch, serve_calls};
 use std::alloc::{AllocError, Global};
 use std::io::ErrorKind;
 use std::net::Net;
 use std::sync::{Mutex, Wait};
 use std::thread;
-use std::thread::{JoinHandle, Threads};
+use std::thread::{JoinHandle, Scope, Threads};
 use std::time::Clock;
 use tenant_record::Seat;
 use worker_main::Visiting;
@@ -34,9 +35,13 @@ pub struct Terms {
 /// Where a generation lives.
 #[derive(Clone, Copy)]
 pub struct Setting<'h> {
+    /// What it shares with the host's other generations.
     pub host: &'h Host,
+    /// The configuration of its tenants.
     pub config: &'h Config,
+    /// The house of these tenants.
     pub house: &'h House,
+    /// Where its connections come from.
     pub endpoint: &'h Endpoint<'h>,
     pub terms: Terms,
     /// When it began to be opened, in milliseconds of the monotonic clock.
@@ -68,8 +73,8 @@ impl Eyes {
 }
 
 /// Starts a generation's workers and sessions, and serves its clients until it is left and its sessions have ended.
-/// All seats come back. `Device` if a thread can't be started, and `Memory` if an allocation fails first: nobody was
-/// served, and no generation was opened.
+/// All seats come back. `Device` if a thread can't be started, or a pass or a seat is missing, and `Memory` if an
+/// allocation fails first: nobody was served, and no generation was opened.
 pub fn live<R: Threads + Wait + Clock + Sync + Print + Eprint>(
     rt: &R,
     alloc: Global,
@@ -81,11 +86,16 @@ pub fn live<R: Threads + Wait + Clock + Sync + Print + Eprint>(
     requires { ArePassesOf setting.house.now.queues.queues passes.items }
 {
     let Setting { house, terms, .. } = setting;
-    let posts = Posts::new(house, passes);
+    let mut posts = Posts::new(house, passes);
+    let mut seats = seats;
     let places = new_places(alloc, setting.config.workers())?;
     let desks = new_desks(alloc, terms.connections)?;
+    let workers = next_posts(alloc, &mut posts, places.len())?;
+    let Some(clients) = next_clients(alloc, &mut posts, &mut seats, desks.len())? else {
+        return Err(ServerEnd::Device);
+    };
     let threads = Vec::with_capacity(alloc, desks.len())?;
-    let waiting = Mutex::new(Vec::with_capacity(alloc, desks.len())?);
+    let waiting = Mutex::new(clients);
     let Eyes { watch, waker } = eyes;
     let crew = Crew {
         places: places.as_slice(),
@@ -95,59 +105,72 @@ pub fn live<R: Threads + Wait + Clock + Sync + Print + Eprint>(
     };
     let reception = Reception::new(watch, crew.desks);
     thread::scope(thread::scope_env(), rt, move |scope| {
-        let mut posts = posts;
         let mut seats = seats;
         let mut threads = threads;
-        let mut ready = Ok(());
-        for place in crew.places {
-            let Some(post) = posts.next() else {
-                break;
-            };
-            let bell = HeardBell {
-                bell: house.bell(),
-                place,
-            };
-            if scope
-                .spawn(move || serve_calls(rt, post, &bell, place, Visiting::Sharing))
-                .is_err()
-            {
-                ready = Err(ServerEnd::Device);
-                break;
-            }
-        }
-        for desk in crew.desks {
-            if ready.is_err() {
-                break;
-            }
-            match next_client(alloc, &mut posts, &mut seats) {
-                Ok(client) => {
-                    if crew.waiting.lock(rt).push(client).is_err() {
-                        ready = Err(ServerEnd::Memory);
-                    }
-                }
-                Err(end) => ready = Err(end),
-            }
-            let session = move || attend_desk(rt, alloc, crew.waiting, desk, crew.waker);
-            match scope.spawn(session) {
-                Ok(thread) => {
-                    if threads.push(thread).is_err() {
-                        ready = Err(ServerEnd::Memory);
-                    }
-                }
-                Err(_) => ready = Err(ServerEnd::Device),
-            }
-        }
+        let ready = match start_workers(scope, rt, house, crew.places, workers) {
+            Ok(()) => start_sessions(scope, rt, alloc, crew, &mut threads),
+            Err(end) => Err(end),
+        };
         let lived = match ready {
             Ok(()) => pass_life(rt, alloc, setting, crew.places, reception),
             Err(end) => Err(end),
         };
         house.stop(rt);
-        for desk in crew.desks {
-            desk.close(rt);
-        }
+        close_desks(rt, crew.desks);
         collect(rt, threads, &mut seats)?;
         Ok((lived?, seats))
     })
+}
+
+/// Starts a thread of the scope for each post, which serves calls as the worker of the next place. `Device` if a thread
+/// can't be started; those that were started go on.
+fn start_workers<'s, 'r: 's, 'h: 's, 'p: 's, 'c: 's, E: 's, R: Threads + Wait + Sync>(
+    scope: &Scope<'s, E>,
+    rt: &'r R,
+    house: &'h House,
+    places: &'p [Place],
+    posts: Vec<Post<'c>>,
+) -> Result<(), ServerEnd> {
+    for (post, place) in posts.into_iter().zip(places) {
+        let bell = HeardBell {
+            bell: house.bell(),
+            place,
+        };
+        let work = move || serve_calls(rt, post, &bell, place, Visiting::Sharing);
+        if scope.spawn(work).is_err() {
+            return Err(ServerEnd::Device);
+        }
+    }
+    Ok(())
+}
+
+/// Starts a thread of the scope for each desk, which serves its guests as one of the clients that wait, and adds it to
+/// the threads. `Device` if a thread can't be started, and `Memory` if an allocation fails; those that were started go
+/// on.
+fn start_sessions<'s, 'r: 's, 'w: 's, 'c: 's, E: 's, R: Threads + Wait + Sync>(
+    scope: &Scope<'s, E>,
+    rt: &'r R,
+    alloc: Global,
+    crew: Crew<'w, 'c>,
+    threads: &mut Vec<JoinHandle<Vec<Seat>>>,
+) -> Result<(), ServerEnd> {
+    for desk in crew.desks {
+        let session = move || attend_desk(rt, alloc, crew.waiting, desk, crew.waker);
+        let Ok(thread) = scope.spawn(session) else {
+            return Err(ServerEnd::Device);
+        };
+        if threads.push(thread).is_err() {
+            return Err(ServerEnd::Memory);
+        }
+    }
+    Ok(())
+}
+
+/// Lets no more guests come to any desk.
+fn close_desks<R: Wait>(rt: &R, desks: &[Desk]) {
+    for desk in desks {
+        desk.close(rt);
+    }
 }
 
 /// Opens the generation, and lets it live.
@@ -167,12 +190,15 @@ fn pass_life<'s, 'p, R: Wait + Clock + Print + Eprint>(
 struct Crew<'h, 'c> {
     places: &'h [Place],
     desks: &'h [Desk],
-    /// The places of sessions whose threads have not begun.
+    /// The posts and the seats of sessions whose threads have not begun.
     waiting: &'h Mutex<Vec<Client<'c>>>,
     waker: &'h Waker,
 }
 
-fn new_places(alloc: Global, workers: usize) -> Result<Vec<Place>, AllocError> {
+/// A place for each worker.
+fn new_places(alloc: Global, workers: usize) -> Result<Vec<Place>, AllocError>
+    ensures { IfOk result (λ places. length places.items ≡ workers) }
+{
     let mut places = Vec::with_capacity(alloc, workers)?;
     for _worker in 0..workers {
         places.push(Place::new())?;
@@ -180,7 +206,10 @@ fn new_places(alloc: Global, workers: usize) -> Result<Vec<Place>, AllocError> {
     Ok(places)
 }
 
-fn new_desks(alloc: Global, connections: u8) -> Result<Vec<Desk>, AllocError> {
+/// A desk for each connection that is served at a time.
+fn new_desks(alloc: Global, connections: u8) -> Result<Vec<Desk>, AllocError>
+    ensures { IfOk result (λ desks. length desks.items ≡ connections) }
+{
     let mut desks = Vec::with_capacity(alloc, usize::from(connections))?;
     for _connection in 0..connections {
         desks.push(Desk::new())?;
@@ -188,13 +217,39 @@ fn new_desks(alloc: Global, connections: u8) -> Result<Vec<Desk>, AllocError> {
     Ok(desks)
 }
 
-/// The pass and the seats of a session.
-fn next_client<'h>(
+/// The next posts, `count` of them if that many are left, and else all.
+fn next_posts<'h>(
+    alloc: Global,
+    posts: &mut Posts<'h>,
+    count: usize,
+) -> Result<Vec<Post<'h>>, AllocError> {
+    let mut taken = Vec::with_capacity(alloc, count)?;
+    for _post in 0..count {
+        let Some(post) = posts.next() else {
+            break;
+        };
+        taken.push(post)?;
+    }
+    Ok(taken)
+}
+
+/// The posts and the seats of `count` sessions. None if one is missing.
+fn next_clients<'h>(
     alloc: Global,
     posts: &mut Posts<'h>,
     seats: &mut Vec<Seat>,
-) -> Result<Client<'h>, ServerEnd> {
-    posts.next_client(alloc, seats)?.ok_or(ServerEnd::Device)
+    count: usize,
+) -> Result<Option<Vec<Client<'h>>>, AllocError>
+    ensures { IfOk result (λ taken. IfSome taken (λ clients. length clients.items ≡ count)) }
+{
+    let mut clients = Vec::with_capacity(alloc, count)?;
+    for _session in 0..count {
+        let Some(client) = posts.next_client(alloc, seats)? else {
+            return Ok(None);
+        };
+        clients.push(client)?;
+    }
+    Ok(Some(clients))
 }
 
 /// Waits for the threads of sessions, and takes the seats that they give back.

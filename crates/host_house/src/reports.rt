@@ -1,4 +1,5 @@
-// What a generation tells of itself.
+// What a generation reports of itself.
+ghost use Rattle.std.specs.Prelude.{◌≤◌, ◌*◌, ◌↔◌, IsTrue};
 
 use crate::places::Place;
 use generation_life::{Stage, Why};
@@ -9,7 +10,7 @@ use std::alloc::{AllocError, Global};
 use std::sync::Wait;
 use tenant_lock::JobTally;
 
-/// What is told of a generation beside its tenants and workers.
+/// What a report says of a generation beside its tenants and workers.
 #[derive(Clone, Copy)]
 pub(crate) struct Facts {
     pub(crate) number: u64,
@@ -21,7 +22,7 @@ pub(crate) struct Facts {
     pub(crate) served: u64,
 }
 
-/// What a generation tells of itself.
+/// What a generation reports of itself. An error if an allocation fails.
 pub(crate) fn report<R: Wait>(
     rt: &R,
     alloc: Global,
@@ -118,6 +119,8 @@ pub(crate) fn is_one_used<R: Wait>(rt: &R, house: &House, config: &Config, perce
 }
 
 /// Whether `entries` are at least that many per cent of `steps`.
-fn is_used(entries: usize, steps: usize, percent: u32) -> bool {
+fn is_used(entries: usize, steps: usize, percent: u32) -> bool
+    ensures { IsTrue result ↔ (steps * percent ≤ entries * 100) }
+{
     entries as u128 * 100 >= steps as u128 * u128::from(percent)
 }

@@ -37,9 +37,9 @@ pub struct Endpoint<'p> {
 }
 
 impl<'p> Endpoint<'p> {
-    /// Listens at a path where there is nothing yet, for those who have access. The socket is made in a folder of its
-    /// own, which its owner alone may enter, and stands at the path once its mode and group are set. `Device` if one
-    /// of the steps fails, and then nothing is left behind.
+    /// Listens at a path, for those who have access. The socket is made in a folder of its own, which its owner alone
+    /// may enter, and stands at the path once its mode and group are set. `Device` if something is at the path already
+    /// or one of the steps fails, and `Memory` if an allocation fails; then nothing is left behind.
     pub fn bind<R: Files + Net>(
         rt: &R,
         alloc: Global,
@@ -56,6 +56,7 @@ impl<'p> Endpoint<'p> {
             return Err(ServerEnd::Device);
         };
         let Ok(file) = fs::symlink_metadata(rt, path) else {
+            // The end is the same if it can't be removed.
             let _ = fs::remove_file(rt, path);
             return Err(ServerEnd::Device);
         };
@@ -67,7 +68,7 @@ impl<'p> Endpoint<'p> {
         })
     }
 
-    /// Accepts a connection, if one waits.
+    /// Accepts a connection, if one waits. An error if the system fails to.
     pub fn accept(&self) -> io::Result<Option<UnixStream>> {
         match self.listener.accept() {
             Ok((stream, _address)) => Ok(Some(stream)),
@@ -95,7 +96,8 @@ impl<'p> Endpoint<'p> {
     }
 }
 
-/// Makes a socket in a new folder, and lets the path lead to it too.
+/// Makes a socket in a new folder, and lets the path lead to it too. An error if one of the steps fails: what the steps
+/// before it made is left there.
 fn bind_within<R: Files + Net>(
     rt: &R,
     folder: &str,
