@@ -25,7 +25,7 @@ pub(crate) fn words_fault(fault: WordsFault) -> ServerEnd {
 }
 
 /// What an event says of a generation that could not be opened.
-pub(crate) fn told_fault(end: ServerEnd) -> Fault {
+pub(crate) fn event_fault(end: ServerEnd) -> Fault {
     match end {
         ServerEnd::Config | ServerEnd::Words => Fault::Config,
         ServerEnd::Memory => Fault::Memory,
@@ -35,7 +35,7 @@ pub(crate) fn told_fault(end: ServerEnd) -> Fault {
 }
 
 /// What an event says of a dump that was not written.
-pub(crate) fn told_dump(fault: DumpFault) -> Fault {
+pub(crate) fn event_dump_fault(fault: DumpFault) -> Fault {
     match fault {
         DumpFault::Memory => Fault::Memory,
         DumpFault::Device | DumpFault::NoEntry => Fault::Dump,

@@ -1,7 +1,7 @@
 // The histories of a generation become files, one tenant's after another.
 
 use crate::archive::{Archive, Left};
-use crate::ends::told_dump;
+use crate::ends::event_dump_fault;
 use crate::events::say_fault;
 use crate::folders::Folder;
 use crate::writing::{Work, Writer};
@@ -31,7 +31,7 @@ pub(crate) struct Office<'h> {
 /// What a tenant left.
 #[derive(Clone, Copy, Debug, PartialEq, Eq)]
 enum End {
-    /// A history of so many entries.
+    /// A history of that many entries.
     Closed(usize),
     /// A close fault.
     Fault(u8),
@@ -69,7 +69,7 @@ impl Filing {
         millis(rt) < self.rest
     }
 
-    /// Tells the next tenant's end, and gives its history to be written: what is left, unless that was given too, or
+    /// Reports the next tenant's end, and gives its history to be written: what is left, unless that was given too, or
     /// all is done and the generation has ended.
     pub(crate) fn go_on<R>(self, rt: &R, alloc: Global, office: Office<'_>) -> Option<Filing>
     where
@@ -78,12 +78,12 @@ impl Filing {
         match self.next_end() {
             Some(End::Closed(entries)) => {
                 if self.failures == 0 {
-                    self.tell_closed(rt, entries);
+                    self.print_closed(rt, entries);
                 }
                 self.give(rt, alloc, office)
             }
             Some(End::Fault(code)) => {
-                self.tell_fault(rt, alloc, code);
+                self.report_fault(rt, alloc, code);
                 Some(self.pass_over(alloc, 0, Some(code), false))
             }
             None => {
@@ -182,6 +182,7 @@ impl Filing {
                 return Err(fault);
             }
             (Ok(()), Err(_)) => {
+                // As above.
                 let _ = part.remove(rt);
                 return Err(DumpFault::Memory);
             }
@@ -223,7 +224,7 @@ impl Filing {
         office: Office<'_>,
         fault: DumpFault,
     ) -> Filing {
-        say_fault(rt, alloc, told_dump(fault), self.left.lived.number);
+        say_fault(rt, alloc, event_dump_fault(fault), self.left.lived.number);
         if self.failures >= office.words.patience {
             let entries = match self.next_end() {
                 Some(End::Closed(entries)) => entries,
@@ -269,22 +270,24 @@ impl Filing {
         Ok(())
     }
 
-    // Who reads these two lines learns the same from the status, so they may be lost.
-
-    fn tell_closed<R: Print>(&self, rt: &R, entries: usize) {
+    /// Prints that the next tenant is closed, with a history of that many entries.
+    fn print_closed<R: Print>(&self, rt: &R, entries: usize) {
         if let Some(tenant) = self.left.config.tenants().get(self.at) {
             let generation = self.left.lived.number;
             let named = tenant.tenant().name;
             let name = named.as_str();
+            // Whoever reads it learns the same from the status, so it may be lost.
             let _ = println!(rt; "{name}.{generation:06}: closed, {entries} entries");
         }
     }
 
-    fn tell_fault<R: Clock + Print + Eprint>(&self, rt: &R, alloc: Global, code: u8) {
+    /// Prints the close fault of the next tenant, and reports it as an event.
+    fn report_fault<R: Clock + Print + Eprint>(&self, rt: &R, alloc: Global, code: u8) {
         let generation = self.left.lived.number;
         if let Some(tenant) = self.left.config.tenants().get(self.at) {
             let named = tenant.tenant().name;
             let name = named.as_str();
+            // Whoever reads it learns the same from the status, so it may be lost.
             let _ = println!(rt; "{name}.{generation:06}: close fault {code}");
         }
         say_fault(rt, alloc, Fault::Close, generation);

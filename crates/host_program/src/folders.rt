@@ -39,16 +39,18 @@ impl Folder {
     }
 
     /// Makes the folder for dumps, removes what a host left that was killed and the dumps that are too old, and gives
-    /// the number of the first generation: the one after the greatest of which there is a dump.
+    /// the number of the first generation: the one after the greatest of which there is a dump, or 0. `Device` if the
+    /// folder can't be listed, and `Memory` if an allocation fails.
     pub(crate) fn prepare<R: Files + AllocGlobal + Clone + Drop>(
         &self,
         rt: &R,
         keep: u32,
     ) -> Result<u64, ServerEnd> {
-        // It may be there.
+        // It may be there; if it can't be made, it can't be listed either.
         let _ = DirBuilder::new()
             .mode(0o700)
             .create(rt, self.dumps.as_str());
+        // They are there only if a host was killed. A socket that can't be removed shows when the new one is bound.
         let _ = fs::remove_file(rt, self.socket.as_str());
         let _ = fs::remove_file(rt, self.rotate.as_str());
         let paths = listed(rt, self.dumps.as_str())?;
@@ -56,6 +58,7 @@ impl Folder {
         for entry in &paths {
             let path = entry.as_str();
             if is_part(path) || is_too_old(paths.as_slice(), path, keep) {
+                // It is tried again at the next start if it can't be removed now.
                 let _ = fs::remove_file(rt, path);
             }
             if let Some((_, number)) = parts_of(path) {

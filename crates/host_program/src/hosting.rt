@@ -1,11 +1,12 @@
 // The thread that opens generations, and has the files.
 
 use crate::archive::Archive;
-use crate::ends::told_fault;
+use crate::ends::event_fault;
 use crate::filing::{Filing, Office};
 use crate::folders::Folder;
 use crate::generations::{Plan, Site, run_generation};
 use crate::showing::show;
+use crate::system::System;
 use crate::writing::{Writer, write_histories};
 use generation_life::Why;
 use host_house::{Eyes, Host, Step, Terms, millis, say, seconds};
@@ -28,26 +29,14 @@ const TICK: u64 = 50;
 /// How often the status is written, and how long a generation that can't be opened rests, in milliseconds.
 const SECOND: u64 = 1000;
 
-/// Hosts tenants in a folder until its socket is removed.
-pub(crate) fn host_tenants<'h, R>(
+/// Hosts tenants in a folder until its socket is removed. An error if the host could not begin: there is no first
+/// configuration, the socket can't be bound, a thread can't be started, or an allocation failed.
+pub(crate) fn host_tenants<'h, R: System>(
     rt: &R,
     alloc: Global,
     words: HostWords<'h>,
     folder: &'h Folder,
-) -> Result<ServerEnd, ServerEnd>
-where
-    R: Files<File = File>
-        + Net
-        + Threads
-        + Wait
-        + Clock
-        + Sync
-        + Print
-        + Eprint
-        + AllocGlobal
-        + Clone
-        + Drop,
-{
+) -> Result<ServerEnd, ServerEnd> {
     let terms = terms_of(words)?;
     read_config(rt, alloc, words.config)?;
     let first = folder.prepare(rt, words.keep)?;
@@ -231,7 +220,7 @@ impl<'h> Keeper<'h> {
             rt,
             alloc,
             Event::Fault {
-                what: told_fault(end),
+                what: event_fault(end),
                 generation: None,
             },
         );
@@ -273,6 +262,7 @@ impl<'h> Keeper<'h> {
             folder,
             ..
         } = self.office;
+        // The next one is written within a second.
         let _ = show(rt, host, words, folder, self.began);
     }
 

@@ -9,22 +9,21 @@ mod folders;
 mod generations;
 mod hosting;
 mod showing;
+mod system;
 mod writing;
 
 use crate::ends::{fault_text, words_fault};
 use crate::folders::Folder;
 use crate::hosting::host_tenants;
+use crate::system::System;
 use program_words::{HostWords, read_host_words};
 use socket_server::ServerEnd;
 use std::alloc::Global;
 use std::env::Env;
-use std::fs::{File, Files, OpenOptions};
+use std::fs::{File, OpenOptions};
 use std::io::ErrorKind;
-use std::net::Net;
 use std::os::unix::fs::OpenOptionsExt;
 use std::process::ExitCode;
-use std::sync::Wait;
-use std::thread::Threads;
 use std::time::{Clock, Duration};
 use std::{env, io, thread};
 
@@ -38,7 +37,7 @@ fn main(rt: HostRuntime) -> ExitCode {
         },
     };
     if let Some(fault) = fault_text(end) {
-        // The status tells of the fault even if standard error takes nothing.
+        // The process' status says the same even if standard error takes nothing.
         let _ = rt.eprintln(fault);
     }
     ExitCode::from(end.status())
@@ -53,20 +52,8 @@ fn words_of<R: Env + AllocGlobal>(rt: &R) -> io::Result<Vec<String>> {
     Ok(words)
 }
 
-fn end_of<R>(rt: &R, words: &[String]) -> ServerEnd
-where
-    R: Files<File = File>
-        + Net
-        + Threads
-        + Wait
-        + Clock
-        + Sync
-        + Print
-        + Eprint
-        + AllocGlobal
-        + Clone
-        + Drop,
-{
+/// How the host ends that is called with these words.
+fn end_of<R: System>(rt: &R, words: &[String]) -> ServerEnd {
     let mut texts = Vec::new(rt.alloc());
     for word in words {
         if texts.push(word.as_str()).is_err() {
@@ -83,21 +70,8 @@ where
     }
 }
 
-/// Hosts the tenants, if no other host works in the folder.
-fn host_alone<R>(rt: &R, words: HostWords<'_>) -> Result<ServerEnd, ServerEnd>
-where
-    R: Files<File = File>
-        + Net
-        + Threads
-        + Wait
-        + Clock
-        + Sync
-        + Print
-        + Eprint
-        + AllocGlobal
-        + Clone
-        + Drop,
-{
+/// Hosts the tenants, if no other host works in the folder. `Device` if one does, or the folder's lock can't be opened.
+fn host_alone<R: System>(rt: &R, words: HostWords<'_>) -> Result<ServerEnd, ServerEnd> {
     let alloc = rt.alloc();
     let folder = Folder::new(alloc, words.run)?;
     let Ok(lock) = OpenOptions::new()

@@ -71,7 +71,7 @@ fn readers(mode: u32) -> u32 {
     0o600 | (mode & 0o022) << 1
 }
 
-/// The resident bytes of the process, if the system tells.
+/// The resident bytes of the process, if the system says.
 fn resident<R: Files + AllocGlobal>(rt: &R) -> Option<u64> {
     let text = fs::read_to_string(rt, "/proc/self/statm").ok()?;
     let pages = text.as_str().split(' ').nth(1)?.parse::<u64>().ok()?;
