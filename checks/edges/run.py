@@ -1,7 +1,8 @@
 #!/usr/bin/env python3
 """Holds the crates to the groups of crates.txt: a crate stands on crates of its own group and of the groups that its
-heading names, each of which comes before. A group that is named and not needed is refused too. The README's table and
-docs/PROOFS.md must have the groups in the same order, and the table each crate in its group.
+heading names, each of which comes before. A group that is named and not needed is refused too, and so is a crate that
+another one names in crates.txt and in none of its sources, definitions and proofs. The README's table and docs/PROOFS.md
+must have the groups in the same order, and the table each crate in its group.
 
 usage: checks/edges/run.py, at the top of the repository. It exits with a status other than 0 if something differs.
 """
@@ -11,6 +12,7 @@ import re
 import sys
 
 HEADING = re.compile(r"# == (?P<name>\w+): (?P<what>[^\[]+?)(?: \[on (?P<below>[\w ]+)\])?$")
+COMMENT = {".rt": re.compile(r"//.*"), ".antt": re.compile(r"--.*")}
 TABLE_HEADING = re.compile(r"\| \*\*(\w+)\*\*")
 
 
@@ -53,6 +55,20 @@ def wrong_edges(groups):
                     for name in group.below if name not in names[:place])
 
 
+def words_of(crate):
+    """The words of a crate's sources, definitions and proofs, without comments."""
+    paths = [path for path in pathlib.Path("crates", crate).rglob("*") if path.suffix in COMMENT and "out" not in path.parts]
+    return {word for path in paths for word in re.findall(r"\w+", COMMENT[path.suffix].sub("", path.read_text()))}
+
+
+def unused(groups):
+    """Yields the crates that another one stands on and never names."""
+    for group in groups:
+        for crate, on in group.crates.items():
+            words = words_of(crate)
+            yield from (f"crates.txt: {crate} names {other} nowhere" for other in on if other not in words)
+
+
 def table_of(page):
     """The groups of the README's table, each with the crates of its rows."""
     groups = {}
@@ -72,7 +88,7 @@ def heading_of(groups):
 
 def main():
     groups = read_groups(pathlib.Path("crates.txt").read_text())
-    wrong = list(wrong_edges(groups))
+    wrong = [*wrong_edges(groups), *unused(groups)]
     table = table_of(pathlib.Path("README.md").read_text())
     for group in groups:
         if sorted(table.get(group.name, [])) != sorted(group.crates):

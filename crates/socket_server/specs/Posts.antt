@@ -1,7 +1,7 @@
 -- The places of threads in a server.
 use Rattle.std.specs.Prelude.{◌≡◌, List, length}
 use Rattle.call_queues.specs.Queues.{PassSeen}
-use Rattle.locked_doors.specs.Seen.{AreOwn}
+use Rattle.server_doors.specs.Sessions.{AreOwn}
 use Rattle.socket_server.specs.Shared.{SharedSeen, ArePassesOf}
 use Rattle.tenant_record.specs.SeatData.{SeatData}
 

@@ -3,8 +3,8 @@ use Rattle.std.specs.Prelude.{ℕ, ◌≡◌, Bool, false, List, Option, None}
 use Rattle.job_language.specs.declared.answers.Reply.{Reply}
 use Rattle.nested_wait.specs.Runs.{Attends}
 use Rattle.nested_wait.specs.Turns.{Turn}
-use Rattle.locked_doors.specs.Seen.{SessionSeen}
-use Rattle.locked_doors.specs.Ways.{Finds, Binds, Asks, WaitsFor, Sees, Commits, Advances, IsAsHigh, Waits}
+use Rattle.server_doors.specs.Sessions.{SessionSeen}
+use Rattle.server_doors.specs.SessionWays.{Finds, Binds, Asks, WaitsFor, Sees, Commits, Advances, IsAsHigh, Waits}
 use Rattle.session_core.specs.Replies.{Replies}
 use Rattle.session_core.specs.Sessions.{Serves}
 use Rattle.session_core.specs.declared.serving.SessionEnd.{SessionEnd}

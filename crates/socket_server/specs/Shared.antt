@@ -3,7 +3,7 @@ use Rattle.std.specs.Prelude.{ℕ, ◌≡◌, List, length, map, All}
 use Rattle.job_language.specs.Tenant.{IsValidTenant}
 use Rattle.call_queues.specs.Queues.{QueuesSeen, QueueSet, PassSeen}
 use Rattle.tenant_lock.specs.Doors.{DoorData}
-use Rattle.tenant_slots.specs.Seen.{AreNumbered}
+use Rattle.server_doors.specs.Slots.{AreNumbered}
 
 -- the doors of all tenants, their names, and the queues of calls for workers
 pub record SharedSeen : Type 0 where

@@ -5,7 +5,7 @@ ghost use Rattle.job_language.specs.Tenant.{IsValidTenant};
 ghost use Rattle.socket_server.specs.Houses.{doors_of, seats_of};
 ghost use Rattle.socket_server.specs.Shared.{ArePassesOf};
 ghost use Rattle.tenant_lock.specs.Doors.{DoorData};
-ghost use Rattle.tenant_slots.specs.Seen.{AreNumbered};
+ghost use Rattle.server_doors.specs.Slots.{AreNumbered};
 
 use crate::starting::open_doors;
 use call_queues::{CallQueues, QueuePass};

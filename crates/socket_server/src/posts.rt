@@ -1,19 +1,18 @@
 // The places of threads in a server.
 ghost use Rattle.std.specs.Prelude.{◌≡◌, IfSome, IfOk, length};
-ghost use Rattle.locked_doors.specs.Seen.{AreOwn};
+ghost use Rattle.server_doors.specs.Sessions.{AreOwn};
 ghost use Rattle.socket_server.specs.Sessions.{first_session};
 ghost use Rattle.socket_server.specs.Shared.{ArePassesOf};
 
 use crate::house::House;
 use crate::starting::take_seats;
 use call_queues::QueuePass;
-use locked_doors::LockedDoors;
+use server_doors::{LockedDoors, TenantSlots};
 use std::alloc::{AllocError, Global};
 use std::marker::Model;
 use std::sync::Wait;
 use tenant_lock::StopFlag;
 use tenant_record::Seat;
-use tenant_slots::TenantSlots;
 use worker_main::{Bell, Ringer};
 
 /// The passes of a house's queues that no thread has yet.

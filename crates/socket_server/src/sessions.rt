@@ -3,13 +3,13 @@ ghost use Rattle.std.specs.Prelude.{◌≡◌, ◌⊎◌};
 ghost use Rattle.socket_server.specs.Sessions.{ServesClient};
 
 use crate::posts::{Client, Post};
+use server_doors::TenantSlots;
 use session_core::serve;
 use std::alloc::Global;
 use std::io::{Read, Write};
 use std::sync::Wait;
 use tenant_lock::StopFlag;
 use tenant_record::Seat;
-use tenant_slots::TenantSlots;
 use worker_main::{Gate, Signal, Visiting, worker};
 
 /// Serves one client, and gives the seats back, however its session ended: with what its asks were answered, or as they

@@ -1,6 +1,6 @@
 // The start of a server.
 ghost use Rattle.std.specs.Prelude.{◌≡◌, ◌++◌, IfOk, IfSome, OnOk, length};
-ghost use Rattle.locked_doors.specs.Seen.{AreOwn};
+ghost use Rattle.server_doors.specs.Sessions.{AreOwn};
 ghost use Rattle.socket_server.specs.Houses.{doors_of, seats_of};
 
 use job_language::TenantConfig;

@@ -28,7 +28,16 @@ pub record Ways (D : Type 0) : Type 1 where
 
 abbrev pub ways : {D : Type 0} → (D → View → Type 0) → (D → Top → Moved → Option Call → D → Type 0) → (D → Moved → Option Call → D → Type 0) →
     (D → ℕ → Type 0) → (D → Bool → D → Type 0) → (D → D → Type 0) → (D → Option Call → D → Type 0) → (D → Call → Came → Option Call → D → Type 0) → Ways D
-ways {D = D} views commits advances heights pauses homes hands arrives = record { views = views; commits = commits; advances = advances; heights = heights; pauses = pauses; homes = homes; hands = hands; arrives = arrives }
+ways {D = D} views commits advances heights pauses homes hands arrives = record {
+  views = views;
+  commits = commits;
+  advances = advances;
+  heights = heights;
+  pauses = pauses;
+  homes = homes;
+  hands = hands;
+  arrives = arrives;
+}
 
 abbrev pub views_of : {D : Type 0} → (D → View → Type 0) → SlotSeen D → View → Type 0
 views_of {D = D} views s seen = views s.doors seen

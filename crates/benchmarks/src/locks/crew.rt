@@ -6,13 +6,13 @@ use crate::locks::shared::SharedTenant;
 use call_queues::QueuePass;
 use job_language::{Job, Request};
 use nested_wait::attend;
+use server_doors::TenantSlots;
 use std::marker::Model;
 use std::sync::Wait;
 use std::thread::Threads;
 use std::{slice, thread};
 use tenant_lock::StopFlag;
 use tenant_record::Seat;
-use tenant_slots::TenantSlots;
 use worker_main::{Gate, NoGate, Ringer, SlotDoor, Visiting, worker};
 
 /// One thread's pass of the queues of a shared tenant.

@@ -1,5 +1,5 @@
 use Rattle.std.proofs.Common.{Bool, false, ap, subst, ◌∙◌}
-use Rattle.locked_doors.specs.Seen.{SessionSeen}
+use Rattle.server_doors.specs.Sessions.{SessionSeen}
 use Rattle.session_core.specs.Sessions.{Serves}
 use Rattle.socket_server.specs.Sessions.{RepliesThere}
 use Rattle.socket_server.proofs.ServedOrNot.{either_way}

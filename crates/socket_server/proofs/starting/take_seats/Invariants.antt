@@ -1,5 +1,5 @@
 use Rattle.std.proofs.Common.{◌≡◌, length}
-use Rattle.locked_doors.specs.Seen.{AreOwn}
+use Rattle.server_doors.specs.Sessions.{AreOwn}
 use Rattle.socket_server.proofs.starting.take_seats.Given as goal
 
 abbrev pub invariant-loop-tenant : goal.invariant-loop-tenant

@@ -5,13 +5,13 @@ use crate::tests::assert_same;
 use job_language::{Moved, Reply, Request};
 use job_step::{Segment, View, segment_of};
 use nested_wait::{Attended, Door, attend};
+use server_doors::{MOVES_UNDER_LOCK, TenantSlots};
 use std::alloc::Global;
 use std::slice;
 use std::sync::Wait;
 use std::test::Fail;
 use tenant_lock::{StopFlag, TenantDoor};
 use tenant_record::Seat;
-use tenant_slots::{MOVES_UNDER_LOCK, TenantSlots};
 use worker_main::DueDoor;
 
 /// A thread's door, and how often it was moved by a commit and by an advance.

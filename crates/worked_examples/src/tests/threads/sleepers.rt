@@ -15,6 +15,9 @@ use tenant_record::{Pass, Seat};
 /// How many entries are made that leave a sleeper's slot idle.
 const ENTRIES: u32 = 100;
 
+/// How often one thread looks whether the others have come to where it waits for them.
+const LOOKS: u32 = 20_000_000;
+
 /// A worker's pass whose slot waits for a task, and the pass of the slot that has the task.
 type Pair = (Pass, Pass);
 
@@ -40,9 +43,10 @@ fn pair<R: Wait>(
     Some((idle.pass?, other.pass?))
 }
 
-/// Lets others run until that many slots have a sleeper, and that many were woken.
-fn watch<R: Wait>(rt: &R, door: &TenantDoor, asleep: u32, wakes: u64) {
-    for _look in rt.forever() {
+/// Lets others run until that many slots have a sleeper, and that many were woken. It gives up after some seconds, so
+/// that a test which waits for something else fails and does not hang.
+fn watch<R: Wait>(rt: &R, door: &TenantDoor, asleep: usize, wakes: u64) {
+    for _look in 0..LOOKS {
         let waits = door.waits(rt);
         if waits.asleep == asleep && waits.wakes == wakes {
             return;
@@ -93,7 +97,7 @@ fn entries_that_leave_a_slot_idle_wake_nobody_there(rt: HostRuntime) -> Result<(
 }
 
 /// Slots with a sleeper, and wakes, each of which found a slot that could move.
-fn waits(asleep: u32, wakes: u64) -> Waits {
+fn waits(asleep: usize, wakes: u64) -> Waits {
     Waits {
         asleep,
         wakes,

@@ -3,7 +3,7 @@ use Rattle.std.specs.Prelude.{All, map}
 use Rattle.std.proofs.lemmas.List.{length-map}
 use Rattle.job_language.specs.Tenant.{IsValidTenant}
 use Rattle.tenant_lock.specs.Doors.{DoorData}
-use Rattle.tenant_slots.specs.Seen.{AreNumbered}
+use Rattle.server_doors.specs.Slots.{AreNumbered}
 use Rattle.socket_server.specs.Houses.{doors_of}
 use Rattle.socket_server.proofs.Houses.{length_doors, names_from, numbered_from, valid_from}
 use Rattle.job_language.specs.Configuration.{names_of}

@@ -1,27 +1,28 @@
 // One session at the doors of tenants.
 ghost use Rattle.std.specs.Prelude.{◌≡◌, ◌≤◌, ◌<◌, ℕ, length, map};
-ghost use Rattle.tenant_slots.specs.Seen.{AreNumbered};
-ghost use Rattle.locked_doors.specs.Seen.{AreOwn};
-ghost use Rattle.locked_doors.specs.Ways.{Advances, AsksBound, with_thread};
-ghost use Rattle.tenant_slots.specs.Ways.{left};
+ghost use Rattle.server_doors.specs.Slots.{AreNumbered};
+ghost use Rattle.server_doors.specs.Sessions.{AreOwn};
+ghost use Rattle.server_doors.specs.SessionWays.{AsksBound, with_thread};
+ghost use Rattle.server_doors.specs.SlotWays.{left};
 
-use job_language::{Moved, Reply, Request, TenantName};
-use job_step::Segment;
-use session_core::Answered;
+use crate::slots::TenantSlots;
+use job_language::{Error, Moved, Reply, Request, TenantName};
+use job_step::{Segment, View};
+use nested_wait::Door;
+use session_core::{Answered, Doors};
 use std::marker::Model;
 use std::sync::Wait;
 use tenant_record::Seat;
-use tenant_slots::TenantSlots;
 use worker_main::{DueDoor, Ringer, Signal};
 
 /// One session's ways to the tenants behind locks. It has a seat of each tenant, and is at one slot
 /// at most: that of the job that it executes. It calls workers to the slots that become due.
 pub struct LockedDoors<'d, 'q, R: Wait, S: Signal> {
-    pub(crate) slots: TenantSlots<'d, R>,
-    pub(crate) ringer: Ringer<'q, R, S>,
-    pub(crate) names: &'d [TenantName],
-    pub(crate) seats: Vec<Seat>,
-    pub(crate) bound: usize,
+    slots: TenantSlots<'d, R>,
+    ringer: Ringer<'q, R, S>,
+    names: &'d [TenantName],
+    seats: Vec<Seat>,
+    bound: usize,
 }
 
 impl<'d, 'q, R: Wait, S: Signal> Drop for LockedDoors<'d, 'q, R, S> {
@@ -38,7 +39,7 @@ impl<'d, 'q, R: Wait, S: Signal> Drop for LockedDoors<'d, 'q, R, S> {
 }
 
 impl<'d, 'q, R: Wait, S: Signal> Model for LockedDoors<'d, 'q, R, S> {
-    ghost use Rattle.locked_doors.specs.Seen.{SessionSeen, IsSession};
+    ghost use Rattle.server_doors.specs.Sessions.{SessionSeen, IsSession};
 
     ghost Value = { SessionSeen };
 
@@ -95,7 +96,7 @@ impl<'d, 'q, R: Wait, S: Signal> LockedDoors<'d, 'q, R, S> {
     }
 
     /// Asks the tenant of the session, by its seat there.
-    pub(crate) fn ask_bound(&mut self, request: Request) -> Answered
+    fn ask_bound(&mut self, request: Request) -> Answered
         requires { self.old.bound < length self.old.seats }
         ensures asks { AsksBound self.old request result self.new }
         ensures pending { result.reply ≡ Reply.Pending → (job : ℕ) × (request ≡ Request.Collect job) }
@@ -105,6 +106,84 @@ impl<'d, 'q, R: Wait, S: Signal> LockedDoors<'d, 'q, R, S> {
         Answered {
             reply,
             placed: matches!(reply, Reply::Placed(..)),
+        }
+    }
+}
+
+impl<'d, 'q, R: Wait, S: Signal> Door for LockedDoors<'d, 'q, R, S> {
+    ghost use Rattle.server_doors.specs.SessionWays.{Sees, Commits, Advances, IsAsHigh, Waits};
+
+    ghost views = { Sees };
+
+    ghost commits = { Commits };
+
+    ghost advances = { Advances };
+
+    ghost heights = { IsAsHigh };
+
+    ghost pauses = { Waits };
+
+    fn view(&self) -> View {
+        self.slots.view()
+    }
+
+    fn commit(&mut self, segment: Segment) -> Moved {
+        let (moved, due) = self.slots.commit(segment);
+        self.ringer.call_due(due);
+        moved
+    }
+
+    fn advance(&mut self) -> Moved {
+        let (moved, due) = self.slots.advance();
+        self.ringer.call_due(due);
+        moved
+    }
+
+    fn height(&self) -> usize {
+        self.slots.height()
+    }
+
+    fn pause(&mut self) -> bool {
+        self.slots.pause()
+    }
+}
+
+impl<'d, 'q, R: Wait, S: Signal> Doors for LockedDoors<'d, 'q, R, S> {
+    ghost use Rattle.server_doors.specs.SessionWays.{Finds, Binds, Asks, WaitsFor};
+
+    ghost finds = { Finds };
+
+    ghost binds = { Binds };
+
+    ghost asks = { Asks };
+
+    ghost waits = { WaitsFor };
+
+    fn find(&self, name: TenantName) -> Option<usize> {
+        self.names
+            .iter()
+            .position(|known| name.as_bytes() == known.as_bytes())
+    }
+
+    fn bind(&mut self, tenant: usize) {
+        self.bound = tenant;
+    }
+
+    fn ask(&mut self, request: Request) -> Answered {
+        if self.bound < self.seats.len() {
+            self.ask_bound(request)
+        } else {
+            Answered {
+                reply: Reply::Refused(Error::NoTenant),
+                placed: false,
+            }
+        }
+    }
+
+    fn pause_for(&mut self, job: u64) -> bool {
+        match self.seats.get(self.bound) {
+            Some(seat) => self.slots.wait_for(seat, job),
+            None => true,
         }
     }
 }

@@ -12,7 +12,7 @@ use Rattle.tenant_lock.specs.Doors.{Carries, ComesWith}
 use Rattle.tenant_model.specs.Told.{placed_on}
 use Rattle.tenant_record.specs.PassData.{PassData, GoesWith, goes_home}
 use Rattle.tenant_record.specs.SeatData.{SeatData, asked}
-use Rattle.tenant_slots.specs.Seen.{SlotsSeen}
+use Rattle.server_doors.specs.Slots.{SlotsSeen}
 use Rattle.market_config.specs.declared.calls.Call.{Call}
 
 -- the pass after an advance or a commit with that answer: it carries the answer, unless it went home

@@ -10,13 +10,13 @@ use Rattle.job_step.specs.declared.segments.Top.{Top}
 use Rattle.job_step.specs.declared.segments.View.{View}
 use Rattle.tenant_model.specs.Told.{placed_on}
 use Rattle.tenant_record.specs.SeatData.{SeatData}
-use Rattle.tenant_slots.specs.Seen.{SlotsSeen}
-use Rattle.tenant_slots.specs.Ways.{Moves, MayBeHigh, MayBeSeen, Pauses, AsksBy}
+use Rattle.server_doors.specs.Slots.{SlotsSeen}
+use Rattle.server_doors.specs.SlotWays.{Moves, MayBeHigh, MayBeSeen, Pauses, AsksBy}
 use Rattle.market_config.specs.declared.calls.Call.{Call}
 use Rattle.worker_main.specs.Pushes.{PushesDue}
 use Rattle.worker_main.specs.Slots.{SlotSeen}
 use Rattle.session_core.specs.declared.doors.Answered.{Answered}
-use Rattle.locked_doors.specs.Seen.{SessionSeen}
+use Rattle.server_doors.specs.Sessions.{SessionSeen}
 
 -- the session where its thread is elsewhere
 abbrev pub with_thread : SessionSeen → SlotSeen SlotsSeen → SessionSeen

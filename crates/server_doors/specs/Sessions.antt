@@ -1,7 +1,7 @@
 -- One session at the doors of tenants.
 use Rattle.std.specs.Prelude.{ℕ, ◌≡◌, ◌≤◌, ◌<◌, List, length, map, slice_index_or}
 use Rattle.tenant_record.specs.SeatData.{SeatData}
-use Rattle.tenant_slots.specs.Seen.{SlotsSeen}
+use Rattle.server_doors.specs.Slots.{SlotsSeen}
 use Rattle.worker_main.specs.Slots.{SlotSeen}
 
 -- where its thread is, the names of the tenants and the session's seat of each, and the number of the tenant that it is bound to

@@ -1,8 +1,7 @@
 // One thread at the doors of tenants.
-ghost use Rattle.std.specs.Prelude.{ℕ, ◌≡◌, ◌≤◌, ◌<◌, length, IfSome, None, option_map};
-ghost use Rattle.tenant_model.specs.declared.rows.TheConstants.{MAX_HEIGHT};
-ghost use Rattle.tenant_slots.specs.Seen.{AreNumbered};
-ghost use Rattle.tenant_slots.specs.Ways.{Moves, MayBeHigh, MayBeSeen, Pauses, GoesHome, HandsOver, ArrivesAt, AsksBy};
+ghost use Rattle.std.specs.Prelude.{ℕ, ◌≡◌, ◌<◌, length, IfSome, None, option_map};
+ghost use Rattle.server_doors.specs.Slots.{AreNumbered};
+ghost use Rattle.server_doors.specs.SlotWays.{AsksBy};
 
 use job_language::{Came, Moved, Reply, Request};
 use job_step::{Segment, View};
@@ -12,6 +11,7 @@ use std::marker::Model;
 use std::sync::Wait;
 use tenant_lock::{StopFlag, TenantDoor, Turned};
 use tenant_record::{Pass, Seat};
+use worker_main::{CallDoors, DueDoor};
 
 /// A private run of fewer instructions is short: to run it away from the lock and to compare its frame and program under
 /// the lock takes longer than the run.
@@ -36,7 +36,7 @@ pub struct TenantSlots<'d, R: Wait> {
 }
 
 impl<'d, R: Wait> Model for TenantSlots<'d, R> {
-    ghost use Rattle.tenant_slots.specs.Seen.{SlotsSeen, IsAtDoors};
+    ghost use Rattle.server_doors.specs.Slots.{SlotsSeen, IsAtDoors};
 
     ghost Value = { SlotsSeen };
 
@@ -74,7 +74,7 @@ impl<'d, R: Wait> TenantSlots<'d, R> {
         ensures pending { result.0 ≡ Reply.Pending → (job : ℕ) × (request ≡ Request.Collect job) }
         ensures due { IfSome result.1 (λ call. call.tenant < length self.new.doors) }
     {
-        self.leave();
+        self.give_home();
         let tenant = seat.tenant();
         let doors = self.doors;
         let asked = doors[tenant].ask(self.rt, seat, request);
@@ -90,18 +90,41 @@ impl<'d, R: Wait> TenantSlots<'d, R> {
         doors[seat.tenant()].pause_for_until(self.rt, seat, job, self.stop)
     }
 
-    /// The tenant whose slot it is at.
-    pub(crate) fn held_tenant(&self) -> Option<usize>
-        ensures tenant { result ≡ option_map (λ pass. pass.tenant) self.now.pass }
-        ensures within { IfSome result (λ tenant. tenant < length self.now.doors) }
+    /// Forgets what its last move saw of its slot.
+    fn forget(&mut self)
+        ensures { self.new ≡ self.old }
     {
+        self.height = None;
+        self.view.set(View::Bare);
+        self.under_lock = 0;
+    }
+}
+
+impl<'d, R: Wait> DueDoor for TenantSlots<'d, R> {
+    ghost use Rattle.std.specs.Prelude.{length};
+    ghost use Rattle.server_doors.specs.SlotWays.{Moves, MayBeHigh, MayBeSeen, Pauses, GoesHome, HandsOver};
+
+    ghost tenants = { λ s. length s.doors };
+
+    ghost views = { MayBeSeen };
+
+    ghost commits = { λ s _ m due t. Moves s m due t };
+
+    ghost advances = { Moves };
+
+    ghost heights = { MayBeHigh };
+
+    ghost pauses = { Pauses };
+
+    ghost homes = { GoesHome };
+
+    ghost hands = { HandsOver };
+
+    fn tenant(&self) -> Option<usize> {
         self.pass.as_ref().map(|pass| pass.tenant())
     }
 
-    /// The topmost frame of its slot.
-    pub(crate) fn seen(&self) -> View
-        ensures { MayBeSeen self.now result }
-    {
+    fn view(&self) -> View {
         let Some(pass) = &self.pass else {
             return View::Bare;
         };
@@ -111,57 +134,7 @@ impl<'d, R: Wait> TenantSlots<'d, R> {
         }
     }
 
-    /// How many rows are on its slot.
-    pub(crate) fn rows_on(&self) -> usize
-        ensures value { MayBeHigh self.now result }
-        ensures most { result ≤ MAX_HEIGHT }
-    {
-        let Some(pass) = &self.pass else {
-            return 0;
-        };
-        match self.height {
-            Some(height) => height,
-            None => self.doors[pass.tenant()].height(self.rt, pass),
-        }
-    }
-
-    /// Waits until something may have changed, and says whether to stop.
-    pub(crate) fn wait(&self) -> bool
-        ensures { Pauses self.now result self.now }
-    {
-        match &self.pass {
-            Some(pass) => self.doors[pass.tenant()].pause_until(self.rt, pass, self.stop),
-            None => true,
-        }
-    }
-
-    /// Advances its slot, and gives the call for a slot that became due.
-    pub(crate) fn advance_slot(&mut self) -> (Moved, Option<Call>)
-        ensures moved { Moves self.old result.0 result.1 self.new }
-        ensures due { IfSome result.1 (λ call. call.tenant < length self.new.doors) }
-    {
-        let Some(pass) = self.pass.take() else {
-            return (Moved::Idle, None);
-        };
-        let tenant = pass.tenant();
-        let (rt, doors) = (self.rt, self.doors);
-        self.under_lock = self.under_lock.saturating_sub(1);
-        let Turned { advanced, height } = if self.under_lock > 0 {
-            self.view.set(View::Unshared);
-            doors[tenant].advance_and_count(rt, pass)
-        } else {
-            doors[tenant].advance_and_look(rt, pass, self.view.get_mut())
-        };
-        self.pass = advanced.pass;
-        self.height = height;
-        (advanced.moved, call_of(tenant, advanced.due))
-    }
-
-    /// Puts a private run in the place of an advance, and gives the call for a slot that became due.
-    pub(crate) fn commit_segment(&mut self, segment: Segment) -> (Moved, Option<Call>)
-        ensures moved { Moves self.old result.0 result.1 self.new }
-        ensures due { IfSome result.1 (λ call. call.tenant < length self.new.doors) }
-    {
+    fn commit(&mut self, segment: Segment) -> (Moved, Option<Call>) {
         let Some(pass) = self.pass.take() else {
             return (Moved::Idle, None);
         };
@@ -183,45 +156,65 @@ impl<'d, R: Wait> TenantSlots<'d, R> {
         (advanced.moved, call_of(tenant, advanced.due))
     }
 
-    /// Gives its slot home.
-    pub(crate) fn leave(&mut self)
-        ensures { GoesHome self.old self.new }
-    {
+    fn advance(&mut self) -> (Moved, Option<Call>) {
+        let Some(pass) = self.pass.take() else {
+            return (Moved::Idle, None);
+        };
+        let tenant = pass.tenant();
+        let (rt, doors) = (self.rt, self.doors);
+        self.under_lock = self.under_lock.saturating_sub(1);
+        let Turned { advanced, height } = if self.under_lock > 0 {
+            self.view.set(View::Unshared);
+            doors[tenant].advance_and_count(rt, pass)
+        } else {
+            doors[tenant].advance_and_look(rt, pass, self.view.get_mut())
+        };
+        self.pass = advanced.pass;
+        self.height = height;
+        (advanced.moved, call_of(tenant, advanced.due))
+    }
+
+    fn height(&self) -> usize {
+        let Some(pass) = &self.pass else {
+            return 0;
+        };
+        match self.height {
+            Some(height) => height,
+            None => self.doors[pass.tenant()].height(self.rt, pass),
+        }
+    }
+
+    fn pause(&mut self) -> bool {
+        let (rt, doors, stop) = (self.rt, self.doors, self.stop);
+        match &self.pass {
+            Some(pass) => doors[pass.tenant()].pause_until(rt, pass, stop),
+            None => true,
+        }
+    }
+
+    fn give_home(&mut self) {
         self.forget();
         if let Some(pass) = self.pass.take() {
             self.doors[pass.tenant()].give_home(self.rt, pass);
         }
     }
 
-    /// Gives its slot home, and at the same moment makes a slot of its tenant due, if a row waits there.
-    /// It gives the call for that slot.
-    pub(crate) fn give_over(&mut self) -> Option<Call>
-        ensures handed { HandsOver self.old result self.new }
-        ensures due { IfSome result (λ call. call.tenant < length self.new.doors) }
-    {
+    fn hand_over(&mut self) -> Option<Call> {
         self.forget();
         let pass = self.pass.take()?;
         let tenant = pass.tenant();
         let due = self.doors[tenant].hand_over(self.rt, pass);
         call_of(tenant, due)
     }
+}
 
-    /// Forgets what its last move saw of its slot.
-    fn forget(&mut self)
-        ensures { self.new ≡ self.old }
-    {
-        self.height = None;
-        self.view.set(View::Bare);
-        self.under_lock = 0;
-    }
+impl<'d, R: Wait> CallDoors for TenantSlots<'d, R> {
+    ghost use Rattle.server_doors.specs.SlotWays.{ArrivesAt};
 
-    /// Arrives at the slot of a call, and gives the call for a slot that became due. It gives the slot
-    /// home that it was at.
-    pub(crate) fn answer(&mut self, call: Call) -> (Came, Option<Call>)
-        ensures arrived { ArrivesAt self.old call result.0 result.1 self.new }
-        ensures due { IfSome result.1 (λ due. due.tenant < length self.new.doors) }
-    {
-        self.leave();
+    ghost arrives = { ArrivesAt };
+
+    fn arrive(&mut self, call: Call) -> (Came, Option<Call>) {
+        self.give_home();
         let Some(door) = self.doors.get(call.tenant) else {
             return (Came::Nothing, None);
         };

@@ -1,0 +1,4 @@
+pub mod Slots
+pub mod SlotWays
+pub mod Sessions
+pub mod SessionWays

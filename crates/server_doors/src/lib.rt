@@ -1,0 +1,8 @@
+//! A server's ways to tenants that are behind locks: one thread's to their slots, and one session's.
+#![tactic(auto)]
+
+mod sessions;
+mod slots;
+
+pub use sessions::LockedDoors;
+pub use slots::{MOVES_UNDER_LOCK, SHORT_RUN, TenantSlots};
