@@ -4,3 +4,4 @@ mod Parts
 mod Telling
 mod Running
 mod Verdicts
+mod Causes

@@ -1,9 +1,11 @@
 // Checking a dump.
 ghost use Rattle.std.specs.Prelude.{◌≡◌, ℕ, List, Err, IsErr, IsOk, IsSome, IfErr, IfOk, OnOk, string_bytes};
 ghost use Rattle.std.specs.Io.KnownBytes.{Appends};
+ghost use Rattle.request_reader.specs.Calls.{AreCalls};
+ghost use Rattle.request_reader.specs.declared.turns.TheConstants.{MAX_TURNS};
 ghost use Rattle.dump_lines.specs.Parts.{AppendsPart};
 ghost use Rattle.arena_script.specs.declared.commands.Command.TheVariants as command;
-ghost use Rattle.arena_script.specs.Faults.{IsFault};
+ghost use Rattle.arena_script.specs.Faults.{HasCause, IsFault};
 ghost use Rattle.arena_script.specs.DumpData.{dump_of};
 ghost use Rattle.arena_script.specs.DumpText.{AnswersDump};
 ghost use Rattle.arena_script.specs.ScriptLines.{lines_in};
@@ -12,13 +14,14 @@ ghost use Rattle.arena_script.specs.VerdictText.{verdict_text, bad_line_text};
 use crate::devices::put;
 use crate::dumps::{DumpRead, read_dump};
 use crate::ends::ScriptEnd;
+use reply_writer::Sink;
+use request_reader::Source;
 use solo_eval::Verdict;
 use std::alloc::{AllocError, Global};
-use std::io::{Read, Write};
 
 /// Reads a dump, and writes its verdict, or the number of its first bad line.
 #[tactic(auto, using(dump_lines::proofs::Parts::part_none))]
-pub(crate) fn check_dump<R: Read, W: Write>(
+pub(crate) fn check_dump<R: Source, W: Sink>(
     alloc: Global,
     reader: &mut R,
     writer: &mut W,
@@ -35,6 +38,7 @@ pub(crate) fn check_dump<R: Read, W: Write>(
         → (text : List ℕ) → AnswersDump (dump_of (lines_in (R.remaining reader.old))) text
         → AppendsPart (W.contents writer.old) (W.contents writer.new) text }
     ensures ends { IfErr result (IsFault command.Check) }
+    ensures cause { IfErr result (HasCause (R.failed reader.new) (AreCalls R.called MAX_TURNS 0 reader.old reader.new) (W.failed writer.new)) }
 {
     match read_dump(alloc, reader)? {
         DumpRead::Whole(dump) => {

@@ -1,7 +1,9 @@
 // The lines of a dump: a tenant, and the entries of its history.
 ghost use Rattle.std.specs.Prelude.{◌≡◌, ◌<◌, ◌^◌, [], unwrap_or, IsSome, IfOk, IfErr, OnOk};
+ghost use Rattle.request_reader.specs.Calls.{AreCalls};
+ghost use Rattle.request_reader.specs.declared.turns.TheConstants.{MAX_TURNS};
 ghost use Rattle.request_reader.specs.Reading.{lines_left, work_left};
-ghost use Rattle.arena_script.specs.Faults.{IsLost};
+ghost use Rattle.arena_script.specs.Faults.{HasCause, IsLost};
 ghost use Rattle.arena_script.specs.DumpReads.{with_said, read_on, dump_read, came_to, after_first, IsVerdictHeld};
 ghost use Rattle.arena_script.specs.ScriptLines.{lines_in};
 
@@ -11,10 +13,9 @@ use crate::inputs::{Input, MAX_SCRIPT_LINE};
 use arena_check::check;
 use dump_lines::{Said, said_by, tenant_of};
 use job_language::{Entry, TenantConfig};
-use request_reader::LineReader;
+use request_reader::{LineReader, Source};
 use solo_eval::Verdict;
 use std::alloc::{AllocError, Global};
-use std::io::Read;
 use std::marker::Model;
 
 /// A tenant, and what a dump says of its history.
@@ -53,10 +54,11 @@ pub(crate) enum DumpRead {
 }
 
 /// Reads a dump to its end, or to its first bad line.
-pub(crate) fn read_dump<R: Read>(alloc: Global, reader: &mut R) -> Result<DumpRead, ScriptEnd>
+pub(crate) fn read_dump<R: Source>(alloc: Global, reader: &mut R) -> Result<DumpRead, ScriptEnd>
     ensures read { IfOk result (λ read. IsSome (R.remaining reader.old)
         → dump_read (lines_in (R.remaining reader.old)) ≡ came_to read) }
     ensures lost { IfErr result IsLost }
+    ensures cause { IfErr result (HasCause (R.failed reader.new) (AreCalls R.called MAX_TURNS 0 reader.old reader.new) ⊥) }
 {
     let mut lines = LineReader::new(alloc, MAX_SCRIPT_LINE)?;
     match read_first(alloc, &mut lines, reader)? {
@@ -66,7 +68,7 @@ pub(crate) fn read_dump<R: Read>(alloc: Global, reader: &mut R) -> Result<DumpRe
 }
 
 /// A dump with no entry yet, of the tenant that the first line names.
-fn read_first<R: Read>(
+fn read_first<R: Source>(
     alloc: Global,
     lines: &mut LineReader,
     reader: &mut R,
@@ -77,6 +79,8 @@ fn read_first<R: Read>(
     ensures known { IsSome (R.remaining reader.old) → IsSome (R.remaining reader.new) }
     ensures work { IfOk result (λ first. IsSome first → work_left lines.new < work_left lines.old) }
     ensures lost { IfErr result IsLost }
+    ensures calls { AreCalls R.called lines.old.turns lines.new.turns reader.old reader.new }
+    ensures cause { IfErr result (HasCause (R.failed reader.new) (lines.new.turns ≡ 0) ⊥) }
 {
     if next_line(lines, reader)? != Input::Line {
         return Ok(None);
@@ -92,7 +96,7 @@ fn read_first<R: Read>(
 }
 
 /// Reads the lines after the first.
-fn read_on<R: Read>(
+fn read_on<R: Source>(
     alloc: Global,
     mut dump: Dump,
     mut lines: LineReader,
@@ -102,6 +106,7 @@ fn read_on<R: Read>(
     ensures read { IfOk result (λ read. IsSome (R.remaining reader.old)
         → read_on (lines_left lines (unwrap_or (R.remaining reader.old) [])) 2 dump ≡ came_to read) }
     ensures lost { IfErr result IsLost }
+    ensures cause { IfErr result (HasCause (R.failed reader.new) (AreCalls R.called lines.turns 0 reader.old reader.new) ⊥) }
 {
     let mut number = 2;
     loop {

@@ -1,11 +1,11 @@
 // The lines of a script.
-ghost use Rattle.std.specs.Prelude.{◌≡◌, ◌≢◌, ◌<◌, ◌++◌, [], Ok, IsSome, IfOk, OnErr};
+ghost use Rattle.std.specs.Prelude.{◌≡◌, ◌≢◌, ◌<◌, ◌++◌, ◌⊎◌, [], Ok, IsSome, IfOk, OnErr};
+ghost use Rattle.request_reader.specs.Calls.{AreCalls};
 ghost use Rattle.request_reader.specs.Reading.{work_left};
 ghost use Rattle.arena_script.specs.ScriptLines.{script_lines, lines_read, WasLost};
 
 use crate::devices::{DeviceFault, next_line};
-use request_reader::{LineReader, is_blank};
-use std::io::Read;
+use request_reader::{LineReader, Source, is_blank};
 
 /// How many bytes a line of a script may have, without its newline.
 pub const MAX_SCRIPT_LINE: usize = 1_048_576;
@@ -22,7 +22,7 @@ pub(crate) enum Input {
 }
 
 /// Reads on to the next line that is not blank.
-pub(crate) fn next_input<R: Read>(
+pub(crate) fn next_input<R: Source>(
     lines: &mut LineReader,
     reader: &mut R,
 ) -> Result<Input, DeviceFault>
@@ -34,6 +34,8 @@ pub(crate) fn next_input<R: Read>(
         → script_lines lines.new (R.remaining reader.new) ≡ [] }
     ensures lowers { IfOk result (λ input. input ≢ Input.End → work_left lines.new < work_left lines.old) }
     ensures device { OnErr result (WasLost lines.old lines.new) }
+    ensures calls { AreCalls R.called lines.old.turns lines.new.turns reader.old reader.new }
+    ensures cause { OnErr result (R.failed reader.new ⊎ (lines.new.turns ≡ 0)) }
 {
     loop {
         match next_line(lines, reader)? {

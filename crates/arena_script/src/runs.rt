@@ -1,31 +1,34 @@
 // A script of a world, from its first line to its end.
 ghost use Rattle.std.specs.Prelude.{◌≡◌, ◌≢◌, ℕ, List, Err, IsSome, IfOk, IfErr, OnOk};
+ghost use Rattle.request_reader.specs.Calls.{AreCalls};
+ghost use Rattle.request_reader.specs.declared.turns.TheConstants.{MAX_TURNS};
 ghost use Rattle.world_model.specs.World.{World as Known};
 ghost use Rattle.world_script.specs.Knowing.{Knows};
 ghost use Rattle.arena_script.specs.Answered.{AnswersAll, AnswersPart};
 ghost use Rattle.arena_script.specs.declared.commands.Command.TheVariants as command;
-ghost use Rattle.arena_script.specs.Faults.{IsFault};
+ghost use Rattle.arena_script.specs.Faults.{HasCause, IsFault};
 ghost use Rattle.arena_script.specs.RunAnswers.{AnswersRun, HasNoConfig, StartsRun, TakesLine, TellsOutcome};
 ghost use Rattle.arena_script.specs.ScriptLines.{all_lines, line_of, script_lines};
 
 use crate::devices::put;
 use crate::ends::ScriptEnd;
 use crate::inputs::{Input, MAX_SCRIPT_LINE, next_input};
-use request_reader::LineReader;
+use reply_writer::Sink;
+use request_reader::{LineReader, Source};
 use std::alloc::{AllocError, Global};
-use std::io::{Read, Write};
 use world_core::TenantArena;
 use world_model::Outcome;
 use world_script::NamedWorld;
 
 /// Reads a configuration, and then the steps of its world; writes the outcome of each.
 #[tactic(auto, using(crate::proofs::Running::starts_none))]
-pub(crate) fn run<A: TenantArena, R: Read, W: Write>(
+pub(crate) fn run<A: TenantArena, R: Source, W: Sink>(
     alloc: Global,
     reader: &mut R,
     writer: &mut W,
 ) -> Result<(), ScriptEnd>
     ensures ends { IfErr result (IsFault command.Run) }
+    ensures cause { IfErr result (HasCause (R.failed reader.new) (AreCalls R.called MAX_TURNS 0 reader.old reader.new) (W.failed writer.new)) }
     ensures unwritten { result ≡ Err ScriptEnd.Config → writer.new ≡ writer.old }
     ensures no_config { result ≡ Err ScriptEnd.Config → IsSome (R.remaining reader.old)
         → HasNoConfig (all_lines (R.remaining reader.old)) }
@@ -46,7 +49,7 @@ pub(crate) fn run<A: TenantArena, R: Read, W: Write>(
 }
 
 /// Takes a world's steps to the end of a script.
-fn take_all<A: TenantArena, R: Read, W: Write>(
+fn take_all<A: TenantArena, R: Source, W: Sink>(
     alloc: Global,
     world: &mut NamedWorld<A>,
     mut lines: LineReader,
@@ -54,6 +57,7 @@ fn take_all<A: TenantArena, R: Read, W: Write>(
     writer: &mut W,
 ) -> Result<(), ScriptEnd>
     ensures ends { IfErr result (λ end. IsFault command.Run end × (end ≢ ScriptEnd.Config)) }
+    ensures cause { IfErr result (HasCause (R.failed reader.new) (AreCalls R.called lines.turns 0 reader.old reader.new) (W.failed writer.new)) }
     ensures done { (names : List (List ℕ)) (w : Known) → Knows A.stands_for names w world.old
         → OnOk result (IsSome (R.remaining reader.old) → (final : Known)
         × AnswersAll (TellsOutcome names) (script_lines lines (R.remaining reader.old)) w

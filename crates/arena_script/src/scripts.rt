@@ -1,6 +1,8 @@
 // A script, from its words and its first line to its end.
 ghost use Rattle.std.specs.Prelude.{◌≡◌, ◌≢◌, ℕ, List, ◌∷◌, Some, None, Err, Contains, IsErr, IsOk, IsSome, IfErr, OnOk};
 ghost use Rattle.std.specs.Io.KnownBytes.{Appends};
+ghost use Rattle.request_reader.specs.Calls.{AreCalls};
+ghost use Rattle.request_reader.specs.declared.turns.TheConstants.{MAX_TURNS};
 ghost use Rattle.request_reader.specs.Lines.{whole};
 ghost use Rattle.tenant_model.specs.State.{State};
 ghost use Rattle.arena_core.specs.Stands.{StandsFor};
@@ -9,7 +11,7 @@ ghost use Rattle.dump_lines.specs.Requests.{tenant_in};
 ghost use Rattle.arena_script.specs.Commands.{command_of, ends_of};
 ghost use Rattle.arena_script.specs.DumpData.{dump_of};
 ghost use Rattle.arena_script.specs.DumpText.{AnswersDump};
-ghost use Rattle.arena_script.specs.Faults.{IsFault};
+ghost use Rattle.arena_script.specs.Faults.{HasCause, IsFault};
 ghost use Rattle.arena_script.specs.RunAnswers.{AnswersRun, HasNoConfig, StartsRun};
 ghost use Rattle.arena_script.specs.ScriptAnswers.{own_answers, own_text};
 ghost use Rattle.arena_script.specs.ScriptLines.{script_lines, all_lines, first_tenant, lines_in};
@@ -26,10 +28,9 @@ use crate::runs::run;
 use crate::serials::serial_values;
 use arena_core::Arena;
 use job_language::Answer;
-use reply_writer::{ReplyBuf, answer_line, bad_step_line};
-use request_reader::LineReader;
+use reply_writer::{ReplyBuf, Sink, answer_line, bad_step_line};
+use request_reader::{LineReader, Source};
 use std::alloc::Global;
-use std::io::{Read, Write};
 
 /// Does the whole work of `arena-script`: reads a script, and writes one line for each of its
 /// steps, in order. Without a word, or with the word `own`, the first line is a
@@ -37,7 +38,7 @@ use std::io::{Read, Write};
 /// the others are the steps of its world. With the word `serial` each line is a job, whose serial
 /// value is asked. With the word `check` it reads a dump and writes one line: its verdict, or the
 /// number of its first bad line.
-pub fn script<R: Read, W: Write>(
+pub fn script<R: Source, W: Sink>(
     alloc: Global,
     words: &[&str],
     reader: &mut R,
@@ -71,6 +72,9 @@ pub fn script<R: Read, W: Write>(
     ensures values { command_of words.now ≡ Some Command.Serial → result ≡ ScriptEnd.Done → IsSome (R.remaining reader.old)
         → Appends (W.contents writer.old) (W.contents writer.new) (serial_answers (all_lines (R.remaining reader.old))) }
 
+    // A device's fault is the reader's or the writer's.
+    ensures cause { HasCause (R.failed reader.new) (AreCalls R.called MAX_TURNS 0 reader.old reader.new) (W.failed writer.new) result }
+
     // At each early end what is written is a first part of that.
     ensures own_part { command_of words.now ≡ Some Command.Own → IsSome (R.remaining reader.old)
         → AppendsPart (W.contents writer.old) (W.contents writer.new) (own_text (all_lines (R.remaining reader.old))) }
@@ -96,8 +100,9 @@ pub fn script<R: Read, W: Write>(
 }
 
 #[tactic(auto, using(dump_lines::proofs::Parts::part_none))]
-fn own<R: Read, W: Write>(alloc: Global, reader: &mut R, writer: &mut W) -> Result<(), ScriptEnd>
+fn own<R: Source, W: Sink>(alloc: Global, reader: &mut R, writer: &mut W) -> Result<(), ScriptEnd>
     ensures ends { IfErr result (IsFault Command.Own) }
+    ensures cause { IfErr result (HasCause (R.failed reader.new) (AreCalls R.called MAX_TURNS 0 reader.old reader.new) (W.failed writer.new)) }
     ensures unwritten { result ≡ Err ScriptEnd.Config → writer.new ≡ writer.old }
     ensures no_tenant { result ≡ Err ScriptEnd.Config → IsSome (R.remaining reader.old)
         → first_tenant (all_lines (R.remaining reader.old)) ≡ None }
@@ -116,13 +121,14 @@ fn own<R: Read, W: Write>(alloc: Global, reader: &mut R, writer: &mut W) -> Resu
 
 /// Takes the steps of a tenant that the line read last names.
 #[tactic(auto, using(dump_lines::proofs::Parts::part_none))]
-fn take_from<R: Read, W: Write>(
+fn take_from<R: Source, W: Sink>(
     alloc: Global,
     lines: LineReader,
     reader: &mut R,
     writer: &mut W,
 ) -> Result<(), ScriptEnd>
     ensures ends { IfErr result (IsFault Command.Own) }
+    ensures cause { IfErr result (HasCause (R.failed reader.new) (AreCalls R.called lines.turns 0 reader.old reader.new) (W.failed writer.new)) }
     ensures unwritten { result ≡ Err ScriptEnd.Config → writer.new ≡ writer.old }
     ensures no_tenant { result ≡ Err ScriptEnd.Config → tenant_in lines.line ≡ None }
     ensures done { OnOk result (IsSome (R.remaining reader.old)
@@ -140,7 +146,7 @@ fn take_from<R: Read, W: Write>(
 }
 
 /// Takes a tenant's steps to the end of a script.
-fn take_all<R: Read, W: Write>(
+fn take_all<R: Source, W: Sink>(
     alloc: Global,
     arena: &mut Arena,
     mut lines: LineReader,
@@ -148,6 +154,7 @@ fn take_all<R: Read, W: Write>(
     writer: &mut W,
 ) -> Result<(), ScriptEnd>
     ensures ends { IfErr result (λ end. IsFault Command.Own end × (end ≢ ScriptEnd.Config)) }
+    ensures cause { IfErr result (HasCause (R.failed reader.new) (AreCalls R.called lines.turns 0 reader.old reader.new) (W.failed writer.new)) }
     ensures done { (s : State) → StandsFor arena.old s
         → OnOk result (IsSome (R.remaining reader.old)
         → Appends (W.contents writer.old) (W.contents writer.new) (own_answers s (script_lines lines (R.remaining reader.old)))) }

@@ -5,33 +5,35 @@ ghost use Rattle.std.specs.Result.{result_map_both};
 ghost use Rattle.serde_json.specs.View.{view};
 ghost use Rattle.job_language.specs.declared.errors.Error.TheVariants.{BadProgram};
 ghost use Rattle.job_language.specs.Job.{job_of};
+ghost use Rattle.request_reader.specs.Calls.{AreCalls};
+ghost use Rattle.request_reader.specs.declared.turns.TheConstants.{MAX_TURNS};
 ghost use Rattle.request_reader.specs.LineAsks.{IsText};
 ghost use Rattle.request_reader.specs.Lines.{whole};
 ghost use Rattle.dump_lines.specs.Parts.{AppendsPart};
 ghost use Rattle.arena_script.specs.ScriptLines.{line_of, all_lines};
 ghost use Rattle.arena_script.specs.SerialAnswers.{job_in, serial_answer, serial_answers};
 ghost use Rattle.arena_script.specs.declared.commands.Command.TheVariants as command;
-ghost use Rattle.arena_script.specs.Faults.{IsFault};
+ghost use Rattle.arena_script.specs.Faults.{HasCause, IsFault};
 
 use crate::devices::put;
 use crate::ends::ScriptEnd;
 use crate::inputs::{Input, MAX_SCRIPT_LINE, next_input};
 use job_language::{Error, Job, Refused, read_job};
-use reply_writer::{SerialAnswer, serial_line};
-use request_reader::{LineReader, value_of};
+use reply_writer::{SerialAnswer, Sink, serial_line};
+use request_reader::{LineReader, Source, value_of};
 use serde_json::Value;
 use serial_eval::serial;
 use std::alloc::{AllocError, Global};
-use std::io::{Read, Write};
 
 /// Reads a job from each line, and writes its serial value with its fuel as the number of
 /// instructions, or why there is none.
-pub(crate) fn serial_values<R: Read, W: Write>(
+pub(crate) fn serial_values<R: Source, W: Sink>(
     alloc: Global,
     reader: &mut R,
     writer: &mut W,
 ) -> Result<(), ScriptEnd>
     ensures ends { IfErr result (IsFault command.Serial) }
+    ensures cause { IfErr result (HasCause (R.failed reader.new) (AreCalls R.called MAX_TURNS 0 reader.old reader.new) (W.failed writer.new)) }
     ensures done { OnOk result (IsSome (R.remaining reader.old)
         → Appends (W.contents writer.old) (W.contents writer.new) (serial_answers (all_lines (R.remaining reader.old)))) }
     ensures part { IsSome (R.remaining reader.old)

@@ -1,3 +1,4 @@
+pub mod Calling
 mod Exactness
 mod LineAnswers
 mod LineLaws

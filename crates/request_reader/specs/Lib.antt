@@ -11,3 +11,4 @@ pub mod ReaderState
 pub mod Reading
 pub mod Ready
 pub mod Shape
+pub mod Calls

@@ -52,6 +52,7 @@ impl Model for LineReader {
 }
 
 impl LineReader {
+    ghost use Rattle.request_reader.specs.Calls.{AreCalls};
     ghost use Rattle.request_reader.specs.LineReads.{told_by, ComesTo, Finds, FindsLast, LowersWork, TurnsTo};
     ghost use Rattle.request_reader.specs.Lines.{HasNoNewline};
     ghost use Rattle.request_reader.specs.Newlines.{IsFirstNewline};
@@ -97,7 +98,8 @@ impl LineReader {
         ensures at_once { NeedsBytes self.old ⊎ (self.new.turns ≡ self.old.turns) }
         ensures lowers { LowersWork result self.old self.new }
 
-        // The reader's fault is its own.
+        // Each turn that is gone was a call of the reader, whose fault is its own.
+        ensures calls { AreCalls R.called self.old.turns self.new.turns reader.old reader.new }
         ensures fault { result ≡ LineRead.ReadFault → R.failed reader.new }
     {
         self.read_on(reader)
@@ -109,6 +111,7 @@ impl LineReader {
         ensures unread { self.new.turns ≡ self.old.turns → reader.new ≡ reader.old }
         ensures at_once { NeedsBytes self.old ⊎ (self.new.turns ≡ self.old.turns) }
         ensures lowers { LowersWork result self.old self.new }
+        ensures calls { AreCalls R.called self.old.turns self.new.turns reader.old reader.new }
         ensures fault { result ≡ LineRead.ReadFault → R.failed reader.new }
     {
         if self.is_ended {
@@ -133,6 +136,7 @@ impl LineReader {
         ensures turns_to { TurnsTo result self.old self.new (R.remaining reader.old) (R.remaining reader.new) }
         ensures turns { self.new.turns + 1 ≡ self.old.turns }
         ensures room { length self.new.held ≤ self.new.limit + BLOCK }
+        ensures called { R.called reader.old reader.new }
         ensures fault { result ≡ Some LineRead.ReadFault → R.failed reader.new }
     {
         let start = self.window.held().len();

@@ -1,4 +1,4 @@
-// Readers that report their failures.
+// Readers that report their calls and their failures.
 ghost use Rattle.std.specs.Prelude.{OnErr};
 ghost use Rattle.std.specs.Io.{ReadsAtMost};
 ghost use Rattle.std.specs.Io.KnownBytes.{ReadConsumes};
@@ -6,9 +6,13 @@ ghost use Rattle.std.specs.Io.KnownBytes.{ReadConsumes};
 use std::io;
 use std::io::Read;
 
-/// A reader that says when it has failed. Every `Read` is one, so this is a bound alone: what is proved of
-/// any `Source` can call it failed only where a call of it was answered with an error.
+/// A reader that says when it was called, and when it has failed. Every `Read` is one, so this is a bound
+/// alone: what is proved of any `Source` can say that it was called only where it was, and that it has failed
+/// only where a call of it was answered with an error.
 pub trait Source: Read {
+    /// One call leads from the first reader to the second.
+    ghost called: { Self → Self → Type 0 };
+
     /// The last call was answered with an error.
     ghost failed: { Self → Type 0 };
 
@@ -16,10 +20,13 @@ pub trait Source: Read {
     fn read_once(&mut self, room: &mut [u8]) -> io::Result<usize>
         ensures bound { ReadsAtMost result room.new }
         ensures bytes { ReadConsumes (Self.remaining self.old) (Self.remaining self.new) result room.new }
+        ensures called { called self.old self.new }
         ensures failed { OnErr result (failed self.new) };
 }
 
 impl<R: Read> Source for R {
+    ghost called = { λ _ _. Unit {0} };
+
     ghost failed = { λ _. Unit {0} };
 
     fn read_once(&mut self, room: &mut [u8]) -> io::Result<usize> {

@@ -84,6 +84,7 @@ impl Window {
             × Consumes (R.remaining reader.old) (R.remaining reader.new) came) }
         ensures end { IfOk result (λ n. n ≡ 0 → IsAtEnd (R.remaining reader.new)) }
         ensures err { OnErr result ((self.new.held ≡ self.old.held) × Keeps (R.remaining reader.old) (R.remaining reader.new)) }
+        ensures called { R.called reader.old reader.new }
         ensures failed { OnErr result (R.failed reader.new) }
     {
         let (start, end) = (self.start, self.end);
@@ -126,6 +127,7 @@ fn read_from<R: Source>(
     ensures ok { IfOk result (λ n. Consumes (R.remaining reader.old) (R.remaining reader.new) (take n (drop start bytes.new.items))) }
     ensures end { IfOk result (λ n. n ≡ 0 → IsAtEnd (R.remaining reader.new)) }
     ensures err { OnErr result (Keeps (R.remaining reader.old) (R.remaining reader.new)) }
+    ensures called { R.called reader.old reader.new }
     ensures failed { OnErr result (R.failed reader.new) }
 {
     let room = &mut bytes.as_mut_slice()[start..];

@@ -2,3 +2,4 @@ mod Asking
 mod Growing
 mod Joining
 mod Pending
+mod Causes

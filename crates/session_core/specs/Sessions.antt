@@ -56,11 +56,12 @@ ServesTo {S = S} replies now bytes left written out old new TurnLimit = Served r
 ServesTo {S = S} replies now bytes left written out old new (WriteFault sent) = Broke replies now bytes left written out old new sent
 ServesTo {S = S} replies now bytes left written out old new Stopped = Waited replies now bytes left written out old new
 
--- A fault of the reader or the writer comes only where a call of it has failed.
-abbrev pub HasCause : (reader_failed writer_failed : Type 0) → SessionEnd → Type 0
-HasCause reader_failed writer_failed ReadFault = reader_failed
-HasCause reader_failed writer_failed (WriteFault sent) = writer_failed
-HasCause reader_failed writer_failed end = Unit {0}
+-- A fault of the reader or the writer comes only if a call of it has failed, and the limit of calls only if the reader was called that often.
+abbrev pub HasCause : (reader_failed reader_spent writer_failed : Type 0) → SessionEnd → Type 0
+HasCause reader_failed reader_spent writer_failed ReadFault = reader_failed
+HasCause reader_failed reader_spent writer_failed TurnLimit = reader_spent
+HasCause reader_failed reader_spent writer_failed (WriteFault sent) = writer_failed
+HasCause reader_failed reader_spent writer_failed end = Unit {0}
 
 -- a session from this start, which leaves its doors so
 abbrev pub Serves : {D : Type 0} → (replies : List ℕ → Bool × D → Option Reply → Bool × D → Type 0) → (bytes left written out : Option (List ℕ)) → (old : Bool × D) → (new : D) → SessionEnd → Type 0

@@ -2,6 +2,8 @@
 ghost use Rattle.std.specs.Prelude.{◌≡◌, false, IfErr, IfOk, OnErr};
 ghost use Rattle.nested_wait.specs.Runs.{Attends};
 ghost use Rattle.nested_wait.specs.Turns.{Turn};
+ghost use Rattle.request_reader.specs.Calls.{AreCalls};
+ghost use Rattle.request_reader.specs.declared.turns.TheConstants.{MAX_TURNS};
 ghost use Rattle.session_core.specs.Replies.{Replies};
 ghost use Rattle.session_core.specs.Sessions.{Serves, Answers, HasCause, RefusesLong};
 ghost use Rattle.session_core.specs.declared.serving.SessionEnd.TheVariants as session_end;
@@ -48,7 +50,8 @@ pub fn serve<R: Source, W: Sink, D: Doors>(
         Serves (Replies D.finds D.binds D.asks D.waits (Attends (Turn D.views D.commits D.advances) D.heights D.pauses 1))
         (R.remaining reader.old) (R.remaining reader.new) (W.contents writer.old) (W.contents writer.new)
         (false, doors.old) doors.new end) }
-    ensures cause { IfOk result (λ end. HasCause (R.failed reader.new) (W.failed writer.new) end) }
+    ensures cause { IfOk result (λ end.
+        HasCause (R.failed reader.new) (AreCalls R.called MAX_TURNS 0 reader.old reader.new) (W.failed writer.new) end) }
     ensures refused { OnErr result ((reader.new ≡ reader.old) × (writer.new ≡ writer.old) × (doors.new ≡ doors.old)) }
 {
     let mut lines = LineReader::new(alloc, MAX_REQUEST)?;
@@ -70,7 +73,7 @@ pub fn serve<R: Source, W: Sink, D: Doors>(
 /// Answers a line that is too long.
 fn refuse<W: Sink>(writer: &mut W) -> Result<(), SessionEnd>
     ensures refuses { RefusesLong (W.contents writer.old) (W.contents writer.new) result }
-    ensures cause { IfErr result (λ end. HasCause ⊥ (W.failed writer.new) end) }
+    ensures cause { IfErr result (λ end. HasCause ⊥ ⊥ (W.failed writer.new) end) }
 {
     let reply = reply_line(&Reply::Refused(Error::LineTooLong));
     write_all_of(writer, reply.line())?;
@@ -87,7 +90,7 @@ fn answer<W: Sink, D: Doors>(
 ) -> Result<(), SessionEnd>
     ensures answers { Answers (Replies D.finds D.binds D.asks D.waits (Attends (Turn D.views D.commits D.advances) D.heights D.pauses 1))
         line.now (is_bound.old, doors.old) (is_bound.new, doors.new) (W.contents writer.old) (W.contents writer.new) result }
-    ensures cause { IfErr result (λ end. HasCause ⊥ (W.failed writer.new) end) }
+    ensures cause { IfErr result (λ end. HasCause ⊥ ⊥ (W.failed writer.new) end) }
 {
     if is_blank(line) {
         return Ok(());

@@ -1,4 +1,5 @@
 use Rattle.std.proofs.Common.{◌≡◌, ◌≤◌, IsSome}
+use Rattle.request_reader.specs.Calls.{AreCalls}
 use Rattle.request_reader.specs.Reading.{work_left}
 use Rattle.arena_script.specs.ScriptLines.{script_lines}
 use Rattle.arena_script.proofs.inputs.next_input.Given as goal
@@ -9,6 +10,7 @@ invariant-loop-lines g l = record {
       IsSome (g.R.Read.remaining l.reader)
       × (script_lines l.initial.lines (g.R.Read.remaining l.initial.reader) ≡ script_lines l.lines (g.R.Read.remaining l.reader));
   work : work_left l.lines ≤ work_left l.initial.lines;
+  calls : AreCalls g.R.Source.called l.initial.lines.turns l.lines.turns l.initial.reader l.reader;
   turns : l.lines.turns ≤ l.initial.lines.turns;
 }
 

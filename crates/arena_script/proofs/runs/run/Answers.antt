@@ -7,6 +7,8 @@ use Rattle.market_config.specs.Lines.{config_in}
 use Rattle.arena_script.specs.ScriptLines.{script_lines, all_lines}
 use Rattle.arena_script.proofs.Answering.{on_ok-map}
 use Rattle.arena_script.proofs.Running.{started, later_part}
+use Rattle.request_reader.specs.declared.turns.TheConstants.{MAX_TURNS}
+use Rattle.arena_script.proofs.Causes.{causes_after}
 use Rattle.arena_script.proofs.runs.run.Goals as goal
 
 pub returns-in-Some-clause-done : goal.returns-in-Some-clause-done
@@ -27,3 +29,8 @@ returns-in-Some-clause-part g c = λ known.
     let lines : all_lines (g.R.Read.remaining c.args.reader.now) ≡ whole c.line.result.now ∷ script_lines c.next_input.new.lines rest = search rules in
     let part = c.take_all.ensures.part (names_of first.0.tenants) (start first.0) first.2 (c.next_input.ensures.known known) in
     rw lines (later_part (config_in c.line.result.now) first.0 first.1 (script_lines c.next_input.new.lines rest) _ _ part)
+
+pub returns-in-Some-clause-cause : goal.returns-in-Some-clause-cause
+returns-in-Some-clause-cause g c =
+    let first = rw c.in_ok-lines.ensures at c.next_input.ensures.calls in
+    causes_after _ g.R.Source.called MAX_TURNS _ _ _ _ _ _ first c.take_all.ensures.cause

@@ -1,5 +1,6 @@
 use Rattle.std.proofs.Common.{[], ◌∙◌, arith}
 use Rattle.request_reader.proofs.Telling.{Reads-then}
+use Rattle.request_reader.proofs.Calling.{one_call, calls_then}
 use Rattle.request_reader.proofs.Work.{lowers-turns}
 use Rattle.request_reader.specs.LineReads.{told_by}
 use Rattle.request_reader.proofs.lines.LineReader.read_on.Goals as goal
@@ -17,5 +18,10 @@ pub loop-self-preserved : goal.loop-self-preserved
 loop-self-preserved g c = record {
   reads = Reads-then c.args.self.now c.loop-self.self c.turn.new.self _ _ _ [] [] c.loop-self.invariant.reads c.in_default-turn.ensures.turns_to.0;
   pending = c.in_default-turn.ensures.turns_to.1;
+  calls = calls_then g.R.Source.called c.args.self.now.turns c.loop-self.self.turns c.turn.new.self.turns _ _ _ c.loop-self.invariant.calls (one_call g.R.Source.called _ _ _ _ c.turn.ensures.turns c.turn.ensures.called);
   unread = λ same. absurd (omega (arith, c.in_default-turn.ensures.turns, c.loop-self.invariant.reads.turns));
 }
+
+pub returns-in-Some-turn-clause-calls : goal.returns-in-Some-turn-clause-calls
+returns-in-Some-turn-clause-calls g c =
+    calls_then g.R.Source.called c.args.self.now.turns c.loop-self.self.turns c.turn.new.self.turns _ _ _ c.loop-self.invariant.calls (one_call g.R.Source.called _ _ _ _ c.turn.ensures.turns c.turn.ensures.called)
