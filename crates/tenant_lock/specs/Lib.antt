@@ -5,3 +5,5 @@ pub mod FaultCodes
 pub mod DoorFields
 pub mod Looks
 pub mod Pauses
+pub mod Sleepers
+pub mod HeldFields

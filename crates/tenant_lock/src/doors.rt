@@ -16,18 +16,23 @@ ghost use Rattle.job_language.specs.declared.errors.Error.TheVariants.{NoMemory}
 use crate::closing::fault_of;
 use crate::counts::{Counts, Tally};
 use crate::faults::CloseFault;
-use crate::held::{Held, News, Turned};
+use crate::held::{Held, Turned};
+use crate::news::{Done, News};
 use crate::stop_flag::StopFlag;
 use crate::waits::{Slots, Waits};
-use job_language::{Answer, Entry, MAX_SLOTS, Reply, Request, TenantConfig};
+use job_language::{Entry, MAX_SLOTS, Reply, Request, TenantConfig};
 use job_step::{Segment, View};
 use market_config::Call;
 use std::alloc::{AllocError, Global};
 use std::array;
 use std::marker::Model;
 use std::sync::atomic::{AtomicU64, Ordering};
-use std::sync::{Condvar, Mutex, Wait};
+use std::sync::{Condvar, Mutex, MutexGuard, Wait};
+use std::thread::yield_now;
 use tenant_record::{Advanced, Arrived, Asked, Pass, Seat, TenantCell, first_seats};
+
+/// How often a thread looks whether the lock is free, and lets others run, before it sleeps for it.
+const LOOKS: u32 = 64;
 
 /// What a door that was closed gives.
 #[derive(Drop)]
@@ -117,13 +122,8 @@ impl TenantDoor {
         ensures placed { GoesWith self.now.tenant (placed_on result.reply) result.pass }
         ensures pending { result.reply ≡ Reply.Pending → (job : ℕ) × (request ≡ Request.Collect job) }
     {
-        let (asked, news) = {
-            let mut held = self.held.lock(rt);
-            let asked = held.ask(self.tenant, seat, request);
-            let news = held.news(asked.reply.is_recorded());
-            (asked, news)
-        };
-        self.tell(news);
+        let done = self.lock(rt).ask(self.tenant, seat, request);
+        let asked = self.tell(done);
         if let Reply::Made(_) | Reply::Placed(..) = asked.reply {
             self.jobs.fetch_add(1, Ordering::SeqCst);
         }
@@ -136,14 +136,8 @@ impl TenantDoor {
     pub fn arrive<R: Wait>(&self, rt: &R, call: Call) -> Arrived
         ensures { ComesWith self.now.tenant call.slot result.came result.pass }
     {
-        let (arrived, news) = {
-            let mut held = self.held.lock(rt);
-            let arrived = held.arrive(self.tenant, call);
-            let news = held.news(Answer::Came(arrived.came).is_entry());
-            (arrived, news)
-        };
-        self.tell(news);
-        arrived
+        let done = self.lock(rt).arrive(self.tenant, call);
+        self.tell(done)
     }
 
     /// Advances the slot of a pass. The pass comes back, unless it went home.
@@ -152,14 +146,8 @@ impl TenantDoor {
         ensures carries { IfSome result.pass (λ q. Carries pass result.moved q) }
         ensures home { is_some result.pass ≡ not (goes_home result.moved) }
     {
-        let (advanced, news) = {
-            let mut held = self.held.lock(rt);
-            let advanced = held.advance(pass);
-            let news = held.news(Answer::Moved(advanced.moved).is_entry());
-            (advanced, news)
-        };
-        self.tell(news);
-        advanced
+        let done = self.lock(rt).advance(pass);
+        self.tell(done)
     }
 
     /// Puts a private run in the place of an advance of the slot of a pass. It is `Stale` if its frame
@@ -169,14 +157,8 @@ impl TenantDoor {
         ensures carries { IfSome result.pass (λ q. Carries pass result.moved q) }
         ensures home { is_some result.pass ≡ not (goes_home result.moved) }
     {
-        let (advanced, news) = {
-            let mut held = self.held.lock(rt);
-            let advanced = held.commit(pass, segment);
-            let news = held.news(Answer::Moved(advanced.moved).is_entry());
-            (advanced, news)
-        };
-        self.tell(news);
-        advanced
+        let done = self.lock(rt).commit(pass, segment);
+        self.tell(done)
     }
 
     /// Advances the slot of a pass as `advance`, and under the same lock looks at the slot: the view is
@@ -188,14 +170,8 @@ impl TenantDoor {
         ensures look { is_some result.height ≡ is_some result.advanced.pass }
         ensures most { IfSome result.height (λ height. height ≤ MAX_HEIGHT) }
     {
-        let (turned, news) = {
-            let mut held = self.held.lock(rt);
-            let turned = held.advance_and_look(pass, view);
-            let news = held.news(Answer::Moved(turned.advanced.moved).is_entry());
-            (turned, news)
-        };
-        self.tell(news);
-        turned
+        let done = self.lock(rt).advance_and_look(pass, view);
+        self.tell(done)
     }
 
     /// Advances the slot of a pass as `advance`, and under the same lock counts the rows on it.
@@ -206,14 +182,8 @@ impl TenantDoor {
         ensures count { is_some result.height ≡ is_some result.advanced.pass }
         ensures most { IfSome result.height (λ height. height ≤ MAX_HEIGHT) }
     {
-        let (turned, news) = {
-            let mut held = self.held.lock(rt);
-            let turned = held.advance_and_count(pass);
-            let news = held.news(Answer::Moved(turned.advanced.moved).is_entry());
-            (turned, news)
-        };
-        self.tell(news);
-        turned
+        let done = self.lock(rt).advance_and_count(pass);
+        self.tell(done)
     }
 
     /// Puts a private run in the place of an advance as `commit`, and under the same lock looks at the
@@ -231,14 +201,8 @@ impl TenantDoor {
         ensures look { is_some result.height ≡ is_some result.advanced.pass }
         ensures most { IfSome result.height (λ height. height ≤ MAX_HEIGHT) }
     {
-        let (turned, news) = {
-            let mut held = self.held.lock(rt);
-            let turned = held.commit_and_look(pass, segment, view);
-            let news = held.news(Answer::Moved(turned.advanced.moved).is_entry());
-            (turned, news)
-        };
-        self.tell(news);
-        turned
+        let done = self.lock(rt).commit_and_look(pass, segment, view);
+        self.tell(done)
     }
 
     /// What is seen of a pass's slot: its topmost frame, if another handle on the frame's program is
@@ -246,7 +210,7 @@ impl TenantDoor {
     pub fn view<R: Wait>(&self, rt: &R, pass: &Pass) -> View
         requires { pass.now.tenant ≡ self.now.tenant }
     {
-        self.held.lock(rt).cell.view(pass)
+        self.lock(rt).cell().view(pass)
     }
 
     /// How many rows are on a pass's slot.
@@ -254,17 +218,17 @@ impl TenantDoor {
         requires { pass.now.tenant ≡ self.now.tenant }
         ensures { result ≤ MAX_HEIGHT }
     {
-        self.held.lock(rt).cell.height(pass)
+        self.lock(rt).cell().height(pass)
     }
 
     /// How much of the tenant's history is used.
     pub fn counts<R: Wait>(&self, rt: &R) -> Counts {
-        self.held.lock(rt).counts()
+        self.lock(rt).counts()
     }
 
     /// How far the tenant's jobs are, and how many of its rows are open.
     pub fn tally<R: Wait>(&self, rt: &R) -> Tally {
-        self.held.lock(rt).tally()
+        self.lock(rt).tally()
     }
 
     /// How many jobs were made at the tenant.
@@ -276,7 +240,7 @@ impl TenantDoor {
     pub fn give_home<R: Wait>(&self, rt: &R, pass: Pass)
         requires { pass.tenant ≡ self.now.tenant }
     {
-        self.held.lock(rt).give_home(pass);
+        self.lock(rt).give_home(pass);
     }
 
     /// Puts a pass home, and under the same lock calls a worker to the lowest slot for workers whose pass
@@ -285,7 +249,7 @@ impl TenantDoor {
     pub fn hand_over<R: Wait>(&self, rt: &R, pass: Pass) -> Option<u8>
         requires { pass.tenant ≡ self.now.tenant }
     {
-        self.held.lock(rt).hand_over(pass)
+        self.lock(rt).hand_over(pass)
     }
 
     /// Waits while an advance of the pass's slot would be idle. It says whether to stop: those who wait were told
@@ -300,7 +264,7 @@ impl TenantDoor {
     pub fn pause_until<R: Wait>(&self, rt: &R, pass: &Pass, stop: &StopFlag) -> bool
         requires { pass.now.tenant ≡ self.now.tenant }
     {
-        let held = self.held.lock(rt);
+        let held = self.lock(rt);
         let Some(at_slot) = self.at_slots.get(usize::from(pass.slot())) else {
             return stop.is_raised() || held.is_over();
         };
@@ -308,7 +272,7 @@ impl TenantDoor {
         let held = at_slot.wait_while(rt, held, |held| {
             let sleeps = !stop.is_raised() && held.sleeps_at(pass);
             if has_slept {
-                held.waiting.count(sleeps);
+                held.count_wake(sleeps);
             }
             has_slept = true;
             sleeps
@@ -318,7 +282,7 @@ impl TenantDoor {
 
     /// How many wait at the tenant's slots, and how often they were woken.
     pub fn waits<R: Wait>(&self, rt: &R) -> Waits {
-        self.held.lock(rt).waiting.waits()
+        self.lock(rt).waits()
     }
 
     /// Waits while a job has no outcome and the history is not full. It says whether those who wait
@@ -333,36 +297,52 @@ impl TenantDoor {
     pub fn pause_for_until<R: Wait>(&self, rt: &R, _seat: &Seat, job: u64, stop: &StopFlag) -> bool
         requires { _seat.now.tenant ≡ self.now.tenant }
     {
-        let mut held = self.held.lock(rt);
-        held.awaited.add(job);
+        let mut held = self.lock(rt);
+        held.wait_for(job);
         let mut held = self.outcomes.wait_while(rt, held, |held| {
             !stop.is_raised() && held.is_job_open(job)
         });
-        held.awaited.remove(job);
-        stop.is_raised() || held.is_stopped
+        let is_stopped = held.end_wait_for(job);
+        stop.is_raised() || is_stopped
     }
 
     /// Wakes all that wait, each to look whether to go on.
     pub fn wake<R: Wait>(&self, rt: &R) {
         // Who looked at its flag before that was raised waits by now, since it looks under the lock.
-        let _held = self.held.lock(rt);
+        let _held = self.lock(rt);
         self.wake_all();
     }
 
     /// Tells all that wait to stop, from now on.
     pub fn stop<R: Wait>(&self, rt: &R) {
-        self.held.lock(rt).is_stopped = true;
+        self.lock(rt).stop();
         self.wake_all();
     }
 
-    /// Wakes who may go on.
-    fn tell(&self, news: News) {
-        if !news.slots.is_empty() {
-            self.wake_at(news.slots);
+    /// Takes the lock. It is held for microseconds, so a thread looks for about as long before it sleeps for it.
+    fn lock<R: Wait>(&self, rt: &R) -> MutexGuard<'_, Held> {
+        for _ in 0..LOOKS {
+            if let Some(held) = self.held.try_lock() {
+                return held;
+            }
+            yield_now();
         }
-        if news.has_outcome {
+        self.held.lock(rt)
+    }
+
+    /// Wakes who may go on after a call, and gives what the call did.
+    fn tell<T>(&self, done: Done<T>) -> T
+        ensures { result ≡ done.answer }
+    {
+        let Done { answer, news } = done;
+        let News { slots, has_outcome } = news;
+        if !slots.is_empty() {
+            self.wake_at(slots);
+        }
+        if has_outcome {
             self.outcomes.notify_all();
         }
+        answer
     }
 
     /// Wakes who waits at these slots.
@@ -396,7 +376,7 @@ impl TenantDoor {
             outcomes: _outcomes,
             jobs: _jobs,
         } = self;
-        let cell = held.into_inner().cell;
+        let cell = held.into_inner().into_cell();
         close(cell, seats.as_slice(), tenant, &config, count)
     }
 }

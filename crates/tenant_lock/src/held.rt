@@ -1,7 +1,8 @@
 // What a tenant's lock keeps, and the calls to which it is lent.
-ghost use Rattle.std.specs.Prelude.{ℕ, ◌≡◌, ◌≢◌, ◌≤◌, ◌||◌, ◌⊎◌, not, true, false, IfSome, Some, None, count_by, length, nat_le, option_map};
+ghost use Rattle.std.specs.Prelude.{ℕ, ◌≡◌, ◌≢◌, ◌<◌, ◌≤◌, ◌||◌, ◌⊎◌, not, true, false, IfSome, Some, None, count_by, length, nat_le, option_map, replicate, slice_set, if◌then◌else◌};
 ghost use Rattle.std.specs.Option.{is_some};
 ghost use Rattle.job_language.specs.declared.answers.Moved.{Moved};
+ghost use Rattle.job_language.specs.declared.tenants.TheConstants.{MAX_SLOTS};
 ghost use Rattle.tenant_model.specs.Advance.{advance};
 ghost use Rattle.tenant_model.specs.Changes.{open_rows};
 ghost use Rattle.tenant_model.specs.Told.{placed_on};
@@ -16,35 +17,42 @@ ghost use Rattle.arena_core.specs.Views.{Commits};
 ghost use Rattle.tenant_lock.specs.Doors.{Carries, ComesWith, has_slot_of};
 ghost use Rattle.tenant_lock.specs.Looks.{IsLook, IsShown};
 ghost use Rattle.tenant_lock.specs.Pauses.{has_to_stop};
+ghost use Rattle.tenant_lock.specs.Sleepers.{AreTold, CanMove, IsIdle};
 ghost use Rattle.std.specs.Prelude.{IsSome};
 ghost use Rattle.job_language.specs.Brought.{job_of};
 
 use crate::awaited::Awaited;
 use crate::counts::{Counts, JobTally, Tally};
 use crate::looks::by_length;
-use crate::waits::{Slots, Waiting};
-use job_language::{Came, Error, MAX_SLOTS, Moved, Reply, Request, Status};
+use crate::news::{Done, is_job_open, is_over, take_news};
+use crate::waits::{Waiting, Waits};
+use job_language::{Answer, Came, Error, Moved, Reply, Request};
 use job_step::{Segment, View};
 use market_config::Call;
+use std::marker::Model;
 use tenant_model::MAX_JOBS;
 use tenant_record::{Advanced, Arrived, Asked, Pass, Seat, TenantCell};
 
 /// A tenant's cell, whether those who wait for it must stop, at which slots they wait, and for which jobs.
+/// By its type, whoever is noted as asleep at a slot has nothing to do there: each call that changes that
+/// names the slot.
 #[derive(Drop)]
 pub(crate) struct Held {
-    pub(crate) cell: TenantCell,
-    pub(crate) is_stopped: bool,
-    pub(crate) waiting: Waiting,
-    pub(crate) awaited: Awaited,
+    cell: TenantCell,
+    is_stopped: bool,
+    waiting: Waiting,
+    awaited: Awaited,
 }
 
-/// Who may go on after a call.
-#[derive(Clone, Copy, PartialEq, Eq)]
-pub(crate) struct News {
-    /// Those who wait at these slots.
-    pub(crate) slots: Slots,
-    /// Whether those too who wait for jobs.
-    pub(crate) has_outcome: bool,
+impl Model for Held {
+    ghost use Rattle.tenant_lock.specs.Sleepers.{HeldData};
+    ghost use Rattle.tenant_lock.specs.HeldFields.{held_data, IsWatched};
+
+    ghost Value = { HeldData };
+
+    ghost view = { held_data };
+
+    ghost invariant = { IsWatched };
 }
 
 /// What a move of a slot came to.
@@ -56,7 +64,12 @@ pub struct Turned {
 }
 
 impl Held {
-    pub(crate) fn new(cell: TenantCell) -> Held {
+    /// A tenant for which nobody waits.
+    pub(crate) fn new(cell: TenantCell) -> Held
+        ensures cell { result.cell ≡ cell }
+        ensures stopped { result.is_stopped ≡ false }
+        ensures noted { result.noted ≡ replicate MAX_SLOTS false }
+    {
         Held {
             cell,
             is_stopped: false,
@@ -67,106 +80,169 @@ impl Held {
 
     /// Answers an ask of a seat of the tenant of that number.
     #[tactic(auto, using(crate::proofs::Asking::memory_of))]
-    pub(crate) fn ask(&mut self, tenant: usize, seat: &mut Seat, request: Request) -> Asked
-        ensures seat { seat.new ≡ asked seat.old request result.reply }
-        ensures memory { result.reply ≡ Reply.Refused Error.NoMemory → IsSome (job_of request) }
-        ensures placed { GoesWith tenant (placed_on result.reply) result.pass }
-        ensures pending { result.reply ≡ Reply.Pending → (job : ℕ) × (request ≡ Request.Collect job) }
-        ensures answer { self.old.cell.tenant ≡ tenant → AnswersAsk self.old.cell seat.old request result.reply self.new.cell }
-        ensures asked { self.old.cell.tenant ≡ tenant → IsAsked self.old.cell seat.old request result.reply result.due result.pass self.new.cell seat.new }
+    pub(crate) fn ask(&mut self, tenant: usize, seat: &mut Seat, request: Request) -> Done<Asked>
+        ensures seat { seat.new ≡ asked seat.old request result.answer.reply }
+        ensures memory { result.answer.reply ≡ Reply.Refused Error.NoMemory → IsSome (job_of request) }
+        ensures placed { GoesWith tenant (placed_on result.answer.reply) result.answer.pass }
+        ensures pending { result.answer.reply ≡ Reply.Pending → (job : ℕ) × (request ≡ Request.Collect job) }
+        ensures answer { self.old.cell.tenant ≡ tenant → AnswersAsk self.old.cell seat.old request result.answer.reply self.new.cell }
+        ensures asked { self.old.cell.tenant ≡ tenant → IsAsked self.old.cell seat.old request result.answer.reply result.answer.due result.answer.pass self.new.cell seat.new }
         ensures kept { self.old.cell.tenant ≢ tenant → self.new ≡ self.old }
         ensures stopped { self.new.is_stopped ≡ self.old.is_stopped }
+        ensures woken { AreTold self.new.cell (has_to_stop self.new.is_stopped self.new.cell) self.old.noted result.news.slots.is_in self.new.noted }
     {
         if self.cell.tenant() != tenant {
-            return Asked {
+            return Done::nothing(Asked {
                 reply: Reply::Refused(Error::NoTenant),
                 due: None,
                 pass: None,
-            };
+            });
         }
-        self.cell.ask(seat, request)
+        let asked = self.cell.ask(seat, request);
+        let has_entered = asked.reply.is_recorded();
+        let news = take_news(
+            &self.cell,
+            self.is_stopped,
+            &mut self.waiting,
+            &self.awaited,
+            has_entered,
+        );
+        Done {
+            answer: asked,
+            news,
+        }
     }
 
     /// Lets a worker arrive at the slot of a call, if that is of the tenant of that number.
-    pub(crate) fn arrive(&mut self, tenant: usize, call: Call) -> Arrived
-        ensures comes { ComesWith tenant call.slot result.came result.pass }
-        ensures answer { call.tenant ≡ tenant → self.old.cell.tenant ≡ tenant → result.came ≡ (arrival self.old.cell call.slot).0 }
-        ensures arrived { call.tenant ≡ tenant → self.old.cell.tenant ≡ tenant → IsArrived self.old.cell call.slot result.came result.due result.pass self.new.cell }
+    pub(crate) fn arrive(&mut self, tenant: usize, call: Call) -> Done<Arrived>
+        ensures comes { ComesWith tenant call.slot result.answer.came result.answer.pass }
+        ensures answer { call.tenant ≡ tenant → self.old.cell.tenant ≡ tenant → result.answer.came ≡ (arrival self.old.cell call.slot).0 }
+        ensures arrived { call.tenant ≡ tenant → self.old.cell.tenant ≡ tenant → IsArrived self.old.cell call.slot result.answer.came result.answer.due result.answer.pass self.new.cell }
         ensures elsewhere { call.tenant ≢ tenant → self.new ≡ self.old }
         ensures stopped { self.new.is_stopped ≡ self.old.is_stopped }
+        ensures woken { AreTold self.new.cell (has_to_stop self.new.is_stopped self.new.cell) self.old.noted result.news.slots.is_in self.new.noted }
     {
         if call.tenant != tenant || self.cell.tenant() != tenant {
-            return Arrived {
+            return Done::nothing(Arrived {
                 came: Came::Nothing,
                 due: None,
                 pass: None,
-            };
+            });
         }
-        self.cell.arrive(call.slot)
+        let arrived = arrive_at(&mut self.cell, call.slot);
+        let has_entered = Answer::Came(arrived.came).is_entry();
+        let news = take_news(
+            &self.cell,
+            self.is_stopped,
+            &mut self.waiting,
+            &self.awaited,
+            has_entered,
+        );
+        Done {
+            answer: arrived,
+            news,
+        }
     }
 
     /// Advances the slot of a pass.
-    pub(crate) fn advance(&mut self, pass: Pass) -> Advanced
-        ensures carries { IfSome result.pass (λ q. Carries pass result.moved q) }
-        ensures home { is_some result.pass ≡ not (goes_home result.moved) }
-        ensures answer { has_slot_of self.old.cell pass ≡ true → result.moved ≡ (advance_within (has_room pass) (state_of self.old.cell) pass.slot).0 }
-        ensures moved { has_slot_of self.old.cell pass ≡ true → IsMoved self.old.cell pass result.moved result.due result.pass self.new.cell }
+    pub(crate) fn advance(&mut self, pass: Pass) -> Done<Advanced>
+        ensures carries { IfSome result.answer.pass (λ q. Carries pass result.answer.moved q) }
+        ensures home { is_some result.answer.pass ≡ not (goes_home result.answer.moved) }
+        ensures answer { has_slot_of self.old.cell pass ≡ true → result.answer.moved ≡ (advance_within (has_room pass) (state_of self.old.cell) pass.slot).0 }
+        ensures moved { has_slot_of self.old.cell pass ≡ true → IsMoved self.old.cell pass result.answer.moved result.answer.due result.answer.pass self.new.cell }
         ensures kept { has_slot_of self.old.cell pass ≡ false → self.new ≡ self.old }
         ensures stopped { self.new.is_stopped ≡ self.old.is_stopped }
+        ensures woken { AreTold self.new.cell (has_to_stop self.new.is_stopped self.new.cell) self.old.noted result.news.slots.is_in self.new.noted }
     {
         if !self.has_slot_of(&pass) {
-            return stale(pass);
+            return Done::nothing(stale(pass));
         }
-        self.cell.advance(pass)
+        let advanced = self.cell.advance(pass);
+        let has_entered = Answer::Moved(advanced.moved).is_entry();
+        let news = take_news(
+            &self.cell,
+            self.is_stopped,
+            &mut self.waiting,
+            &self.awaited,
+            has_entered,
+        );
+        Done {
+            answer: advanced,
+            news,
+        }
     }
 
     /// Puts a private run in the place of an advance of the slot of a pass.
-    pub(crate) fn commit(&mut self, pass: Pass, segment: Segment) -> Advanced
-        ensures carries { IfSome result.pass (λ q. Carries pass result.moved q) }
-        ensures home { is_some result.pass ≡ not (goes_home result.moved) }
-        ensures answer { has_slot_of self.old.cell pass ≡ true → Commits (has_room pass) (state_of self.old.cell) pass.slot segment result.moved (state_of self.new.cell) }
-        ensures moved { has_slot_of self.old.cell pass ≡ true → IsMoved self.old.cell pass result.moved result.due result.pass self.new.cell }
+    pub(crate) fn commit(&mut self, pass: Pass, segment: Segment) -> Done<Advanced>
+        ensures carries { IfSome result.answer.pass (λ q. Carries pass result.answer.moved q) }
+        ensures home { is_some result.answer.pass ≡ not (goes_home result.answer.moved) }
+        ensures answer { has_slot_of self.old.cell pass ≡ true → Commits (has_room pass) (state_of self.old.cell) pass.slot segment result.answer.moved (state_of self.new.cell) }
+        ensures moved { has_slot_of self.old.cell pass ≡ true → IsMoved self.old.cell pass result.answer.moved result.answer.due result.answer.pass self.new.cell }
         ensures kept { has_slot_of self.old.cell pass ≡ false → self.new ≡ self.old }
         ensures stopped { self.new.is_stopped ≡ self.old.is_stopped }
+        ensures woken { AreTold self.new.cell (has_to_stop self.new.is_stopped self.new.cell) self.old.noted result.news.slots.is_in self.new.noted }
     {
         if !self.has_slot_of(&pass) {
-            return stale(pass);
+            return Done::nothing(stale(pass));
         }
-        self.cell.commit(pass, segment)
+        let advanced = self.cell.commit(pass, segment);
+        let has_entered = Answer::Moved(advanced.moved).is_entry();
+        let news = take_news(
+            &self.cell,
+            self.is_stopped,
+            &mut self.waiting,
+            &self.awaited,
+            has_entered,
+        );
+        Done {
+            answer: advanced,
+            news,
+        }
     }
 
     /// Advances the slot of a pass, and looks at it.
-    pub(crate) fn advance_and_look(&mut self, pass: Pass, view: &mut View) -> Turned
-        ensures carries { IfSome result.advanced.pass (λ q. Carries pass result.advanced.moved q) }
-        ensures home { is_some result.advanced.pass ≡ not (goes_home result.advanced.moved) }
-        ensures answer { has_slot_of self.old.cell pass ≡ true → result.advanced.moved ≡ (advance_within (has_room pass) (state_of self.old.cell) pass.slot).0 }
-        ensures moved { has_slot_of self.old.cell pass ≡ true → IsMoved self.old.cell pass result.advanced.moved result.advanced.due result.advanced.pass self.new.cell }
+    pub(crate) fn advance_and_look(&mut self, pass: Pass, view: &mut View) -> Done<Turned>
+        ensures carries { IfSome result.answer.advanced.pass (λ q. Carries pass result.answer.advanced.moved q) }
+        ensures home { is_some result.answer.advanced.pass ≡ not (goes_home result.answer.advanced.moved) }
+        ensures answer { has_slot_of self.old.cell pass ≡ true → result.answer.advanced.moved ≡ (advance_within (has_room pass) (state_of self.old.cell) pass.slot).0 }
+        ensures moved { has_slot_of self.old.cell pass ≡ true → IsMoved self.old.cell pass result.answer.advanced.moved result.answer.advanced.due result.answer.advanced.pass self.new.cell }
         ensures kept { has_slot_of self.old.cell pass ≡ false → self.new ≡ self.old }
         ensures stopped { self.new.is_stopped ≡ self.old.is_stopped }
-        ensures look { IsLook self.new.cell result.advanced.pass view.new result.height }
-        ensures most { IfSome result.height (λ height. height ≤ MAX_HEIGHT) }
+        ensures look { IsLook self.new.cell result.answer.advanced.pass view.new result.answer.height }
+        ensures most { IfSome result.answer.height (λ height. height ≤ MAX_HEIGHT) }
+        ensures woken { AreTold self.new.cell (has_to_stop self.new.is_stopped self.new.cell) self.old.noted result.news.slots.is_in self.new.noted }
     {
-        let advanced = self.advance(pass);
+        let Done {
+            answer: advanced,
+            news,
+        } = self.advance(pass);
         let height = self.look(&advanced.pass, view);
-        Turned { advanced, height }
+        Done {
+            answer: Turned { advanced, height },
+            news,
+        }
     }
 
     /// Advances the slot of a pass, and counts the rows on it.
-    pub(crate) fn advance_and_count(&mut self, pass: Pass) -> Turned
-        ensures carries { IfSome result.advanced.pass (λ q. Carries pass result.advanced.moved q) }
-        ensures home { is_some result.advanced.pass ≡ not (goes_home result.advanced.moved) }
-        ensures answer { has_slot_of self.old.cell pass ≡ true → result.advanced.moved ≡ (advance_within (has_room pass) (state_of self.old.cell) pass.slot).0 }
-        ensures moved { has_slot_of self.old.cell pass ≡ true → IsMoved self.old.cell pass result.advanced.moved result.advanced.due result.advanced.pass self.new.cell }
+    pub(crate) fn advance_and_count(&mut self, pass: Pass) -> Done<Turned>
+        ensures carries { IfSome result.answer.advanced.pass (λ q. Carries pass result.answer.advanced.moved q) }
+        ensures home { is_some result.answer.advanced.pass ≡ not (goes_home result.answer.advanced.moved) }
+        ensures answer { has_slot_of self.old.cell pass ≡ true → result.answer.advanced.moved ≡ (advance_within (has_room pass) (state_of self.old.cell) pass.slot).0 }
+        ensures moved { has_slot_of self.old.cell pass ≡ true → IsMoved self.old.cell pass result.answer.advanced.moved result.answer.advanced.due result.answer.advanced.pass self.new.cell }
         ensures kept { has_slot_of self.old.cell pass ≡ false → self.new ≡ self.old }
         ensures stopped { self.new.is_stopped ≡ self.old.is_stopped }
-        ensures count { result.height ≡ option_map (λ p. height (state_of self.new.cell).rows p.slot) result.advanced.pass }
-        ensures most { IfSome result.height (λ height. height ≤ MAX_HEIGHT) }
+        ensures count { result.answer.height ≡ option_map (λ p. height (state_of self.new.cell).rows p.slot) result.answer.advanced.pass }
+        ensures most { IfSome result.answer.height (λ height. height ≤ MAX_HEIGHT) }
+        ensures woken { AreTold self.new.cell (has_to_stop self.new.is_stopped self.new.cell) self.old.noted result.news.slots.is_in self.new.noted }
     {
-        let moved = self.advance(pass);
-        let height = self.rows_on(&moved.pass);
-        Turned {
-            advanced: moved,
-            height,
+        let Done {
+            answer: advanced,
+            news,
+        } = self.advance(pass);
+        let height = self.rows_on(&advanced.pass);
+        Done {
+            answer: Turned { advanced, height },
+            news,
         }
     }
 
@@ -187,19 +263,26 @@ impl Held {
         pass: Pass,
         segment: Segment,
         view: &mut View,
-    ) -> Turned
-        ensures carries { IfSome result.advanced.pass (λ q. Carries pass result.advanced.moved q) }
-        ensures home { is_some result.advanced.pass ≡ not (goes_home result.advanced.moved) }
-        ensures answer { has_slot_of self.old.cell pass ≡ true → Commits (has_room pass) (state_of self.old.cell) pass.slot segment result.advanced.moved (state_of self.new.cell) }
-        ensures moved { has_slot_of self.old.cell pass ≡ true → IsMoved self.old.cell pass result.advanced.moved result.advanced.due result.advanced.pass self.new.cell }
+    ) -> Done<Turned>
+        ensures carries { IfSome result.answer.advanced.pass (λ q. Carries pass result.answer.advanced.moved q) }
+        ensures home { is_some result.answer.advanced.pass ≡ not (goes_home result.answer.advanced.moved) }
+        ensures answer { has_slot_of self.old.cell pass ≡ true → Commits (has_room pass) (state_of self.old.cell) pass.slot segment result.answer.advanced.moved (state_of self.new.cell) }
+        ensures moved { has_slot_of self.old.cell pass ≡ true → IsMoved self.old.cell pass result.answer.advanced.moved result.answer.advanced.due result.answer.advanced.pass self.new.cell }
         ensures kept { has_slot_of self.old.cell pass ≡ false → self.new ≡ self.old }
         ensures stopped { self.new.is_stopped ≡ self.old.is_stopped }
-        ensures look { IsLook self.new.cell result.advanced.pass view.new result.height }
-        ensures most { IfSome result.height (λ height. height ≤ MAX_HEIGHT) }
+        ensures look { IsLook self.new.cell result.answer.advanced.pass view.new result.answer.height }
+        ensures most { IfSome result.answer.height (λ height. height ≤ MAX_HEIGHT) }
+        ensures woken { AreTold self.new.cell (has_to_stop self.new.is_stopped self.new.cell) self.old.noted result.news.slots.is_in self.new.noted }
     {
-        let advanced = self.commit(pass, segment);
+        let Done {
+            answer: advanced,
+            news,
+        } = self.commit(pass, segment);
         let height = self.look(&advanced.pass, view);
-        Turned { advanced, height }
+        Done {
+            answer: Turned { advanced, height },
+            news,
+        }
     }
 
     /// Shows the slot of a pass, if there is one, and gives how many rows are on it.
@@ -252,16 +335,17 @@ impl Held {
 
     /// Whether the slot of a pass is one of the cell's.
     fn has_slot_of(&self, pass: &Pass) -> bool
-        ensures { result ≡ has_slot_of self.now.cell pass.now }
+        ensures value { result ≡ has_slot_of self.now.cell pass.now }
+        ensures few { result ≡ true → pass.now.slot < MAX_SLOTS }
     {
         pass.tenant() == self.cell.tenant() && pass.slot() < self.cell.config().slots
     }
 
     /// Whether those who wait for the tenant have to stop: they were told to, or its history is full.
     pub(crate) fn is_over(&self) -> bool
-        ensures { result ≡ (self.now.is_stopped || nat_le self.now.cell.config.steps (length self.now.cell.history)) }
+        ensures { result ≡ has_to_stop self.now.is_stopped self.now.cell }
     {
-        self.is_stopped || self.cell.config().steps <= self.cell.history().len()
+        is_over(&self.cell, self.is_stopped)
     }
 
     /// How much of the history is used.
@@ -299,84 +383,99 @@ impl Held {
         jobs
     }
 
-    /// Who may go on after a call that made an entry, or none. Who is told at a slot is forgotten there: it looks
-    /// again, and is noted again if it has to sleep.
-    pub(crate) fn news(&mut self, has_entered: bool) -> News
-        ensures cell { self.new.cell ≡ self.old.cell }
-        ensures stopped { self.new.is_stopped ≡ self.old.is_stopped }
-    {
-        if !has_entered {
-            return News {
-                slots: Slots::none(),
-                has_outcome: false,
-            };
-        }
-        let slots = self.movers();
-        self.waiting.tell(slots);
-        News {
-            slots,
-            has_outcome: self.has_outcome(),
-        }
-    }
-
-    /// The slots at which somebody sleeps, and which can move now.
-    fn movers(&self) -> Slots {
-        let noted = self.waiting.noted();
-        let mut movers = Slots::none();
-        if noted.is_empty() {
-            return movers;
-        }
-        for slot in 0..MAX_SLOTS {
-            if noted.has(slot) && !self.is_idle(slot) {
-                movers.add(slot);
-            }
-        }
-        movers
-    }
-
-    /// Whether one of those who wait for a job may have nothing to wait for any more.
-    fn has_outcome(&self) -> bool {
-        if self.awaited.is_empty() {
-            return false;
-        }
-        let jobs = self.awaited.jobs();
-        self.awaited.has_others() || jobs.iter().any(|noted| self.is_done(*noted))
-    }
-
-    /// Whether a job is named for which nobody has to wait.
-    fn is_done(&self, noted: Option<u64>) -> bool {
-        match noted {
-            Some(job) => !self.is_job_open(job),
-            None => false,
-        }
-    }
-
     /// Whether a job is there without an outcome, and nobody has to stop.
     pub(crate) fn is_job_open(&self, job: u64) -> bool {
-        !self.is_over() && matches!(self.cell.status(job), Some(Status::Running))
+        is_job_open(&self.cell, self.is_stopped, job)
+    }
+
+    /// Notes that somebody waits for a job.
+    pub(crate) fn wait_for(&mut self, job: u64)
+        ensures { self.new ≡ self.old }
+    {
+        self.awaited.add(job);
+    }
+
+    /// Forgets one who waited for a job, and says whether those who wait were told to stop.
+    pub(crate) fn end_wait_for(&mut self, job: u64) -> bool
+        ensures stopped { result ≡ self.old.is_stopped }
+        ensures kept { self.new ≡ self.old }
+    {
+        self.awaited.remove(job);
+        self.is_stopped
+    }
+
+    /// Tells all that wait to stop, from now on: nobody is noted at a slot any more.
+    pub(crate) fn stop(&mut self)
+        ensures stopped { self.new.is_stopped ≡ true }
+        ensures cell { self.new.cell ≡ self.old.cell }
+        ensures noted { self.new.noted ≡ replicate MAX_SLOTS false }
+    {
+        self.is_stopped = true;
+        self.waiting.tell_all();
     }
 
     /// Whether an advance of a slot would be idle, and nobody has to stop.
     pub(crate) fn is_idle(&self, slot: u8) -> bool
-        ensures waits { result ≡ true → (has_to_stop self.now.is_stopped self.now.cell ≡ false) × ((advance (state_of self.now.cell) slot).0 ≡ Moved.Idle) }
-        ensures goes { result ≡ false → (has_to_stop self.now.is_stopped self.now.cell ≡ true) ⊎ ((advance (state_of self.now.cell) slot).0 ≢ Moved.Idle) }
+        ensures waits { result ≡ true → IsIdle self.now.cell (has_to_stop self.now.is_stopped self.now.cell) slot }
+        ensures goes { result ≡ false → CanMove self.now.cell (has_to_stop self.now.is_stopped self.now.cell) slot }
     {
         !self.is_over() && self.cell.is_idle(slot)
     }
 
     /// Notes who has to sleep at the slot of a pass, if that is one of the cell's, and says whether to sleep.
     pub(crate) fn sleeps_at(&mut self, pass: &Pass) -> bool
-        ensures waits { result ≡ true → (has_to_stop self.old.is_stopped self.old.cell ≡ false) × ((advance (state_of self.old.cell) pass.now.slot).0 ≡ Moved.Idle) }
-        ensures goes { result ≡ false → has_slot_of self.old.cell pass.now ≡ true → (has_to_stop self.old.is_stopped self.old.cell ≡ true) ⊎ ((advance (state_of self.old.cell) pass.now.slot).0 ≢ Moved.Idle) }
-        ensures cell { self.new.cell ≡ self.old.cell }
-        ensures stopped { self.new.is_stopped ≡ self.old.is_stopped }
+        ensures waits { result ≡ true → IsIdle self.old.cell (has_to_stop self.old.is_stopped self.old.cell) pass.now.slot }
+        ensures goes { result ≡ false → has_slot_of self.old.cell pass.now ≡ true → CanMove self.old.cell (has_to_stop self.old.is_stopped self.old.cell) pass.now.slot }
+        ensures noted { self.new ≡ record self.old { noted = if result then slice_set self.old.noted pass.now.slot true else self.old.noted } }
     {
-        let sleeps = self.has_slot_of(pass) && self.is_idle(pass.slot());
+        let slot = pass.slot();
+        let sleeps = self.has_slot_of(pass) && self.is_idle(slot);
         if sleeps {
-            self.waiting.note(pass.slot());
+            self.waiting.note(slot);
         }
         sleeps
     }
+
+    /// Counts that somebody who slept at a slot was woken, and whether it sleeps again.
+    pub(crate) fn count_wake(&mut self, sleeps_again: bool)
+        ensures { self.new ≡ self.old }
+    {
+        self.waiting.count(sleeps_again);
+    }
+
+    /// How many sleep at the slots, and how often they were woken.
+    pub(crate) fn waits(&self) -> Waits {
+        self.waiting.waits()
+    }
+
+    /// What is seen of a pass's slot, and how many rows are on it, are the cell's.
+    pub(crate) fn cell(&self) -> &TenantCell
+        ensures { result.now ≡ self.now.cell }
+    {
+        &self.cell
+    }
+
+    /// The cell, when nobody waits any more.
+    pub(crate) fn into_cell(self) -> TenantCell
+        ensures { result ≡ self.cell }
+    {
+        let Held {
+            cell,
+            is_stopped: _,
+            waiting: _waiting,
+            awaited: _awaited,
+        } = self;
+        cell
+    }
+}
+
+/// Lets a worker arrive at a slot of a cell.
+fn arrive_at(cell: &mut TenantCell, slot: u8) -> Arrived
+    ensures comes { ComesWith cell.old.tenant slot result.came result.pass }
+    ensures answer { result.came ≡ (arrival cell.old slot).0 }
+    ensures arrived { IsArrived cell.old slot result.came result.due result.pass cell.new }
+{
+    cell.arrive(slot)
 }
 
 /// Nothing was done for a pass.

@@ -8,6 +8,7 @@ mod doors;
 mod faults;
 mod held;
 mod looks;
+mod news;
 mod seat_logs;
 mod stop_flag;
 mod waits;

@@ -1,38 +1,65 @@
 // Who waits at which slots.
+ghost use Rattle.std.specs.Prelude.{ℕ, ◌≡◌, ◌<◌, false, true, replicate, slice_set};
+ghost use Rattle.job_language.specs.declared.tenants.TheConstants.{MAX_SLOTS};
+ghost use Rattle.tenant_lock.specs.Sleepers.{AreTold, CanMove, IsIdle, is_in};
 
-/// Slots of a tenant: a bit for each.
+use job_language::MAX_SLOTS;
+use tenant_record::TenantCell;
+
+/// Slots of a tenant.
 #[derive(Clone, Copy, Debug, PartialEq, Eq)]
-pub(crate) struct Slots(u16);
+pub(crate) struct Slots {
+    /// Of each slot whether it is one of them.
+    is_in: [bool; MAX_SLOTS as usize],
+}
 
 impl Slots {
     /// No slot.
-    pub(crate) fn none() -> Slots {
-        Slots(0)
+    pub(crate) fn none() -> Slots
+        ensures { result.is_in ≡ replicate MAX_SLOTS false }
+    {
+        Slots {
+            is_in: [false; MAX_SLOTS as usize],
+        }
     }
 
     /// Whether there is none.
-    pub(crate) fn is_empty(self) -> bool {
-        self.0 == 0
+    pub(crate) fn is_empty(self) -> bool
+        ensures { result ≡ true → self.is_in ≡ replicate MAX_SLOTS false }
+    {
+        self.is_in == [false; MAX_SLOTS as usize]
+    }
+
+    /// How many there are.
+    fn len(self) -> usize {
+        self.is_in.iter().filter(|is_in| **is_in).count()
     }
 
     /// Whether a slot is among them.
-    pub(crate) fn has(self, slot: u8) -> bool {
-        self.0 & bit(slot) != 0
+    pub(crate) fn has(self, slot: u8) -> bool
+        ensures { result ≡ is_in self.is_in slot }
+    {
+        match self.is_in.get(usize::from(slot)) {
+            Some(is_in) => *is_in,
+            None => false,
+        }
     }
 
     /// Adds a slot.
-    pub(crate) fn add(&mut self, slot: u8) {
-        self.0 |= bit(slot);
+    pub(crate) fn add(&mut self, slot: u8)
+        requires { slot < MAX_SLOTS }
+        ensures { self.new.is_in ≡ slice_set self.old.is_in slot true }
+    {
+        self.is_in[usize::from(slot)] = true;
     }
 
-    /// Takes slots out.
-    pub(crate) fn remove(&mut self, others: Slots) {
-        self.0 &= !others.0;
+    /// Takes a slot out.
+    pub(crate) fn remove(&mut self, slot: u8)
+        requires { slot < MAX_SLOTS }
+        ensures { self.new.is_in ≡ slice_set self.old.is_in slot false }
+    {
+        self.is_in[usize::from(slot)] = false;
     }
-}
-
-fn bit(slot: u8) -> u16 {
-    1u16.wrapping_shl(u32::from(slot))
 }
 
 /// The waits at a tenant's slots.
@@ -40,7 +67,7 @@ fn bit(slot: u8) -> u16 {
 pub struct Waits {
     /// How many slots there are at which somebody may sleep. Who left off waiting for another reason than that the
     /// slot can move is counted until it can.
-    pub asleep: u32,
+    pub asleep: usize,
     /// How often somebody was woken who slept at a slot.
     pub wakes: u64,
     /// How often such a one then found that the slot was idle, and slept again.
@@ -57,7 +84,10 @@ pub(crate) struct Waiting {
 }
 
 impl Waiting {
-    pub(crate) fn new() -> Waiting {
+    /// Nobody waits.
+    pub(crate) fn new() -> Waiting
+        ensures { result.noted.is_in ≡ replicate MAX_SLOTS false }
+    {
         Waiting {
             noted: Slots::none(),
             wakes: 0,
@@ -65,32 +95,68 @@ impl Waiting {
         }
     }
 
-    /// The slots at which somebody may sleep who was not told to look again.
-    pub(crate) fn noted(&self) -> Slots {
-        self.noted
-    }
-
     /// Notes that somebody is about to sleep at a slot.
-    pub(crate) fn note(&mut self, slot: u8) {
+    pub(crate) fn note(&mut self, slot: u8)
+        requires { slot < MAX_SLOTS }
+        ensures { self.new.noted.is_in ≡ slice_set self.old.noted.is_in slot true }
+    {
         self.noted.add(slot);
     }
 
-    /// Forgets who sleeps at these slots, since all of them are woken.
-    pub(crate) fn tell(&mut self, slots: Slots) {
-        self.noted.remove(slots);
+    /// Forgets the slots at which nobody has to sleep any more, and names them, so that who sleeps there is woken: all
+    /// if everybody has to stop, else those that can move.
+    pub(crate) fn tell(&mut self, cell: &TenantCell, is_over: bool) -> Slots
+        ensures { AreTold cell.now is_over self.old.noted.is_in result.is_in self.new.noted.is_in }
+    {
+        if self.noted.is_empty() {
+            return Slots::none();
+        }
+        take_movers(&mut self.noted, cell, is_over)
+    }
+
+    /// Forgets all slots, since all who sleep are woken.
+    pub(crate) fn tell_all(&mut self)
+        ensures { self.new.noted.is_in ≡ replicate MAX_SLOTS false }
+    {
+        self.noted = Slots::none();
     }
 
     /// Counts that somebody who slept was woken, and whether it sleeps again.
-    pub(crate) fn count(&mut self, sleeps_again: bool) {
+    pub(crate) fn count(&mut self, sleeps_again: bool)
+        ensures { self.new.noted ≡ self.old.noted }
+    {
         self.wakes = self.wakes.saturating_add(1);
         self.idle_wakes = self.idle_wakes.saturating_add(u64::from(sleeps_again));
     }
 
+    /// How many sleep, and how often they were woken.
     pub(crate) fn waits(&self) -> Waits {
         Waits {
-            asleep: self.noted.0.count_ones(),
+            asleep: self.noted.len(),
             wakes: self.wakes,
             idle_wakes: self.idle_wakes,
         }
     }
+}
+
+/// Takes out the slots at which there is something to do, and gives them.
+fn take_movers(noted: &mut Slots, cell: &TenantCell, is_over: bool) -> Slots
+    ensures { AreTold cell.now is_over noted.old.is_in result.is_in noted.new.is_in }
+{
+    let mut named = Slots::none();
+    for slot in 0..MAX_SLOTS {
+        if noted.has(slot) && can_move(cell, is_over, slot) {
+            noted.remove(slot);
+            named.add(slot);
+        }
+    }
+    named
+}
+
+/// Whether there is something to do at a slot, if only to stop.
+fn can_move(cell: &TenantCell, is_over: bool, slot: u8) -> bool
+    ensures moves { result ≡ true → CanMove cell.now is_over slot }
+    ensures waits { result ≡ false → IsIdle cell.now is_over slot }
+{
+    is_over || !cell.is_idle(slot)
 }

@@ -1,0 +1,30 @@
+-- What a tenant's lock keeps, and who sleeps at its slots.
+use Rattle.std.specs.Prelude.{ℕ, ◌≡◌, ◌≢◌, ◌⊎◌, ◌&&◌, ◌||◌, Bool, true, false, List, slice_index_or}
+use Rattle.job_language.specs.declared.answers.Moved.TheVariants.{Idle}
+use Rattle.tenant_model.specs.Advance.{advance}
+use Rattle.tenant_record.specs.Cell.{CellData, state_of}
+
+-- The tenant's cell, whether those who wait for it were told to stop, and at which slots somebody may sleep who was not told to look again.
+pub record HeldData : Type 0 where
+  pub cell : CellData
+  pub is_stopped : Bool
+  pub noted : List Bool
+
+-- Is the slot one of these?
+abbrev pub is_in : List Bool → ℕ → Bool
+is_in slots slot = slice_index_or slots slot false
+
+-- There is nothing to do at the slot: nobody has to stop, and an advance would be idle.
+abbrev pub IsIdle : CellData → (is_over : Bool) → ℕ → Type 0
+IsIdle c is_over slot = (is_over ≡ false) × ((advance (state_of c) slot).0 ≡ Idle)
+
+-- There is something to do at the slot, if only to stop.
+abbrev pub CanMove : CellData → (is_over : Bool) → ℕ → Type 0
+CanMove c is_over slot = (is_over ≡ true) ⊎ ((advance (state_of c) slot).0 ≢ Idle)
+
+-- Of the slots that were noted, those are named at which there is something to do, and no others; those with nothing to do are left.
+pub record AreTold (c : CellData) (is_over : Bool) (noted named left : List Bool) : Type 0 where
+  pub each : (slot : ℕ) → is_in noted slot ≡ (is_in named slot || is_in left slot)
+  pub once : (slot : ℕ) → (is_in named slot && is_in left slot) ≡ false
+  pub move : (slot : ℕ) → is_in named slot ≡ true → CanMove c is_over slot
+  pub sleep : (slot : ℕ) → is_in left slot ≡ true → IsIdle c is_over slot
