@@ -46,7 +46,8 @@ class Running:
         self.folder = tempfile.TemporaryDirectory()
         there = pathlib.Path(self.folder.name)
         self.socket = there / "socket"
-        tenants = [{"name": it, "priority": "normal", "reserved": 1, "rows": 200, "slots": 2, "steps": 262_144} for it in self.names]
+        steps = 1_048_576 if len(self.names) == 1 else 262_144  # one connection alone is fast
+        tenants = [{"name": it, "priority": "normal", "reserved": 1, "rows": 200, "slots": 2, "steps": steps} for it in self.names]
         (there / "config.json").write_text(json.dumps({"tenants": tenants, "workers": WORKERS}))
         where = ["--run", there, "--rotate-at", 100] if self.program == "arena-host" else ["--socket", self.socket]
         command = [path_of(self.program), "--config", there / "config.json", *where, "--connections", CONNECTIONS]
