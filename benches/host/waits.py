@@ -29,8 +29,6 @@ EVERY = 0.003  # seconds between two small jobs
 COUNTING = [[["set", 2, 1], ["jz", 0, 6], ["sub", 0, 0, 2], ["add", 1, 1, 2], ["lt", 3, 1, 0], ["jmp", 1], ["ret", 1]]]
 LARGE = {"args": [150_000, 0], "fuel": 1_000_000, "procs": COUNTING}     # 750,003 instructions
 SMALL = {"args": [7, 0], "fuel": 10, "procs": [[["ret", 0]]]}
-
-
 Flag = c_byte  # that processes share
 
 
