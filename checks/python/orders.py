@@ -31,7 +31,7 @@ def hosts_are_stopped(it):
         it.call("stop", host.path, out=re.compile(rf"{host.path}: the host has ended, {SECONDS}\n"), how=stopped)
         it.call("stop", host.path, status=11, err=f"^arena: {host.path}: no arena-host runs here\n$")
     with FakeHost() as host:
-        it.call("stop", host.path, "--json", out=re.compile(r'\{"another":false,"ended":true,"seconds":0\.\d+\}\n'),
+        it.call("stop", host.path, "--json", out=re.compile(r'\{"another":false,"ended":true,"seconds":\d+\.\d+\}\n'),
                 how=arena_process)
     with FakeHost(again=True) as host:
         it.call("stop", host.path, out=re.compile(rf".*: the host has ended, {SECONDS}; another one runs there now\n"))
@@ -53,18 +53,18 @@ def hosts_are_rotated(it):
         it.call("rotate", host.path, out=re.compile(rf"{host.path}: generation 6 serves after generation 5, {SECONDS}\n"))
         assert not os.path.exists(host.file("rotate"))
         assert [one["state"] for one in host.open] == ["draining", "serving"]
-        it.call("rotate", host.path, "--json", out=re.compile(r'\{"generation":7,"left":6,"seconds":0\.\d+\}\n'))
+        it.call("rotate", host.path, "--json", out=re.compile(r'\{"generation":7,"left":6,"seconds":\d+\.\d+\}\n'))
     with FakeHost(deaf=True) as host:
         for _ in range(2):  # the second time the order is there already
             it.call("rotate", host.path, "--wait", "0", status=7, err=r"/rotate: the host has not taken the order within "
                     r"0 s; remove the file to take the order back\n$")
             assert os.path.exists(host.file("rotate"))
     with FakeHost(stuck=True) as host:
-        it.call("rotate", host.path, "--wait", "0.2", status=7, err="the host took the order, and generation 5 still "
-                "serves after 0.2 s; its standard error says why, .*`arena lint`")
+        it.call("rotate", host.path, "--wait", "1", status=7, err="the host took the order, and generation 5 still "
+                "serves after 1 s; its standard error says why, .*`arena lint`")
         host.open.clear()
         host.tell()
-        it.call("rotate", host.path, "--wait", "0.2", status=7, err="took the order, and no generation serves after 0.2 s")
+        it.call("rotate", host.path, "--wait", "1", status=7, err="took the order, and no generation serves after 1 s")
 
 
 def rotations_by_others_are_not_taken_for_it(it):
