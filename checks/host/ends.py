@@ -3,7 +3,7 @@ import os
 import random
 import time
 
-from hosts import Host, Load, ask, by_deadline, dump_lines, dumps, fib, hang_up, is_at_end, tenant
+from hosts import MOST_ALIVE, Host, Load, ask, by_deadline, dump_lines, dumps, fib, hang_up, is_at_end, rotate, tenant
 
 
 def stop_under_load():
@@ -64,4 +64,51 @@ def a_folder_that_takes_no_dumps():
     assert dumps(host, "acme")[-1] == 1
 
 
-CHECKS = [stop_under_load, stop_while_two_generations_live, kills_at_drawn_moments, a_folder_that_takes_no_dumps]
+def held():
+    """A host that can't write its dumps, once as many generations are there as may be, and a load that fills the last one's
+    history."""
+    host = Host([tenant("acme", steps=400)], "--connections", 4, "--patience", 600, "--keep", 3)
+    os.rename(host.path("dumps"), host.path("gone"))
+    for number in range(1, MOST_ALIVE):
+        rotate(host, number)
+    load = Load(host, 4)
+    by_deadline(lambda: host.told("waiting"))
+    return host, load
+
+
+def as_many_generations_as_may_be():
+    """While no dump can be written, the next generation waits, for which the host gives one line, and the one that serves
+    goes on until its history is full. Then the host catches up, and rotates again. A session whose own slot can run nothing
+    when the history becomes full ends without a reply."""
+    host, load = held()
+    by_deadline(lambda: load.replies["full"] >= 3)
+    open(host.path("rotate"), "w").close()
+    by_deadline(lambda: len(host.status()["generations"]) == MOST_ALIVE)
+    time.sleep(1)
+    assert [it["generation"] for it in host.told("opened")] == list(range(MOST_ALIVE)) and not host.told("closed")
+    [waiting] = host.told("waiting")
+    assert waiting == {"time": waiting["time"], "event": "waiting", "generation": MOST_ALIVE - 1, "why": "history"}, waiting
+    os.rename(host.path("gone"), host.path("dumps"))
+    by_deadline(lambda: len(host.told("opened")) > MOST_ALIVE + 2)
+    replies = load.end()
+    by_deadline(lambda: not os.path.exists(host.path("rotate")))
+    assert {"right", "full"} <= set(replies) <= {"right", "full", "None"}, replies
+    assert host.stop() == 0
+    numbers = [it["generation"] for it in host.told("opened")]
+    assert sorted(host.closed()["acme"]) == numbers and dumps(host, "acme") == numbers[-3:]
+
+
+def stop_while_the_next_one_waits():
+    """The order to stop does not wait, and all generations are closed."""
+    host, load = held()
+    os.unlink(host.path("socket"))
+    by_deadline(lambda: host.told("stop"))
+    load.end()
+    os.rename(host.path("gone"), host.path("dumps"))
+    assert host.ended() == 0
+    assert sorted(host.closed()["acme"]) == [it["generation"] for it in host.told("opened")] == list(range(MOST_ALIVE))
+    assert dumps(host, "acme") == list(range(MOST_ALIVE))[-3:]
+
+
+CHECKS = [stop_under_load, stop_while_two_generations_live, kills_at_drawn_moments, a_folder_that_takes_no_dumps,
+          as_many_generations_as_may_be, stop_while_the_next_one_waits]

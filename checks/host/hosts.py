@@ -20,6 +20,8 @@ SCRIPT = os.path.abspath("crates/script_program/out/script_program")
 FIB = [[["set", 2, 2], ["lt", 3, 0, 2], ["jz", 3, 4], ["ret", 0], ["set", 2, 1], ["sub", 3, 0, 2], ["spawn", 0, 0, 3, 1],
         ["sub", 3, 3, 2], ["spawn", 0, 0, 3, 1], ["wait", 4, 5, 0], ["ret", 4]]]
 FULL = {"code": 8, "error": "history_full"}
+# How many generations are there at most, as docs/HOST.md says.
+MOST_ALIVE = 16
 
 
 def fib(n):
@@ -140,6 +142,12 @@ def dumps(host, name):
     """The numbers of the generations of which a tenant's dump is there."""
     paths = glob.glob(host.path("dumps", f"{name}.*.jsonl"))
     return sorted(int(path.split(".")[-2]) for path in paths)
+
+
+def rotate(host, number):
+    """Asks for a generation, and waits until it takes all connections."""
+    open(host.path("rotate"), "w").close()
+    by_deadline(lambda: host.told("opened", generation=number) and host.told("draining", generation=number - 1))
 
 
 def ask(connection, request):

@@ -2,7 +2,7 @@
 import os
 import time
 
-from hosts import Host, Load, ask, by_deadline, dumps, fib, hang_up, is_at_end, tenant
+from hosts import Host, Load, ask, by_deadline, dumps, fib, hang_up, is_at_end, rotate, tenant
 
 
 def serving(host):
@@ -92,6 +92,38 @@ def the_newest_dumps_are_kept():
     assert dumps(host, "acme") == [3, 4]
 
 
+def the_newest_dumps_are_kept_in_any_order():
+    """Generations that are closed out of order leave the newest dumps as well: one that is written late goes at once. So
+    does the oldest one of a tenant that was away, and what is too many at a start."""
+    host = Host([tenant("acme"), tenant("beta")], "--keep", 2, "--patience", 600)
+    clients = {0: host.connect()}
+    for number in range(1, 5):
+        if number == 2:
+            host.configure([tenant("acme")])
+        rotate(host, number)
+        if number == 2:
+            clients[number] = host.connect()
+    host.configure([tenant("acme"), tenant("beta")])
+    rotate(host, 5)
+    by_deadline(lambda: all(host.told("closed", generation=number) for number in (1, 3, 4)))
+    assert (dumps(host, "acme"), dumps(host, "beta")) == ([3, 4], [1])
+    for number in (2, 0):
+        hang_up(clients[number])
+        by_deadline(lambda: host.told("closed", generation=number))
+        assert dumps(host, "acme") == [3, 4]
+    assert dumps(host, "beta") == [0, 1]
+    assert [it["generation"] for it in host.told("closed")][-2:] == [2, 0]
+    rotate(host, 6)
+    by_deadline(lambda: host.told("closed", generation=5))
+    assert (dumps(host, "acme"), dumps(host, "beta")) == ([4, 5], [1, 5])
+    assert host.stop() == 0
+    assert (dumps(host, "acme"), dumps(host, "beta")) == ([5, 6], [5, 6])
+    host = Host([tenant("acme")], "--keep", 1, after=host)
+    assert (dumps(host, "acme"), dumps(host, "beta")) == ([6], [6])
+    assert host.stop() == 0
+    assert (dumps(host, "acme"), dumps(host, "beta")) == ([7], [6])
+
+
 def shown(host, jobs):
     """The status, once its first tenant has made so many jobs."""
     status = host.status()
@@ -126,4 +158,4 @@ def what_it_shows():
 
 
 CHECKS = [three_by_history, one_by_file, the_old_one_goes_on, a_configuration_that_cannot_be_read,
-          the_newest_dumps_are_kept, what_it_shows]
+          the_newest_dumps_are_kept, the_newest_dumps_are_kept_in_any_order, what_it_shows]

@@ -1,8 +1,9 @@
 #!/usr/bin/env python3
 """Lets a host of 64 tenants with 32 workers serve more clients than it has places, minute after minute: clients come,
 ask at random and go, some in the midst of a wait, and files ask for rotations beside those that histories bring about.
-Replies are compared with what the jobs give under any schedule. No generation that serves may have a full history, each
-tenant of each generation must close, and each dump that is kept must be whole.
+Replies are compared with what the jobs give under any schedule. No generation that serves may have a full history, unless
+the host said that its rotation waits; no more may be there than its page says; each tenant of each generation must close;
+the newest dumps of each tenant must be kept, and whole.
 
 usage: checks/host/soak.py [MINUTES], at the top of the repository, after `rt ci`. It runs for ten minutes if none are
 said, prints what it has seen, and ends with a status other than 0 at the first thing that is not as it must be.
@@ -15,7 +16,7 @@ import sys
 import threading
 import time
 
-from hosts import Host, ask, dump_lines, hang_up
+from hosts import MOST_ALIVE, Host, ask, dump_lines, dumps, hang_up
 
 os.environ["MALLOC_MMAP_THRESHOLD_"] = "16384"  # as docs/HOST.md says, Memory
 sys.path.append(str(pathlib.Path(__file__).resolve().parents[1] / "server"))
@@ -23,6 +24,7 @@ from stress import JOBS, MAY_FAIL, TENANTS, WORKERS, tenant_config  # noqa: E402
 
 CLIENTS = 96
 PLACES = 64
+KEEP = 2
 
 
 class Soak:
@@ -33,7 +35,7 @@ class Soak:
         dice = random.Random(3)
         tenants = [{**tenant_config(number, dice), "steps": dice.choice([5_000, 20_000, 100_000])} for number in range(TENANTS)]
         self.names = [it["name"] for it in tenants]
-        self.host = Host(tenants, "--connections", PLACES, "--patience", 5, "--keep", 2, workers=WORKERS)
+        self.host = Host(tenants, "--connections", PLACES, "--patience", 5, "--keep", KEEP, workers=WORKERS)
         self.seen = collections.Counter()
         self.most = collections.Counter()
         self.wrong = []
@@ -95,10 +97,14 @@ class Soak:
                     full = 100 * tenant["entries"] // tenant["steps"]
                     if generation["state"] == "serving":
                         self.most["per cent of a serving history"] = max(self.most["per cent of a serving history"], full)
-                    if generation["state"] == "serving" and full >= 100:
+                    if generation["state"] == "serving" and full >= 100 and not self.waits(generation["generation"]):
                         self.wrong.append(("full while it serves", tenant))
             if dice.random() < 0.02:
                 open(self.host.path("rotate"), "w").close()
+
+    def waits(self, number):
+        """Whether the host said that the generation of that number serves until there is room for the next one."""
+        return bool(self.host.told("waiting", generation=number))
 
     def run(self):
         threads = [threading.Thread(target=self.client, args=(number,), daemon=True) for number in range(CLIENTS)]
@@ -118,7 +124,7 @@ class Soak:
         print(f"closing and dumping took {max(it['ms'] for it in closed)} ms at most, opening "
               f"{max(it['ms'] for it in host.told('opened'))} ms at most")
         print(dict(sorted(self.seen.items())))
-        print(dict(self.most))
+        print(dict(self.most), f"{len(host.told('waiting'))} rotations waited")
 
 
 def main():
@@ -132,6 +138,7 @@ def main():
     assert status == 0 and opened == sorted(it["generation"] for it in host.told("closed"))
     assert all(sorted(it) == opened for it in closed.values()) and len(closed) == TENANTS
     assert not host.told("fault"), host.told("fault")
+    assert soak.most["generations at once"] <= MOST_ALIVE and all(dumps(host, it) == opened[-KEEP:] for it in soak.names)
     for name in os.listdir(host.path("dumps")):
         dump_lines(host.path("dumps", name))
 

@@ -84,7 +84,7 @@ def faults_have_their_status(it):
     it.call("info", "--tenant", "nobody", status=25, err="error 5, unknown_tenant")
     it.call("info", status=2, err="no tenant is named; give --tenant NAME, or set ARENA_TENANT", ARENA_TENANT="")
     it.call("info", "--socket", "/nowhere", status=6, err="^arena: /nowhere: No such file or directory; is "
-            "arena-server running there\\? It ends by itself after as many connections",
+            "arena-server or arena-host running there\\? arena-server ends by itself after as many connections",
             how=arena_process)
     it.call("run", "/nowhere.json", status=8, err="^arena: /nowhere.json: No such file or directory")
     it.call("run", it.file("broken.json", '{"args":\n]'), status=5, err=r"broken.json:2:1: no JSON")

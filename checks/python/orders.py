@@ -76,7 +76,7 @@ def rotations_by_others_are_not_taken_for_it(it):
             """Lets generation 6 serve for a while, and then takes the order."""
             host.open.append(generation(6))
             host.tell()
-            host._end.wait(0.2)
+            host._end.wait(0.5)
             takes()
 
         host._rotate = rotates_twice

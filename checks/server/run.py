@@ -339,6 +339,45 @@ def jobs_are_retired_round_after_round():
         assert sum('"reply":{"epoch":' in line for line in dump) == 6
 
 
+def jobs_are_retired_beside_clients_that_run_them():
+    """Three clients execute jobs one after another, and a fourth retires all the while. It is refused while a row is
+    open, and a job that it retires before its outcome is collected is unknown by then; nothing else may be seen of it."""
+    server = Server([tenant("acme", 3, 1)], 2, 5)
+    unknown = {"code": 6, "error": "unknown_job"}
+    wrong, seen = [], []
+
+    def client():
+        with server.connect() as connection, connection.makefile("rw") as lines:
+            for request in [HELLO] + [{"op": "execute", "job": SEVEN}] * 60:
+                print(json.dumps(request), file=lines, flush=True)
+                reply = json.loads(lines.readline())
+                if request is not HELLO and reply != unknown and {**reply, "job": 0} != {
+                        "job": 0, "status": "complete", "value": 7}:
+                    wrong.append(reply)
+
+    clients = [threading.Thread(target=client) for _ in range(3)]
+    with server.connect() as connection, connection.makefile("rw") as lines:
+        for it in clients:
+            it.start()
+        print(json.dumps(HELLO), file=lines, flush=True)
+        assert json.loads(lines.readline()) == {"tenant": "acme"}
+        while any(it.is_alive() for it in clients) and len(seen) < 5000:
+            print('{"op":"retire"}', file=lines, flush=True)
+            seen.append(json.loads(lines.readline()))
+    for it in clients:
+        it.join()
+    assert not wrong, wrong
+    seen += server.ask(HELLO, {"op": "retire"})[1:]
+    epochs = [reply["epoch"] for reply in seen if "epoch" in reply]
+    assert epochs and epochs == list(range(1, len(epochs) + 1)), epochs
+    busy = {"code": 12, "error": "busy"}
+    assert all(reply == busy for reply in seen if "epoch" not in reply), seen
+    lines, err, status = server.end()
+    assert lines[0].startswith("acme: closed, ") and (err, status) == ("", 0)
+    with open(os.path.join(server.dumps, "acme.jsonl")) as dump:
+        assert sum('"reply":{"epoch":' in line for line in dump) == len(epochs)
+
+
 def dump_is_the_history():
     """The lines of the dump are those that the formats give for this history, to the byte."""
     server = Server([{**tenant("acme", 1, 1), "rows": 8, "steps": 100}], 1, 1)
@@ -489,7 +528,8 @@ CHECKS = [job_is_executed_and_polled, workers_share_a_job, each_job_has_its_end,
           job_stands_though_its_reply_is_lost, hostile_lines_have_their_errors,
           requests_have_exactly_their_members, client_that_never_reads,
           client_that_sends_without_end, clients_that_say_nothing, many_clients_at_once,
-          jobs_are_retired_round_after_round, dump_is_the_history, dump_has_the_job_that_was_sent,
+          jobs_are_retired_round_after_round, jobs_are_retired_beside_clients_that_run_them, dump_is_the_history,
+          dump_has_the_job_that_was_sent,
           waiting_ends_at_a_full_history, executes_end_at_a_full_history, folder_of_dumps_is_missing,
           dump_that_fails_is_left_out,
           wrong_words_and_files_are_faults, socket_may_be_gone_at_the_end, worker_that_cannot_be_started_is_a_fault,

@@ -111,8 +111,8 @@ class ConnectionLost(ArenaError):
     @classmethod
     def at(cls, path: str, fault: OSError) -> Self:
         """That a path can't be connected to."""
-        return cls(f"{path}: {fault.strerror or fault}; is arena-server running there? It ends by itself after as many "
-                   "connections as its --connections says")
+        return cls(f"{path}: {fault.strerror or fault}; is arena-server or arena-host running there? arena-server ends "
+                   "by itself after as many connections as its --connections says")
 
 
 class TimedOut(ArenaError, TimeoutError):

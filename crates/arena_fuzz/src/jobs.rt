@@ -1,6 +1,7 @@
 // Jobs that are read, one a line, and drawn from those.
 use crate::stops::Stop;
-use job_language::{Job, Refused, read_job};
+use job_json::{Refused, read_job};
+use job_language::Job;
 use rand::RngExt;
 use rand_pcg::Pcg32;
 use serde_json::Value;

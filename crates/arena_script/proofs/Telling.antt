@@ -9,7 +9,7 @@ use Rattle.job_language.specs.declared.answers.Answer.{Answer}
 use Rattle.job_language.specs.declared.errors.Error.{Error}
 use Rattle.job_language.specs.declared.errors.Error.TheVariants.{BadJson}
 use Rattle.job_language.specs.declared.tenants.Tenant.{Tenant}
-use Rattle.job_language.specs.Json.{◌>>=◌}
+use Rattle.job_json.specs.Json.{◌>>=◌}
 use Rattle.request_reader.specs.LineAsks.{IsText}
 use Rattle.tenant_model.specs.State.{State}
 use Rattle.dump_lines.specs.Requests.{tenant_in}

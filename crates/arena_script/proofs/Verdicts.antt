@@ -8,7 +8,7 @@ use Rattle.solo_eval.specs.declared.checking.Verdict.TheVariants.{No}
 use Rattle.solo_eval.specs.Verdicts.{IsVerdictFrom}
 use Rattle.job_language.specs.declared.steps.Entry.{Entry}
 use Rattle.job_language.specs.declared.tenants.Tenant.{Tenant}
-use Rattle.job_language.specs.Json.{result_map}
+use Rattle.job_json.specs.Json.{result_map}
 use Rattle.request_reader.specs.Lines.{Line, whole, too_long}
 use Rattle.tenant_model.specs.Solo.{step}
 use Rattle.tenant_model.specs.State.{State, empty}

@@ -2,7 +2,7 @@
 use Rattle.std.specs.Prelude.{ℕ, ◌+◌, List, [], ◌∷◌, drop, Result, Ok, Err}
 use Rattle.std.specs.Option.{option_map_or}
 use Rattle.job_language.specs.declared.tenants.Tenant.{Tenant}
-use Rattle.job_language.specs.Json.{◌>>=◌, result_map}
+use Rattle.job_json.specs.Json.{◌>>=◌, result_map}
 use Rattle.request_reader.specs.Lines.{Line}
 use Rattle.dump_lines.specs.declared.lines.Said.{Said}
 use Rattle.dump_lines.specs.Lines.{said_by}

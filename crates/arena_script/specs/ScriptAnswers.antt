@@ -4,7 +4,7 @@ use Rattle.std.specs.Option.{option_map_or}
 use Rattle.std.specs.Result.{result_ok}
 use Rattle.job_language.specs.declared.answers.Answer.{Answer}
 use Rattle.job_language.specs.declared.tenants.Tenant.{Tenant}
-use Rattle.job_language.specs.Json.{◌>>=◌}
+use Rattle.job_json.specs.Json.{◌>>=◌}
 use Rattle.request_reader.specs.LineAsks.{value_of}
 use Rattle.request_reader.specs.Lines.{Line, newline}
 use Rattle.reply_writer.specs.AnswerText.{answer_text}

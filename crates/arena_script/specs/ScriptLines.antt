@@ -2,7 +2,7 @@
 use Rattle.std.specs.Prelude.{◌≡◌, ◌<◌, ◌⊎◌, ℕ, List, [], ◌∷◌, Bool, true, not, filter, Option, Some, None, unwrap_or, Result, Ok, Err}
 use Rattle.std.specs.List.{list_all}
 use Rattle.job_language.specs.declared.tenants.Tenant.{Tenant}
-use Rattle.job_language.specs.Json.{◌>>=◌}
+use Rattle.job_json.specs.Json.{◌>>=◌}
 use Rattle.request_reader.specs.Blank.{is_blank_byte}
 use Rattle.request_reader.specs.Lines.{Line, whole, too_long, lines_of}
 use Rattle.request_reader.specs.Reading.{Reading, IsPending, lines_left}

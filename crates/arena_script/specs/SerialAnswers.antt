@@ -5,8 +5,8 @@ use Rattle.std.specs.Result.{result_flatten, result_map_both}
 use Rattle.job_language.specs.declared.errors.Error.{Error}
 use Rattle.job_language.specs.declared.errors.Error.TheVariants.{BadProgram, LineTooLong}
 use Rattle.job_language.specs.declared.jobs.Job.{Job}
-use Rattle.job_language.specs.Job.{job_of}
-use Rattle.job_language.specs.Json.{result_map}
+use Rattle.job_json.specs.Job.{job_of}
+use Rattle.job_json.specs.Json.{result_map}
 use Rattle.job_language.specs.Serial.{is_serial}
 use Rattle.request_reader.specs.LineAsks.{value_of}
 use Rattle.request_reader.specs.Lines.{Line, whole, too_long, newline}

@@ -9,7 +9,7 @@ use Rattle.job_language.specs.declared.answers.Reply.TheVariants.{Refused}
 use Rattle.job_language.specs.declared.errors.Error.{Error}
 use Rattle.job_language.specs.declared.requests.Request.{Request}
 use Rattle.job_language.specs.declared.steps.Step.TheVariants.{Ask, Arrive, Advance}
-use Rattle.job_language.specs.Json.{◌>>=◌, get_as, whole, has_members}
+use Rattle.job_json.specs.Json.{◌>>=◌, get_as, whole, has_members}
 use Rattle.tenant_model.specs.Solo.{step}
 use Rattle.tenant_model.specs.State.{State}
 use Rattle.dump_lines.specs.Requests.{request_in}

@@ -4,7 +4,7 @@ use Rattle.std.specs.Str.{bytes_eq}
 use Rattle.serde_json.specs.Data.{Data}
 use Rattle.serde_json.specs.Find.{get, as_str}
 use Rattle.job_language.specs.declared.answers.Answer.{Answer}
-use Rattle.job_language.specs.Json.{◌>>=◌, get_as, has_members}
+use Rattle.job_json.specs.Json.{◌>>=◌, get_as, has_members}
 use Rattle.request_reader.specs.Answers.{HasJob}
 use Rattle.request_reader.specs.Asks.{asked_by_value}
 use Rattle.reply_writer.specs.AnswerText.{answer_text}

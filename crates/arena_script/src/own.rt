@@ -7,7 +7,7 @@ ghost use Rattle.tenant_model.specs.Solo.{step as step_of};
 ghost use Rattle.tenant_model.specs.State.{State, empty};
 ghost use Rattle.serde_json.specs.Find.{as_str, get};
 ghost use Rattle.serde_json.specs.View.{view};
-ghost use Rattle.job_language.specs.Json.{get_as};
+ghost use Rattle.job_json.specs.Json.{get_as};
 ghost use Rattle.request_reader.specs.Answers.{HasJob};
 ghost use Rattle.request_reader.specs.Asks.{asked_by_value};
 ghost use Rattle.request_reader.specs.LineAsks.{IsText, value_of};
@@ -21,7 +21,7 @@ ghost use Rattle.arena_script.specs.Taken.{or_none, StepTakesMemory, ValueTakesM
 use crate::inputs::Input;
 use arena_core::Arena;
 use dump_lines::{request_in, tenant_of};
-use job_language::values::has_members;
+use job_json::values::has_members;
 use job_language::{Answer, Error, Reply};
 use request_reader::value_of;
 use serde_json::Value;

@@ -1,8 +1,7 @@
 // Tenants, and the jobs that they run.
 use crate::stops::Stop;
-use job_language::{
-    Isolation, Job, Level, Reply, Status, Tenant, TenantConfig, TenantName, read_job,
-};
+use job_json::read_job;
+use job_language::{Isolation, Job, Level, Reply, Status, Tenant, TenantConfig, TenantName};
 use serde_json::Value;
 use std::alloc::Global;
 

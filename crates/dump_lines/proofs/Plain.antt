@@ -26,9 +26,9 @@ use Rattle.job_language.specs.declared.tenants.Isolation.{Isolation}
 use Rattle.job_language.specs.declared.tenants.Isolation.TheVariants.{Exact, Within}
 use Rattle.job_language.specs.declared.tenants.Tenant.{Tenant}
 use Rattle.job_language.specs.Recorded.{is_entry}
-use Rattle.job_language.specs.TenantData.{with_isolation}
+use Rattle.job_json.specs.TenantData.{with_isolation}
 use Rattle.dump_lines.specs.Written.{request_data, status_data, reply_data, job_request, ask_data, advance_data, step_data, entry_data, first_data}
-use Rattle.job_language.specs.JobData.{array_of, number_data, instr_data, proc_data, program_data, job_data}
+use Rattle.job_json.specs.JobData.{array_of, number_data, instr_data, proc_data, program_data, job_data}
 
 -- No part is a float, and it nests so deep at most.
 pub record IsPlain (n : ℕ) (d : Data) : Type 0 where

@@ -4,7 +4,7 @@ use Rattle.std.specs.Fmt.{signed_decimal}
 use Rattle.json.specs.Print.{escape_byte}
 use Rattle.serde_json.specs.Written.{compact_text}
 use Rattle.job_language.specs.ErrorCodes.{code_of, name_of, fault_code_of}
-use Rattle.job_language.specs.JobData.{number_data}
+use Rattle.job_json.specs.JobData.{number_data}
 use Rattle.job_language.specs.Recorded.{is_recorded_reply}
 use Rattle.job_language.specs.TenantWords.{level_word}
 use Rattle.job_language.specs.declared.answers.Reply.{Reply}

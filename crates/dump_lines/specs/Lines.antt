@@ -13,8 +13,8 @@ use Rattle.job_language.specs.declared.requests.Request.{Request}
 use Rattle.job_language.specs.declared.requests.Request.TheVariants.{Hello}
 use Rattle.job_language.specs.declared.steps.Entry.{Entry}
 use Rattle.job_language.specs.declared.steps.Step.TheVariants as step
-use Rattle.job_language.specs.Instruction.{below}
-use Rattle.job_language.specs.Json.{◌>>=◌, get_as, whole}
+use Rattle.job_json.specs.Instruction.{below}
+use Rattle.job_json.specs.Json.{◌>>=◌, get_as, whole}
 use Rattle.request_reader.specs.LineAsks.{value_of}
 use Rattle.dump_lines.specs.declared.lines.Said.{Said}
 use Rattle.dump_lines.specs.declared.lines.Said.TheVariants as said

@@ -15,9 +15,9 @@ use Rattle.job_language.specs.declared.errors.Error.TheVariants.{LineTooLong, Ba
 use Rattle.job_language.specs.declared.errors.JobFault.{JobFault}
 use Rattle.job_language.specs.declared.errors.JobFault.TheVariants as fault
 use Rattle.job_language.specs.ErrorCodes.{code_of, name_of, fault_code_of}
-use Rattle.job_language.specs.Instruction.{below, key}
-use Rattle.job_language.specs.Json.{◌>>=◌, get_as, whole, integer, has_members}
-use Rattle.job_language.specs.TenantOf.{level_of}
+use Rattle.job_json.specs.Instruction.{below, key}
+use Rattle.job_json.specs.Json.{◌>>=◌, get_as, whole, integer, has_members}
+use Rattle.job_json.specs.TenantOf.{level_of}
 
 -- what is read of a value, if it has exactly that number of members
 abbrev pub only : {A : Type 0} → ℕ → Data → Option A → Option A

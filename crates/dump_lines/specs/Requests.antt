@@ -3,8 +3,8 @@ use Rattle.std.specs.Prelude.{ℕ, List, Option, Result, Err, codes}
 use Rattle.std.specs.Option.{option_map_or}
 use Rattle.std.specs.Result.{result_ok}
 use Rattle.serde_json.specs.Data.{Data}
-use Rattle.job_language.specs.Json.{◌>>=◌, get_as}
-use Rattle.job_language.specs.TenantOf.{tenant_of}
+use Rattle.job_json.specs.Json.{◌>>=◌, get_as}
+use Rattle.job_json.specs.TenantOf.{tenant_of}
 use Rattle.job_language.specs.declared.errors.Error.{Error}
 use Rattle.job_language.specs.declared.errors.Error.TheVariants.{BadRequest}
 use Rattle.job_language.specs.declared.requests.Request.{Request}

@@ -18,9 +18,9 @@ use Rattle.job_language.specs.declared.steps.Step.{Step}
 use Rattle.job_language.specs.declared.steps.Step.TheVariants as step
 use Rattle.job_language.specs.declared.tenants.Tenant.{Tenant}
 use Rattle.job_language.specs.ErrorCodes.{code_of, name_of, fault_code_of}
-use Rattle.job_language.specs.JobData.{job_data, number_data}
+use Rattle.job_json.specs.JobData.{job_data, number_data}
 use Rattle.job_language.specs.Recorded.{is_entry}
-use Rattle.job_language.specs.TenantData.{tenant_data}
+use Rattle.job_json.specs.TenantData.{tenant_data}
 use Rattle.job_language.specs.TenantWords.{level_word}
 
 abbrev pub count_data : ℕ → Data

@@ -2,8 +2,8 @@
 ghost use Rattle.std.specs.Prelude.{◌≡◌, Some, option_map, codes, IfOk, OnErr};
 ghost use Rattle.serde_json.specs.View.{view};
 ghost use Rattle.job_language.specs.declared.answers.Moved.TheVariants as moved;
-ghost use Rattle.job_language.specs.Instruction.{below};
-ghost use Rattle.job_language.specs.Json.{get_as, whole};
+ghost use Rattle.job_json.specs.Instruction.{below};
+ghost use Rattle.job_json.specs.Json.{get_as, whole};
 ghost use Rattle.request_reader.specs.Answers.{HasJob};
 ghost use Rattle.request_reader.specs.Asks.{asked_by_value};
 ghost use Rattle.request_reader.specs.LineAsks.{IsText};
@@ -13,7 +13,7 @@ ghost use Rattle.dump_lines.specs.Requests.{request_in};
 
 use crate::replies::{is_word, natural, reply_in, slot};
 use crate::requests::request_in;
-use job_language::values::has_members;
+use job_json::values::has_members;
 use job_language::{Answer, Came, Entry, Error, Moved, Reply, Request, Step};
 use request_reader::value_of;
 use serde_json::Value;

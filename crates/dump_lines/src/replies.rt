@@ -5,12 +5,12 @@ ghost use Rattle.serde_json.specs.View.{view};
 ghost use Rattle.job_language.specs.declared.answers.Reply.TheVariants as reply;
 ghost use Rattle.job_language.specs.declared.answers.Status.TheVariants as status;
 ghost use Rattle.job_language.specs.ErrorCodes.{code_of};
-ghost use Rattle.job_language.specs.Instruction.{below, key};
-ghost use Rattle.job_language.specs.Json.{get_as, whole, integer};
-ghost use Rattle.job_language.specs.TenantOf.{level_of};
+ghost use Rattle.job_json.specs.Instruction.{below, key};
+ghost use Rattle.job_json.specs.Json.{get_as, whole, integer};
+ghost use Rattle.job_json.specs.TenantOf.{level_of};
 ghost use Rattle.dump_lines.specs.Replies.{error_in, errors, fault_of, is_word, job_that, number, only, reply_in, sure, three, two};
 
-use job_language::values::has_members;
+use job_json::values::has_members;
 use job_language::{Error, JobFault, Key, Level, Reply, Status};
 use serde_json::Value;
 

@@ -1,8 +1,8 @@
 // The requests and the tenant that lines hold.
 ghost use Rattle.std.specs.Prelude.{◌≡◌, IfOk, OnErr, codes};
 ghost use Rattle.serde_json.specs.View.{view};
-ghost use Rattle.job_language.specs.Json.{get_as};
-ghost use Rattle.job_language.specs.TenantOf.{tenant_of};
+ghost use Rattle.job_json.specs.Json.{get_as};
+ghost use Rattle.job_json.specs.TenantOf.{tenant_of};
 ghost use Rattle.request_reader.specs.Answers.{HasJob};
 ghost use Rattle.request_reader.specs.Asks.{asked_by_value};
 ghost use Rattle.request_reader.specs.Exact.{ExactOrNoMemory};
@@ -10,8 +10,9 @@ ghost use Rattle.request_reader.specs.LineAsks.{IsText};
 ghost use Rattle.dump_lines.specs.Replies.{only};
 ghost use Rattle.dump_lines.specs.Requests.{request_in, tenant_in};
 
-use job_language::values::has_members;
-use job_language::{Error, Request, TenantConfig, read_tenant};
+use job_json::read_tenant;
+use job_json::values::has_members;
+use job_language::{Error, Request, TenantConfig};
 use request_reader::{ready, request_of, value_of};
 use serde_json::Value;
 use std::alloc::{AllocError, Global};

@@ -4,8 +4,8 @@ ghost use Rattle.serde_json.specs.Data.{depth};
 ghost use Rattle.serde_json.specs.Read.{max_depth};
 ghost use Rattle.serde_json.specs.View.{view};
 ghost use Rattle.serde_json.specs.Written.{compact_text, has_float};
-ghost use Rattle.job_language.specs.Json.{get_as};
-ghost use Rattle.job_language.specs.TenantOf.{tenant_of};
+ghost use Rattle.job_json.specs.Json.{get_as};
+ghost use Rattle.job_json.specs.TenantOf.{tenant_of};
 ghost use Rattle.request_reader.specs.LineAsks.{value_of};
 ghost use Rattle.dump_lines.specs.Lines.{said_by};
 ghost use Rattle.dump_lines.specs.Replies.{only};
@@ -18,7 +18,8 @@ mod replies;
 mod requests;
 
 use entries::entry_value;
-use job_language::{Entry, TenantConfig, write_tenant};
+use job_json::write_tenant;
+use job_language::{Entry, TenantConfig};
 use serde_json::{Value, json};
 use std::alloc::{AllocError, Global};
 

@@ -1,6 +1,7 @@
 // The tenant, its job and its steps; a reading is repeated if an allocation failed.
 use crate::retries::again;
-use job_language::{Job, Reply, Request, Status, Step, TenantConfig, read_job, read_tenant};
+use job_json::{read_job, read_tenant};
+use job_language::{Job, Reply, Request, Status, Step, TenantConfig};
 use serde_json::Value;
 use std::alloc::Global;
 

@@ -1,7 +1,8 @@
 // Texts that are read and written, each call made again if an allocation failed.
 use crate::jobs::FIBONACCI;
 use crate::retries::again;
-use job_language::{Request, read_config, read_job, read_tenant, write_job, write_tenant};
+use job_json::{read_config, read_job, read_tenant, write_job, write_tenant};
+use job_language::Request;
 use request_reader::{ready, request_of};
 use serde_json::Value;
 use std::alloc::Global;

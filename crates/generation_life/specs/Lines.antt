@@ -1,5 +1,5 @@
 -- The generations of a host, and what may become of them.
-use Rattle.std.specs.Prelude.{ℕ, suc, ◌==◌, ◌||◌, Bool, false, List, [], ◌∷◌, ◌++◌, Option, Some, None, length, option_map, map, filter, find, not, if◌then◌else◌, ◌≤◌, nat_le}
+use Rattle.std.specs.Prelude.{ℕ, suc, ◌==◌, ◌||◌, Bool, false, List, [], ◌∷◌, ◌++◌, ◌+◌, Option, Some, None, length, option_map, map, filter, find, not, if◌then◌else◌, ◌≤◌, nat_le}
 use Rattle.generation_life.specs.declared.generations.Leaving.{Leaving}
 use Rattle.generation_life.specs.declared.generations.Stage.{Stage}
 use Rattle.generation_life.specs.declared.generations.Why.{Why}
@@ -72,3 +72,11 @@ is_over_of (Some n) leaving = false
 -- Is each generation that was opened closed?
 abbrev pub is_over : Line → Bool
 is_over l = is_over_of l.serving l.leaving
+
+abbrev pub serving_count : Option ℕ → ℕ
+serving_count None = 0
+serving_count (Some n) = 1
+
+-- how many generations were opened and are not closed
+abbrev pub alive : Line → ℕ
+alive l = length l.leaving + serving_count l.serving

@@ -1,6 +1,6 @@
 // The generations of a host that are not closed.
 ghost use Rattle.std.specs.Prelude.{◌≡◌, ◌<◌, IfOk, OnOk, OnErr, None, [], find, map, filter, not, option_map};
-ghost use Rattle.generation_life.specs.Lines.{GoesForward, stage_of, stage_left, why_of, has_number, drained, opened, closing, closing_if, ended, is_over};
+ghost use Rattle.generation_life.specs.Lines.{GoesForward, alive, stage_of, stage_left, why_of, has_number, drained, opened, closing, closing_if, ended, is_over};
 
 use serde::Serialize;
 use std::alloc::{AllocError, Global};
@@ -95,6 +95,16 @@ impl Generations {
         ensures { result ≡ self.now.serving }
     {
         self.serving
+    }
+
+    /// How many generations are not closed.
+    pub fn alive(&self) -> usize
+        ensures { result ≡ alive self.now }
+    {
+        match self.serving {
+            Some(_) => self.leaving.len() + 1,
+            None => self.leaving.len(),
+        }
     }
 
     /// The stage of the generation of that number. None if it was not opened yet, or is closed.

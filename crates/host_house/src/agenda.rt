@@ -1,11 +1,11 @@
-// What a host is to do next.
-ghost use Rattle.std.specs.Prelude.{◌≡◌, ◌↔◌, IfOk, IfSome, IsSome, IsTrue, OnErr, OnOk, None, Ok, Some, false, is_some};
-ghost use Rattle.generation_life.specs.Lines.{closing, ended, stage_of, why_of};
-ghost use Rattle.host_house.specs.Agendas.{Takes, begun, stopped};
+// What a host has before it: its generations, and what is asked for.
+ghost use Rattle.host_house.specs.States.{AreFew, State};
+
+mod steps;
 
 use generation_life::{Generations, Stage, Why};
 use socket_server::ServerEnd;
-use std::alloc::{AllocError, Global};
+use std::marker::Model;
 
 /// What the thread that opens generations is to do next.
 #[derive(Clone, Copy, Debug, PartialEq, Eq)]
@@ -14,6 +14,8 @@ pub enum Step {
     Wait,
     /// Open a generation. The one of that number serves, and is to be left for that reason.
     Open(Option<(u64, Why)>),
+    /// Say that this has to wait: as many generations are there as may be.
+    Hold(Option<(u64, Why)>),
     /// A generation could not be opened.
     Failed(ServerEnd),
     /// All generations are closed, and the host stops.
@@ -28,6 +30,11 @@ pub(crate) struct Look {
     pub(crate) is_stopping: bool,
 }
 
+/// How many generations may be there at once, whether they serve, drain, are closed or wait to be written. Each has its
+/// histories in memory. That many are there if each drains for the 30 seconds that a host has by default, and a rotation
+/// comes every two.
+const MOST_ALIVE: usize = 16;
+
 /// The generations of a host that are not closed, and what is to be done about them.
 #[derive(Drop)]
 pub(crate) struct Agenda {
@@ -36,133 +43,17 @@ pub(crate) struct Agenda {
     wish: Option<Why>,
     /// Whether a generation is being opened.
     is_opening: bool,
+    /// Whether it was said that the next one has to wait.
+    is_held: bool,
     is_stopping: bool,
     /// Why the last generation that was to be opened could not be, until that was reported.
     failed: Option<ServerEnd>,
 }
 
-impl Agenda {
-    /// No generation yet. The first will have that number.
-    pub(crate) fn new(alloc: Global, first: u64) -> Agenda {
-        Agenda {
-            generations: Generations::new(alloc, first),
-            wish: None,
-            is_opening: false,
-            is_stopping: false,
-            failed: None,
-        }
-    }
+impl Model for Agenda {
+    ghost Value = { State };
 
-    /// What is to be done next. `Open` and `Failed` come once each: then a generation is being opened, or the failure is
-    /// known.
-    pub(crate) fn step(&mut self) -> Step
-        ensures { Takes self.old result self.new }
-    {
-        if self.is_opening {
-            return Step::Wait;
-        }
-        if let Some(end) = self.failed {
-            self.failed = None;
-            // Whoever asked by a file may ask again.
-            if self.wish == Some(Why::File) {
-                self.wish = None;
-            }
-            return Step::Failed(end);
-        }
-        if self.is_stopping {
-            return if self.generations.is_over() {
-                Step::End
-            } else {
-                Step::Wait
-            };
-        }
-        let left = match (self.generations.serving(), self.wish) {
-            (None, _) => None,
-            (Some(number), Some(why)) => Some((number, why)),
-            (Some(_), None) => return Step::Wait,
-        };
-        self.is_opening = true;
-        Step::Open(left)
-    }
+    ghost view = { λ a. record { generations = a.generations; wish = a.wish; is_opening = a.is_opening; is_held = a.is_held; is_stopping = a.is_stopping; failed = a.failed } };
 
-    /// Notes that the generation that was to be opened serves from now on, and gives its number. The one that served
-    /// drains. None if the host stops, or no number is left. If an allocation fails, nothing has changed.
-    pub(crate) fn begin(&mut self) -> Result<Option<u64>, AllocError>
-        ensures begun { IfOk result (λ number. IfSome number (λ n. (n ≡ self.old.generations.next) × (self.new ≡ begun self.old))) }
-        ensures goes_on { IfOk result (λ number. IsSome number → self.old.is_stopping ≡ false) }
-        ensures none { result ≡ Ok None → self.new ≡ self.old }
-        ensures refused { OnErr result (self.new ≡ self.old) }
-    {
-        if self.is_stopping || self.generations.next() == u64::MAX {
-            return Ok(None);
-        }
-        let why = self.wish.unwrap_or(Why::File);
-        let number = self.generations.open(why)?;
-        self.wish = None;
-        self.is_opening = false;
-        Ok(Some(number))
-    }
-
-    /// Notes that the generation that was to be opened can't be.
-    pub(crate) fn give_up(&mut self, end: ServerEnd)
-        ensures { self.new ≡ record self.old { is_opening = false; failed = Some end } }
-    {
-        self.is_opening = false;
-        self.failed = Some(end);
-    }
-
-    /// Lets all generations end, and opens no more. If an allocation fails, nothing has changed.
-    pub(crate) fn stop(&mut self) -> Result<(), AllocError>
-        ensures stopped { OnOk result (self.new ≡ stopped self.old) }
-        ensures refused { OnErr result (self.new ≡ self.old) }
-    {
-        self.generations.drain(Why::Stop)?;
-        self.is_stopping = true;
-        Ok(())
-    }
-
-    /// Asks for the generation that serves to be left. It says whether nobody had asked before.
-    pub(crate) fn ask(&mut self, why: Why) -> bool
-        ensures new { IsTrue result ↔ (self.old.wish ≡ None) × (IsSome self.old.generations.serving) }
-        ensures asked { IsTrue result → self.new ≡ record self.old { wish = Some why } }
-        ensures not { result ≡ false → self.new ≡ self.old }
-    {
-        let is_new = self.wish.is_none() && self.generations.serving().is_some();
-        if is_new {
-            self.wish = Some(why);
-        }
-        is_new
-    }
-
-    /// What a generation's thread finds of its generation.
-    pub(crate) fn look(&self, number: u64) -> Look
-        ensures { result ≡ record { stage = stage_of self.now.generations number; why = why_of self.now.generations number; is_stopping = self.now.is_stopping } }
-    {
-        Look {
-            stage: self.generations.stage(number),
-            why: self.generations.why(number),
-            is_stopping: self.is_stopping,
-        }
-    }
-
-    /// Whether a generation serves.
-    pub(crate) fn is_serving(&self) -> bool
-        ensures { result ≡ is_some self.now.generations.serving }
-    {
-        self.generations.serving().is_some()
-    }
-
-    /// Notes that the generation of that number is being closed.
-    pub(crate) fn close(&mut self, number: u64)
-        ensures { self.new ≡ record self.old { generations = closing number self.old.generations } }
-    {
-        self.generations.close(number);
-    }
-
-    /// Notes that the generation of that number is closed.
-    pub(crate) fn end(&mut self, number: u64)
-        ensures { self.new ≡ record self.old { generations = ended number self.old.generations } }
-    {
-        self.generations.end(number);
-    }
+    ghost invariant = { λ a. AreFew a.is_opening a.generations };
 }

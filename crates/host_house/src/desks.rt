@@ -1,14 +1,18 @@
 // The places of a generation's sessions, each of which serves one client after another.
+ghost use Rattle.host_house.specs.Desks.{IsVisit};
 
+use crate::seats::SeatsBack;
 use mio::Waker;
+use server_doors::LockedDoors;
 use session_core::serve;
 use socket_server::{Client, Watch};
 use std::alloc::Global;
+use std::io::{Read, Write};
 use std::net::Shutdown;
 use std::os::unix::net::UnixStream;
 use std::sync::{Arc, Condvar, Mutex, Wait};
 use tenant_lock::StopFlag;
-use tenant_record::Seat;
+use worker_main::Bell;
 
 /// A client at a desk.
 #[derive(Drop)]
@@ -121,25 +125,48 @@ pub(crate) fn attend_desk<R: Wait>(
     waiting: &Mutex<Vec<Client<'_>>>,
     desk: &Desk,
     waker: &Waker,
-) -> Vec<Seat> {
+) -> SeatsBack {
     let client = waiting.lock(rt).pop();
-    let Some(client) = client else {
-        return Vec::new(alloc);
-    };
+    match client {
+        Some(client) => serve_guests(rt, alloc, client, desk, waker),
+        None => SeatsBack::new(Vec::new(alloc)),
+    }
+}
+
+/// Serves the guests of a desk by one post and its seats, until no more come, and gives the seats back.
+fn serve_guests<R: Wait>(
+    rt: &R,
+    alloc: Global,
+    client: Client<'_>,
+    desk: &Desk,
+    waker: &Waker,
+) -> SeatsBack {
     let mut doors = client.into_doors(rt, &desk.is_gone);
     for _guest in rt.forever() {
         let Some(stream) = desk.next_guest(rt) else {
             break;
         };
-        let client = &*stream;
-        let _end = serve(alloc, &mut &*client, &mut &*client, &mut doors);
-        doors.leave();
+        let guest = &*stream;
+        serve_guest(alloc, &mut &*guest, &mut &*guest, &mut doors);
         // The client may have gone before.
-        let _ = client.shutdown(Shutdown::Both);
+        let _ = guest.shutdown(Shutdown::Both);
         desk.free(rt);
         // If the waker fails, the next tick shows that the desk is free.
         let _ = waker.wake();
     }
     let (seats, _ringer) = doors.into_parts();
-    seats
+    SeatsBack::new(seats)
+}
+
+/// Serves one guest, however its session ends. Then the doors can serve the next one.
+fn serve_guest<R: Wait, I: Read, O: Write>(
+    alloc: Global,
+    reader: &mut I,
+    writer: &mut O,
+    doors: &mut LockedDoors<'_, '_, R, Bell>,
+)
+    ensures { IsVisit doors.old doors.new }
+{
+    let _end = serve(alloc, reader, writer, doors);
+    doors.leave();
 }

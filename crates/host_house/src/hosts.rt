@@ -44,8 +44,8 @@ impl Host {
         }
     }
 
-    /// What is to be done next. `Open` and `Failed` come once each: then a generation is being opened, or the failure is
-    /// known.
+    /// What is to be done next. `Open`, `Hold` and `Failed` come once each: then a generation is being opened, or it is
+    /// known that the next one waits, or that one failed.
     pub fn step<R: Wait>(&self, rt: &R) -> Step {
         self.kept.lock(rt).agenda.step()
     }
@@ -57,7 +57,7 @@ impl Host {
     }
 
     /// The generation that was to be opened serves from now on: its number. The one that served drains. None if the host
-    /// stops, or no number is left. If an allocation fails, nothing has changed.
+    /// stops, no number is left, or none was to be opened. If an allocation fails, nothing has changed.
     pub(crate) fn begin<R: Wait>(&self, rt: &R) -> Result<Option<u64>, AllocError> {
         let begun = self.kept.lock(rt).agenda.begin()?;
         if begun.is_some() {
@@ -79,6 +79,11 @@ impl Host {
             self.changed.notify_all();
         }
         is_new
+    }
+
+    /// Takes back what a file asked for, if it was not begun.
+    pub fn take_back<R: Wait>(&self, rt: &R) {
+        self.kept.lock(rt).agenda.take_back();
     }
 
     /// Lets all generations end, and opens no more. It fails if an allocation fails, and is then to be tried again.

@@ -10,9 +10,11 @@ mod living;
 mod places;
 mod reception;
 mod reports;
+mod seats;
 
 pub use agenda::Step;
 pub use events::say;
 pub use hosts::Host;
 pub use lives::{Lived, millis, seconds};
 pub use living::{Eyes, Setting, Terms, live};
+pub use seats::SeatsBack;

@@ -7,10 +7,13 @@ use crate::hosts::Host;
 use crate::lives::{Life, Lived};
 use crate::places::{HeardBell, Place};
 use crate::reception::Reception;
+use crate::seats::SeatsBack;
 use call_queues::QueuePass;
 use job_language::Config;
 use mio::Waker;
-use socket_server::{Client, Endpoint, House, Post, Posts, ServerEnd, Watch, serve_calls};
+use socket_server::{
+    Client, Endpoint, FreshSeats, House, Post, Posts, ServerEnd, Watch, serve_calls,
+};
 use std::alloc::{AllocError, Global};
 use std::io::ErrorKind;
 use std::net::Net;
@@ -18,7 +21,6 @@ use std::sync::{Mutex, Wait};
 use std::thread;
 use std::thread::{JoinHandle, Scope, Threads};
 use std::time::Clock;
-use tenant_record::Seat;
 use worker_main::Visiting;
 
 /// How a generation is to live.
@@ -81,8 +83,8 @@ pub fn live<R: Threads + Wait + Clock + Sync + Print + Eprint>(
     setting: Setting<'_>,
     eyes: Eyes,
     passes: Vec<QueuePass>,
-    seats: Vec<Seat>,
-) -> Result<(Lived, Vec<Seat>), ServerEnd>
+    seats: FreshSeats,
+) -> Result<(Lived, SeatsBack), ServerEnd>
     requires { ArePassesOf setting.house.now.queues.queues passes.items }
 {
     let Setting { house, terms, .. } = setting;
@@ -105,7 +107,7 @@ pub fn live<R: Threads + Wait + Clock + Sync + Print + Eprint>(
     };
     let reception = Reception::new(watch, crew.desks);
     thread::scope(thread::scope_env(), rt, move |scope| {
-        let mut seats = seats;
+        let mut back = SeatsBack::unused(seats);
         let mut threads = threads;
         let ready = match start_workers(scope, rt, house, crew.places, workers) {
             Ok(()) => start_sessions(scope, rt, alloc, crew, &mut threads),
@@ -117,8 +119,8 @@ pub fn live<R: Threads + Wait + Clock + Sync + Print + Eprint>(
         };
         house.stop(rt);
         close_desks(rt, crew.desks);
-        collect(rt, threads, &mut seats)?;
-        Ok((lived?, seats))
+        collect(rt, threads, &mut back)?;
+        Ok((lived?, back))
     })
 }
 
@@ -152,7 +154,7 @@ fn start_sessions<'s, 'r: 's, 'w: 's, 'c: 's, E: 's, R: Threads + Wait + Sync>(
     rt: &'r R,
     alloc: Global,
     crew: Crew<'w, 'c>,
-    threads: &mut Vec<JoinHandle<Vec<Seat>>>,
+    threads: &mut Vec<JoinHandle<SeatsBack>>,
 ) -> Result<(), ServerEnd> {
     for desk in crew.desks {
         let session = move || attend_desk(rt, alloc, crew.waiting, desk, crew.waker);
@@ -237,7 +239,7 @@ fn next_posts<'h>(
 fn next_clients<'h>(
     alloc: Global,
     posts: &mut Posts<'h>,
-    seats: &mut Vec<Seat>,
+    seats: &mut FreshSeats,
     count: usize,
 ) -> Result<Option<Vec<Client<'h>>>, AllocError>
     ensures { IfOk result (λ taken. IfSome taken (λ clients. length clients.items ≡ count)) }
@@ -255,13 +257,11 @@ fn next_clients<'h>(
 /// Waits for the threads of sessions, and takes the seats that they give back.
 fn collect<R: Threads>(
     rt: &R,
-    threads: Vec<JoinHandle<Vec<Seat>>>,
-    seats: &mut Vec<Seat>,
+    threads: Vec<JoinHandle<SeatsBack>>,
+    back: &mut SeatsBack,
 ) -> Result<(), AllocError> {
     for thread in threads {
-        for seat in thread.join(rt) {
-            seats.push(seat)?;
-        }
+        back.add(thread.join(rt))?;
     }
     Ok(())
 }

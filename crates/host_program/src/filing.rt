@@ -4,6 +4,7 @@ use crate::archive::{Archive, Left};
 use crate::ends::event_dump_fault;
 use crate::events::say_fault;
 use crate::folders::Folder;
+use crate::shelves::Shelves;
 use crate::writing::{Work, Writer};
 use dump_files::{Part, make_part};
 use dump_lines::DumpFault;
@@ -139,9 +140,15 @@ impl Filing {
         }
     }
 
-    /// Lets what was written take its place, and removes the tenant's dump that is too old. If that fails, or nothing
-    /// was written, it is tried again each second as long as the host has patience.
-    pub(crate) fn keep<R>(rt: &R, alloc: Global, office: Office<'_>, work: Work) -> Filing
+    /// Lets what was written take its place, and removes the tenant's dump that is too old then. If that fails, or
+    /// nothing was written, it is tried again each second as long as the host has patience.
+    pub(crate) fn keep<R>(
+        rt: &R,
+        alloc: Global,
+        office: Office<'_>,
+        shelves: &mut Shelves,
+        work: Work,
+    ) -> Filing
     where
         R: Files<File = File> + Clock + Print + Eprint,
     {
@@ -150,7 +157,7 @@ impl Filing {
             part,
             written,
         } = work;
-        match filing.keep_part(rt, alloc, office, part, written) {
+        match filing.keep_part(rt, alloc, office, shelves, part, written) {
             Ok(()) => {
                 let entries = match filing.next_end() {
                     Some(End::Closed(entries)) => entries,
@@ -168,6 +175,7 @@ impl Filing {
         rt: &R,
         alloc: Global,
         office: Office<'_>,
+        shelves: &mut Shelves,
         part: Part<File>,
         written: Result<(), DumpFault>,
     ) -> Result<(), DumpFault>
@@ -188,21 +196,26 @@ impl Filing {
             }
         };
         part.keep(rt, path.as_str())?;
-        // What is too old is removed at the next start if it can't be now.
-        let _ = self.prune(rt, alloc, office);
+        // What is not known of now is found at the next start.
+        let _ = self.shelve(rt, alloc, office, shelves);
         Ok(())
     }
 
-    /// Removes the tenant's dump that is too old.
-    fn prune<R: Files>(&self, rt: &R, alloc: Global, office: Office<'_>) -> Result<(), AllocError> {
+    /// Notes that the next tenant's dump is there, and removes the one that is too old then.
+    fn shelve<R: Files>(
+        &self,
+        rt: &R,
+        alloc: Global,
+        office: Office<'_>,
+        shelves: &mut Shelves,
+    ) -> Result<(), AllocError> {
         let Some(tenant) = self.left.config.tenants().get(self.at) else {
             return Ok(());
         };
         let named = tenant.tenant().name;
         let generation = self.left.lived.number;
-        office
-            .folder
-            .prune(rt, alloc, named.as_str(), generation, office.words.keep)
+        let Office { folder, words, .. } = office;
+        folder.shelve(rt, alloc, shelves, named.as_str(), generation, words.keep)
     }
 
     /// The path of the next history's file.

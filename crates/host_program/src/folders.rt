@@ -1,5 +1,6 @@
 // The folder in which a host works.
 
+use crate::shelves::Shelves;
 use socket_server::ServerEnd;
 use std::alloc::{AllocError, Global};
 use std::fs::{DirBuilder, Files};
@@ -38,14 +39,13 @@ impl Folder {
         format!(in alloc; "{}/{name}.{generation:06}.jsonl", self.dumps.as_str())
     }
 
-    /// Makes the folder for dumps, removes what a host left that was killed and the dumps that are too old, and gives
-    /// the number of the first generation: the one after the greatest of which there is a dump, or 0. `Device` if the
-    /// folder can't be listed, and `Memory` if an allocation fails.
+    /// Makes the folder for dumps, removes what a host left that was killed and the dumps that are too old, and gives what
+    /// is left. `Device` if the folder can't be listed, and `Memory` if an allocation fails.
     pub(crate) fn prepare<R: Files + AllocGlobal + Clone + Drop>(
         &self,
         rt: &R,
         keep: u32,
-    ) -> Result<u64, ServerEnd> {
+    ) -> Result<Found, ServerEnd> {
         // It may be there; if it can't be made, it can't be listed either.
         let _ = DirBuilder::new()
             .mode(0o700)
@@ -54,35 +54,68 @@ impl Folder {
         let _ = fs::remove_file(rt, self.socket.as_str());
         let _ = fs::remove_file(rt, self.rotate.as_str());
         let paths = listed(rt, self.dumps.as_str())?;
-        let mut next = 0;
+        let mut found = Found {
+            next: 0,
+            shelves: Shelves::new(rt.alloc()),
+        };
         for entry in &paths {
             let path = entry.as_str();
-            if is_part(path) || is_too_old(paths.as_slice(), path, keep) {
+            if is_part(path) {
                 // It is tried again at the next start if it can't be removed now.
                 let _ = fs::remove_file(rt, path);
             }
-            if let Some((_, number)) = parts_of(path) {
-                next = next.max(number.saturating_add(1));
+            if let Some((name, number)) = parts_of(path) {
+                found.next = found.next.max(number.saturating_add(1));
+                self.sort_in(rt, &mut found.shelves, path, name, number, keep)?;
             }
         }
-        Ok(next)
+        Ok(found)
     }
 
-    /// Removes the dump of a tenant that is too old once the one of this generation is there.
-    pub(crate) fn prune<R: Files>(
+    /// Notes a path if it is the one of a dump, and removes the tenant's dump that is too old then.
+    fn sort_in<R: Files + AllocGlobal>(
+        &self,
+        rt: &R,
+        shelves: &mut Shelves,
+        path: &str,
+        name: &str,
+        number: u64,
+        keep: u32,
+    ) -> Result<(), AllocError> {
+        let dump = self.dump(rt.alloc(), name, number)?;
+        if dump.as_str() == path {
+            self.shelve(rt, rt.alloc(), shelves, name, number, keep)?;
+        }
+        Ok(())
+    }
+
+    /// Notes that a tenant's dump of a generation is there, and removes the one that is too old then: of which at least
+    /// `keep` newer ones are there.
+    pub(crate) fn shelve<R: Files>(
         &self,
         rt: &R,
         alloc: Global,
+        shelves: &mut Shelves,
         name: &str,
         generation: u64,
         keep: u32,
     ) -> Result<(), AllocError> {
-        if let Some(old) = generation.checked_sub(u64::from(keep)) {
-            // It may be gone, or the tenant was not there.
+        shelves.add(alloc, name, generation)?;
+        if let Some(old) = shelves.take_too_old(name, keep) {
+            // It may be gone. It is tried again at the next start if it can't be removed now.
             let _ = fs::remove_file(rt, self.dump(alloc, name, old)?.as_str());
         }
         Ok(())
     }
+}
+
+/// What a host finds in its folder.
+#[derive(Drop)]
+pub(crate) struct Found {
+    /// The number of the first generation: the one after the greatest of which there is a dump, or 0.
+    pub(crate) next: u64,
+    /// The dumps that stay.
+    pub(crate) shelves: Shelves,
 }
 
 /// The paths of the files in a folder.
@@ -121,23 +154,4 @@ fn parts_of(path: &str) -> Option<(&str, u64)> {
     let (name, rest) = file.split_once('.')?;
     let number = rest.strip_suffix(".jsonl")?;
     Some((name, number.parse::<u64>().ok()?))
-}
-
-/// Whether a path is that of a dump whose tenant has enough newer ones.
-fn is_too_old(paths: &[String], path: &str, keep: u32) -> bool {
-    match parts_of(path) {
-        Some((name, number)) => newer(paths, name, number) >= keep as usize,
-        None => false,
-    }
-}
-
-/// How many of the paths are dumps of a tenant in a later generation.
-fn newer(paths: &[String], name: &str, number: u64) -> usize {
-    paths
-        .iter()
-        .filter(|path| match parts_of(path.as_str()) {
-            Some((tenant, other)) => tenant == name && other > number,
-            None => false,
-        })
-        .count()
 }

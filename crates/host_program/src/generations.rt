@@ -2,7 +2,7 @@
 
 use crate::archive::{Archive, Left};
 use crate::events::say_fault;
-use host_house::{Eyes, Host, Lived, Setting, Terms, live, millis};
+use host_house::{Eyes, Host, Lived, SeatsBack, Setting, Terms, live, millis};
 use host_status::Fault;
 use job_language::Config;
 use socket_server::{Endpoint, House, Opened, ServerEnd};
@@ -10,7 +10,6 @@ use std::alloc::Global;
 use std::sync::Wait;
 use std::thread::Threads;
 use std::time::Clock;
-use tenant_record::Seat;
 
 /// What the threads of generations have of the host.
 #[derive(Clone, Copy)]
@@ -75,14 +74,14 @@ fn close_generation<R>(
     config: Config,
     house: House,
     lived: Lived,
-    seats: Vec<Seat>,
+    seats: SeatsBack,
 )
 where
     R: Wait + Clock + Print + Eprint,
 {
     site.host.close(rt, lived.number);
     let since = millis(rt);
-    let ends = match house.close(alloc, seats) {
+    let ends = match seats.close(alloc, house) {
         Ok(ends) => ends,
         Err(_) => {
             say_fault(rt, alloc, Fault::Memory, lived.number);

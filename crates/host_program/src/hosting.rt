@@ -3,8 +3,9 @@
 use crate::archive::Archive;
 use crate::ends::event_fault;
 use crate::filing::{Filing, Office};
-use crate::folders::Folder;
+use crate::folders::{Folder, Found};
 use crate::generations::{Plan, Site, run_generation};
+use crate::shelves::Shelves;
 use crate::showing::show;
 use crate::system::System;
 use crate::writing::{Writer, write_histories};
@@ -39,7 +40,10 @@ pub(crate) fn host_tenants<'h, R: System>(
 ) -> Result<ServerEnd, ServerEnd> {
     let terms = terms_of(words)?;
     read_config(rt, alloc, words.config)?;
-    let first = folder.prepare(rt, words.keep)?;
+    let Found {
+        next: first,
+        shelves,
+    } = folder.prepare(rt, words.keep)?;
     let access = Access {
         mode: words.mode,
         group: words.group,
@@ -56,7 +60,7 @@ pub(crate) fn host_tenants<'h, R: System>(
         words,
         folder,
     };
-    let end = keep_hosting(rt, alloc, office, &endpoint, terms);
+    let end = keep_hosting(rt, alloc, office, &endpoint, terms, shelves);
     endpoint.remove(rt);
     end
 }
@@ -69,6 +73,7 @@ fn keep_hosting<'h, R>(
     office: Office<'h>,
     endpoint: &'h Endpoint<'h>,
     terms: Terms,
+    shelves: Shelves,
 ) -> Result<ServerEnd, ServerEnd>
 where
     R: Files<File = File> + Net + Threads + Wait + Clock + Sync + Print + Eprint + AllocGlobal,
@@ -93,6 +98,7 @@ where
             return Err(ServerEnd::Device);
         }
         let mut keeper = Keeper::new(rt, office);
+        let mut shelves = shelves;
         let mut filing = None;
         let mut end = Ok(ServerEnd::Done);
         for _turn in rt.forever() {
@@ -110,7 +116,7 @@ where
                 }
             }
             keeper.look(rt, alloc, endpoint);
-            filing = keeper.file(rt, alloc, filing);
+            filing = keeper.file(rt, alloc, &mut shelves, filing);
         }
         writer.close(rt);
         keeper.show(rt);
@@ -177,6 +183,12 @@ impl<'h> Keeper<'h> {
                     Next::Stay
                 }
             },
+            Step::Hold(left) => {
+                if let Some((generation, why)) = left {
+                    say(rt, alloc, Event::Waiting { generation, why });
+                }
+                Next::Stay
+            }
             Step::Failed(fault) => match self.note_failure(rt, alloc, fault) {
                 Ok(()) => Next::Stay,
                 Err(end) => Next::End(Err(end)),
@@ -195,6 +207,10 @@ impl<'h> Keeper<'h> {
     ) -> Result<Plan, ServerEnd> {
         if let Some((generation, why)) = left {
             say(rt, alloc, Event::Rotation { generation, why });
+            if why == Why::File {
+                // If it can't be removed, the next generation is left as well.
+                let _ = fs::remove_file(rt, self.office.folder.rotate.as_str());
+            }
         }
         let config = read_config(rt, alloc, self.office.words.config)?;
         let eyes = Eyes::open(rt, alloc, site.endpoint, site.terms.connections)?;
@@ -243,10 +259,10 @@ impl<'h> Keeper<'h> {
             self.is_stopping = true;
             say(rt, alloc, Event::Stop);
         }
-        let rotate = folder.rotate.as_str();
-        if fs::symlink_metadata(rt, rotate).is_ok() && host.wish(rt, Why::File) {
-            // If it can't be removed, the next generation is left as well.
-            let _ = fs::remove_file(rt, rotate);
+        if fs::symlink_metadata(rt, folder.rotate.as_str()).is_ok() {
+            host.wish(rt, Why::File);
+        } else {
+            host.take_back(rt);
         }
         if millis(rt).saturating_sub(self.shown) >= SECOND {
             self.shown = millis(rt);
@@ -268,7 +284,13 @@ impl<'h> Keeper<'h> {
 
     /// Writes more of the histories that a generation has left, if one has, or waits for a tick at most: what is still
     /// to be written.
-    fn file<R>(&self, rt: &R, alloc: Global, filing: Option<Filing>) -> Option<Filing>
+    fn file<R>(
+        &self,
+        rt: &R,
+        alloc: Global,
+        shelves: &mut Shelves,
+        filing: Option<Filing>,
+    ) -> Option<Filing>
     where
         R: Files<File = File> + Wait + Clock + Print + Eprint,
     {
@@ -276,7 +298,7 @@ impl<'h> Keeper<'h> {
         let tick = Duration::from_millis(TICK);
         if office.writer.is_busy(rt) {
             let work = office.writer.take(rt, tick)?;
-            return Some(Filing::keep(rt, alloc, office, work));
+            return Some(Filing::keep(rt, alloc, office, shelves, work));
         }
         let filing = match filing {
             Some(filing) => Some(filing),

@@ -8,6 +8,7 @@ mod filing;
 mod folders;
 mod generations;
 mod hosting;
+mod shelves;
 mod showing;
 mod system;
 mod writing;

@@ -44,6 +44,11 @@ pub enum Event {
         generation: u64,
         why: Why,
     },
+    /// A generation is to be left for that reason, and serves until then: as many generations are there as may be.
+    Waiting {
+        generation: u64,
+        why: Why,
+    },
     /// A generation takes no new connections from now on.
     Draining {
         generation: u64,

@@ -2,11 +2,9 @@
 ghost use Rattle.std.specs.Prelude.{◌≡◌};
 ghost use Rattle.job_language.specs.ErrorCodes.{code_of, name_of, fault_code_of};
 ghost use Rattle.job_language.specs.Recorded.{is_recorded_error};
-ghost use Rattle.job_language.specs.Refused.{IsMemory};
 ghost use Rattle.job_language.specs.declared.errors.Error.TheVariants.{NoMemory};
 
 use std::alloc::{AllocError, AllocFailed};
-use thiserror::Error as DeriveError;
 
 /// Why a request was refused. A code and its name always go together.
 #[derive(Clone, Copy, Debug, PartialEq, Eq)]
@@ -132,39 +130,5 @@ impl JobFault {
             JobFault::TaskLimit => 4,
             JobFault::MissingWait => 5,
         }
-    }
-}
-
-/// Where a value first breaks the rules of its format.
-#[derive(Clone, Copy, Debug, PartialEq, Eq)]
-pub enum Place {
-    /// Before any instruction: the shape of the whole, its numbers, or the lengths of its lists.
-    Head,
-    /// At an instruction of a procedure, both numbered from 0.
-    At(usize, usize),
-}
-
-/// Why a value was not read.
-#[derive(Debug, Drop, DeriveError)]
-pub enum Refused {
-    #[error("not valid at {place:?}")]
-    Bad { place: Place },
-    #[error("out of memory")]
-    Memory(AllocError),
-}
-
-impl From<AllocError> for Refused {
-    ghost from_gives = { λ _ e. IsMemory e };
-
-    fn from(error: AllocError) -> Refused {
-        Refused::Memory(error)
-    }
-}
-
-impl<T: Drop> From<AllocFailed<T>> for Refused {
-    ghost from_gives = { λ _ e. IsMemory e };
-
-    fn from(error: AllocFailed<T>) -> Refused {
-        Refused::Memory(AllocError::from(error))
     }
 }

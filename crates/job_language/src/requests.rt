@@ -5,7 +5,6 @@ ghost use Rattle.job_language.specs.Brought.{job_of, BringsValid};
 use crate::instructions::Key;
 use crate::jobs::Job;
 use crate::names::TenantName;
-use serde_json::Value;
 use std::alloc::AllocError;
 
 /// A request, with its job read.
@@ -64,15 +63,4 @@ impl Request {
             _ => None,
         }
     }
-}
-
-/// What a line asks for, before its job is read.
-#[derive(Drop)]
-pub enum Asked {
-    /// A request that brings no job.
-    Plain(Request),
-    /// The job of a submit, not read yet.
-    Submit(Value),
-    /// The job of an execute, not read yet.
-    Execute(Value),
 }

@@ -3,7 +3,7 @@ use Rattle.std.specs.Prelude.{ℕ, List, Option, Some, None, Result, Ok, Err}
 use Rattle.serde_json.specs.Data.{Data}
 use Rattle.job_language.specs.declared.errors.Error.{Error}
 use Rattle.job_language.specs.Configuration.{Configuration}
-use Rattle.job_language.specs.ConfigOf.{config_of}
+use Rattle.job_json.specs.ConfigOf.{config_of}
 use Rattle.request_reader.specs.LineAsks.{value_of}
 
 abbrev config_of_value : Result Data Error → Option Configuration

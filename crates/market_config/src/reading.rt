@@ -2,7 +2,8 @@
 ghost use Rattle.std.specs.Prelude.{◌≡◌, IfOk};
 ghost use Rattle.market_config.specs.Lines.{config_in};
 
-use job_language::{Config, Error, Refused, read_config};
+use job_json::{Refused, read_config};
+use job_language::{Config, Error};
 use request_reader::value_of;
 use std::alloc::{AllocError, Global};
 

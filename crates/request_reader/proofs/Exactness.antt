@@ -2,7 +2,7 @@
 use Rattle.std.proofs.Common.{◌≡◌, Result, Ok, Err, ◌∙◌}
 use Rattle.job_language.specs.declared.errors.Error.{Error}
 use Rattle.job_language.specs.declared.errors.Error.TheVariants as error
-use Rattle.job_language.specs.declared.errors.Place.{Place}
+use Rattle.job_json.specs.declared.errors.Place.{Place}
 use Rattle.job_language.specs.declared.jobs.Job.{Job}
 use Rattle.job_language.specs.declared.requests.Request.{Request}
 use Rattle.request_reader.specs.Exact.{Refuses, ExactOrNoMemory}

@@ -8,7 +8,7 @@ use Rattle.serde_json.specs.Data.{Data}
 use Rattle.serde_json.specs.Read.{read}
 use Rattle.job_language.specs.declared.errors.Error.{Error}
 use Rattle.job_language.specs.declared.errors.Error.TheVariants as error
-use Rattle.job_language.specs.declared.requests.Asked.{Asked}
+use Rattle.request_reader.specs.declared.requests.Asked.{Asked}
 use Rattle.request_reader.specs.declared.requests.TheConstants.{MAX_REQUEST}
 use Rattle.request_reader.specs.Answers.{asked_data, HasJob}
 use Rattle.request_reader.specs.Exact.{ExactOrNoMemory}

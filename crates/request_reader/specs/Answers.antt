@@ -1,8 +1,8 @@
 -- What is asked by a request that the reader gives, and whether it has a job.
 use Rattle.std.specs.Prelude.{Option, Some, None}
 use Rattle.serde_json.specs.View.{view}
-use Rattle.job_language.specs.declared.requests.Asked.{Asked}
-use Rattle.job_language.specs.declared.requests.Asked.TheVariants.{Plain, Submit, Execute}
+use Rattle.request_reader.specs.declared.requests.Asked.{Asked}
+use Rattle.request_reader.specs.declared.requests.Asked.TheVariants.{Plain, Submit, Execute}
 use Rattle.request_reader.specs.Asks.{AskedData, plain, submit, execute}
 
 abbrev pub asked_data : Asked → AskedData

@@ -5,8 +5,8 @@ use Rattle.serde_json.specs.Data.{Data}
 use Rattle.serde_json.specs.Find.{get, as_str}
 use Rattle.job_language.specs.declared.requests.Request.{Request}
 use Rattle.job_language.specs.declared.requests.Request.TheVariants.{Hello, Poll, Collect, Cancel, Cells, Arena, Retire}
-use Rattle.job_language.specs.Instruction.{key}
-use Rattle.job_language.specs.Json.{◌>>=◌, whole, has_members}
+use Rattle.job_json.specs.Instruction.{key}
+use Rattle.job_json.specs.Json.{◌>>=◌, whole, has_members}
 use Rattle.job_language.specs.Name.{is_name}
 
 -- a request, with the job of submit and execute as it stands

@@ -2,11 +2,11 @@
 use Rattle.std.specs.Prelude.{Result, Ok, Err}
 use Rattle.job_language.specs.declared.errors.Error.{Error}
 use Rattle.job_language.specs.declared.errors.Error.TheVariants.{BadProgram}
-use Rattle.job_language.specs.declared.errors.Place.{Place}
+use Rattle.job_json.specs.declared.errors.Place.{Place}
 use Rattle.job_language.specs.declared.jobs.Job.{Job}
 use Rattle.job_language.specs.declared.requests.Request.{Request}
 use Rattle.job_language.specs.declared.requests.Request.TheVariants.{Submit, Execute}
-use Rattle.job_language.specs.Job.{job_of}
+use Rattle.job_json.specs.Job.{job_of}
 use Rattle.request_reader.specs.Asks.{AskedData, plain, submit, execute}
 
 -- a job, or error 4

@@ -1,12 +1,14 @@
 // Requests with their jobs read.
 ghost use Rattle.std.specs.Prelude.{Some, ⊤};
 ghost use Rattle.serde_json.specs.View.{view};
-ghost use Rattle.job_language.specs.Job.{job_of};
+ghost use Rattle.job_json.specs.Job.{job_of};
 ghost use Rattle.request_reader.specs.Answers.{asked_data, HasJob};
 ghost use Rattle.request_reader.specs.Exact.{ExactOrNoMemory};
 ghost use Rattle.request_reader.specs.Ready.{job_or_refused, ready_of};
 
-use job_language::{Asked, Error, Job, Refused, Request, read_job};
+use crate::requests::Asked;
+use job_json::{Refused, read_job};
+use job_language::{Error, Job, Request};
 use serde_json::Value;
 use std::alloc::Global;
 

@@ -9,8 +9,8 @@ ghost use Rattle.request_reader.specs.Exact.{ExactOrNoMemory};
 ghost use Rattle.request_reader.specs.LineAsks.{asked_by, request_of, value_of, IsShortText, IsText};
 ghost use Rattle.request_reader.specs.Shape.{asked_in};
 
-use job_language::values::has_members;
-use job_language::{Asked, Error, Key, Request, TenantName};
+use job_json::values::has_members;
+use job_language::{Error, Key, Request, TenantName};
 use serde_json::Value;
 use std::alloc::Global;
 
@@ -18,6 +18,17 @@ use std::alloc::Global;
 pub const MAX_REQUEST: usize = 65_536;
 
 const _: () = prove!(MAX_REQUEST == 65_536);
+
+/// What a line asks for, before its job is read.
+#[derive(Drop)]
+pub enum Asked {
+    /// A request that brings no job.
+    Plain(Request),
+    /// The job of a submit, not read yet.
+    Submit(Value),
+    /// The job of an execute, not read yet.
+    Execute(Value),
+}
 
 /// What a value asks for, with the job where it stands.
 #[derive(Drop)]

@@ -1,8 +1,7 @@
 -- What a session may see and do at the doors of tenants, where others act on them too.
-use Rattle.std.specs.Prelude.{ℕ, ◌≡◌, ◌<◌, Bool, List, length, Option, MatchOption, position, slice_index_or, slice_set, is_some, ◌≤◌}
+use Rattle.std.specs.Prelude.{ℕ, ◌≡◌, ◌<◌, Bool, List, length, Option, position, slice_index_or, slice_set, is_some, ◌≤◌}
 use Rattle.std.specs.Str.{bytes_eq}
 use Rattle.job_language.specs.declared.answers.Moved.{Moved}
-use Rattle.job_language.specs.declared.answers.Reply.{Reply}
 use Rattle.job_language.specs.declared.answers.Reply.TheVariants.{Refused}
 use Rattle.job_language.specs.declared.errors.Error.TheVariants.{NoTenant}
 use Rattle.job_language.specs.declared.requests.Request.{Request}
@@ -11,6 +10,7 @@ use Rattle.job_step.specs.declared.segments.View.{View}
 use Rattle.tenant_model.specs.Told.{placed_on}
 use Rattle.tenant_record.specs.SeatData.{SeatData}
 use Rattle.server_doors.specs.Slots.{SlotsSeen}
+use Rattle.server_doors.specs.SlotWays as slots
 use Rattle.server_doors.specs.SlotWays.{Moves, MayBeHigh, MayBeSeen, Pauses, AsksBy}
 use Rattle.market_config.specs.declared.calls.Call.{Call}
 use Rattle.worker_main.specs.Pushes.{PushesDue}
@@ -33,8 +33,9 @@ Binds s tenant t = t ≡ record s { bound = tenant }
 abbrev pub Advances : SessionSeen → Moved → SessionSeen → Type 0
 Advances s m t = (due : Option Call) × (Moves s.at.doors m due t.at.doors × PushesDue s.at.ringer due t.at.ringer × (t ≡ with_thread s t.at))
 
+-- A commit to the slot, in the same way.
 abbrev pub Commits : SessionSeen → Top → Moved → SessionSeen → Type 0
-Commits s top m t = Advances s m t
+Commits s top m t = (due : Option Call) × (slots.Commits s.at.doors top m due t.at.doors × PushesDue s.at.ringer due t.at.ringer × (t ≡ with_thread s t.at))
 
 abbrev pub Sees : SessionSeen → View → Type 0
 Sees s seen = MayBeSeen s.at.doors seen

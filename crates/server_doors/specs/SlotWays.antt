@@ -1,17 +1,21 @@
 -- What a thread may see and do at the doors of tenants.
-use Rattle.std.specs.Prelude.{ℕ, ◌≡◌, ◌<◌, Bool, true, false, List, length, Option, Some, None, MatchOption, IfSome}
+use Rattle.std.specs.Prelude.{ℕ, ◌≡◌, ◌≤◌, ◌<◌, Bool, true, false, length, Option, Some, None, MatchOption, option_map}
 use Rattle.job_language.specs.declared.answers.Came.{Came}
 use Rattle.job_language.specs.declared.answers.Came.TheVariants.{Nothing}
 use Rattle.job_language.specs.declared.answers.Moved.{Moved}
 use Rattle.job_language.specs.declared.answers.Moved.TheVariants.{Idle}
 use Rattle.job_language.specs.declared.answers.Reply.{Reply}
 use Rattle.job_language.specs.declared.requests.Request.{Request}
+use Rattle.job_step.specs.declared.segments.Top.{Top}
 use Rattle.job_step.specs.declared.segments.View.{View}
 use Rattle.job_step.specs.declared.segments.View.TheVariants.{Bare}
 use Rattle.tenant_lock.specs.Doors.{Carries, ComesWith}
+use Rattle.tenant_lock.specs.Under.{IsAdvanceOf, IsArrivalOf, IsAskOf, IsCommitOf, IsHandOverOf, WasUnder}
 use Rattle.tenant_model.specs.Told.{placed_on}
+use Rattle.tenant_record.specs.Cell.{CellData}
 use Rattle.tenant_record.specs.PassData.{PassData, GoesWith, goes_home}
 use Rattle.tenant_record.specs.SeatData.{SeatData, asked}
+use Rattle.tenant_record.specs.declared.slots.Advanced.{Advanced}
 use Rattle.server_doors.specs.Slots.{SlotsSeen}
 use Rattle.market_config.specs.declared.calls.Call.{Call}
 
@@ -20,14 +24,30 @@ abbrev pub IsBack : PassData → Moved → Option PassData → Type 0
 IsBack p m None = goes_home m ≡ true
 IsBack p m (Some q) = (goes_home m ≡ false) × Carries p m q
 
--- a slot of the pass's tenant, if one became due
-abbrev pub IsDueOf : (tenant : ℕ) → Option Call → Type 0
-IsDueOf tenant due = IfSome due (λ call. call.tenant ≡ tenant)
+-- the call for a slot of a tenant
+abbrev pub call_at : (tenant : ℕ) → ℕ → Call
+call_at tenant slot = record { tenant = tenant; slot = slot }
 
--- An advance or a commit. Without a pass it is idle.
+-- What a call did under the lock of a tenant made that slot due, and the call for it is given.
+pub record MakesDue (tenant : ℕ) (due : Option Call) (under : Option ℕ → Type 0) : Type 0 where
+  pub slot : Option ℕ
+  pub called : due ≡ option_map (call_at tenant) slot
+  pub done : under slot
+
+-- what is known of a move of a pass's slot with that answer, from which the pass q comes back: the slot that it made due is called
+abbrev pub IsMoveBy : (Advanced → CellData → CellData → Type 0) → PassData → Moved → Option Call → Option PassData → Type 0
+IsMoveBy moves p m due q =
+    IsBack p m q × MakesDue p.tenant due (λ slot. WasUnder (moves (record { moved = m; due = slot; pass = q })))
+
+-- An advance. Without a pass it is idle.
 abbrev pub Moves : SlotsSeen → Moved → Option Call → SlotsSeen → Type 0
 Moves s m due t =
-    MatchOption s.pass ((m ≡ Idle) × (due ≡ None) × (t ≡ s)) (λ p. (t.doors ≡ s.doors) × IsBack p m t.pass × IsDueOf p.tenant due)
+    MatchOption s.pass ((m ≡ Idle) × (due ≡ None) × (t ≡ s)) (λ p. (t.doors ≡ s.doors) × IsMoveBy (IsAdvanceOf p) p m due t.pass)
+
+-- A commit of the private run of a frame. Without a pass it is idle.
+abbrev pub Commits : SlotsSeen → Top → Moved → Option Call → SlotsSeen → Type 0
+Commits s top m due t =
+    MatchOption s.pass ((m ≡ Idle) × (due ≡ None) × (t ≡ s)) (λ p. (t.doors ≡ s.doors) × IsMoveBy (IsCommitOf p top) p m due t.pass)
 
 -- without a pass no row is on the slot
 abbrev pub MayBeHigh : SlotsSeen → ℕ → Type 0
@@ -49,17 +69,24 @@ GoesHome s t = t ≡ left s
 
 -- The thread without its pass, and a slot of the pass's tenant, if one became due. Without a pass none does.
 abbrev pub HandsOver : SlotsSeen → Option Call → SlotsSeen → Type 0
-HandsOver s due t = (t ≡ left s) × MatchOption s.pass (due ≡ None) (λ p. IsDueOf p.tenant due)
+HandsOver s due t =
+    (t ≡ left s) × MatchOption s.pass (due ≡ None) (λ p. MakesDue p.tenant due (λ slot. WasUnder (IsHandOverOf p slot)))
+
+-- An arrival at the door of a call's tenant. Without such a tenant it finds nothing.
+abbrev pub IsArrivalBy : (tenants : ℕ) → Call → Came → Option Call → Option PassData → Type 0
+IsArrivalBy tenants call came due q =
+    (call.tenant < tenants → MakesDue call.tenant due (λ slot. WasUnder (IsArrivalOf call.tenant call (record { came = came; due = slot; pass = q }))))
+    × (tenants ≤ call.tenant → (came ≡ Nothing) × (due ≡ None))
 
 -- An arrival for a call. The pass that the thread had goes home first.
 pub record ArrivesAt (s : SlotsSeen) (call : Call) (came : Came) (called : Option Call) (t : SlotsSeen) : Type 0 where
   pub doors : t.doors ≡ s.doors
   pub pass : ComesWith call.tenant call.slot came t.pass
-  pub due : IsDueOf call.tenant called
+  pub under : IsArrivalBy (length s.doors) call came called t.pass
 
 -- An ask of a seat. The pass that the thread had goes home first; with a job that is placed on a slot comes that slot's pass.
 pub record AsksBy (s : SlotsSeen) (asker : SeatData) (request : Request) (reply : Reply) (called : Option Call) (t : SlotsSeen) (told : SeatData) : Type 0 where
   pub doors : t.doors ≡ s.doors
   pub pass : GoesWith asker.tenant (placed_on reply) t.pass
   pub seat : told ≡ asked asker request reply
-  pub due : IsDueOf asker.tenant called
+  pub under : MakesDue asker.tenant called (λ slot. WasUnder (IsAskOf asker.tenant asker request (record { reply = reply; due = slot; pass = t.pass }) told))

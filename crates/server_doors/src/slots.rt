@@ -1,7 +1,7 @@
 // One thread at the doors of tenants.
 ghost use Rattle.std.specs.Prelude.{ℕ, ◌≡◌, ◌<◌, length, IfSome, None, option_map};
 ghost use Rattle.server_doors.specs.Slots.{AreNumbered};
-ghost use Rattle.server_doors.specs.SlotWays.{AsksBy};
+ghost use Rattle.server_doors.specs.SlotWays.{AsksBy, call_at};
 
 use job_language::{Came, Moved, Reply, Request};
 use job_step::{Segment, View};
@@ -102,13 +102,13 @@ impl<'d, R: Wait> TenantSlots<'d, R> {
 
 impl<'d, R: Wait> DueDoor for TenantSlots<'d, R> {
     ghost use Rattle.std.specs.Prelude.{length};
-    ghost use Rattle.server_doors.specs.SlotWays.{Moves, MayBeHigh, MayBeSeen, Pauses, GoesHome, HandsOver};
+    ghost use Rattle.server_doors.specs.SlotWays.{Commits, Moves, MayBeHigh, MayBeSeen, Pauses, GoesHome, HandsOver};
 
     ghost tenants = { λ s. length s.doors };
 
     ghost views = { MayBeSeen };
 
-    ghost commits = { λ s _ m due t. Moves s m due t };
+    ghost commits = { Commits };
 
     ghost advances = { Moves };
 
@@ -226,7 +226,7 @@ impl<'d, R: Wait> CallDoors for TenantSlots<'d, R> {
 
 /// The call for a slot of a tenant that became due.
 fn call_of(tenant: usize, due: Option<u8>) -> Option<Call>
-    ensures { result ≡ option_map (λ slot. record { tenant = tenant; slot = slot }) due }
+    ensures { result ≡ option_map (call_at tenant) due }
 {
     due.map(|slot| Call { tenant, slot })
 }

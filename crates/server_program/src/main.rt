@@ -8,7 +8,7 @@ use dump_lines::DumpFault;
 use job_language::TenantConfig;
 use program_words::{ServerWords, WordsFault, read_server_words};
 use socket_server::{
-    Access, Endpoint, House, MAX_CONFIG, Opened, ServerEnd, config_of, serve_connections,
+    Access, Endpoint, House, MAX_CONFIG, Opened, Returned, ServerEnd, config_of, serve_connections,
 };
 use std::alloc::Global;
 use std::env::Env;
@@ -20,7 +20,6 @@ use std::sync::Wait;
 use std::thread::Threads;
 use std::{env, io};
 use tenant_lock::{CloseFault, Closed};
-use tenant_record::Seat;
 
 fn main(rt: HostRuntime) -> ExitCode {
     let end = match words_of(&rt) {
@@ -109,7 +108,14 @@ where
     );
     endpoint.remove(rt);
     let served = served?;
-    let closed = close_tenants(rt, alloc, house, served.seats, config.tenants(), words.dump);
+    let closed = close_tenants(
+        rt,
+        alloc,
+        house,
+        served.returned,
+        config.tenants(),
+        words.dump,
+    );
     match served.fault {
         Some(fault) => Err(fault),
         None => closed,
@@ -162,13 +168,14 @@ fn close_tenants<R: Files + Print>(
     rt: &R,
     alloc: Global,
     house: House,
-    seats: Vec<Seat>,
+    returned: Returned,
     configs: &[TenantConfig],
     folder: Option<&str>,
 ) -> Result<ServerEnd, ServerEnd> {
+    let ends = house.close_returned(alloc, returned)?;
     let mut end = ServerEnd::Done;
     let mut fault = None;
-    for (closed, config) in house.close(alloc, seats)?.iter().zip(configs) {
+    for (closed, config) in ends.iter().zip(configs) {
         if closed.is_err() {
             end = ServerEnd::Close;
         }

@@ -7,8 +7,8 @@ ghost use Rattle.session_core.specs.Replies.{hello_in, Greets, RepliesTo, Replie
 
 use crate::doors::Doors;
 use crate::jobs::{collect, execute};
-use job_language::{Asked, Error, Reply, Request, TenantName};
-use request_reader::{read_request, ready};
+use job_language::{Error, Reply, Request, TenantName};
+use request_reader::{Asked, read_request, ready};
 use std::alloc::Global;
 
 /// The reply to a line that is not blank, or `None` if waiting for it was stopped. `is_bound` says

@@ -1,3 +1,4 @@
 pub mod Numbering
 pub mod Houses
 pub mod ServedOrNot
+pub mod Seats

@@ -1,5 +1,6 @@
 pub mod Shared
 pub mod Posts
 pub mod Sessions
+pub mod Returned
 pub mod Ends
 pub mod Houses

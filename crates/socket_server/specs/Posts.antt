@@ -1,5 +1,5 @@
 -- The places of threads in a server.
-use Rattle.std.specs.Prelude.{◌≡◌, List, length}
+use Rattle.std.specs.Prelude.{◌≡◌, false, List, [], length, All}
 use Rattle.call_queues.specs.Queues.{PassSeen}
 use Rattle.server_doors.specs.Sessions.{AreOwn}
 use Rattle.socket_server.specs.Shared.{SharedSeen, ArePassesOf}
@@ -26,7 +26,13 @@ IsPosts p = ArePassesOf p.house.queues.queues p.passes
 abbrev pub IsPost : PostSeen → Type 0
 IsPost p = p.pass.queues ≡ p.house.queues.queues
 
--- There is a seat of each tenant of the house.
+-- Nothing was asked by the seat.
+pub record IsFresh (s : SeatData) : Type 0 where
+  pub log : s.log ≡ []
+  pub full : s.full ≡ false
+
+-- There is a seat of each tenant of the house, by which nothing was asked yet.
 pub record IsClient (c : ClientSeen) : Type 0 where
   pub seats : length c.seats ≡ length c.post.house.doors
   pub own : AreOwn c.seats
+  pub fresh : All IsFresh c.seats

@@ -2,8 +2,10 @@
 ghost use Rattle.std.specs.Prelude.{◌≡◌, IfOk, filter, not};
 ghost use Rattle.job_language.specs.Tenant.{IsValidTenant};
 ghost use Rattle.socket_server.specs.Houses.{AreEnds, IsEnd, is_of};
+ghost use Rattle.socket_server.specs.Returned.{AreAskedBy, IsGivenBack};
 
 use crate::house::House;
+use crate::returned::Returned;
 use std::alloc::{AllocError, Global};
 use tenant_lock::{CloseFault, Closed, TenantDoor};
 use tenant_record::Seat;
@@ -27,6 +29,19 @@ impl House {
             left = others;
         }
         Ok(ends)
+    }
+
+    /// Closes all tenants as `close` does, with the seats that came back from the server's sessions: the asks in each
+    /// history are those that sessions gave back with their seats.
+    pub fn close_returned(
+        self,
+        alloc: Global,
+        returned: Returned,
+    ) -> Result<Vec<Result<Closed, CloseFault>>, AllocError>
+        ensures ends { IfOk result (λ ends. AreEnds self.doors returned.seats ends.items) }
+        ensures sessions { IfOk result (λ ends. AreAskedBy IsGivenBack self.doors ends.items) }
+    {
+        self.close(alloc, returned.into_seats())
     }
 }
 

@@ -7,6 +7,7 @@ ghost use Rattle.socket_server.specs.Shared.{ArePassesOf};
 ghost use Rattle.tenant_lock.specs.Doors.{DoorData};
 ghost use Rattle.server_doors.specs.Slots.{AreNumbered};
 
+use crate::fresh::FreshSeats;
 use crate::starting::open_doors;
 use call_queues::{CallQueues, QueuePass};
 use job_language::{Config, TenantName};
@@ -15,7 +16,6 @@ use std::alloc::{AllocError, Global};
 use std::marker::Model;
 use std::sync::Wait;
 use tenant_lock::TenantDoor;
-use tenant_record::Seat;
 use worker_main::Bell;
 
 /// What all threads of a server share: the doors of all tenants with their names, the queues of
@@ -54,7 +54,7 @@ impl Model for House {
 pub struct Opened {
     pub house: House,
     pub passes: Vec<QueuePass>,
-    pub seats: Vec<Seat>,
+    pub seats: FreshSeats,
 }
 
 impl House {
@@ -65,7 +65,7 @@ impl House {
         ensures count { IfOk result (λ opened. length opened.passes.items ≡ config.now.workers + connections) }
         ensures doors { IfOk result (λ opened. opened.house.doors ≡ doors_of connections config.now.tenants) }
         ensures names { IfOk result (λ opened. opened.house.names ≡ names_of config.now.tenants) }
-        ensures seats { IfOk result (λ opened. opened.seats.items ≡ seats_of connections config.now.tenants) }
+        ensures seats { IfOk result (λ opened. opened.seats ≡ seats_of connections config.now.tenants) }
     {
         let tenants = config.tenants();
         let names = names_of(alloc, tenants)?;
@@ -82,7 +82,7 @@ impl House {
         Ok(Opened {
             house,
             passes,
-            seats,
+            seats: FreshSeats::new(seats),
         })
     }
 

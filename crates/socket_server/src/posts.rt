@@ -1,11 +1,11 @@
 // The places of threads in a server.
-ghost use Rattle.std.specs.Prelude.{◌≡◌, IfSome, IfOk, length};
-ghost use Rattle.server_doors.specs.Sessions.{AreOwn};
+ghost use Rattle.std.specs.Prelude.{◌≡◌};
+ghost use Rattle.socket_server.specs.Posts.{IsClient};
 ghost use Rattle.socket_server.specs.Sessions.{first_session};
 ghost use Rattle.socket_server.specs.Shared.{ArePassesOf};
 
+use crate::fresh::FreshSeats;
 use crate::house::House;
-use crate::starting::take_seats;
 use call_queues::QueuePass;
 use server_doors::{LockedDoors, TenantSlots};
 use std::alloc::{AllocError, Global};
@@ -87,13 +87,13 @@ impl<'h> Posts<'h> {
     pub fn next_client(
         &mut self,
         alloc: Global,
-        seats: &mut Vec<Seat>,
+        seats: &mut FreshSeats,
     ) -> Result<Option<Client<'h>>, AllocError> {
         let Some(post) = self.next() else {
             return Ok(None);
         };
         let house = post.house;
-        let Some(seats) = take_seats(alloc, seats, house.doors.len())? else {
+        let Some(seats) = seats.take_each(alloc, house.doors.len())? else {
             return Ok(None);
         };
         Ok(Some(Client { post, seats }))
@@ -103,12 +103,21 @@ impl<'h> Posts<'h> {
 impl<'h> Client<'h> {
     /// The doors of a session that has asked nothing yet. Where it waits it stops once the flag is raised.
     pub fn into_doors<R: Wait>(self, rt: &'h R, stop: &'h StopFlag) -> LockedDoors<'h, 'h, R, Bell>
-        ensures { result ≡ first_session self.entry }
+        ensures session { result ≡ first_session self.entry }
+        ensures client { IsClient self.entry }
     {
         let Client { post, seats } = self;
         let Post { house, pass } = post;
         let slots = TenantSlots::new(rt, house.doors.as_slice(), stop);
         let ringer = Ringer::new(rt, &house.bell, &house.queues, pass);
         LockedDoors::new(slots, ringer, house.names.as_slice(), seats)
+    }
+
+    /// The seats of a session that did not take place.
+    pub(crate) fn into_seats(self) -> FreshSeats
+        ensures { result ≡ self.entry.seats }
+    {
+        let Client { post: _post, seats } = self;
+        FreshSeats::new(seats)
     }
 }

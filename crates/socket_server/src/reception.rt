@@ -3,6 +3,7 @@
 use crate::connections::Connection;
 use crate::endpoint::Endpoint;
 use crate::ends::ServerEnd;
+use crate::fresh::FreshSeats;
 use crate::house::House;
 use crate::posts::{Client, Posts};
 use crate::watching::Watch;
@@ -11,7 +12,6 @@ use std::fs::Files;
 use std::os::unix::net::UnixStream;
 use std::sync::{Arc, Wait};
 use std::time::Duration;
-use tenant_record::Seat;
 
 /// How long a wait takes at most, in milliseconds. What is looked at after each, such as whether the socket's file is
 /// still there, is seen within that time.
@@ -31,7 +31,7 @@ pub(crate) struct Admitted<'h> {
 #[derive(Drop)]
 pub(crate) struct Reception<'h> {
     posts: Posts<'h>,
-    seats: Vec<Seat>,
+    seats: FreshSeats,
     watch: Watch,
     accepted: Vec<Arc<Connection>>,
     /// How many connections are still to be accepted.
@@ -46,7 +46,7 @@ impl<'h> Reception<'h> {
     pub(crate) fn new(
         alloc: Global,
         posts: Posts<'h>,
-        seats: Vec<Seat>,
+        seats: FreshSeats,
         watch: Watch,
         connections: u8,
     ) -> Self {
@@ -125,12 +125,12 @@ impl<'h> Reception<'h> {
         self.left = 0;
     }
 
-    /// The last connection has no thread: it ends, and no more are accepted.
-    pub(crate) fn lose_last(&mut self) {
+    /// The last connection has no thread, for a fault: it ends, and no more are accepted.
+    pub(crate) fn lose_last(&mut self, fault: ServerEnd) {
         if let Some(connection) = self.accepted.last() {
             connection.end();
         }
-        self.fail(ServerEnd::Device);
+        self.fail(fault);
     }
 
     /// Whether no connection is still to be accepted, and all sessions have ended.
@@ -198,7 +198,7 @@ impl<'h> Reception<'h> {
     }
 
     /// The seats that no session took, and the first fault.
-    pub(crate) fn into_rest(self) -> (Vec<Seat>, Option<ServerEnd>) {
+    pub(crate) fn into_rest(self) -> (FreshSeats, Option<ServerEnd>) {
         let Reception {
             posts: _posts,
             seats,

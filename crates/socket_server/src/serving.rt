@@ -1,14 +1,17 @@
 // All threads of a server.
-ghost use Rattle.std.specs.Prelude.{◌≡◌, ◌⊎◌, IfErr};
+ghost use Rattle.std.specs.Prelude.{◌≡◌, ◌⊎◌, true, All, IfErr, IfOk, IsSome};
 ghost use Rattle.socket_server.specs.declared.ends.ServerEnd.TheVariants.{Device, Memory};
+ghost use Rattle.socket_server.specs.Returned.{IsGivenBack};
 ghost use Rattle.socket_server.specs.Shared.{ArePassesOf};
 
 use crate::connections::Connection;
 use crate::endpoint::Endpoint;
 use crate::ends::ServerEnd;
+use crate::fresh::FreshSeats;
 use crate::house::House;
 use crate::posts::{Client, Posts};
 use crate::reception::{Admitted, Reception};
+use crate::returned::Returned;
 use crate::sessions::{serve_calls, serve_client};
 use crate::watching::Watch;
 use call_queues::QueuePass;
@@ -20,16 +23,31 @@ use std::net::Net;
 use std::sync::{Mutex, Wait};
 use std::thread::Threads;
 use std::{io, thread};
-use tenant_record::Seat;
 use worker_main::{NoGate, Visiting};
 
 /// How the connections of a server ended.
 #[derive(Drop)]
 pub struct Served {
     /// The seats that came back from the sessions, and those that no session took.
-    pub seats: Vec<Seat>,
-    /// The first fault: `listening` could not be printed, or a connection could not be accepted or have its thread.
+    pub returned: Returned,
+    /// The first fault: `listening` could not be printed, a connection could not be accepted or have its thread, or a
+    /// seat was lost for lack of memory.
     pub fault: Option<ServerEnd>,
+}
+
+impl Served {
+    /// The end after that fault. Without one it is a fault that a seat was lost.
+    fn new(returned: Returned, fault: Option<ServerEnd>) -> Served
+        ensures given_back { All IsGivenBack result.returned.seats }
+        ensures lost { result.returned.is_short ≡ true → IsSome result.fault }
+    {
+        let is_short = returned.is_short();
+        let fault = match fault {
+            None if is_short => Some(ServerEnd::Memory),
+            first => first,
+        };
+        Served { returned, fault }
+    }
 }
 
 /// Starts a thread for each of `workers` workers, prints `listening`, accepts `connections` connections,
@@ -43,17 +61,18 @@ pub fn serve_connections<R: Threads + Wait + Files + Net + Sync + Print>(
     alloc: Global,
     house: &House,
     passes: Vec<QueuePass>,
-    seats: Vec<Seat>,
+    seats: FreshSeats,
     endpoint: &Endpoint<'_>,
     workers: usize,
     connections: u8,
 ) -> Result<Served, ServerEnd>
     requires { ArePassesOf house.now.queues.queues passes.items }
-    ensures { IfErr result (λ end. (end ≡ Device) ⊎ (end ≡ Memory)) }
+    ensures fault { IfErr result (λ end. (end ≡ Device) ⊎ (end ≡ Memory)) }
+    ensures given_back { IfOk result (λ served. All IsGivenBack served.returned.seats) }
+    ensures lost { IfOk result (λ served. served.returned.is_short ≡ true → IsSome served.fault) }
 {
     let posts = Posts::new(house, passes);
-    // With room for all, so that no seat is lost for lack of memory.
-    let returned = Mutex::new(Vec::with_capacity(alloc, seats.len())?);
+    let returned = Mutex::new(Returned::with_room(alloc, seats.len())?);
     let waiting = Mutex::new(Vec::with_capacity(alloc, usize::from(connections))?);
     let (watch, waker) = match Watch::new(rt, alloc, endpoint, connections) {
         Ok(made) => made,
@@ -83,10 +102,7 @@ pub fn serve_connections<R: Threads + Wait + Files + Net + Sync + Print>(
         Some(fault)
     });
     match served {
-        Some(fault) => Ok(Served {
-            seats: returned.into_inner(),
-            fault,
-        }),
+        Some(fault) => Ok(Served::new(returned.into_inner(), fault)),
         None => Err(ServerEnd::Device),
     }
 }
@@ -100,7 +116,7 @@ fn accept_all<'h, R: Threads + Wait + Files + Sync>(
     reception: Reception<'h>,
     endpoint: &Endpoint<'_>,
     waiting: Mutex<Vec<Client<'h>>>,
-    back: &Mutex<Vec<Seat>>,
+    back: &Mutex<Returned>,
     waker: &Waker,
 ) -> Option<ServerEnd> {
     let desk = &waiting;
@@ -111,12 +127,14 @@ fn accept_all<'h, R: Threads + Wait + Files + Sync>(
                 let Some(Admitted { client, connection }) = reception.admit(alloc, endpoint) else {
                     break;
                 };
-                // There is room for it. A thread takes it from here, so its seats are not lost if no thread can be
-                // started.
-                let _ = desk.lock(rt).push(client);
+                // A thread takes it from here, so its seats are not lost if no thread can be started.
+                if let Err(fault) = let_wait(rt, desk, back, client) {
+                    reception.lose_last(fault);
+                    break;
+                }
                 let session = move || serve_waiting(rt, alloc, desk, &connection, back, waker);
                 if scope.spawn(session).is_err() {
-                    reception.lose_last();
+                    reception.lose_last(ServerEnd::Device);
                 }
             }
             if reception.is_over() {
@@ -125,13 +143,28 @@ fn accept_all<'h, R: Threads + Wait + Files + Sync>(
             reception.attend(rt, house, endpoint);
         }
         let (seats, fault) = reception.into_rest();
-        give_back(&mut back.lock(rt), seats);
+        back.lock(rt).keep_fresh(seats);
         fault
     });
-    for Client { post: _post, seats } in waiting.into_inner() {
-        give_back(&mut back.lock(rt), seats);
+    for client in waiting.into_inner() {
+        back.lock(rt).keep_fresh(client.into_seats());
     }
     fault
+}
+
+/// Lets a client wait for its thread. `Memory` if there is no room for it; its seats come back then.
+fn let_wait<'h, R: Wait>(
+    rt: &R,
+    desk: &Mutex<Vec<Client<'h>>>,
+    back: &Mutex<Returned>,
+    client: Client<'h>,
+) -> Result<(), ServerEnd> {
+    let waits = desk.lock(rt).push(client);
+    if let Err(refused) = waits {
+        back.lock(rt).keep_fresh(refused.value.into_seats());
+        return Err(ServerEnd::Memory);
+    }
+    Ok(())
 }
 
 /// Serves a client that waits, and keeps its seats.
@@ -140,7 +173,7 @@ fn serve_waiting<R: Wait>(
     alloc: Global,
     desk: &Mutex<Vec<Client<'_>>>,
     connection: &Connection,
-    back: &Mutex<Vec<Seat>>,
+    back: &Mutex<Returned>,
     waker: &Waker,
 ) {
     let client = desk.lock(rt).pop();
@@ -154,19 +187,11 @@ fn serve_waiting<R: Wait>(
             &mut &*stream,
             &mut &*stream,
         );
-        give_back(&mut back.lock(rt), seats);
+        back.lock(rt).keep(seats);
     }
     connection.end();
     // If the waker fails, the next tick shows that the session has ended.
     let _ = waker.wake();
-}
-
-/// Keeps the seats that came back.
-fn give_back(back: &mut Vec<Seat>, own: Vec<Seat>) {
-    for seat in own {
-        // There is room for all; closing would find a seat that is lost.
-        let _ = back.push(seat);
-    }
 }
 
 /// What a fault of the system is for the server.

@@ -1,5 +1,6 @@
 // What a thread of the server does.
-ghost use Rattle.std.specs.Prelude.{◌≡◌, ◌⊎◌};
+ghost use Rattle.std.specs.Prelude.{◌≡◌, ◌⊎◌, All};
+ghost use Rattle.socket_server.specs.Returned.{IsGivenBack};
 ghost use Rattle.socket_server.specs.Sessions.{ServesClient};
 
 use crate::posts::{Client, Post};
@@ -22,8 +23,9 @@ pub fn serve_client<R: Wait, I: Read, O: Write>(
     reader: &mut I,
     writer: &mut O,
 ) -> Vec<Seat>
-    ensures { ServesClient client.entry (I.remaining reader.old) (I.remaining reader.new) (O.contents writer.old) (O.contents writer.new) result.items
+    ensures served { ServesClient client.entry (I.remaining reader.old) (I.remaining reader.new) (O.contents writer.old) (O.contents writer.new) result.items
         ⊎ ((reader.new ≡ reader.old) × (writer.new ≡ writer.old) × (result.items ≡ client.entry.seats)) }
+    ensures given_back { All IsGivenBack result.items }
 {
     let mut doors = client.into_doors(rt, is_gone);
     let _end = serve(alloc, reader, writer, &mut doors);

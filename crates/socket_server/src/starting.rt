@@ -1,6 +1,5 @@
 // The start of a server.
-ghost use Rattle.std.specs.Prelude.{◌≡◌, ◌++◌, IfOk, IfSome, OnOk, length};
-ghost use Rattle.server_doors.specs.Sessions.{AreOwn};
+ghost use Rattle.std.specs.Prelude.{◌≡◌, ◌++◌, IfOk, OnOk};
 ghost use Rattle.socket_server.specs.Houses.{doors_of, seats_of};
 
 use job_language::TenantConfig;
@@ -34,31 +33,4 @@ fn add_all(all: &mut Vec<Seat>, own: Vec<Seat>) -> Result<(), AllocError>
         all.push(seat)?;
     }
     Ok(())
-}
-
-/// A seat of each tenant, tenant 0 first, taken from those that are left. None if one is missing.
-pub(crate) fn take_seats(
-    alloc: Global,
-    left: &mut Vec<Seat>,
-    tenants: usize,
-) -> Result<Option<Vec<Seat>>, AllocError>
-    ensures own { IfOk result (λ taken. IfSome taken (λ seats. AreOwn seats.items)) }
-    ensures count { IfOk result (λ taken. IfSome taken (λ seats. length seats.items ≡ tenants)) }
-{
-    let mut own = Vec::with_capacity(alloc, tenants)?;
-    for tenant in 0..tenants {
-        let Some(seat) = take_seat(left, tenant) else {
-            return Ok(None);
-        };
-        own.push(seat)?;
-    }
-    Ok(Some(own))
-}
-
-/// A seat of a tenant, if one is left.
-pub(crate) fn take_seat(left: &mut Vec<Seat>, tenant: usize) -> Option<Seat>
-    ensures { IfSome result (λ seat. seat.tenant ≡ tenant) }
-{
-    let place = left.iter().position(|seat| seat.tenant() == tenant)?;
-    Some(left.swap_remove(place))
 }

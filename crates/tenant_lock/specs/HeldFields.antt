@@ -1,12 +1,14 @@
 -- What the fields of what a lock keeps say.
 use Rattle.std.specs.Prelude.{ℕ, ◌≡◌, true}
+use Rattle.tenant_lock.specs.Awaited.{are_open}
 use Rattle.tenant_lock.specs.Pauses.{has_to_stop}
-use Rattle.tenant_lock.specs.Sleepers.{HeldData, IsIdle, is_in}
+use Rattle.tenant_lock.specs.Sleepers.{HeldData, IsIdle, is_in, marks}
 use Rattle.tenant_lock.specs.declared.held.Held.TheInside.{Inside}
 
 abbrev pub held_data : Inside → HeldData
-held_data h = record { cell = h.cell; is_stopped = h.is_stopped; noted = h.waiting.noted.is_in }
+held_data h = record { cell = h.cell; is_stopped = h.is_stopped; noted = marks h.waiting.noted; awaited = h.awaited }
 
--- Nobody sleeps at a slot at which there is something to do.
-abbrev pub IsWatched : Inside → Type 0
-IsWatched h = (slot : ℕ) → is_in h.waiting.noted.is_in slot ≡ true → IsIdle h.cell (has_to_stop h.is_stopped h.cell) slot
+-- Nobody sleeps at a slot at which there is something to do, or for a job that is noted and has its outcome.
+pub record IsWatched (h : Inside) : Type 0 where
+  pub slots : (slot : ℕ) → is_in (marks h.waiting.noted) slot ≡ true → IsIdle h.cell (has_to_stop h.is_stopped h.cell) slot
+  pub jobs : are_open h.cell (has_to_stop h.is_stopped h.cell) h.awaited ≡ true

@@ -7,3 +7,6 @@ pub mod Looks
 pub mod Pauses
 pub mod Sleepers
 pub mod HeldFields
+pub mod Under
+pub mod Awaited
+pub mod Watch

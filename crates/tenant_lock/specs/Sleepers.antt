@@ -1,14 +1,23 @@
 -- What a tenant's lock keeps, and who sleeps at its slots.
-use Rattle.std.specs.Prelude.{ℕ, ◌≡◌, ◌≢◌, ◌⊎◌, ◌&&◌, ◌||◌, Bool, true, false, List, slice_index_or}
+use Rattle.std.specs.Prelude.{ℕ, ◌≡◌, ◌≢◌, ◌⊎◌, ◌&&◌, ◌||◌, Bool, true, false, List, Option, Some, None, replicate, slice_index_or}
 use Rattle.job_language.specs.declared.answers.Moved.TheVariants.{Idle}
+use Rattle.job_language.specs.declared.tenants.TheConstants.{MAX_SLOTS}
 use Rattle.tenant_model.specs.Advance.{advance}
 use Rattle.tenant_record.specs.Cell.{CellData, state_of}
+use Rattle.tenant_lock.specs.declared.awaited.Jobs.{Jobs}
+use Rattle.tenant_lock.specs.declared.waits.Slots.{Slots}
 
--- The tenant's cell, whether those who wait for it were told to stop, and at which slots somebody may sleep who was not told to look again.
+-- The tenant's cell, whether those who wait for it were told to stop, and at which slots and for which jobs somebody may sleep who was not told to look again.
 pub record HeldData : Type 0 where
   pub cell : CellData
   pub is_stopped : Bool
   pub noted : List Bool
+  pub awaited : Option Jobs
+
+-- of each slot whether it is one of these
+abbrev pub marks : Option Slots → List Bool
+marks None = replicate MAX_SLOTS false
+marks (Some slots) = slots.is_in
 
 -- Is the slot one of these?
 abbrev pub is_in : List Bool → ℕ → Bool

@@ -1,65 +1,106 @@
 // Who waits for which jobs.
+ghost use Rattle.std.specs.Prelude.{◌≡◌, Some};
+ghost use Rattle.tenant_lock.specs.Awaited.{
+  AddsJob,
+  AreWaitersTold,
+  are_open,
+  is_open,
+  is_open_if_any,
+  jobs_of,
+  no_jobs,
+};
 
-/// How many waits are noted with their job. More of them are counted.
+use job_language::Status;
+use tenant_record::TenantCell;
+
+/// How many waits are noted with their job.
 const NOTED: usize = 8;
 
-/// The jobs whose outcomes are waited for at a tenant.
-#[derive(Drop)]
-pub(crate) struct Awaited {
-    /// How many waits there are.
-    waits: usize,
-    jobs: [Option<u64>; NOTED],
-    /// How many of the waits are not noted with their job.
-    others: usize,
+/// The jobs for whose outcomes somebody may sleep who was not told to look again.
+#[derive(Clone, Copy, Debug, PartialEq, Eq)]
+pub(crate) struct Jobs {
+    /// The job of each wait for which there is room.
+    noted: [Option<u64>; NOTED],
+    /// Whether somebody may sleep for a job that is not noted.
+    others: bool,
 }
 
-impl Awaited {
-    pub(crate) fn new() -> Awaited {
-        Awaited {
-            waits: 0,
-            jobs: [None; NOTED],
-            others: 0,
+impl Jobs {
+    /// No job.
+    fn none() -> Jobs
+        ensures { result ≡ no_jobs }
+    {
+        Jobs {
+            noted: [None; NOTED],
+            others: false,
         }
     }
 
-    /// Notes a wait for a job.
-    pub(crate) fn add(&mut self, job: u64) {
-        self.waits = self.waits.saturating_add(1);
-        if !replace(&mut self.jobs, None, Some(job)) {
-            self.others = self.others.saturating_add(1);
+    /// Adds a job.
+    fn add(&mut self, job: u64)
+        ensures { AddsJob self.old job self.new }
+    {
+        match self.noted.iter().position(|noted| noted.is_none()) {
+            Some(free) => self.noted[free] = Some(job),
+            None => self.others = true,
         }
     }
 
-    /// Forgets a wait for a job. Which of several for the same job is the same to all.
-    pub(crate) fn remove(&mut self, job: u64) {
-        self.waits = self.waits.saturating_sub(1);
-        if !replace(&mut self.jobs, Some(job), None) {
-            self.others = self.others.saturating_sub(1);
-        }
-    }
-
-    /// Whether nobody waits.
-    pub(crate) fn is_empty(&self) -> bool {
-        self.waits == 0
-    }
-
-    /// Whether a wait is not noted with its job.
-    pub(crate) fn has_others(&self) -> bool {
-        self.others > 0
-    }
-
-    /// The jobs that are noted.
-    pub(crate) fn jobs(&self) -> &[Option<u64>] {
-        self.jobs.as_slice()
+    /// Whether those that are noted are there without an outcome, and nobody has to stop.
+    fn are_open(&self, cell: &TenantCell, is_over: bool) -> bool
+        ensures { result ≡ are_open cell.now is_over (Some self.now) }
+    {
+        self.noted
+            .iter()
+            .all(|noted| is_open_if_any(cell, is_over, *noted))
     }
 }
 
-/// Puts something in place of the first of these that are the same as another one. It says whether
-/// there is one.
-fn replace(jobs: &mut [Option<u64>; NOTED], old: Option<u64>, new: Option<u64>) -> bool {
-    let Some(place) = jobs.iter().position(|noted| *noted == old) else {
+/// Notes that somebody is about to sleep for a job.
+pub(crate) fn note(awaited: &mut Option<Jobs>, job: u64)
+    ensures { AddsJob (jobs_of awaited.old) job (jobs_of awaited.new) }
+{
+    let mut jobs = match *awaited {
+        Some(jobs) => jobs,
+        None => Jobs::none(),
+    };
+    jobs.add(job);
+    *awaited = Some(jobs);
+}
+
+/// Says whether those who sleep for jobs may go on after a call that made an entry, or none. If so, all are to be
+/// woken, and are forgotten here: who has to sleep again is noted again.
+pub(crate) fn tell_waiters(
+    awaited: &mut Option<Jobs>,
+    cell: &TenantCell,
+    is_over: bool,
+    is_entry: bool,
+) -> bool
+    ensures { AreWaitersTold cell.now is_over is_entry awaited.old result awaited.new }
+{
+    let Some(jobs) = *awaited else {
         return false;
     };
-    jobs[place] = new;
-    true
+    let is_told = (is_entry && jobs.others) || !jobs.are_open(cell, is_over);
+    if is_told {
+        *awaited = None;
+    }
+    is_told
+}
+
+/// Whether a job, if one is named, is there without an outcome, and nobody has to stop.
+fn is_open_if_any(cell: &TenantCell, is_over: bool, job: Option<u64>) -> bool
+    ensures { result ≡ is_open_if_any cell.now is_over job }
+{
+    match job {
+        Some(job) => is_open(cell, is_over, job),
+        None => true,
+    }
+}
+
+/// Whether a job is there without an outcome, and nobody has to stop.
+pub(crate) fn is_open(cell: &TenantCell, is_over: bool, job: u64) -> bool
+    ensures { result ≡ is_open cell.now is_over job }
+{
+    !is_over && matches!(cell.status(job), Some(Status::Running))
 }

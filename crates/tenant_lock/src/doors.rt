@@ -6,9 +6,11 @@ ghost use Rattle.tenant_model.specs.Told.{placed_on};
 ghost use Rattle.tenant_model.specs.declared.rows.TheConstants.{MAX_HEIGHT};
 ghost use Rattle.tenant_record.specs.PassData.{GoesWith, goes_home};
 ghost use Rattle.tenant_record.specs.SeatData.{asked, first_seats};
-ghost use Rattle.tenant_record.specs.Cell.{IsRight};
+ghost use Rattle.arena_core.specs.Views.{IsSeen};
+ghost use Rattle.tenant_record.specs.Cell.{IsRight, state_of};
 ghost use Rattle.tenant_lock.specs.Closing.{Agree, Closes, IsFault, IsRefused};
 ghost use Rattle.tenant_lock.specs.Doors.{Carries, ComesWith};
+ghost use Rattle.tenant_lock.specs.Under.{AndCounted, AndLooked, AreCounts, IsAdvanceOf, IsArrivalOf, IsAskOf, IsCommitOf, IsHandOverOf, IsHigh, IsTally, WasThere, WasUnder};
 ghost use Rattle.std.specs.Prelude.{IsSome};
 ghost use Rattle.job_language.specs.Brought.{job_of};
 ghost use Rattle.job_language.specs.declared.errors.Error.TheVariants.{NoMemory};
@@ -121,6 +123,7 @@ impl TenantDoor {
         ensures memory { result.reply ≡ Reply.Refused NoMemory → IsSome (job_of request) }
         ensures placed { GoesWith self.now.tenant (placed_on result.reply) result.pass }
         ensures pending { result.reply ≡ Reply.Pending → (job : ℕ) × (request ≡ Request.Collect job) }
+        ensures cell { WasUnder (IsAskOf self.now.tenant seat.old request result seat.new) }
     {
         let done = self.lock(rt).ask(self.tenant, seat, request);
         let asked = self.tell(done);
@@ -134,7 +137,8 @@ impl TenantDoor {
     /// it. At a slot of another tenant, at one that the tenant lacks, and at one whose pass is out,
     /// nothing happens.
     pub fn arrive<R: Wait>(&self, rt: &R, call: Call) -> Arrived
-        ensures { ComesWith self.now.tenant call.slot result.came result.pass }
+        ensures comes { ComesWith self.now.tenant call.slot result.came result.pass }
+        ensures cell { WasUnder (IsArrivalOf self.now.tenant call result) }
     {
         let done = self.lock(rt).arrive(self.tenant, call);
         self.tell(done)
@@ -145,6 +149,7 @@ impl TenantDoor {
         requires { pass.tenant ≡ self.now.tenant }
         ensures carries { IfSome result.pass (λ q. Carries pass result.moved q) }
         ensures home { is_some result.pass ≡ not (goes_home result.moved) }
+        ensures cell { WasUnder (IsAdvanceOf pass result) }
     {
         let done = self.lock(rt).advance(pass);
         self.tell(done)
@@ -156,6 +161,7 @@ impl TenantDoor {
         requires { pass.tenant ≡ self.now.tenant }
         ensures carries { IfSome result.pass (λ q. Carries pass result.moved q) }
         ensures home { is_some result.pass ≡ not (goes_home result.moved) }
+        ensures cell { WasUnder (IsCommitOf pass segment result) }
     {
         let done = self.lock(rt).commit(pass, segment);
         self.tell(done)
@@ -167,6 +173,8 @@ impl TenantDoor {
         requires { pass.tenant ≡ self.now.tenant }
         ensures carries { IfSome result.advanced.pass (λ q. Carries pass result.advanced.moved q) }
         ensures home { is_some result.advanced.pass ≡ not (goes_home result.advanced.moved) }
+        ensures cell { WasUnder (IsAdvanceOf pass result.advanced) }
+        ensures seen { WasUnder (AndLooked result.advanced view.new result.height (IsAdvanceOf pass result.advanced)) }
         ensures look { is_some result.height ≡ is_some result.advanced.pass }
         ensures most { IfSome result.height (λ height. height ≤ MAX_HEIGHT) }
     {
@@ -179,6 +187,8 @@ impl TenantDoor {
         requires { pass.tenant ≡ self.now.tenant }
         ensures carries { IfSome result.advanced.pass (λ q. Carries pass result.advanced.moved q) }
         ensures home { is_some result.advanced.pass ≡ not (goes_home result.advanced.moved) }
+        ensures cell { WasUnder (IsAdvanceOf pass result.advanced) }
+        ensures counted { WasUnder (AndCounted result.advanced result.height (IsAdvanceOf pass result.advanced)) }
         ensures count { is_some result.height ≡ is_some result.advanced.pass }
         ensures most { IfSome result.height (λ height. height ≤ MAX_HEIGHT) }
     {
@@ -198,6 +208,8 @@ impl TenantDoor {
         requires { pass.tenant ≡ self.now.tenant }
         ensures carries { IfSome result.advanced.pass (λ q. Carries pass result.advanced.moved q) }
         ensures home { is_some result.advanced.pass ≡ not (goes_home result.advanced.moved) }
+        ensures cell { WasUnder (IsCommitOf pass segment result.advanced) }
+        ensures seen { WasUnder (AndLooked result.advanced view.new result.height (IsCommitOf pass segment result.advanced)) }
         ensures look { is_some result.height ≡ is_some result.advanced.pass }
         ensures most { IfSome result.height (λ height. height ≤ MAX_HEIGHT) }
     {
@@ -209,6 +221,7 @@ impl TenantDoor {
     /// granted.
     pub fn view<R: Wait>(&self, rt: &R, pass: &Pass) -> View
         requires { pass.now.tenant ≡ self.now.tenant }
+        ensures cell { WasThere (λ c. IsSeen (state_of c) pass.now.slot result) }
     {
         self.lock(rt).cell().view(pass)
     }
@@ -216,18 +229,23 @@ impl TenantDoor {
     /// How many rows are on a pass's slot.
     pub fn height<R: Wait>(&self, rt: &R, pass: &Pass) -> usize
         requires { pass.now.tenant ≡ self.now.tenant }
-        ensures { result ≤ MAX_HEIGHT }
+        ensures cell { WasThere (IsHigh pass.now result) }
+        ensures most { result ≤ MAX_HEIGHT }
     {
         self.lock(rt).cell().height(pass)
     }
 
     /// How much of the tenant's history is used.
-    pub fn counts<R: Wait>(&self, rt: &R) -> Counts {
+    pub fn counts<R: Wait>(&self, rt: &R) -> Counts
+        ensures { WasThere (AreCounts result) }
+    {
         self.lock(rt).counts()
     }
 
     /// How far the tenant's jobs are, and how many of its rows are open.
-    pub fn tally<R: Wait>(&self, rt: &R) -> Tally {
+    pub fn tally<R: Wait>(&self, rt: &R) -> Tally
+        ensures { WasThere (IsTally result) }
+    {
         self.lock(rt).tally()
     }
 
@@ -248,6 +266,7 @@ impl TenantDoor {
     /// the worker. It is no entry, so nobody is woken.
     pub fn hand_over<R: Wait>(&self, rt: &R, pass: Pass) -> Option<u8>
         requires { pass.tenant ≡ self.now.tenant }
+        ensures cell { WasUnder (IsHandOverOf pass result) }
     {
         self.lock(rt).hand_over(pass)
     }
@@ -297,13 +316,11 @@ impl TenantDoor {
     pub fn pause_for_until<R: Wait>(&self, rt: &R, _seat: &Seat, job: u64, stop: &StopFlag) -> bool
         requires { _seat.now.tenant ≡ self.now.tenant }
     {
-        let mut held = self.lock(rt);
-        held.wait_for(job);
-        let mut held = self.outcomes.wait_while(rt, held, |held| {
-            !stop.is_raised() && held.is_job_open(job)
+        let held = self.lock(rt);
+        let held = self.outcomes.wait_while(rt, held, |held| {
+            !stop.is_raised() && held.sleeps_for(job)
         });
-        let is_stopped = held.end_wait_for(job);
-        stop.is_raised() || is_stopped
+        stop.is_raised() || held.is_stopped()
     }
 
     /// Wakes all that wait, each to look whether to go on.
@@ -336,7 +353,7 @@ impl TenantDoor {
     {
         let Done { answer, news } = done;
         let News { slots, has_outcome } = news;
-        if !slots.is_empty() {
+        if let Some(slots) = slots {
             self.wake_at(slots);
         }
         if has_outcome {

@@ -1,6 +1,7 @@
 // What a tenant's lock keeps, and the calls to which it is lent.
 ghost use Rattle.std.specs.Prelude.{ℕ, ◌≡◌, ◌≢◌, ◌<◌, ◌≤◌, ◌||◌, ◌⊎◌, not, true, false, IfSome, Some, None, count_by, length, nat_le, option_map, replicate, slice_set, if◌then◌else◌};
 ghost use Rattle.std.specs.Option.{is_some};
+ghost use Rattle.job_language.specs.Recorded.{is_entry, is_recorded_reply};
 ghost use Rattle.job_language.specs.declared.answers.Moved.{Moved};
 ghost use Rattle.job_language.specs.declared.tenants.TheConstants.{MAX_SLOTS};
 ghost use Rattle.tenant_model.specs.Advance.{advance};
@@ -10,21 +11,22 @@ ghost use Rattle.tenant_model.specs.Walks.{height, is_unstarted};
 ghost use Rattle.tenant_model.specs.declared.rows.TheConstants.{MAX_HEIGHT};
 ghost use Rattle.tenant_record.specs.PassData.{GoesWith, goes_home, has_room};
 ghost use Rattle.tenant_record.specs.SeatData.{asked};
-ghost use Rattle.tenant_record.specs.Cell.{AnswersAsk, arrival, state_of};
-ghost use Rattle.tenant_record.specs.Locked.{IsMoved, IsArrived, IsAsked, IsHandedOver, given_home};
-ghost use Rattle.arena_steps.specs.Within.{advance_within};
-ghost use Rattle.arena_core.specs.Views.{Commits};
+ghost use Rattle.tenant_record.specs.Cell.{IsRight, arrival, state_of};
+ghost use Rattle.tenant_record.specs.Locked.{IsArrived, given_home};
+ghost use Rattle.tenant_lock.specs.Awaited.{AddsJob, is_open, jobs_of};
 ghost use Rattle.tenant_lock.specs.Doors.{Carries, ComesWith, has_slot_of};
 ghost use Rattle.tenant_lock.specs.Looks.{IsLook, IsShown};
 ghost use Rattle.tenant_lock.specs.Pauses.{has_to_stop};
-ghost use Rattle.tenant_lock.specs.Sleepers.{AreTold, CanMove, IsIdle};
+ghost use Rattle.tenant_lock.specs.Sleepers.{CanMove, IsIdle};
+ghost use Rattle.tenant_lock.specs.Under.{AreCounts, IsAdvanceOf, IsArrivalOf, IsAskOf, IsCommitOf, IsHandOverOf, IsTally};
+ghost use Rattle.tenant_lock.specs.Watch.{KeepsWatch};
 ghost use Rattle.std.specs.Prelude.{IsSome};
 ghost use Rattle.job_language.specs.Brought.{job_of};
 
-use crate::awaited::Awaited;
+use crate::awaited::{Jobs, is_open, note};
 use crate::counts::{Counts, JobTally, Tally};
 use crate::looks::by_length;
-use crate::news::{Done, is_job_open, is_over, take_news};
+use crate::news::{Done, is_over};
 use crate::waits::{Waiting, Waits};
 use job_language::{Answer, Came, Error, Moved, Reply, Request};
 use job_step::{Segment, View};
@@ -41,7 +43,7 @@ pub(crate) struct Held {
     cell: TenantCell,
     is_stopped: bool,
     waiting: Waiting,
-    awaited: Awaited,
+    awaited: Option<Jobs>,
 }
 
 impl Model for Held {
@@ -69,12 +71,13 @@ impl Held {
         ensures cell { result.cell ≡ cell }
         ensures stopped { result.is_stopped ≡ false }
         ensures noted { result.noted ≡ replicate MAX_SLOTS false }
+        ensures awaited { result.awaited ≡ None }
     {
         Held {
             cell,
             is_stopped: false,
             waiting: Waiting::new(),
-            awaited: Awaited::new(),
+            awaited: None,
         }
     }
 
@@ -85,12 +88,13 @@ impl Held {
         ensures memory { result.answer.reply ≡ Reply.Refused Error.NoMemory → IsSome (job_of request) }
         ensures placed { GoesWith tenant (placed_on result.answer.reply) result.answer.pass }
         ensures pending { result.answer.reply ≡ Reply.Pending → (job : ℕ) × (request ≡ Request.Collect job) }
-        ensures answer { self.old.cell.tenant ≡ tenant → AnswersAsk self.old.cell seat.old request result.answer.reply self.new.cell }
-        ensures asked { self.old.cell.tenant ≡ tenant → IsAsked self.old.cell seat.old request result.answer.reply result.answer.due result.answer.pass self.new.cell seat.new }
+        ensures cell { IsAskOf tenant seat.old request result.answer seat.new self.old.cell self.new.cell }
+        ensures right { IsRight self.old.cell × IsRight self.new.cell }
         ensures kept { self.old.cell.tenant ≢ tenant → self.new ≡ self.old }
-        ensures stopped { self.new.is_stopped ≡ self.old.is_stopped }
-        ensures woken { AreTold self.new.cell (has_to_stop self.new.is_stopped self.new.cell) self.old.noted result.news.slots.is_in self.new.noted }
+        ensures watch { KeepsWatch self.old self.new (is_recorded_reply result.answer.reply) result.news }
     {
+        // Proof hint: the cell is right.
+        let _ = self.cell.history();
         if self.cell.tenant() != tenant {
             return Done::nothing(Asked {
                 reply: Reply::Refused(Error::NoTenant),
@@ -100,28 +104,26 @@ impl Held {
         }
         let asked = self.cell.ask(seat, request);
         let has_entered = asked.reply.is_recorded();
-        let news = take_news(
+        Done::made(
+            asked,
+            has_entered,
             &self.cell,
             self.is_stopped,
             &mut self.waiting,
-            &self.awaited,
-            has_entered,
-        );
-        Done {
-            answer: asked,
-            news,
-        }
+            &mut self.awaited,
+        )
     }
 
     /// Lets a worker arrive at the slot of a call, if that is of the tenant of that number.
     pub(crate) fn arrive(&mut self, tenant: usize, call: Call) -> Done<Arrived>
         ensures comes { ComesWith tenant call.slot result.answer.came result.answer.pass }
-        ensures answer { call.tenant ≡ tenant → self.old.cell.tenant ≡ tenant → result.answer.came ≡ (arrival self.old.cell call.slot).0 }
-        ensures arrived { call.tenant ≡ tenant → self.old.cell.tenant ≡ tenant → IsArrived self.old.cell call.slot result.answer.came result.answer.due result.answer.pass self.new.cell }
+        ensures cell { IsArrivalOf tenant call result.answer self.old.cell self.new.cell }
+        ensures right { IsRight self.old.cell × IsRight self.new.cell }
         ensures elsewhere { call.tenant ≢ tenant → self.new ≡ self.old }
-        ensures stopped { self.new.is_stopped ≡ self.old.is_stopped }
-        ensures woken { AreTold self.new.cell (has_to_stop self.new.is_stopped self.new.cell) self.old.noted result.news.slots.is_in self.new.noted }
+        ensures watch { KeepsWatch self.old self.new (is_entry (Answer.Came result.answer.came)) result.news }
     {
+        // Proof hint: the cell is right.
+        let _ = self.cell.history();
         if call.tenant != tenant || self.cell.tenant() != tenant {
             return Done::nothing(Arrived {
                 came: Came::Nothing,
@@ -131,86 +133,78 @@ impl Held {
         }
         let arrived = arrive_at(&mut self.cell, call.slot);
         let has_entered = Answer::Came(arrived.came).is_entry();
-        let news = take_news(
+        Done::made(
+            arrived,
+            has_entered,
             &self.cell,
             self.is_stopped,
             &mut self.waiting,
-            &self.awaited,
-            has_entered,
-        );
-        Done {
-            answer: arrived,
-            news,
-        }
+            &mut self.awaited,
+        )
     }
 
     /// Advances the slot of a pass.
     pub(crate) fn advance(&mut self, pass: Pass) -> Done<Advanced>
         ensures carries { IfSome result.answer.pass (λ q. Carries pass result.answer.moved q) }
         ensures home { is_some result.answer.pass ≡ not (goes_home result.answer.moved) }
-        ensures answer { has_slot_of self.old.cell pass ≡ true → result.answer.moved ≡ (advance_within (has_room pass) (state_of self.old.cell) pass.slot).0 }
-        ensures moved { has_slot_of self.old.cell pass ≡ true → IsMoved self.old.cell pass result.answer.moved result.answer.due result.answer.pass self.new.cell }
+        ensures cell { IsAdvanceOf pass result.answer self.old.cell self.new.cell }
+        ensures right { IsRight self.old.cell × IsRight self.new.cell }
         ensures kept { has_slot_of self.old.cell pass ≡ false → self.new ≡ self.old }
-        ensures stopped { self.new.is_stopped ≡ self.old.is_stopped }
-        ensures woken { AreTold self.new.cell (has_to_stop self.new.is_stopped self.new.cell) self.old.noted result.news.slots.is_in self.new.noted }
+        ensures watch { KeepsWatch self.old self.new (is_entry (Answer.Moved result.answer.moved)) result.news }
     {
+        // Proof hint: the cell is right.
+        let _ = self.cell.history();
         if !self.has_slot_of(&pass) {
             return Done::nothing(stale(pass));
         }
         let advanced = self.cell.advance(pass);
         let has_entered = Answer::Moved(advanced.moved).is_entry();
-        let news = take_news(
+        Done::made(
+            advanced,
+            has_entered,
             &self.cell,
             self.is_stopped,
             &mut self.waiting,
-            &self.awaited,
-            has_entered,
-        );
-        Done {
-            answer: advanced,
-            news,
-        }
+            &mut self.awaited,
+        )
     }
 
     /// Puts a private run in the place of an advance of the slot of a pass.
     pub(crate) fn commit(&mut self, pass: Pass, segment: Segment) -> Done<Advanced>
         ensures carries { IfSome result.answer.pass (λ q. Carries pass result.answer.moved q) }
         ensures home { is_some result.answer.pass ≡ not (goes_home result.answer.moved) }
-        ensures answer { has_slot_of self.old.cell pass ≡ true → Commits (has_room pass) (state_of self.old.cell) pass.slot segment result.answer.moved (state_of self.new.cell) }
-        ensures moved { has_slot_of self.old.cell pass ≡ true → IsMoved self.old.cell pass result.answer.moved result.answer.due result.answer.pass self.new.cell }
+        ensures cell { IsCommitOf pass segment result.answer self.old.cell self.new.cell }
+        ensures right { IsRight self.old.cell × IsRight self.new.cell }
         ensures kept { has_slot_of self.old.cell pass ≡ false → self.new ≡ self.old }
-        ensures stopped { self.new.is_stopped ≡ self.old.is_stopped }
-        ensures woken { AreTold self.new.cell (has_to_stop self.new.is_stopped self.new.cell) self.old.noted result.news.slots.is_in self.new.noted }
+        ensures watch { KeepsWatch self.old self.new (is_entry (Answer.Moved result.answer.moved)) result.news }
     {
+        // Proof hint: the cell is right.
+        let _ = self.cell.history();
         if !self.has_slot_of(&pass) {
             return Done::nothing(stale(pass));
         }
         let advanced = self.cell.commit(pass, segment);
         let has_entered = Answer::Moved(advanced.moved).is_entry();
-        let news = take_news(
+        Done::made(
+            advanced,
+            has_entered,
             &self.cell,
             self.is_stopped,
             &mut self.waiting,
-            &self.awaited,
-            has_entered,
-        );
-        Done {
-            answer: advanced,
-            news,
-        }
+            &mut self.awaited,
+        )
     }
 
     /// Advances the slot of a pass, and looks at it.
     pub(crate) fn advance_and_look(&mut self, pass: Pass, view: &mut View) -> Done<Turned>
         ensures carries { IfSome result.answer.advanced.pass (λ q. Carries pass result.answer.advanced.moved q) }
         ensures home { is_some result.answer.advanced.pass ≡ not (goes_home result.answer.advanced.moved) }
-        ensures answer { has_slot_of self.old.cell pass ≡ true → result.answer.advanced.moved ≡ (advance_within (has_room pass) (state_of self.old.cell) pass.slot).0 }
-        ensures moved { has_slot_of self.old.cell pass ≡ true → IsMoved self.old.cell pass result.answer.advanced.moved result.answer.advanced.due result.answer.advanced.pass self.new.cell }
+        ensures cell { IsAdvanceOf pass result.answer.advanced self.old.cell self.new.cell }
+        ensures right { IsRight self.old.cell × IsRight self.new.cell }
         ensures kept { has_slot_of self.old.cell pass ≡ false → self.new ≡ self.old }
-        ensures stopped { self.new.is_stopped ≡ self.old.is_stopped }
         ensures look { IsLook self.new.cell result.answer.advanced.pass view.new result.answer.height }
         ensures most { IfSome result.answer.height (λ height. height ≤ MAX_HEIGHT) }
-        ensures woken { AreTold self.new.cell (has_to_stop self.new.is_stopped self.new.cell) self.old.noted result.news.slots.is_in self.new.noted }
+        ensures watch { KeepsWatch self.old self.new (is_entry (Answer.Moved result.answer.advanced.moved)) result.news }
     {
         let Done {
             answer: advanced,
@@ -227,13 +221,12 @@ impl Held {
     pub(crate) fn advance_and_count(&mut self, pass: Pass) -> Done<Turned>
         ensures carries { IfSome result.answer.advanced.pass (λ q. Carries pass result.answer.advanced.moved q) }
         ensures home { is_some result.answer.advanced.pass ≡ not (goes_home result.answer.advanced.moved) }
-        ensures answer { has_slot_of self.old.cell pass ≡ true → result.answer.advanced.moved ≡ (advance_within (has_room pass) (state_of self.old.cell) pass.slot).0 }
-        ensures moved { has_slot_of self.old.cell pass ≡ true → IsMoved self.old.cell pass result.answer.advanced.moved result.answer.advanced.due result.answer.advanced.pass self.new.cell }
+        ensures cell { IsAdvanceOf pass result.answer.advanced self.old.cell self.new.cell }
+        ensures right { IsRight self.old.cell × IsRight self.new.cell }
         ensures kept { has_slot_of self.old.cell pass ≡ false → self.new ≡ self.old }
-        ensures stopped { self.new.is_stopped ≡ self.old.is_stopped }
         ensures count { result.answer.height ≡ option_map (λ p. height (state_of self.new.cell).rows p.slot) result.answer.advanced.pass }
         ensures most { IfSome result.answer.height (λ height. height ≤ MAX_HEIGHT) }
-        ensures woken { AreTold self.new.cell (has_to_stop self.new.is_stopped self.new.cell) self.old.noted result.news.slots.is_in self.new.noted }
+        ensures watch { KeepsWatch self.old self.new (is_entry (Answer.Moved result.answer.advanced.moved)) result.news }
     {
         let Done {
             answer: advanced,
@@ -266,13 +259,12 @@ impl Held {
     ) -> Done<Turned>
         ensures carries { IfSome result.answer.advanced.pass (λ q. Carries pass result.answer.advanced.moved q) }
         ensures home { is_some result.answer.advanced.pass ≡ not (goes_home result.answer.advanced.moved) }
-        ensures answer { has_slot_of self.old.cell pass ≡ true → Commits (has_room pass) (state_of self.old.cell) pass.slot segment result.answer.advanced.moved (state_of self.new.cell) }
-        ensures moved { has_slot_of self.old.cell pass ≡ true → IsMoved self.old.cell pass result.answer.advanced.moved result.answer.advanced.due result.answer.advanced.pass self.new.cell }
+        ensures cell { IsCommitOf pass segment result.answer.advanced self.old.cell self.new.cell }
+        ensures right { IsRight self.old.cell × IsRight self.new.cell }
         ensures kept { has_slot_of self.old.cell pass ≡ false → self.new ≡ self.old }
-        ensures stopped { self.new.is_stopped ≡ self.old.is_stopped }
         ensures look { IsLook self.new.cell result.answer.advanced.pass view.new result.answer.height }
         ensures most { IfSome result.answer.height (λ height. height ≤ MAX_HEIGHT) }
-        ensures woken { AreTold self.new.cell (has_to_stop self.new.is_stopped self.new.cell) self.old.noted result.news.slots.is_in self.new.noted }
+        ensures watch { KeepsWatch self.old self.new (is_entry (Answer.Moved result.answer.advanced.moved)) result.news }
     {
         let Done {
             answer: advanced,
@@ -323,14 +315,20 @@ impl Held {
 
     /// Puts a pass home and calls a worker, if its slot is one of the cell's.
     pub(crate) fn hand_over(&mut self, pass: Pass) -> Option<u8>
-        ensures handed { has_slot_of self.old.cell pass ≡ true → IsHandedOver self.old.cell pass result self.new.cell }
-        ensures kept { has_slot_of self.old.cell pass ≡ false → (result ≡ None) × (self.new ≡ self.old) }
+        ensures cell { IsHandOverOf pass result self.old.cell self.new.cell }
+        ensures right { IsRight self.old.cell × IsRight self.new.cell }
+        ensures kept { has_slot_of self.old.cell pass ≡ false → self.new ≡ self.old }
         ensures stopped { self.new.is_stopped ≡ self.old.is_stopped }
     {
+        // Proof hint: the cell is right.
+        let _ = self.cell.history();
         if !self.has_slot_of(&pass) {
             return None;
         }
-        self.cell.hand_over(pass)
+        let due = self.cell.hand_over(pass);
+        // Proof hint: it still is.
+        let _ = self.cell.history();
+        due
     }
 
     /// Whether the slot of a pass is one of the cell's.
@@ -350,8 +348,8 @@ impl Held {
 
     /// How much of the history is used.
     pub(crate) fn counts(&self) -> Counts
-        ensures entries { result.entries ≡ length self.now.cell.history }
-        ensures asks { result.asks ≡ length self.now.cell.askers }
+        ensures value { AreCounts result self.now.cell }
+        ensures right { IsRight self.now.cell }
     {
         Counts {
             entries: self.cell.history().len(),
@@ -361,9 +359,11 @@ impl Held {
 
     /// How far the tenant's jobs are, and how many rows are open.
     pub(crate) fn tally(&self) -> Tally
-        ensures open { result.open_rows ≡ open_rows (state_of self.now.cell).rows }
-        ensures waiting { result.waiting_rows ≡ count_by (λ r. is_unstarted r.phase) (state_of self.now.cell).rows }
+        ensures value { IsTally result self.now.cell }
+        ensures right { IsRight self.now.cell }
     {
+        // Proof hint: the cell is right.
+        let _ = self.cell.history();
         Tally {
             jobs: self.job_tally(),
             open_rows: self.cell.open_rows(),
@@ -383,24 +383,24 @@ impl Held {
         jobs
     }
 
-    /// Whether a job is there without an outcome, and nobody has to stop.
-    pub(crate) fn is_job_open(&self, job: u64) -> bool {
-        is_job_open(&self.cell, self.is_stopped, job)
+    /// Notes who has to sleep for a job, and says whether to sleep: the job is there without an outcome, and nobody has
+    /// to stop.
+    pub(crate) fn sleeps_for(&mut self, job: u64) -> bool
+        ensures waits { result ≡ is_open self.old.cell (has_to_stop self.old.is_stopped self.old.cell) job }
+        ensures noted { result ≡ true → AddsJob (jobs_of self.old.awaited) job (jobs_of self.new.awaited) }
+        ensures kept { self.new ≡ record self.old { awaited = if result then self.new.awaited else self.old.awaited } }
+    {
+        let sleeps = is_open(&self.cell, self.is_over(), job);
+        if sleeps {
+            note(&mut self.awaited, job);
+        }
+        sleeps
     }
 
-    /// Notes that somebody waits for a job.
-    pub(crate) fn wait_for(&mut self, job: u64)
-        ensures { self.new ≡ self.old }
+    /// Whether those who wait for the tenant were told to stop.
+    pub(crate) fn is_stopped(&self) -> bool
+        ensures { result ≡ self.now.is_stopped }
     {
-        self.awaited.add(job);
-    }
-
-    /// Forgets one who waited for a job, and says whether those who wait were told to stop.
-    pub(crate) fn end_wait_for(&mut self, job: u64) -> bool
-        ensures stopped { result ≡ self.old.is_stopped }
-        ensures kept { self.new ≡ self.old }
-    {
-        self.awaited.remove(job);
         self.is_stopped
     }
 
@@ -409,9 +409,11 @@ impl Held {
         ensures stopped { self.new.is_stopped ≡ true }
         ensures cell { self.new.cell ≡ self.old.cell }
         ensures noted { self.new.noted ≡ replicate MAX_SLOTS false }
+        ensures awaited { self.new.awaited ≡ None }
     {
         self.is_stopped = true;
         self.waiting.tell_all();
+        self.awaited = None;
     }
 
     /// Whether an advance of a slot would be idle, and nobody has to stop.
@@ -450,8 +452,11 @@ impl Held {
 
     /// What is seen of a pass's slot, and how many rows are on it, are the cell's.
     pub(crate) fn cell(&self) -> &TenantCell
-        ensures { result.now ≡ self.now.cell }
+        ensures value { result.now ≡ self.now.cell }
+        ensures right { IsRight self.now.cell }
     {
+        // Proof hint: the cell is right.
+        let _ = self.cell.history();
         &self.cell
     }
 
@@ -480,8 +485,7 @@ fn arrive_at(cell: &mut TenantCell, slot: u8) -> Arrived
 
 /// Nothing was done for a pass.
 fn stale(pass: Pass) -> Advanced
-    ensures moved { result.moved ≡ Moved.Stale }
-    ensures pass { result.pass ≡ Some pass }
+    ensures { result ≡ record { moved = Moved.Stale; due = None; pass = Some pass } }
 {
     Advanced {
         moved: Moved::Stale,

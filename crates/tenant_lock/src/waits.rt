@@ -1,7 +1,7 @@
 // Who waits at which slots.
 ghost use Rattle.std.specs.Prelude.{ℕ, ◌≡◌, ◌<◌, false, true, replicate, slice_set};
 ghost use Rattle.job_language.specs.declared.tenants.TheConstants.{MAX_SLOTS};
-ghost use Rattle.tenant_lock.specs.Sleepers.{AreTold, CanMove, IsIdle, is_in};
+ghost use Rattle.tenant_lock.specs.Sleepers.{AreTold, CanMove, IsIdle, is_in, marks};
 
 use job_language::MAX_SLOTS;
 use tenant_record::TenantCell;
@@ -15,7 +15,7 @@ pub(crate) struct Slots {
 
 impl Slots {
     /// No slot.
-    pub(crate) fn none() -> Slots
+    fn none() -> Slots
         ensures { result.is_in ≡ replicate MAX_SLOTS false }
     {
         Slots {
@@ -23,8 +23,15 @@ impl Slots {
         }
     }
 
+    /// The slots, if there are any.
+    fn if_any(self) -> Option<Slots>
+        ensures { marks result ≡ self.is_in }
+    {
+        if self.is_empty() { None } else { Some(self) }
+    }
+
     /// Whether there is none.
-    pub(crate) fn is_empty(self) -> bool
+    fn is_empty(self) -> bool
         ensures { result ≡ true → self.is_in ≡ replicate MAX_SLOTS false }
     {
         self.is_in == [false; MAX_SLOTS as usize]
@@ -46,7 +53,7 @@ impl Slots {
     }
 
     /// Adds a slot.
-    pub(crate) fn add(&mut self, slot: u8)
+    fn add(&mut self, slot: u8)
         requires { slot < MAX_SLOTS }
         ensures { self.new.is_in ≡ slice_set self.old.is_in slot true }
     {
@@ -54,7 +61,7 @@ impl Slots {
     }
 
     /// Takes a slot out.
-    pub(crate) fn remove(&mut self, slot: u8)
+    fn remove(&mut self, slot: u8)
         requires { slot < MAX_SLOTS }
         ensures { self.new.is_in ≡ slice_set self.old.is_in slot false }
     {
@@ -77,8 +84,9 @@ pub struct Waits {
 /// Who waits at the slots of a tenant.
 #[derive(Drop)]
 pub(crate) struct Waiting {
-    /// The slots at which somebody may sleep who was not told to look again.
-    noted: Slots,
+    /// The slots at which somebody may sleep who was not told to look again, if there are any: who makes an entry then
+    /// sees at once that nobody sleeps.
+    noted: Option<Slots>,
     wakes: u64,
     idle_wakes: u64,
 }
@@ -86,10 +94,10 @@ pub(crate) struct Waiting {
 impl Waiting {
     /// Nobody waits.
     pub(crate) fn new() -> Waiting
-        ensures { result.noted.is_in ≡ replicate MAX_SLOTS false }
+        ensures { marks result.noted ≡ replicate MAX_SLOTS false }
     {
         Waiting {
-            noted: Slots::none(),
+            noted: None,
             wakes: 0,
             idle_wakes: 0,
         }
@@ -98,27 +106,35 @@ impl Waiting {
     /// Notes that somebody is about to sleep at a slot.
     pub(crate) fn note(&mut self, slot: u8)
         requires { slot < MAX_SLOTS }
-        ensures { self.new.noted.is_in ≡ slice_set self.old.noted.is_in slot true }
+        ensures { marks self.new.noted ≡ slice_set (marks self.old.noted) slot true }
     {
-        self.noted.add(slot);
+        let mut noted = match self.noted {
+            Some(noted) => noted,
+            None => Slots::none(),
+        };
+        noted.add(slot);
+        self.noted = Some(noted);
     }
 
     /// Forgets the slots at which nobody has to sleep any more, and names them, so that who sleeps there is woken: all
     /// if everybody has to stop, else those that can move.
-    pub(crate) fn tell(&mut self, cell: &TenantCell, is_over: bool) -> Slots
-        ensures { AreTold cell.now is_over self.old.noted.is_in result.is_in self.new.noted.is_in }
+    pub(crate) fn tell(&mut self, cell: &TenantCell, is_over: bool) -> Option<Slots>
+        ensures { AreTold cell.now is_over (marks self.old.noted) (marks result) (marks self.new.noted) }
     {
-        if self.noted.is_empty() {
-            return Slots::none();
-        }
-        take_movers(&mut self.noted, cell, is_over)
+        let Some(noted) = self.noted else {
+            return None;
+        };
+        let mut noted = noted;
+        let named = take_movers(&mut noted, cell, is_over);
+        self.noted = noted.if_any();
+        named.if_any()
     }
 
     /// Forgets all slots, since all who sleep are woken.
     pub(crate) fn tell_all(&mut self)
-        ensures { self.new.noted.is_in ≡ replicate MAX_SLOTS false }
+        ensures { marks self.new.noted ≡ replicate MAX_SLOTS false }
     {
-        self.noted = Slots::none();
+        self.noted = None;
     }
 
     /// Counts that somebody who slept was woken, and whether it sleeps again.
@@ -132,7 +148,7 @@ impl Waiting {
     /// How many sleep, and how often they were woken.
     pub(crate) fn waits(&self) -> Waits {
         Waits {
-            asleep: self.noted.len(),
+            asleep: self.noted.map_or(0, |noted| noted.len()),
             wakes: self.wakes,
             idle_wakes: self.idle_wakes,
         }

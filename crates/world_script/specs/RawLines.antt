@@ -3,7 +3,7 @@ use Rattle.std.specs.Prelude.{ℕ, List, Option, Some, None, if◌then◌else◌
 use Rattle.std.specs.Str.{bytes_eq}
 use Rattle.serde_json.specs.Data.{Data}
 use Rattle.serde_json.specs.Find.{get, as_str}
-use Rattle.job_language.specs.Json.{◌>>=◌, whole, has_members}
+use Rattle.job_json.specs.Json.{◌>>=◌, whole, has_members}
 
 -- a step of a tenant that is named, or of a worker
 pub data RawData : Type 0 where

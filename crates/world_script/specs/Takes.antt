@@ -3,7 +3,7 @@ use Rattle.std.specs.Prelude.{ℕ, ◌≡◌, List, Option, Some, None, Result, 
 use Rattle.std.specs.Option.{option_map_or}
 use Rattle.serde_json.specs.Data.{Data}
 use Rattle.job_language.specs.declared.errors.Error.{Error}
-use Rattle.job_language.specs.Json.{◌>>=◌}
+use Rattle.job_json.specs.Json.{◌>>=◌}
 use Rattle.request_reader.specs.LineAsks.{value_of}
 use Rattle.reply_writer.specs.AnswerText.{answer_text}
 use Rattle.reply_writer.specs.MarketText.{market_text}

@@ -4,7 +4,7 @@ ghost use Rattle.serde_json.specs.View.{view};
 ghost use Rattle.world_script.specs.RawLines.{raw_line, members_step, tenant_step, worker_step, text_of, number_of};
 ghost use Rattle.world_script.specs.Spelled.{data_of};
 
-use job_language::values::has_members;
+use job_json::values::has_members;
 use serde_json::Value;
 
 /// A step of a world: of a tenant, by its name, with the text of a line or a slot, or of a worker.

@@ -1,7 +1,7 @@
 // A world whose tenants are known by their names.
 ghost use Rattle.std.specs.Prelude.{◌≡◌, ℕ, List, map, IfOk, OnErr, option_map, Some};
 ghost use Rattle.serde_json.specs.View.{view};
-ghost use Rattle.job_language.specs.ConfigOf.{config_of};
+ghost use Rattle.job_json.specs.ConfigOf.{config_of};
 ghost use Rattle.request_reader.specs.Exact.{ExactOrNoMemory};
 ghost use Rattle.request_reader.specs.LineAsks.{IsText};
 ghost use Rattle.world_model.specs.World.{World as Known};

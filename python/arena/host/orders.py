@@ -56,22 +56,28 @@ def stop(folder: RunFolder, wait: float) -> Stopped:
 
 
 def rotate(folder: RunFolder, wait: float) -> Rotated:
-    """Makes the file `rotate`, and BLOCKS until a generation serves that is newer than the one before, `wait` seconds
-    at most. Raises NoHost, NotYet, StatusFault, OSError."""
+    """Makes the file `rotate`, and BLOCKS until a generation serves that is newer than those that served before the host
+    took the order, `wait` seconds at most. Raises NoHost, NotYet, StatusFault, OSError."""
     _must_run(folder)
     left, start = _serving(folder), time.monotonic()
+    before = left
     with contextlib.suppress(FileExistsError):  # somebody else's order, which the host has not taken yet
         os.close(os.open(folder.rotate, os.O_WRONLY | os.O_CREAT | os.O_EXCL | os.O_CLOEXEC, 0o600))
 
     def newer() -> bool:
-        """Whether the order was taken and the next generation serves."""
+        """Whether the order was taken and the next generation serves. One that serves while the order is still there was
+        opened for another reason."""
+        nonlocal before
         if not folder.is_held():
             raise NoHost(f"{folder.path}: the host ended before a new generation served")
+        is_taken = not os.path.exists(folder.rotate)
         serving = _serving(folder)
-        return not os.path.exists(folder.rotate) and serving is not None and (left is None or serving > left)
+        if not is_taken:
+            before = serving
+        return is_taken and serving is not None and (before is None or serving > before)
 
     if not _comes(newer, wait):
-        raise NotYet(_why_not(folder, wait, left))
+        raise NotYet(_why_not(folder, wait, before))
     generation = _serving(folder)
     assert generation is not None
     return Rotated(time.monotonic() - start, generation, left)

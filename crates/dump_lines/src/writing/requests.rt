@@ -2,14 +2,15 @@
 ghost use Rattle.std.specs.Prelude.{◌≡◌, Some, Ok, IfOk, OnOk, IfSome, option_map};
 ghost use Rattle.serde_json.specs.Data.{number, unsigned};
 ghost use Rattle.serde_json.specs.View.{view};
-ghost use Rattle.job_language.specs.Job.{job_of};
-ghost use Rattle.job_language.specs.JobData.{job_data};
+ghost use Rattle.job_json.specs.Job.{job_of};
+ghost use Rattle.job_json.specs.JobData.{job_data};
 ghost use Rattle.job_language.specs.declared.requests.Request.TheVariants as request;
 ghost use Rattle.dump_lines.specs.Lines.{recorded};
 ghost use Rattle.dump_lines.specs.Requests.{request_in};
 ghost use Rattle.dump_lines.specs.Written.{request_data, bare_request, job_request, count_data};
 
-use job_language::{Job, Key, Request, write_job};
+use job_json::write_job;
+use job_language::{Job, Key, Request};
 use serde_json::{Value, json};
 use std::alloc::{AllocError, Global};
 

@@ -1,13 +1,17 @@
-use Rattle.std.proofs.Common.{Bool, false, ap, subst, ◌∙◌}
+use Rattle.std.proofs.Common.{Bool, false, ap, subst, sym, ◌∙◌, inl, inr}
+use Rattle.std.specs.Prelude.{All}
 use Rattle.server_doors.specs.Sessions.{SessionSeen}
 use Rattle.session_core.specs.Sessions.{Serves}
+use Rattle.socket_server.specs.Posts.{IsClient}
+use Rattle.socket_server.specs.Returned.{IsGivenBack}
 use Rattle.socket_server.specs.Sessions.{RepliesThere}
+use Rattle.socket_server.proofs.Seats.{fresh_given_back, session_given_back}
 use Rattle.socket_server.proofs.ServedOrNot.{either_way}
 use Rattle.socket_server.proofs.sessions.serve_client.Goals as goal
 
-pub returns : goal.returns
-returns g c =
-    let first = c.into_doors-doors.ensures in
+pub returns-clause-served : goal.returns-clause-served
+returns-clause-served g c =
+    let first = c.into_doors-doors.ensures.session in
     let back = c.into_parts-seats.ensures.seats in
     either_way c.serve-end.result c.serve-end.ensures.serves c.serve-end.ensures.refused
     (λ end serves. record {
@@ -17,3 +21,11 @@ returns g c =
       seats_are = back;
     })
     (λ same. (same.0, same.1, back ∙ ap (λ (s : SessionSeen). s.seats) (same.2 ∙ first)))
+
+pub returns-clause-given_back : goal.returns-clause-given_back
+returns-clause-given_back g c =
+    let begins : IsClient c.args.client = c.into_doors-doors.ensures.client in
+    elim (returns-clause-served g c) [
+      | inl served ↦ session_given_back c.args.client _ _ _ _ _ begins served
+      | inr same ↦ subst (All IsGivenBack) (sym same.2) (fresh_given_back c.args.client.seats begins.fresh)
+    ]

@@ -1,5 +1,6 @@
 // Tenants of a few slots, and jobs.
-use job_language::{Isolation, Job, Level, Tenant, TenantConfig, TenantName, read_job};
+use job_json::read_job;
+use job_language::{Isolation, Job, Level, Tenant, TenantConfig, TenantName};
 use serde_json::Value;
 use std::alloc::Global;
 use std::test::Fail;

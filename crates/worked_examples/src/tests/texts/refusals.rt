@@ -1,6 +1,6 @@
 // The places of the faults of jobs that are refused.
 use crate::tests::assert_same;
-use job_language::{Place, Refused, read_job};
+use job_json::{Place, Refused, read_job};
 use serde_json::Value;
 use std::alloc::Global;
 use std::test::Fail;

@@ -1,7 +1,7 @@
 // Lines of the greatest length.
 use crate::tests::assert_same;
-use job_language::{Asked, Error, Request};
-use request_reader::{read_request, value_of};
+use job_language::{Error, Request};
+use request_reader::{Asked, read_request, value_of};
 use std::alloc::Global;
 use std::test::Fail;
 

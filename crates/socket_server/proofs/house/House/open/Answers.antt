@@ -7,6 +7,8 @@ use Rattle.server_doors.specs.Slots.{AreNumbered}
 use Rattle.socket_server.specs.Houses.{doors_of}
 use Rattle.socket_server.proofs.Houses.{length_doors, names_from, numbered_from, valid_from}
 use Rattle.job_language.specs.Configuration.{names_of}
+use Rattle.socket_server.specs.Posts.{IsFresh}
+use Rattle.socket_server.proofs.Seats.{fresh_from}
 use Rattle.socket_server.proofs.house.House.open.Goals as goal
 
 pub invariant_of-house : goal.invariant_of-house
@@ -19,3 +21,6 @@ invariant_of-house c =
       names = c.in_ok-names.ensures ∙ ap names_of c.tenants-tenants.ensures.value ∙ sym (ap (map (λ (d : DoorData). d.config.name)) doors ∙ names_from c.from.result 0 tenants);
       levels = ap length c.in_ok-queues.ensures.queues.0 ∙ ap length c.in_ok-market.ensures ∙ length-map tenants _ ∙ sym (ap length doors ∙ length_doors c.from.result 0 tenants);
     }
+
+pub new-requires-3 : goal.new-requires-3
+new-requires-3 c = subst (All IsFresh) (sym c.in_ok-doors.ensures.seats) (fresh_from c.from.result 0 c.tenants-tenants.result.now)

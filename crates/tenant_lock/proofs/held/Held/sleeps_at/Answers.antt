@@ -1,6 +1,7 @@
 use Rattle.std.proofs.Common.{sym, ◌∙◌}
 use Rattle.std.proofs.lemmas.Bool.{both_ways}
 use Rattle.tenant_lock.specs.Pauses.{has_to_stop}
+use Rattle.tenant_lock.specs.Sleepers.{marks}
 use Rattle.tenant_lock.proofs.Telling.{noted_more}
 use Rattle.tenant_lock.proofs.held.Held.sleeps_at.Goals.{then-has_slot_of, else-has_slot_of}
 use Rattle.tenant_lock.proofs.held.Held.sleeps_at.Goals as goal
@@ -16,6 +17,9 @@ invariant_of-self c = elim c.if-has_slot_of.branch [
   | then-has_slot_of w ↦
       let h = c.self.inside in
       let idle = rw (← c.self.view_is) at (w.is_idle-sleeps.ensures.waits (sym w.sleeps-is ∙ c.if-sleeps.true)) in
-      rw c.note.ensures (noted_more h.cell (has_to_stop h.is_stopped h.cell) h.waiting.noted.is_in c.slot-slot.result c.self.invariant idle)
+      record {
+        slots = rw c.note.ensures (noted_more h.cell (has_to_stop h.is_stopped h.cell) (marks h.waiting.noted) c.slot-slot.result c.self.invariant.slots idle);
+        jobs = c.self.invariant.jobs;
+      }
   | else-has_slot_of w ↦ absurd (both_ways _ (w.sleeps-is ∙ w.if-has_slot_of.false) c.if-sleeps.true)
 ]

@@ -1,0 +1,170 @@
+// What a host is to do next.
+ghost use Rattle.std.specs.Prelude.{◌≡◌, ◌≢◌, ◌↔◌, IfOk, IfSome, IsSome, IsTrue, OnErr, OnOk, None, Ok, Some, true, false, is_some};
+ghost use Rattle.generation_life.specs.declared.generations.Why.TheVariants.{File};
+ghost use Rattle.generation_life.specs.Lines.{closing, ended, stage_of, why_of};
+ghost use Rattle.host_house.specs.Agendas.{Takes, begun, stopped};
+ghost use Rattle.host_house.specs.declared.agenda.Step.TheVariants.{Hold, Wait};
+
+use super::{Agenda, Look, MOST_ALIVE, Step};
+use generation_life::{Generations, Why};
+use socket_server::ServerEnd;
+use std::alloc::{AllocError, Global};
+
+impl Agenda {
+    /// No generation yet. The first will have that number.
+    pub(crate) fn new(alloc: Global, first: u64) -> Agenda {
+        Agenda {
+            generations: Generations::new(alloc, first),
+            wish: None,
+            is_opening: false,
+            is_held: false,
+            is_stopping: false,
+            failed: None,
+        }
+    }
+
+    /// What is to be done next. `Open`, `Hold` and `Failed` come once each: then a generation is being opened, or it is
+    /// known that the next one waits, or that one failed.
+    pub(crate) fn step(&mut self) -> Step
+        ensures { Takes self.old result self.new }
+    {
+        if self.is_opening {
+            return Step::Wait;
+        }
+        if let Some(end) = self.failed {
+            self.failed = None;
+            // Whoever asked by a file may ask again.
+            if self.wish == Some(Why::File) {
+                self.wish = None;
+            }
+            return Step::Failed(end);
+        }
+        if self.is_stopping {
+            return if self.generations.is_over() {
+                Step::End
+            } else {
+                Step::Wait
+            };
+        }
+        let left = match (self.generations.serving(), self.wish) {
+            (None, _) => None,
+            (Some(number), Some(why)) => Some((number, why)),
+            (Some(_), None) => return Step::Wait,
+        };
+        if self.generations.alive() >= MOST_ALIVE {
+            return self.hold(left);
+        }
+        self.is_opening = true;
+        self.is_held = false;
+        Step::Open(left)
+    }
+
+    /// The next generation has to wait.
+    fn hold(&mut self, left: Option<(u64, Why)>) -> Step
+        ensures said { self.old.is_held ≡ true → (result ≡ Wait) × (self.new ≡ self.old) }
+        ensures says { self.old.is_held ≡ false → (result ≡ Hold left) × (self.new ≡ record self.old { is_held = true }) }
+    {
+        if self.is_held {
+            return Step::Wait;
+        }
+        self.is_held = true;
+        Step::Hold(left)
+    }
+
+    /// Notes that the generation that was to be opened serves from now on, and gives its number. The one that served
+    /// drains. None if the host stops, or no number is left, or none was to be opened. If an allocation fails, nothing has
+    /// changed.
+    pub(crate) fn begin(&mut self) -> Result<Option<u64>, AllocError>
+        ensures begun { IfOk result (λ number. IfSome number (λ n. (n ≡ self.old.generations.next) × (self.new ≡ begun self.old))) }
+        ensures goes_on { IfOk result (λ number. IsSome number → self.old.is_stopping ≡ false) }
+        ensures none { result ≡ Ok None → self.new ≡ self.old }
+        ensures refused { OnErr result (self.new ≡ self.old) }
+    {
+        if !self.is_opening || self.is_stopping || self.generations.next() == u64::MAX {
+            return Ok(None);
+        }
+        let why = self.wish.unwrap_or(Why::File);
+        let number = self.generations.open(why)?;
+        self.wish = None;
+        self.is_opening = false;
+        Ok(Some(number))
+    }
+
+    /// Notes that the generation that was to be opened can't be.
+    pub(crate) fn give_up(&mut self, end: ServerEnd)
+        ensures { self.new ≡ record self.old { is_opening = false; failed = Some end } }
+    {
+        self.is_opening = false;
+        self.failed = Some(end);
+    }
+
+    /// Lets all generations end, and opens no more. If an allocation fails, nothing has changed.
+    pub(crate) fn stop(&mut self) -> Result<(), AllocError>
+        ensures stopped { OnOk result (self.new ≡ stopped self.old) }
+        ensures refused { OnErr result (self.new ≡ self.old) }
+    {
+        self.generations.drain(Why::Stop)?;
+        self.is_stopping = true;
+        Ok(())
+    }
+
+    /// Asks for the generation that serves to be left. It says whether nobody had asked before.
+    pub(crate) fn ask(&mut self, why: Why) -> bool
+        ensures new { IsTrue result ↔ (self.old.wish ≡ None) × (IsSome self.old.generations.serving) }
+        ensures asked { IsTrue result → self.new ≡ record self.old { wish = Some why } }
+        ensures not { result ≡ false → self.new ≡ self.old }
+    {
+        let is_new = self.wish.is_none() && self.generations.serving().is_some();
+        if is_new {
+            self.wish = Some(why);
+        }
+        is_new
+    }
+
+    /// Takes back what a file asked for, if it was not begun.
+    pub(crate) fn take_back(&mut self)
+        ensures back { self.old.is_opening ≡ false → self.old.wish ≡ Some File → self.new ≡ record self.old { wish = None; is_held = false } }
+        ensures begun { self.old.is_opening ≡ true → self.new ≡ self.old }
+        ensures other { self.old.wish ≢ Some File → self.new ≡ self.old }
+    {
+        if self.is_opening {
+            return;
+        }
+        if let Some(Why::File) = self.wish {
+            self.wish = None;
+            self.is_held = false;
+        }
+    }
+
+    /// What a generation's thread finds of its generation.
+    pub(crate) fn look(&self, number: u64) -> Look
+        ensures { result ≡ record { stage = stage_of self.now.generations number; why = why_of self.now.generations number; is_stopping = self.now.is_stopping } }
+    {
+        Look {
+            stage: self.generations.stage(number),
+            why: self.generations.why(number),
+            is_stopping: self.is_stopping,
+        }
+    }
+
+    /// Whether a generation serves.
+    pub(crate) fn is_serving(&self) -> bool
+        ensures { result ≡ is_some self.now.generations.serving }
+    {
+        self.generations.serving().is_some()
+    }
+
+    /// Notes that the generation of that number is being closed.
+    pub(crate) fn close(&mut self, number: u64)
+        ensures { self.new ≡ record self.old { generations = closing number self.old.generations } }
+    {
+        self.generations.close(number);
+    }
+
+    /// Notes that the generation of that number is closed.
+    pub(crate) fn end(&mut self, number: u64)
+        ensures { self.new ≡ record self.old { generations = ended number self.old.generations } }
+    {
+        self.generations.end(number);
+    }
+}

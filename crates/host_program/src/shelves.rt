@@ -1,0 +1,63 @@
+// The dumps that are there.
+ghost use Rattle.std.specs.Prelude.{◌<◌, IfSome, vec_len};
+
+use generation_life::Shelf;
+use std::alloc::{AllocError, Global};
+
+/// The dumps of a tenant.
+#[derive(Drop)]
+struct Named {
+    /// The tenant's name.
+    name: String,
+    shelf: Shelf,
+}
+
+/// The dumps of each tenant, as the host found them at its start and wrote them since.
+#[derive(Drop)]
+pub(crate) struct Shelves {
+    tenants: Vec<Named>,
+}
+
+impl Shelves {
+    /// No dumps yet.
+    pub(crate) fn new(alloc: Global) -> Shelves {
+        Shelves {
+            tenants: Vec::new(alloc),
+        }
+    }
+
+    /// Notes that a tenant's dump of a generation is there. It is not known of if an allocation fails.
+    pub(crate) fn add(
+        &mut self,
+        alloc: Global,
+        name: &str,
+        generation: u64,
+    ) -> Result<(), AllocError> {
+        match self.place(name) {
+            Some(place) => self.tenants[place].shelf.add(generation),
+            None => {
+                let mut shelf = Shelf::new(alloc);
+                shelf.add(generation)?;
+                let name = String::from_str(alloc, name)?;
+                self.tenants.push(Named { name, shelf })?;
+                Ok(())
+            }
+        }
+    }
+
+    /// Takes the generation of a tenant's oldest dump away, if at least `keep` newer ones are there. None if all of them
+    /// are to stay.
+    pub(crate) fn take_too_old(&mut self, name: &str, keep: u32) -> Option<u64> {
+        let place = self.place(name)?;
+        self.tenants[place].shelf.take_too_old(u64::from(keep))
+    }
+
+    /// Where the dumps of the tenant of that name are.
+    fn place(&self, name: &str) -> Option<usize>
+        ensures { IfSome result (λ place. place < vec_len self.now.tenants) }
+    {
+        self.tenants
+            .iter()
+            .position(|named| named.name.as_str() == name)
+    }
+}

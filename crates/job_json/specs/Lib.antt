@@ -1,0 +1,12 @@
+pub mod ConfigOf
+pub mod InsideOperation
+pub mod Instruction
+pub mod Job
+pub mod JobData
+pub mod Json
+pub mod Operation
+pub mod Outline
+pub mod Reads
+pub mod Refused
+pub mod TenantData
+pub mod TenantOf

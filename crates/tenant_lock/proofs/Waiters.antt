@@ -1,0 +1,28 @@
+-- Jobs that are waited for.
+use Rattle.std.proofs.Common.{ℕ, ◌≡◌, inl, inr, Bool, true, List, [], ◌∷◌, Option, Some, None, zero, suc, refl, arith}
+use Rattle.std.specs.Prelude.{slice_set}
+use Rattle.std.specs.List.{list_all}
+use Rattle.tenant_record.specs.Cell.{CellData}
+use Rattle.tenant_lock.specs.Awaited.{AddsJob, are_open, is_open, is_open_if_any, jobs_of}
+use Rattle.tenant_lock.specs.declared.awaited.Jobs.{Jobs}
+
+-- All pass when one that passes is put in the place of another.
+list_all_set : {X : Type 0} (p : X → Bool) (xs : List X) (i : ℕ) (y : X) → list_all p xs ≡ true → p y ≡ true → list_all p (slice_set xs i y) ≡ true
+list_all_set p [] i y all is = refl
+list_all_set p (x ∷ xs) zero y all is = grind (arith, all, is)
+list_all_set p (x ∷ xs) (suc i) y all is =
+    let rest : list_all p xs ≡ true = grind (arith, all) in
+    grind (arith, all, list_all_set p xs i y rest is)
+
+-- Those that are noted have to be waited for.
+noted_open : (c : CellData) (is_over : Bool) (before : Option Jobs) → are_open c is_over before ≡ true → list_all (is_open_if_any c is_over) (jobs_of before).noted ≡ true
+noted_open c is_over None is = refl
+noted_open c is_over (Some jobs) is = is
+
+-- So it is when another job is noted that has to be waited for.
+pub added_open : (c : CellData) (is_over : Bool) (before : Option Jobs) (job : ℕ) (after : Option Jobs) → are_open c is_over before ≡ true → is_open c is_over job ≡ true → AddsJob (jobs_of before) job (jobs_of after) → are_open c is_over after ≡ true
+added_open c is_over before job None opens is adds = refl
+added_open c is_over before job (Some jobs) opens is (inl there) =
+    let all = noted_open c is_over before opens in
+    rw (there.3) (list_all_set (is_open_if_any c is_over) (jobs_of before).noted there.0 (Some job) all is)
+added_open c is_over before job (Some jobs) opens is (inr others) = rw others (noted_open c is_over before opens)

@@ -1,0 +1,50 @@
+-- Who waits for the outcomes of jobs.
+use Rattle.std.specs.Prelude.{ℕ, ◌≡◌, ◌<◌, ◌⊎◌, ◌&&◌, not, Bool, true, false, Option, Some, None, length, option_map, replicate, slice_index_or, slice_set}
+use Rattle.std.specs.List.{list_all}
+use Rattle.job_language.specs.declared.answers.Status.{Status}
+use Rattle.job_language.specs.declared.answers.Status.TheVariants.{Running}
+use Rattle.tenant_model.specs.Asks.{known_job, status}
+use Rattle.tenant_record.specs.Cell.{CellData, state_of}
+use Rattle.tenant_lock.specs.declared.awaited.Jobs.{Jobs}
+use Rattle.tenant_lock.specs.declared.awaited.TheConstants.{NOTED}
+
+abbrev pub is_running : Option Status → Bool
+is_running (Some Running) = true
+is_running s = false
+
+-- Is the job there without an outcome, and has nobody to stop?
+abbrev pub is_open : CellData → (is_over : Bool) → ℕ → Bool
+is_open c is_over job = not is_over && is_running (option_map (status (state_of c).rows job) (known_job (state_of c) job))
+
+abbrev pub is_open_if_any : CellData → (is_over : Bool) → Option ℕ → Bool
+is_open_if_any c is_over None = true
+is_open_if_any c is_over (Some job) = is_open c is_over job
+
+-- Has who sleeps for a noted job to sleep?
+abbrev pub are_open : CellData → (is_over : Bool) → Option Jobs → Bool
+are_open c is_over None = true
+are_open c is_over (Some jobs) = list_all (is_open_if_any c is_over) jobs.noted
+
+abbrev pub has_others : Option Jobs → Bool
+has_others None = false
+has_others (Some jobs) = jobs.others
+
+abbrev pub no_jobs : Jobs
+no_jobs = record { noted = replicate NOTED None; others = false }
+
+abbrev pub jobs_of : Option Jobs → Jobs
+jobs_of None = no_jobs
+jobs_of (Some jobs) = jobs
+
+-- The job is noted at a free place, or, if there is none, it is known that there are others.
+abbrev pub AddsJob : Jobs → ℕ → Jobs → Type 0
+AddsJob before job after =
+    ((place : ℕ) × (place < length before.noted) × (slice_index_or before.noted place None ≡ None) × (after ≡ record before { noted = slice_set before.noted place (Some job) }))
+    ⊎ (after ≡ record before { others = true })
+
+-- Either all who sleep for jobs may look again, and are forgotten until they sleep again; or nothing is forgotten, those who are noted have to sleep, and after an entry there are no others.
+pub record AreWaitersTold (c : CellData) (is_over is_entry : Bool) (before : Option Jobs) (told : Bool) (after : Option Jobs) : Type 0 where
+  pub all : told ≡ true → after ≡ None
+  pub kept : told ≡ false → after ≡ before
+  pub sleep : told ≡ false → are_open c is_over before ≡ true
+  pub others : told ≡ false → is_entry ≡ true → has_others before ≡ false

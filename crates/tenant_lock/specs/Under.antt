@@ -1,0 +1,90 @@
+-- What a call did to the cell that lay under the lock.
+use Rattle.std.specs.Prelude.{ℕ, ◌≡◌, ◌≢◌, ◌⊎◌, true, false, Option, Some, None, option_map, length, count_by}
+use Rattle.arena_core.specs.Views.{Commits}
+use Rattle.arena_steps.specs.Within.{advance_within}
+use Rattle.job_language.specs.declared.answers.Came.TheVariants.{Nothing}
+use Rattle.job_language.specs.declared.answers.Moved.TheVariants.{Stale}
+use Rattle.job_language.specs.declared.answers.Reply.TheVariants.{Refused}
+use Rattle.job_language.specs.declared.errors.Error.TheVariants.{NoTenant}
+use Rattle.job_language.specs.declared.requests.Request.{Request}
+use Rattle.job_step.specs.declared.segments.Top.{Top}
+use Rattle.job_step.specs.declared.segments.View.{View}
+use Rattle.market_config.specs.declared.calls.Call.{Call}
+use Rattle.tenant_model.specs.Changes.{open_rows}
+use Rattle.tenant_model.specs.Walks.{height, is_unstarted}
+use Rattle.tenant_record.specs.Cell.{CellData, IsRight, AnswersAsk, arrival, state_of}
+use Rattle.tenant_record.specs.Locked.{IsArrived, IsAsked, IsHandedOver, IsMoved}
+use Rattle.tenant_record.specs.PassData.{PassData, has_room}
+use Rattle.tenant_record.specs.SeatData.{SeatData}
+use Rattle.tenant_record.specs.declared.cells.Asked.{Asked}
+use Rattle.tenant_record.specs.declared.slots.Advanced.{Advanced}
+use Rattle.tenant_record.specs.declared.slots.Arrived.{Arrived}
+use Rattle.tenant_lock.specs.declared.counts.Counts.{Counts}
+use Rattle.tenant_lock.specs.declared.counts.Tally.{Tally}
+use Rattle.tenant_lock.specs.Doors.{has_slot_of}
+use Rattle.tenant_lock.specs.Looks.{IsLook}
+
+-- An ask of a seat of the tenant of that number is one of that tenant's cell. The cell of another tenant is not asked.
+pub record IsAskOf (tenant : ℕ) (s : SeatData) (r : Request) (a : Asked) (t : SeatData) (c d : CellData) : Type 0 where
+  pub answer : c.tenant ≡ tenant → AnswersAsk c s r a.reply d
+  pub asked : c.tenant ≡ tenant → IsAsked c s r a.reply a.due a.pass d t
+  pub elsewhere : c.tenant ≢ tenant → (a ≡ record { reply = Refused NoTenant; due = None; pass = None }) × (d ≡ c)
+
+-- An arrival for a call of that tenant is one at the call's slot. At another tenant nothing happens.
+pub record IsArrivalOf (tenant : ℕ) (call : Call) (a : Arrived) (c d : CellData) : Type 0 where
+  pub answer : call.tenant ≡ tenant → c.tenant ≡ tenant → a.came ≡ (arrival c call.slot).0
+  pub arrived : call.tenant ≡ tenant → c.tenant ≡ tenant → IsArrived c call.slot a.came a.due a.pass d
+  pub elsewhere : (call.tenant ≢ tenant) ⊎ (c.tenant ≢ tenant) → (a ≡ record { came = Nothing; due = None; pass = None }) × (d ≡ c)
+
+-- Nothing was done for a pass that is not of one of the cell's slots.
+abbrev pub IsStale : PassData → Advanced → (c d : CellData) → Type 0
+IsStale p a c d = (a ≡ record { moved = Stale; due = None; pass = Some p }) × (d ≡ c)
+
+-- The slot of a pass advances.
+pub record IsAdvanceOf (p : PassData) (a : Advanced) (c d : CellData) : Type 0 where
+  pub answer : has_slot_of c p ≡ true → a.moved ≡ (advance_within (has_room p) (state_of c) p.slot).0
+  pub moved : has_slot_of c p ≡ true → IsMoved c p a.moved a.due a.pass d
+  pub elsewhere : has_slot_of c p ≡ false → IsStale p a c d
+
+-- The private run of a frame takes the place of an advance of the slot of a pass.
+pub record IsCommitOf (p : PassData) (t : Top) (a : Advanced) (c d : CellData) : Type 0 where
+  pub answer : has_slot_of c p ≡ true → Commits (has_room p) (state_of c) p.slot t a.moved (state_of d)
+  pub moved : has_slot_of c p ≡ true → IsMoved c p a.moved a.due a.pass d
+  pub elsewhere : has_slot_of c p ≡ false → IsStale p a c d
+
+-- A pass is put home and a worker called. One that is not of one of the cell's slots changes nothing.
+pub record IsHandOverOf (p : PassData) (due : Option ℕ) (c d : CellData) : Type 0 where
+  pub handed : has_slot_of c p ≡ true → IsHandedOver c p due d
+  pub elsewhere : has_slot_of c p ≡ false → (due ≡ None) × (d ≡ c)
+
+-- A right cell lay under the lock, to which that was done, and which is right after it.
+pub record WasUnder (done : CellData → CellData → Type 0) : Type 0 where
+  pub before : CellData
+  pub after : CellData
+  pub right : IsRight before
+  pub still_right : IsRight after
+  pub is : done before after
+
+-- Of a right cell, with nothing done to it.
+abbrev pub WasThere : (CellData → Type 0) → Type 0
+WasThere holds = WasUnder (λ c d. holds c × (d ≡ c))
+
+-- That many rows are on the slot of a pass.
+abbrev pub IsHigh : PassData → ℕ → CellData → Type 0
+IsHigh p rows c = rows ≡ height (state_of c).rows p.slot
+
+-- The slot of a pass was moved, and looked at: what is seen, and how many rows are on it, are those after the move.
+abbrev pub AndLooked : Advanced → View → Option ℕ → (CellData → CellData → Type 0) → CellData → CellData → Type 0
+AndLooked a view rows moved c d = moved c d × IsLook d a.pass view rows
+
+-- The slot of a pass was moved, and the rows on it counted after that.
+abbrev pub AndCounted : Advanced → Option ℕ → (CellData → CellData → Type 0) → CellData → CellData → Type 0
+AndCounted a rows moved c d = moved c d × (rows ≡ option_map (λ p. height (state_of d).rows p.slot) a.pass)
+
+-- how much of the history is used
+abbrev pub AreCounts : Counts → CellData → Type 0
+AreCounts n c = (n.entries ≡ length c.history) × (n.asks ≡ length c.askers)
+
+-- how many rows are open, and how many of them wait
+abbrev pub IsTally : Tally → CellData → Type 0
+IsTally t c = (t.open_rows ≡ open_rows (state_of c).rows) × (t.waiting_rows ≡ count_by (λ r. is_unstarted r.phase) (state_of c).rows)
