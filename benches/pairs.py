@@ -136,10 +136,14 @@ READING = Bench("reading", ("sh", "reading/run.sh"), ("20000",), ("100000",), (
 ))
 
 SERVER = Bench("server", ("python3", "server/run.py"), ("0.5", "@server_program"), ("2", "@server_program"), (
-    Pair("`arena`, 1 connection", "an echo server in C", over("the plain server, 1", "`arena`, one tenant, 1", 0)),
-    Pair("`arena`, 64 connections", "an echo server in C", over("the plain server, 64", "`arena`, one tenant, 64", 0)),
+    Pair("`arena`, 1 connection", "an echo server in C", over("the echo server, 1", "`arena`, one tenant, 1", 0)),
+    Pair("`arena`, 64 connections", "an echo server in C", over("the echo server, 64", "`arena`, one tenant, 64", 0)),
+    Pair("`arena`, 1 connection", "a plain server in Rust", over("the plain server, 1", "`arena`, one tenant, 1", 0)),
+    Pair("`arena`, 64 connections", "a plain server in Rust", over("the plain server, 64", "`arena`, one tenant, 64", 0)),
+    Pair("`arena` sent ahead, 16 at a time, 1 connection", "a plain server in Rust",
+         over("the plain server, 16 together", "`arena`, one tenant, 16 together", 0)),
     Pair("an entry, by jobs that their own session executes", "", None, of("server_program", an_entry)),
     Pair("a step of such a job, by view and advance", "", None, of("server_program", a_step)),
-), ("cc",), ("server_program",), keys=2)
+), ("cc", "rustc"), ("server_program",), keys=2)
 
 BENCHES = (ARENA, CHECK, HOST, LEAF_ROUNDS, LOCK, PRIVATE_RUN, READING, SERVER)

@@ -1,10 +1,11 @@
 /* Clients that ask one after another and measure how long each turn takes.
    usage: clients SOCKET CONNECTIONS SECONDS HELLO REQUEST [FOLLOW]
 
-   Each connection has a thread. It sends the line HELLO once, and then REQUEST again and again, and waits for each
-   reply. With FOLLOW, a turn goes on with that line, in which the job's number of the first reply stands for `@`.
-   After each 200 turns it asks, unmeasured, that the jobs be retired, if REQUEST brings a job. It prints how many
-   turns were taken, how many a second while turns were taken, and the 50th and 99th of 100 turns in microseconds. */
+   Each connection has a thread. It sends the line HELLO once, and then REQUEST again and again, and waits for its
+   reply; if REQUEST has several lines, it sends them together, and waits for as many replies. With FOLLOW, a turn goes
+   on with that line, in which the job's number of the first reply stands for `@`. After each 200 turns it asks,
+   unmeasured, that the jobs be retired, if REQUEST brings a job. It prints how many turns were taken, how many a second
+   while turns were taken, and the 50th and 99th of 100 turns in microseconds. */
 #include <pthread.h>
 #include <stdio.h>
 #include <stdlib.h>
@@ -38,20 +39,28 @@ static void stop(const char *why, const char *what) {
     exit(1);
 }
 
-/* Sends a line and waits for its reply. */
-static void ask(struct client *client, const char *line, size_t length) {
-    if (write(client->socket, line, length) != (ssize_t)length)
-        stop("not sent", line);
-    size_t got = 0;
-    while (got == 0 || client->reply[got - 1] != '\n') {
+static size_t lines_in(const char *text, size_t length) {
+    size_t lines = 0;
+    for (size_t it = 0; it < length; it++)
+        lines += text[it] == '\n';
+    return lines;
+}
+
+/* Sends lines together and waits for their replies. */
+static void ask(struct client *client, const char *lines, size_t length) {
+    if (write(client->socket, lines, length) != (ssize_t)length)
+        stop("not sent", lines);
+    size_t got = 0, owed = lines_in(lines, length);
+    while (owed > 0) {
         ssize_t more = read(client->socket, client->reply + got, LINE - 1 - got);
         if (more <= 0)
-            stop("no reply", line);
+            stop("no reply", lines);
+        owed -= lines_in(client->reply + got, (size_t)more);
         got += (size_t)more;
     }
     client->reply[got] = 0;
     if (strstr(client->reply, "\"error\""))
-        stop(line, client->reply);
+        stop(lines, client->reply);
 }
 
 static void follow(struct client *client, const char *line) {

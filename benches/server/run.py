@@ -1,8 +1,8 @@
 #!/usr/bin/env python3
-"""Measures arena-server from outside, by clients over its socket, beside a plain echo server in C.
+"""Measures arena-server from outside, by clients over its socket, beside an echo server in C and a plain server in Rust.
 
 usage: benches/server/run.py [SECONDS [PROGRAM]], at the top of the repository. Each measure takes SECONDS, two if none
-are said. It needs `cc`, and out/arena-server of `make build` if no program is said.
+are said. It needs `cc`, `rustc`, and out/arena-server of `make build` if no program is said.
 """
 import json
 import os
@@ -25,6 +25,8 @@ SMALL = {"args": [7, 0], "fuel": 10, "procs": [[["ret", 0]]]}
 LARGE = {"args": [150_000, 0], "fuel": 1_000_000, "procs": COUNTING}     # 750,003 instructions
 BRANCHING = {"args": [15, 0], "fuel": 1_000_000, "procs": FIB}           # 1,973 tasks
 COLLECT = '{"job":@,"op":"collect"}'
+ARENA = '{"op":"arena"}'
+AHEAD = 16
 
 
 def text(request):
@@ -94,26 +96,40 @@ class Desk:
 
 class Bench:
     def __init__(self, built):
-        self.echo, self.clients = os.path.join(built, "echo"), os.path.join(built, "clients")
+        self.echo, self.plain, self.clients = (os.path.join(built, it) for it in ("echo", "plain", "clients"))
         for program in (self.echo, self.clients):
             source = HERE / f"{os.path.basename(program)}.c"
             subprocess.run(["cc", "-O2", "-pthread", "-o", program, source], check=True)
+        subprocess.run(["rustc", "--edition", "2021", "-O", "-o", self.plain, HERE / "plain.rs"], check=True)
 
-    def turns(self, server, connections, *lines):
+    def servers(self, connections):
+        """The servers that answer `arena`, each with its name."""
+        yield "the echo server", Server(lambda _, path: [self.echo, path, str(connections)])
+        yield "the plain server", Server(lambda _, path: [self.plain, path, str(connections)])
+        yield "`arena`, one tenant", arena([tenant("acme", 2, 1)], 1, connections)
+
+    def turns(self, server, connections, *lines, seconds=SECONDS):
         """Returns how many turns a second while turns are taken, and the 50th and 99th of 100, in microseconds."""
-        words = [self.clients, server.path, str(connections), str(SECONDS), *lines]
+        words = [self.clients, server.path, str(connections), str(seconds), *lines]
         out = subprocess.run(words, check=True, capture_output=True, text=True).stdout
         _, rate, middle, late = (float(word) for word in out.split())
         return f"{rate:,.0f} | {middle:.0f} | {late:.0f}"
 
     def requests(self):
         print("\n| One request after another | Connections | A second | p50, µs | p99, µs |\n|---|---|---|---|---|")
-        line = '{"op":"arena"}'
         for connections in (1, 64):
-            with Server(lambda _, path: [self.echo, path, str(connections)]) as server:
-                print(f"| the plain server | {connections} | {self.turns(server, connections, hello('acme'), line)} |", flush=True)
-            with arena([tenant("acme", 2, 1)], 1, connections) as server:
-                print(f"| `arena`, one tenant | {connections} | {self.turns(server, connections, hello('acme'), line)} |", flush=True)
+            for name, server in self.servers(connections):
+                with server:
+                    print(f"| {name} | {connections} | {self.turns(server, connections, hello('acme'), ARENA)} |", flush=True)
+
+    def ahead(self):
+        print("\n| Requests sent together, one connection | How many | Times a second | p50, µs | p99, µs |\n|---|---|---|---|---|")
+        lines = "\n".join([ARENA] * AHEAD)
+        for name, server in self.servers(1):
+            with server:
+                # A history has room for 65,536 times.
+                turns = self.turns(server, 1, hello("acme"), lines, seconds=min(SECONDS, 0.5))
+                print(f"| {name} | {AHEAD} together | {turns} |", flush=True)
 
     def jobs(self):
         print("\n| A small job to its outcome, one connection | A second | p50, µs | p99, µs |\n|---|---|---|---|")
@@ -189,6 +205,7 @@ def main():
     with tempfile.TemporaryDirectory() as built:
         bench = Bench(built)
         bench.requests()
+        bench.ahead()
         bench.jobs()
         bench.noise()
         bench.workers()

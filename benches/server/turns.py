@@ -1,11 +1,12 @@
 #!/usr/bin/env python3
 """Measures what a turn of a slot costs, as ratios of jobs that one run asks for in turn: a long program to a short one, a
-job that a client waits for to one that it executes, several workers to one, and, if redis-server is installed, a small
-job to the same function as a script of Redis.
+job that a client waits for to one that it executes, four tenants and four servers to one, several workers to one, and, if
+redis-server is installed, a small job to the same function as a script of Redis.
 
 usage: benches/server/turns.py [ROUNDS [PROGRAM]], at the top of the repository. Each row is the median of ROUNDS, seven if
 none are said. It needs out/arena-server of `make build` if no program is said.
 """
+import contextlib
 import json
 import os
 import shutil
@@ -136,12 +137,23 @@ def waited_for():
         row("FIB(20), submitted and collected, by one worker", "executed", *map(statistics.median, zip(*pairs)))
 
 
+def four_to_one(connections):
+    """How long it takes to collect a job at each of the connections, and at the first alone, in seconds."""
+    return (median(lambda: together(some, 20), LONG_ROUNDS) for some in (connections, connections[:1]))
+
+
 def several_tenants():
     names = ("acme", "beta", "gamma", "delta")
     with Server([tenant(name, 1, 0) for name in names], 4) as server:
-        four = [server.connect(name) for name in names]
-        all_of_them, alone = (median(lambda: together(some, 20), LONG_ROUNDS) for some in (four, four[:1]))
-    row("FIB(20) of four tenants, four workers", "of one alone", all_of_them, alone)
+        row("FIB(20) of four tenants, four workers", "of one alone", *four_to_one([server.connect(name) for name in names]))
+
+
+def several_servers():
+    """What the machine itself takes for four at once: servers share nothing."""
+    with contextlib.ExitStack() as stack:
+        servers = [stack.enter_context(Server([tenant("acme", 1, 0)], 1)) for _ in range(4)]
+        row("FIB(20) of four servers, each with a tenant and a worker", "of one alone",
+            *four_to_one([server.connect("acme") for server in servers]))
 
 
 def several_workers():
@@ -189,7 +201,7 @@ def evaluated(connection, script, n):
 
 def main():
     print("| What | Beside | ms | The other's | Ratio |\n|---|---|---|---|---|")
-    for measure in (long_program, waited_for, several_tenants, several_workers, beside_redis):
+    for measure in (long_program, waited_for, several_tenants, several_servers, several_workers, beside_redis):
         measure()
 
 

@@ -1,4 +1,5 @@
 // Threads at the locked doors of tenants.
+mod asks;
 mod closing;
 mod crew;
 mod fib;

@@ -7,7 +7,7 @@ use market_config::Call;
 use std::alloc::Global;
 use std::sync::Wait;
 use tenant_lock::TenantDoor;
-use tenant_record::{Advanced, Asked, Pass, Seat};
+use tenant_record::{Advanced, Arrived, Asked, Pass, Seat};
 
 /// The call of the slot for workers.
 const CALL: Call = Call { tenant: 0, slot: 1 };
@@ -23,11 +23,12 @@ pub(crate) fn submitted<R: Wait>(rt: &R, alloc: Global) -> Option<Status> {
 fn submit<R: Wait>(rt: &R, alloc: Global, door: &TenantDoor, seats: &mut [Seat]) -> Option<Status> {
     let seat = seats.first_mut()?;
     let asked = ask_job(rt, door, seat, || Some(Request::Submit(fibonacci(alloc)?)))?;
-    let Reply::Made(job) = asked.reply else {
+    let Reply::Made(job) = reply_of(rt, door, asked) else {
         return None;
     };
     work(rt, door)?;
-    status_of(&ask(rt, door, seat, Request::Collect(job))?.reply)
+    let collected = ask(rt, door, seat, Request::Collect(job))?;
+    status_of(&reply_of(rt, door, collected))
 }
 
 /// The outcome of the job, if it is executed by private runs that are committed.
@@ -46,12 +47,18 @@ fn execute<R: Wait>(
 ) -> Option<Status> {
     let seat = seats.first_mut()?;
     let asked = ask_job(rt, door, seat, || Some(Request::Execute(fibonacci(alloc)?)))?;
-    let Reply::Placed(job, _) = asked.reply else {
+    let Asked {
+        reply,
+        due: _due,
+        pass,
+    } = asked;
+    commit_all(rt, door, pass?)?;
+    let Reply::Placed(job, _) = reply else {
         return None;
     };
-    commit_all(rt, door, asked.pass?)?;
     work(rt, door)?;
-    status_of(&ask(rt, door, seat, Request::Collect(job))?.reply)
+    let collected = ask(rt, door, seat, Request::Collect(job))?;
+    status_of(&reply_of(rt, door, collected))
 }
 
 /// The tenant's door, with one seat.
@@ -67,6 +74,19 @@ fn ask<R: Wait>(rt: &R, door: &TenantDoor, seat: &mut Seat, request: Request) ->
     Some(door.ask(rt, seat, request))
 }
 
+/// The reply of an ask. A pass that came with it goes home.
+fn reply_of<R: Wait>(rt: &R, door: &TenantDoor, asked: Asked) -> Reply {
+    let Asked {
+        reply,
+        due: _due,
+        pass,
+    } = asked;
+    if let Some(pass) = pass {
+        door.give_home(rt, pass);
+    }
+    reply
+}
+
 /// Asks for what brings the job, again if it was refused for lack of memory.
 fn ask_job<R: Wait, F: Fn() -> Option<Request>>(
     rt: &R,
@@ -77,22 +97,33 @@ fn ask_job<R: Wait, F: Fn() -> Option<Request>>(
     requires { F.IsAlwaysCallable request }
 {
     let asked = ask(rt, door, seat, request()?)?;
-    match asked.reply {
-        Reply::Refused(Error::NoMemory) => ask(rt, door, seat, request()?),
-        _ => Some(asked),
+    if let Reply::Refused(Error::NoMemory) = asked.reply {
+        let _refused = reply_of(rt, door, asked);
+        return ask(rt, door, seat, request()?);
     }
+    Some(asked)
 }
 
 /// A worker arrives at the second slot, and advances it until its pass goes home.
 fn work<R: Wait>(rt: &R, door: &TenantDoor) -> Option<()> {
-    let mut pass = door.arrive(rt, CALL).pass?;
+    let Arrived {
+        came: _came,
+        due: _due,
+        pass,
+    } = door.arrive(rt, CALL);
+    let mut pass = pass?;
     for _ in 0..MOVES {
-        let advanced = advance(rt, door, pass)?;
-        match advanced.pass {
+        let Advanced {
+            moved,
+            due: _due,
+            pass: kept,
+        } = advance(rt, door, pass)?;
+        match kept {
             Some(kept) => pass = kept,
-            None => return is_left(advanced.moved),
+            None => return is_left(moved),
         }
     }
+    door.give_home(rt, pass);
     None
 }
 
@@ -103,8 +134,10 @@ fn is_left(moved: Moved) -> Option<()> {
     }
 }
 
+/// Advances the slot of a pass. A pass that is not of the door's tenant is ended.
 fn advance<R: Wait>(rt: &R, door: &TenantDoor, pass: Pass) -> Option<Advanced> {
     if pass.tenant() != door.tenant() {
+        door.give_home(rt, pass);
         return None;
     }
     Some(door.advance(rt, pass))
@@ -114,27 +147,33 @@ fn advance<R: Wait>(rt: &R, door: &TenantDoor, pass: Pass) -> Option<Advanced> {
 fn commit_all<R: Wait>(rt: &R, door: &TenantDoor, first: Pass) -> Option<()> {
     let mut pass = first;
     for _ in 0..MOVES {
-        let segment = segment(rt, door, &pass)?;
-        match commit(rt, door, pass, segment)?.pass {
+        let Advanced {
+            moved: _moved,
+            due: _due,
+            pass: kept,
+        } = commit(rt, door, pass)?;
+        match kept {
             Some(kept) => pass = kept,
             None => return Some(()),
         }
     }
+    door.give_home(rt, pass);
     None
 }
 
-fn commit<R: Wait>(rt: &R, door: &TenantDoor, pass: Pass, segment: Segment) -> Option<Advanced> {
-    if pass.tenant() != door.tenant() {
-        return None;
+/// Commits the private run of the topmost frame of a pass's slot. Where there is none, the pass goes home.
+fn commit<R: Wait>(rt: &R, door: &TenantDoor, pass: Pass) -> Option<Advanced> {
+    let segment = again(|| seen(rt, door, &pass));
+    match segment {
+        Some(segment) if pass.tenant() == door.tenant() => Some(door.commit(rt, pass, segment)),
+        _ => {
+            door.give_home(rt, pass);
+            None
+        }
     }
-    Some(door.commit(rt, pass, segment))
 }
 
 /// The private run of the topmost frame of a pass's slot.
-fn segment<R: Wait>(rt: &R, door: &TenantDoor, pass: &Pass) -> Option<Segment> {
-    again(|| seen(rt, door, pass))
-}
-
 fn seen<R: Wait>(rt: &R, door: &TenantDoor, pass: &Pass) -> Option<Segment> {
     if pass.tenant() != door.tenant() {
         return None;

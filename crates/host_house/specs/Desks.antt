@@ -18,7 +18,8 @@ pub record IsServed (old new : SessionSeen) : Type 0 where
   pub end : SessionEnd
   pub serves : Serves RepliesThere bytes unread written out (false, old) new end
 
--- A client came and went: it was served, or there was no memory for that and nothing happened. Then the session is at no slot.
+-- A client came and went: it was served, or there was no memory for that and nothing happened. Then the session is at no
+-- slot.
 pub record IsVisit (old new : SessionSeen) : Type 0 where
   pub session : SessionSeen
   pub served : IsServed old session ⊎ (session ≡ old)
@@ -29,7 +30,8 @@ abbrev pub AreVisits : ℕ → SessionSeen → SessionSeen → Type 0
 AreVisits zero old new = new ≡ old
 AreVisits (suc visits) old new = (mid : SessionSeen) × (AreVisits visits old mid × IsVisit mid new)
 
--- A desk gave the seat back: its clients were served, one after another, with seats by which nothing had been asked, and this is one of these seats, with what it noted of the clients' asks.
+-- A desk gave the seat back: its clients were served, one after another, with seats by which nothing had been asked, and
+-- this is one of these seats, with what it noted of the clients' asks.
 pub record IsFromDesk (s : SeatData) : Type 0 where
   pub client : ClientSeen
   pub begins : IsClient client

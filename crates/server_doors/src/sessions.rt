@@ -16,26 +16,14 @@ use tenant_record::Seat;
 use worker_main::{DueDoor, Ringer, Signal};
 
 /// One session's ways to the tenants behind locks. It has a seat of each tenant, and is at one slot
-/// at most: that of the job that it executes. It calls workers to the slots that become due.
+/// at most: that of the job that it executes. It calls workers to the slots that become due. It can't be let go: at its
+/// end the slot goes home and the seats come back (`LockedDoors::into_parts`).
 pub struct LockedDoors<'d, 'q, R: Wait, S: Signal> {
     slots: TenantSlots<'d, R>,
     ringer: Ringer<'q, R, S>,
     names: &'d [TenantName],
     seats: Vec<Seat>,
     bound: usize,
-}
-
-impl<'d, 'q, R: Wait, S: Signal> Drop for LockedDoors<'d, 'q, R, S> {
-    // An owner drops it in one call, not part by part at each of its ways out.
-    fn drop(self) {
-        let LockedDoors {
-            slots: _slots,
-            ringer: _ringer,
-            names: _names,
-            seats: _seats,
-            bound: _bound,
-        } = self;
-    }
 }
 
 impl<'d, 'q, R: Wait, S: Signal> Model for LockedDoors<'d, 'q, R, S> {
@@ -90,8 +78,7 @@ impl<'d, 'q, R: Wait, S: Signal> LockedDoors<'d, 'q, R, S> {
             seats,
             bound: _bound,
         } = self;
-        let mut slots = slots;
-        slots.give_home();
+        slots.end();
         (seats, ringer)
     }
 

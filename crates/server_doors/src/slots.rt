@@ -8,9 +8,10 @@ use job_step::{Segment, View};
 use market_config::Call;
 use std::cell::Cell;
 use std::marker::Model;
+use std::mem;
 use std::sync::Wait;
 use tenant_lock::{StopFlag, TenantDoor, Turned};
-use tenant_record::{Pass, Seat};
+use tenant_record::{Advanced, Arrived, Asked, Pass, Seat};
 use worker_main::{CallDoors, DueDoor};
 
 /// A private run of fewer instructions is short: to run it away from the lock and to compare its frame and program under
@@ -20,8 +21,8 @@ pub const SHORT_RUN: u32 = 64;
 /// How many moves of a slot after a short run are advances under the lock, before the slot is looked at again.
 pub const MOVES_UNDER_LOCK: u8 = 16;
 
-/// One thread's way to the slots of all tenants. It is at one slot at most, whose pass it has.
-#[derive(Drop)]
+/// One thread's way to the slots of all tenants. It is at one slot at most, whose pass it has. It can't be let go: at its
+/// end the slot goes home (`TenantSlots::end`).
 pub struct TenantSlots<'d, R: Wait> {
     rt: &'d R,
     doors: &'d [TenantDoor],
@@ -77,9 +78,9 @@ impl<'d, R: Wait> TenantSlots<'d, R> {
         self.give_home();
         let tenant = seat.tenant();
         let doors = self.doors;
-        let asked = doors[tenant].ask(self.rt, seat, request);
-        self.pass = asked.pass;
-        (asked.reply, call_of(tenant, asked.due))
+        let Asked { reply, due, pass } = doors[tenant].ask(self.rt, seat, request);
+        self.hold(pass);
+        (reply, call_of(tenant, due))
     }
 
     /// Waits while a job of the seat's tenant has no outcome, and says whether to stop.
@@ -88,6 +89,32 @@ impl<'d, R: Wait> TenantSlots<'d, R> {
     {
         let doors = self.doors;
         doors[seat.tenant()].pause_for_until(self.rt, seat, job, self.stop)
+    }
+
+    /// Gives the slot home that it is at.
+    pub fn end(self) {
+        let TenantSlots {
+            rt,
+            doors,
+            stop: _stop,
+            pass,
+            height: _height,
+            view: _view,
+            under_lock: _under_lock,
+        } = self;
+        if let Some(pass) = pass {
+            doors[pass.tenant()].give_home(rt, pass);
+        }
+    }
+
+    /// Takes a pass, if there is one, and gives the one home that it has.
+    fn hold(&mut self, pass: Option<Pass>)
+        requires { IfSome pass (λ p. p.tenant < length self.old.doors) }
+        ensures { self.new ≡ record self.old { pass = pass } }
+    {
+        if let Some(left) = mem::replace(&mut self.pass, pass) {
+            self.doors[left.tenant()].give_home(self.rt, left);
+        }
     }
 
     /// Forgets what its last move saw of its slot.
@@ -147,13 +174,14 @@ impl<'d, R: Wait> DueDoor for TenantSlots<'d, R> {
             segment,
             self.view.get_mut(),
         );
-        self.pass = advanced.pass;
+        let Advanced { moved, due, pass } = advanced;
+        self.hold(pass);
         self.height = height;
         if is_short {
             self.under_lock = MOVES_UNDER_LOCK;
             self.view.set(View::Unshared);
         }
-        (advanced.moved, call_of(tenant, advanced.due))
+        (moved, call_of(tenant, due))
     }
 
     fn advance(&mut self) -> (Moved, Option<Call>) {
@@ -169,9 +197,10 @@ impl<'d, R: Wait> DueDoor for TenantSlots<'d, R> {
         } else {
             doors[tenant].advance_and_look(rt, pass, self.view.get_mut())
         };
-        self.pass = advanced.pass;
+        let Advanced { moved, due, pass } = advanced;
+        self.hold(pass);
         self.height = height;
-        (advanced.moved, call_of(tenant, advanced.due))
+        (moved, call_of(tenant, due))
     }
 
     fn height(&self) -> usize {
@@ -218,9 +247,9 @@ impl<'d, R: Wait> CallDoors for TenantSlots<'d, R> {
         let Some(door) = self.doors.get(call.tenant) else {
             return (Came::Nothing, None);
         };
-        let arrived = door.arrive(self.rt, call);
-        self.pass = arrived.pass;
-        (arrived.came, call_of(call.tenant, arrived.due))
+        let Arrived { came, due, pass } = door.arrive(self.rt, call);
+        self.hold(pass);
+        (came, call_of(call.tenant, due))
     }
 }
 

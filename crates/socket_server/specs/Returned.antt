@@ -10,7 +10,8 @@ use Rattle.tenant_record.specs.SeatData.{SeatData}
 use Rattle.socket_server.specs.Posts.{ClientSeen, IsClient, IsFresh}
 use Rattle.socket_server.specs.Sessions.{ServesClient}
 
--- A session gave the seat back: a client was served whose seats had asked nothing, what was written is what answers the lines that were read, and this is one of the client's seats, with what it noted of the session's asks.
+-- A session gave the seat back: a client was served whose seats had asked nothing, what was written is what answers the
+-- lines that were read, and this is one of the client's seats, with what it noted of the session's asks.
 pub record IsFromSession (s : SeatData) : Type 0 where
   pub client : ClientSeen
   pub begins : IsClient client

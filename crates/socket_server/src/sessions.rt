@@ -46,5 +46,6 @@ pub fn serve_calls<R: Wait, S: Signal, G: Gate>(
     // A worker stops with the house.
     let never = StopFlag::new();
     let slots = TenantSlots::new(rt, house.doors.as_slice(), &never);
-    let _served = worker(rt, &house.queues, pass, slots, signal, gate, visiting);
+    let (_pass, slots) = worker(rt, &house.queues, pass, slots, signal, gate, visiting);
+    slots.end();
 }

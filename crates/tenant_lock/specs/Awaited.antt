@@ -42,9 +42,12 @@ AddsJob before job after =
     ((place : ℕ) × (place < length before.noted) × (slice_index_or before.noted place None ≡ None) × (after ≡ record before { noted = slice_set before.noted place (Some job) }))
     ⊎ (after ≡ record before { others = true })
 
--- Either all who sleep for jobs may look again, and are forgotten until they sleep again; or nothing is forgotten, those who are noted have to sleep, and after an entry there are no others.
+-- Either all who sleep for jobs may look again, and are forgotten until they sleep again; or nothing is forgotten, those who
+-- are noted have to sleep, and after an entry there are no others. They look again only if one who is noted need not sleep,
+-- or if there are others and an entry was made.
 pub record AreWaitersTold (c : CellData) (is_over is_entry : Bool) (before : Option Jobs) (told : Bool) (after : Option Jobs) : Type 0 where
   pub all : told ≡ true → after ≡ None
+  pub cause : told ≡ true → (are_open c is_over before ≡ false) ⊎ ((is_entry ≡ true) × (has_others before ≡ true))
   pub kept : told ≡ false → after ≡ before
   pub sleep : told ≡ false → are_open c is_over before ≡ true
   pub others : told ≡ false → is_entry ≡ true → has_others before ≡ false

@@ -1,6 +1,5 @@
 -- What a tenant's door shows, and what its calls do to tokens.
-use Rattle.std.specs.Prelude.{ℕ, ◌≡◌, ◌==◌, ◌&&◌, nat_lt, Bool, Option, Some, None}
-use Rattle.tenant_record.specs.Cell.{CellData}
+use Rattle.std.specs.Prelude.{ℕ, ◌≡◌, Option, Some, None}
 use Rattle.job_language.specs.declared.answers.Came.{Came}
 use Rattle.job_language.specs.declared.answers.Came.TheVariants.{At}
 use Rattle.job_language.specs.declared.answers.Moved.{Moved}
@@ -22,10 +21,6 @@ pub record HasArrived (tenant slot row : ℕ) (p : PassData) : Type 0 where
   pub is : IsPassOf tenant slot p
   pub before : PassData
   pub told : p ≡ arrived before row
-
--- Is the slot of the pass one of the cell's?
-abbrev pub has_slot_of : CellData → PassData → Bool
-has_slot_of c p = (p.tenant == c.tenant) && nat_lt p.slot c.config.slots
 
 -- There is a pass if and only if a row was found, and its log ends with that arrival.
 abbrev pub ComesWith : (tenant slot : ℕ) → Came → Option PassData → Type 0

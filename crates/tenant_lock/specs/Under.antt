@@ -12,7 +12,7 @@ use Rattle.job_step.specs.declared.segments.View.{View}
 use Rattle.market_config.specs.declared.calls.Call.{Call}
 use Rattle.tenant_model.specs.Changes.{open_rows}
 use Rattle.tenant_model.specs.Walks.{height, is_unstarted}
-use Rattle.tenant_record.specs.Cell.{CellData, IsRight, AnswersAsk, arrival, state_of}
+use Rattle.tenant_record.specs.Cell.{CellData, IsRight, AnswersAsk, arrival, has_slot_of, state_of}
 use Rattle.tenant_record.specs.Locked.{IsArrived, IsAsked, IsHandedOver, IsMoved}
 use Rattle.tenant_record.specs.PassData.{PassData, has_room}
 use Rattle.tenant_record.specs.SeatData.{SeatData}
@@ -21,7 +21,6 @@ use Rattle.tenant_record.specs.declared.slots.Advanced.{Advanced}
 use Rattle.tenant_record.specs.declared.slots.Arrived.{Arrived}
 use Rattle.tenant_lock.specs.declared.counts.Counts.{Counts}
 use Rattle.tenant_lock.specs.declared.counts.Tally.{Tally}
-use Rattle.tenant_lock.specs.Doors.{has_slot_of}
 use Rattle.tenant_lock.specs.Looks.{IsLook}
 
 -- An ask of a seat of the tenant of that number is one of that tenant's cell. The cell of another tenant is not asked.

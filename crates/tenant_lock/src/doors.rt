@@ -254,10 +254,8 @@ impl TenantDoor {
         self.jobs.load(Ordering::SeqCst)
     }
 
-    /// Puts a pass home.
-    pub fn give_home<R: Wait>(&self, rt: &R, pass: Pass)
-        requires { pass.tenant ≡ self.now.tenant }
-    {
+    /// Puts a pass home. One that is not of one of the tenant's slots is ended.
+    pub fn give_home<R: Wait>(&self, rt: &R, pass: Pass) {
         self.lock(rt).give_home(pass);
     }
 

@@ -11,10 +11,10 @@ ghost use Rattle.tenant_model.specs.Walks.{height, is_unstarted};
 ghost use Rattle.tenant_model.specs.declared.rows.TheConstants.{MAX_HEIGHT};
 ghost use Rattle.tenant_record.specs.PassData.{GoesWith, goes_home, has_room};
 ghost use Rattle.tenant_record.specs.SeatData.{asked};
-ghost use Rattle.tenant_record.specs.Cell.{IsRight, arrival, state_of};
+ghost use Rattle.tenant_record.specs.Cell.{IsRight, arrival, has_slot_of, state_of};
 ghost use Rattle.tenant_record.specs.Locked.{IsArrived, given_home};
 ghost use Rattle.tenant_lock.specs.Awaited.{AddsJob, is_open, jobs_of};
-ghost use Rattle.tenant_lock.specs.Doors.{Carries, ComesWith, has_slot_of};
+ghost use Rattle.tenant_lock.specs.Doors.{Carries, ComesWith};
 ghost use Rattle.tenant_lock.specs.Looks.{IsLook, IsShown};
 ghost use Rattle.tenant_lock.specs.Pauses.{has_to_stop};
 ghost use Rattle.tenant_lock.specs.Sleepers.{CanMove, IsIdle};
@@ -58,7 +58,6 @@ impl Model for Held {
 }
 
 /// What a move of a slot came to.
-#[derive(Drop)]
 pub struct Turned {
     pub advanced: Advanced,
     /// How many rows are on the slot after it, unless its pass went home.
@@ -302,7 +301,7 @@ impl Held {
         }
     }
 
-    /// Puts a pass home, if its slot is one of the cell's.
+    /// Puts a pass home, if its slot is one of the cell's. Another one is ended.
     pub(crate) fn give_home(&mut self, pass: Pass)
         ensures home { has_slot_of self.old.cell pass ≡ true → self.new.cell ≡ given_home self.old.cell pass }
         ensures kept { has_slot_of self.old.cell pass ≡ false → self.new ≡ self.old }
@@ -310,6 +309,8 @@ impl Held {
     {
         if self.has_slot_of(&pass) {
             self.cell.give_home(pass);
+        } else {
+            self.cell.end_foreign(pass);
         }
     }
 
@@ -323,6 +324,7 @@ impl Held {
         // Proof hint: the cell is right.
         let _ = self.cell.history();
         if !self.has_slot_of(&pass) {
+            self.cell.end_foreign(pass);
             return None;
         }
         let due = self.cell.hand_over(pass);

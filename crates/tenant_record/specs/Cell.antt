@@ -1,5 +1,5 @@
 -- What a tenant's lock keeps, and when it is right.
-use Rattle.std.specs.Prelude.{ℕ, ◌≡◌, ◌≤◌, ◌<◌, ◌+◌, ◌==◌, ◌⊎◌, Bool, true, false, ◌||◌, not, ◌&&◌, List, [], ◌∷◌, length, take, drop, replicate, Option, Some, None, IsSome, All, count_by, slice_set, slice_index_or, if◌then◌else◌}
+use Rattle.std.specs.Prelude.{ℕ, ◌≡◌, ◌≤◌, ◌<◌, ◌+◌, ◌==◌, ◌⊎◌, Bool, true, false, ◌||◌, not, ◌&&◌, List, [], ◌∷◌, length, take, drop, replicate, Option, Some, None, IsSome, All, count_by, nat_lt, slice_set, slice_index_or, if◌then◌else◌}
 use Rattle.job_language.specs.Brought.{job_of}
 use Rattle.job_language.specs.Recorded.{is_entry, is_recorded_reply}
 use Rattle.job_language.specs.declared.answers.Answer.{Answer}
@@ -15,6 +15,7 @@ use Rattle.job_language.specs.declared.steps.Entry.{Entry}
 use Rattle.job_language.specs.declared.steps.Step.{Step}
 use Rattle.job_language.specs.declared.steps.Step.TheVariants.{Ask, Arrive, Advance}
 use Rattle.job_language.specs.declared.tenants.Tenant.{Tenant}
+use Rattle.job_language.specs.declared.tenants.TheConstants.{MAX_SLOTS}
 use Rattle.tenant_model.specs.Advance.{advance}
 use Rattle.tenant_model.specs.State.{State}
 use Rattle.tenant_model.specs.Told.{placed_on}
@@ -35,6 +36,10 @@ pub record CellData : Type 0 where
   pub askers : List ℕ
   pub home : List Place
   pub stills : List (Option ℕ)
+
+-- Is the slot of the pass one of the cell's?
+abbrev pub has_slot_of : CellData → PassData → Bool
+has_slot_of c p = (p.tenant == c.tenant) && nat_lt p.slot c.config.slots
 
 -- the state that the arena stands for
 abbrev pub state_of : CellData → State
@@ -72,11 +77,11 @@ IsStill c history slot None = Unit {0}
 IsStill c history slot (Some k) = IsStillSince c history slot k
 
 abbrev pub AreStill : Tenant → List Entry → List (Option ℕ) → Type 0
-AreStill c history stills = (slot : ℕ) → slot < 16 → IsStill c history slot (slice_index_or stills slot None)
+AreStill c history stills = (slot : ℕ) → slot < MAX_SLOTS → IsStill c history slot (slice_index_or stills slot None)
 
 -- The number of each slot's entries is counted.
 abbrev pub AreCounted : List Entry → List ℕ → Type 0
-AreCounted history counts = (slot : ℕ) → slot < 16 → slice_index_or counts slot 0 ≡ count_by (is_on slot) history
+AreCounted history counts = (slot : ℕ) → slot < MAX_SLOTS → slice_index_or counts slot 0 ≡ count_by (is_on slot) history
 
 -- The pass of each reserved slot with nothing on it is home.
 abbrev pub AreHome : Tenant → State → List Place → Type 0
@@ -97,7 +102,7 @@ pub record IsRight (c : CellData) : Type 0 where
 
 -- a cell of a tenant that has done nothing yet
 abbrev pub first_cell : ℕ → Tenant → CellData
-first_cell tenant config = record { tenant = tenant; config = config; history = []; askers = []; home = first_places tenant config.steps config.slots; stills = replicate 16 None }
+first_cell tenant config = record { tenant = tenant; config = config; history = []; askers = []; home = first_places tenant config.steps config.slots; stills = replicate MAX_SLOTS None }
 
 -- the answer of an arrival, and the state after it: nothing happens if the pass of the slot is out
 abbrev pub arrive_by : State → ℕ → Option PassData → Came × State

@@ -11,7 +11,7 @@ ghost use Rattle.tenant_model.specs.Changes.{open_rows};
 ghost use Rattle.tenant_model.specs.Told.{placed_on};
 ghost use Rattle.tenant_model.specs.Walks.{height, is_unstarted};
 ghost use Rattle.tenant_model.specs.Advance.{advance};
-ghost use Rattle.tenant_record.specs.Cell.{IsRight, state_of, first_cell, is_on, arrival, entered, AnswersAsk, askers_of};
+ghost use Rattle.tenant_record.specs.Cell.{IsRight, state_of, first_cell, has_slot_of, is_on, arrival, entered, AnswersAsk, askers_of};
 ghost use Rattle.tenant_record.specs.Locked.{IsMoved, IsArrived, IsAsked, IsHandedOver, given_home};
 ghost use Rattle.tenant_record.specs.PassData.{has_room, GoesWith};
 ghost use Rattle.tenant_record.specs.Places.{place, pass_in, is_one_out, is_told_full};
@@ -62,7 +62,6 @@ impl Model for TenantCell {
 }
 
 /// What an ask came to.
-#[derive(Drop)]
 pub struct Asked {
     pub reply: Reply,
     /// The slot that a worker is called to.
@@ -297,6 +296,13 @@ impl TenantCell {
         ensures { self.new ≡ given_home self.old pass }
     {
         put(self.slots.home.as_mut_slice(), pass);
+    }
+
+    /// Ends a pass that is not of one of this tenant's slots.
+    pub fn end_foreign(&self, pass: Pass)
+        requires { has_slot_of self.now pass ≡ false }
+    {
+        pass.end();
     }
 
     /// Puts a pass of this tenant home, and calls a worker as an entry does: the lowest slot for

@@ -11,10 +11,9 @@ use job_language::{Entry, Moved};
 use std::alloc::{AllocError, Global};
 use std::marker::Model;
 
-/// The right to move a slot of a tenant. It can't be copied, and it keeps what its holders were
-/// told: the entries of the slot, in order, whether a move was refused as at a full history, and the
-/// count of entries at which the slot was last found idle, unless it was touched since.
-#[derive(Drop)]
+/// The right to move a slot of a tenant. It can't be copied or let go: whoever has it gives it home, or hands it on. It
+/// keeps what its holders were told: the entries of the slot, in order, whether a move was refused as at a full history,
+/// and the count of entries at which the slot was last found idle, unless it was touched since.
 pub struct Pass {
     tenant: usize,
     slot: u8,
@@ -53,6 +52,18 @@ impl Pass {
             full: false,
             still: None,
         })
+    }
+
+    /// Ends a pass: its cell ends, or it has none.
+    pub(crate) fn end(self) {
+        let Pass {
+            tenant: _tenant,
+            slot: _slot,
+            limit: _limit,
+            log: _log,
+            full: _full,
+            still: _still,
+        } = self;
     }
 
     /// The number of its tenant, from 0.

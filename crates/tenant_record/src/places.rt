@@ -15,12 +15,20 @@ use std::alloc::{AllocError, Global};
 use std::mem;
 
 /// Where the pass of a slot is.
-#[derive(Drop)]
 pub(crate) enum Place {
     Home(Pass),
     /// The pass is home, and a worker is called to its slot.
     Due(Pass),
     Out,
+}
+
+impl Drop for Place {
+    fn drop(self) {
+        match self {
+            Place::Home(pass) | Place::Due(pass) => pass.end(),
+            Place::Out => {}
+        }
+    }
 }
 
 impl Place {

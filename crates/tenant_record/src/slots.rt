@@ -13,20 +13,19 @@ ghost use Rattle.tenant_record.specs.Replayed.{state_of};
 use crate::passes::{Pass, still_after};
 use crate::places::{Place, admit, call, first_places, hand_out, keep};
 use crate::replay::Replay;
-use job_language::{Answer, Came, Moved, Reply, TenantConfig};
+use job_language::{Answer, Came, MAX_SLOTS, Moved, Reply, TenantConfig};
 use std::alloc::{AllocError, Global};
 
 /// What is kept of each slot of a tenant: how many entries it has, the count of entries at which it
 /// was last found idle, unless it was touched since, and where its pass is.
 #[derive(Drop)]
 pub(crate) struct SlotBooks {
-    pub(crate) counts: [usize; 16],
-    pub(crate) stills: [Option<usize>; 16],
+    pub(crate) counts: [usize; MAX_SLOTS as usize],
+    pub(crate) stills: [Option<usize>; MAX_SLOTS as usize],
     pub(crate) home: Vec<Place>,
 }
 
 /// What an advance of a slot, or a commit there, came to.
-#[derive(Drop)]
 pub struct Advanced {
     pub moved: Moved,
     /// The slot that a worker is called to.
@@ -36,7 +35,6 @@ pub struct Advanced {
 }
 
 /// What an arrival at a slot came to.
-#[derive(Drop)]
 pub struct Arrived {
     pub came: Came,
     /// The slot that a worker is called to.
@@ -52,14 +50,14 @@ impl SlotBooks {
         tenant: usize,
         config: &TenantConfig,
     ) -> Result<SlotBooks, AllocError>
-        ensures counts { IfOk result (λ slots. slots.counts ≡ replicate 16 0) }
-        ensures stills { IfOk result (λ slots. slots.stills ≡ replicate 16 None) }
+        ensures counts { IfOk result (λ slots. slots.counts ≡ replicate MAX_SLOTS 0) }
+        ensures stills { IfOk result (λ slots. slots.stills ≡ replicate MAX_SLOTS None) }
         ensures home { IfOk result (λ slots. slots.home.items ≡ first_places tenant config.now.steps config.now.slots) }
     {
         let config = config.tenant();
         Ok(SlotBooks {
-            counts: [0; 16],
-            stills: [None; 16],
+            counts: [0; MAX_SLOTS as usize],
+            stills: [None; MAX_SLOTS as usize],
             home: first_places(alloc, tenant, config.steps, config.slots)?,
         })
     }
@@ -141,7 +139,7 @@ impl SlotBooks {
 }
 
 /// Counts an entry of a slot, if there is one.
-fn count(counts: &mut [usize; 16], slot: u8, has_entered: bool)
+fn count(counts: &mut [usize; MAX_SLOTS as usize], slot: u8, has_entered: bool)
     requires slot { slot < MAX_SLOTS }
     requires few { slice_index_or counts.old slot 0 + 1 < 2 ^ 64 }
     ensures { counts.new ≡ counted counts.old slot has_entered }
@@ -152,7 +150,7 @@ fn count(counts: &mut [usize; 16], slot: u8, has_entered: bool)
 }
 
 /// Notes at which count of entries a slot was last found idle, after an advance of it.
-fn mark(stills: &mut [Option<usize>; 16], slot: u8, moved: Moved, entries: usize)
+fn mark(stills: &mut [Option<usize>; MAX_SLOTS as usize], slot: u8, moved: Moved, entries: usize)
     requires { slot < MAX_SLOTS }
     ensures { stills.new ≡ slice_set stills.old slot (still_after (slice_index_or stills.old slot None) moved entries) }
 {
@@ -161,7 +159,7 @@ fn mark(stills: &mut [Option<usize>; 16], slot: u8, moved: Moved, entries: usize
 }
 
 /// Notes that a slot, if one is named, is not known to be idle.
-fn touch(stills: &mut [Option<usize>; 16], slot: Option<u8>)
+fn touch(stills: &mut [Option<usize>; MAX_SLOTS as usize], slot: Option<u8>)
     requires { IfSome slot (λ slot. slot < MAX_SLOTS) }
     ensures { stills.new ≡ touched slot stills.old }
 {

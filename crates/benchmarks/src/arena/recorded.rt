@@ -1,10 +1,13 @@
 // Jobs that run on one slot of a tenant's cell, which records each ask and each advance.
+ghost use Rattle.std.specs.Prelude.{◌≡◌};
+ghost use Rattle.tenant_record.specs.Cell.{has_slot_of};
+
 use crate::arena::runs::{Ran, two_slots};
 use crate::stops::Stop;
 use crate::tenants::{job_of, value_of};
-use job_language::{Job, MAX_ROWS, MAX_STEPS, Reply, Request};
+use job_language::{Job, MAX_ROWS, MAX_STEPS, Moved, Reply, Request};
 use std::alloc::Global;
-use tenant_record::{Advanced, Pass, Seat, TenantCell, first_seats};
+use tenant_record::{Advanced, Asked, Pass, Seat, TenantCell, first_seats};
 
 /// Runs a job `jobs` times, each on a cell of its own.
 pub(crate) fn run_recorded(alloc: Global, text: &str, jobs: usize) -> Result<Ran, Stop> {
@@ -28,34 +31,84 @@ fn run_alone(alloc: Global, job: &Job) -> Result<Ran, Stop> {
 
 /// Executes a job, runs it and collects its value.
 fn run(cell: &mut TenantCell, seat: &mut Seat, job: Job) -> Result<Ran, Stop> {
-    let asked = cell.ask(seat, Request::Execute(job));
-    let Reply::Placed(number, _) = asked.reply else {
+    let Asked {
+        reply,
+        due: _due,
+        pass,
+    } = cell.ask(seat, Request::Execute(job));
+    let ran = run_on_slot(cell, pass);
+    let Reply::Placed(number, _) = reply else {
         return Err(Stop::Outcome);
     };
-    let ran = run_on_slot(cell, asked.pass)?;
-    let value = value_of(cell.ask(seat, Request::Collect(number)).reply)?;
+    let ran = ran?;
+    let value = value_of(collect(cell, seat, number))?;
     Ok(Ran { value, ..ran })
 }
 
-/// Advances the slot of a pass until it is free.
+/// The reply to a collection of a job.
+fn collect(cell: &mut TenantCell, seat: &mut Seat, job: u64) -> Reply {
+    let Asked {
+        reply,
+        due: _due,
+        pass,
+    } = cell.ask(seat, Request::Collect(job));
+    give_home(cell, pass);
+    reply
+}
+
+/// Advances the slot of a pass until it is free. What is left of the pass goes home.
 fn run_on_slot(cell: &mut TenantCell, pass: Option<Pass>) -> Result<Ran, Stop> {
     let mut ran = Ran::of_root();
     let mut pass = pass;
+    let mut is_free = Ok(false);
     for _ in 0..MAX_STEPS {
-        let advanced = advance(cell, pass)?;
-        if ran.count(advanced.moved)? {
-            return Ok(ran);
+        let (moved, kept) = advance(cell, pass);
+        pass = kept;
+        is_free = counted(&mut ran, moved);
+        if !matches!(is_free, Ok(false)) {
+            break;
         }
-        pass = advanced.pass;
     }
-    Err(Stop::Outcome)
+    give_home(cell, pass);
+    if is_free? {
+        Ok(ran)
+    } else {
+        Err(Stop::Outcome)
+    }
 }
 
-/// Advances the slot of a pass, if it is one of the cell's tenant.
-fn advance(cell: &mut TenantCell, pass: Option<Pass>) -> Result<Advanced, Stop> {
-    let pass = pass.ok_or(Stop::Place)?;
-    if pass.tenant() != cell.tenant() || pass.slot() >= cell.config().slots {
-        return Err(Stop::Place);
+/// Counts an advance, if one was made.
+fn counted(ran: &mut Ran, moved: Option<Moved>) -> Result<bool, Stop> {
+    ran.count(moved.ok_or(Stop::Place)?)
+}
+
+/// Advances the slot of a pass, if it is one of the cell's: how that was answered, and the pass unless it went home.
+fn advance(cell: &mut TenantCell, pass: Option<Pass>) -> (Option<Moved>, Option<Pass>) {
+    match pass {
+        Some(pass) if has_slot_of(cell, &pass) => {
+            let Advanced {
+                moved,
+                due: _due,
+                pass,
+            } = cell.advance(pass);
+            (Some(moved), pass)
+        }
+        pass => (None, pass),
     }
-    Ok(cell.advance(pass))
+}
+
+/// Puts a pass home, if there is one. One that is not of one of the cell's slots is ended.
+fn give_home(cell: &mut TenantCell, pass: Option<Pass>) {
+    match pass {
+        Some(pass) if has_slot_of(cell, &pass) => cell.give_home(pass),
+        Some(pass) => cell.end_foreign(pass),
+        None => {}
+    }
+}
+
+/// Whether the slot of a pass is one of the cell's.
+fn has_slot_of(cell: &TenantCell, pass: &Pass) -> bool
+    ensures { result ≡ has_slot_of cell.now pass.now }
+{
+    pass.tenant() == cell.tenant() && pass.slot() < cell.config().slots
 }

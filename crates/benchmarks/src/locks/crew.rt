@@ -79,7 +79,8 @@ impl Post<'_> {
         ringer.call_due(due);
         let mut slot = SlotDoor::new(ringer, &NoGate, slots);
         let _attended = attend(&mut slot, 1);
-        slot.give_home();
+        let (_pass, slots) = slot.into_parts();
+        slots.end();
     }
 
     /// Submits two jobs by a seat, each of which calls a worker.
@@ -96,6 +97,7 @@ impl Post<'_> {
         ringer.call_due(due);
         let (_reply, due) = slots.ask(seat, Request::Submit(second));
         ringer.call_due(due);
+        slots.end();
     }
 }
 
@@ -104,7 +106,7 @@ fn serve<R: Wait, G: Gate>(rt: &R, post: Post<'_>, gate: &G) {
     let Post { shared, pass } = post;
     let stop = StopFlag::new();
     let slots = TenantSlots::new(rt, slice::from_ref(shared.door), &stop);
-    let _served = worker(
+    let (_pass, slots) = worker(
         rt,
         &shared.queues,
         pass,
@@ -113,6 +115,7 @@ fn serve<R: Wait, G: Gate>(rt: &R, post: Post<'_>, gate: &G) {
         gate,
         Visiting::Staying,
     );
+    slots.end();
 }
 
 /// Two workers serve calls until the bell tells to stop.

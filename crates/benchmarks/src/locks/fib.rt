@@ -1,6 +1,7 @@
 // The sixth Fibonacci number, executed by a caller beside two workers.
 ghost use Rattle.std.specs.Prelude.{◌≡◌};
 
+use crate::locks::asks::reply_to;
 use crate::locks::closing::close_checked;
 use crate::locks::crew::{Crew, Post, serve_both};
 use crate::locks::jobs::{with_slots, worked_job};
@@ -81,7 +82,7 @@ fn execute_and_stop<R: Wait>(rt: &R, caller: Post<'_>, seat: &mut Seat, job: Job
     let shared = caller.shared;
     caller.execute(rt, seat, job);
     let _stops = shared.door.pause_for(rt, seat, 1);
-    let outcome = shared.door.ask(rt, seat, Request::Collect(1)).reply;
+    let outcome = reply_to(rt, shared.door, seat, Request::Collect(1));
     shared.stop(rt);
     outcome
 }

@@ -1,6 +1,7 @@
 // Events at the locked doors of tenants.
 ghost use Rattle.std.specs.Prelude.{◌≡◌, IfSome};
 
+use crate::locks::asks::reply_to;
 use crate::locks::jobs::{with_slots, worked_job};
 use crate::locks::load::{Load, MAX_THREADS};
 use crate::stops::Stop;
@@ -149,9 +150,9 @@ fn submit_and_poll<R: Wait>(rt: &R, desk: Desk<'_>, events: usize) -> Seat {
         mut seat,
         job,
     } = desk;
-    let _made = door.ask(rt, &mut seat, Request::Submit(job));
+    let _made = reply_to(rt, door, &mut seat, Request::Submit(job));
     for _poll in 1..events {
-        let _polled = door.ask(rt, &mut seat, Request::Poll(1));
+        let _polled = reply_to(rt, door, &mut seat, Request::Poll(1));
     }
     seat
 }

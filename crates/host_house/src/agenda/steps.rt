@@ -2,7 +2,7 @@
 ghost use Rattle.std.specs.Prelude.{◌≡◌, ◌≢◌, ◌↔◌, IfOk, IfSome, IsSome, IsTrue, OnErr, OnOk, None, Ok, Some, true, false, is_some};
 ghost use Rattle.generation_life.specs.declared.generations.Why.TheVariants.{File};
 ghost use Rattle.generation_life.specs.Lines.{closing, ended, stage_of, why_of};
-ghost use Rattle.host_house.specs.Agendas.{Takes, begun, stopped};
+ghost use Rattle.host_house.specs.Agendas.{OpensNone, Takes, begun, new_agenda, stopped};
 ghost use Rattle.host_house.specs.declared.agenda.Step.TheVariants.{Hold, Wait};
 
 use super::{Agenda, Look, MOST_ALIVE, Step};
@@ -12,7 +12,9 @@ use std::alloc::{AllocError, Global};
 
 impl Agenda {
     /// No generation yet. The first will have that number.
-    pub(crate) fn new(alloc: Global, first: u64) -> Agenda {
+    pub(crate) fn new(alloc: Global, first: u64) -> Agenda
+        ensures { result ≡ new_agenda first }
+    {
         Agenda {
             generations: Generations::new(alloc, first),
             wish: None,
@@ -77,7 +79,7 @@ impl Agenda {
     pub(crate) fn begin(&mut self) -> Result<Option<u64>, AllocError>
         ensures begun { IfOk result (λ number. IfSome number (λ n. (n ≡ self.old.generations.next) × (self.new ≡ begun self.old))) }
         ensures goes_on { IfOk result (λ number. IsSome number → self.old.is_stopping ≡ false) }
-        ensures none { result ≡ Ok None → self.new ≡ self.old }
+        ensures none { result ≡ Ok None → OpensNone self.old × (self.new ≡ self.old) }
         ensures refused { OnErr result (self.new ≡ self.old) }
     {
         if !self.is_opening || self.is_stopping || self.generations.next() == u64::MAX {

@@ -15,7 +15,6 @@ use tenant_record::Seat;
 use worker_main::DueDoor;
 
 /// A thread's door, and how often it was moved by a commit and by an advance.
-#[derive(Drop)]
 struct Counted<'d, R: Wait> {
     slots: TenantSlots<'d, R>,
     commits: u32,
@@ -79,8 +78,8 @@ fn attended<R: Wait>(
         advances: 0,
     };
     let end = attend(&mut counted, 1);
-    counted.slots.give_home();
-    Ok((end, counted.commits, counted.advances))
+    let (commits, advances) = counted.end();
+    Ok((end, commits, advances))
 }
 
 #[test]
@@ -111,7 +110,9 @@ fn counted_at<'d, R: Wait>(
     }
     let job = job_of(alloc, SHORT_THEN_LONG)?;
     let mut slots = TenantSlots::new(rt, slice::from_ref(door), stop);
-    let (Reply::Placed(..), _due) = slots.ask(seat, Request::Execute(job)) else {
+    let (reply, _due) = slots.ask(seat, Request::Execute(job));
+    let Reply::Placed(..) = reply else {
+        slots.end();
         return Err("a slot is free")?;
     };
     Ok(Counted {
@@ -122,6 +123,17 @@ fn counted_at<'d, R: Wait>(
 }
 
 impl<R: Wait> Counted<'_, R> {
+    /// Gives the slot home: how often it was moved by a commit, and by an advance.
+    fn end(self) -> (u32, u32) {
+        let Counted {
+            slots,
+            commits,
+            advances,
+        } = self;
+        slots.end();
+        (commits, advances)
+    }
+
     /// Moves the slot so many times.
     fn move_on(&mut self, moves: u32) {
         for _move in 0..moves {
@@ -155,15 +167,25 @@ fn moved_beside<R: Wait>(
     moves: u32,
 ) -> Result<Beside, Fail> {
     let (here, there) = (StopFlag::new(), StopFlag::new());
-    let mut one = counted_at(rt, alloc, door, first, &here)?;
-    let mut two = counted_at(rt, alloc, door, second, &there)?;
+    let one = counted_at(rt, alloc, door, first, &here)?;
+    match counted_at(rt, alloc, door, second, &there) {
+        Ok(two) => Ok(move_both(one, two, moves)),
+        Err(fail) => {
+            let _moved = one.end();
+            Err(fail)
+        }
+    }
+}
+
+/// Moves two doors at a slot each so often, and then at once.
+fn move_both<R: Wait>(one: Counted<'_, R>, two: Counted<'_, R>, moves: u32) -> Beside {
+    let (mut one, mut two) = (one, two);
     one.move_on(moves);
     two.move_on(moves);
     let moved = [(one.commits, one.advances), (two.commits, two.advances)];
     let at_once = move_at_once(&mut one, &mut two);
-    one.slots.give_home();
-    two.slots.give_home();
-    Ok((moved, at_once))
+    let _moved = (one.end(), two.end());
+    (moved, at_once)
 }
 
 /// What two slots of a tenant are answered, after so many moves of each.

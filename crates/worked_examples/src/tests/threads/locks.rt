@@ -1,4 +1,5 @@
 // A tenant behind its door, from a submitted job to the history.
+ghost use Rattle.std.specs.Prelude.{◌≡◌, IfSome};
 
 use crate::tests::assert_same;
 use job_language::{
@@ -14,7 +15,7 @@ use std::test::Fail;
 use std::thread;
 use std::thread::Threads;
 use tenant_lock::{CloseFault, Closed, StopFlag, TenantDoor};
-use tenant_record::{Advanced, Pass, Seat};
+use tenant_record::{Advanced, Arrived, Asked, Pass, Seat};
 
 /// The call of the only slot for workers.
 pub(super) const CALL: Call = Call { tenant: 0, slot: 1 };
@@ -68,8 +69,9 @@ pub(super) fn ask<R: Wait>(
     if seat.tenant() != door.tenant() {
         return None;
     }
-    let asked = door.ask(rt, seat, request);
-    Some((asked.reply, asked.due))
+    let Asked { reply, due, pass } = door.ask(rt, seat, request);
+    give_home(rt, door, pass);
+    Some((reply, due))
 }
 
 /// Submits the job.
@@ -84,33 +86,68 @@ pub(super) fn poll<R: Wait>(rt: &R, door: &TenantDoor, seat: &mut Seat, job: u64
     Some(reply)
 }
 
-/// Advances the slot of a pass, if that is one of the door's.
-pub(super) fn advance<R: Wait>(rt: &R, door: &TenantDoor, pass: Option<Pass>) -> Option<Advanced> {
+/// Gives a pass home, if there is one.
+pub(super) fn give_home<R: Wait>(rt: &R, door: &TenantDoor, pass: Option<Pass>) {
+    if let Some(pass) = pass {
+        door.give_home(rt, pass);
+    }
+}
+
+/// The pass, if it is one of the door's. Another one ends.
+fn own<R: Wait>(rt: &R, door: &TenantDoor, pass: Option<Pass>) -> Option<Pass>
+    ensures { IfSome result (λ p. p.tenant ≡ door.now.tenant) }
+{
     let pass = pass?;
     if pass.tenant() != door.tenant() {
+        door.give_home(rt, pass);
         return None;
     }
-    Some(door.advance(rt, pass))
+    Some(pass)
+}
+
+/// Lets a worker arrive: the answer, and the pass if a row was found.
+pub(super) fn arrive<R: Wait>(rt: &R, door: &TenantDoor, call: Call) -> (Came, Option<Pass>) {
+    let Arrived {
+        came,
+        due: _due,
+        pass,
+    } = door.arrive(rt, call);
+    (came, pass)
+}
+
+/// What a move of a slot is answered, if there was one, and the pass, unless it went home.
+pub(super) type Moving = (Option<Moved>, Option<Pass>);
+
+/// Advances the slot of a pass, if that is one of the door's.
+pub(super) fn advance<R: Wait>(rt: &R, door: &TenantDoor, pass: Option<Pass>) -> Moving {
+    let Some(pass) = own(rt, door, pass) else {
+        return (None, None);
+    };
+    let Advanced {
+        moved,
+        due: _due,
+        pass,
+    } = door.advance(rt, pass);
+    (Some(moved), pass)
 }
 
 /// What two arrivals and two advances are answered, and whether the pass went home.
-type Worked = ([Came; 2], [Moved; 2], bool);
+type Worked = ([Came; 2], [Option<Moved>; 2], bool);
 
 /// A worker arrives and advances twice, and another arrives between.
-fn work_and_leave<R: Wait>(rt: &R, door: &TenantDoor) -> Option<Worked> {
-    let arrived = door.arrive(rt, CALL);
-    let ran = advance(rt, door, arrived.pass)?;
-    let other = door.arrive(rt, CALL);
-    let left = advance(rt, door, ran.pass)?;
-    Some((
-        [arrived.came, other.came],
-        [ran.moved, left.moved],
-        left.pass.is_none(),
-    ))
+fn work_and_leave<R: Wait>(rt: &R, door: &TenantDoor) -> Worked {
+    let (first, pass) = arrive(rt, door, CALL);
+    let (ran, pass) = advance(rt, door, pass);
+    let (second, other) = arrive(rt, door, CALL);
+    give_home(rt, door, other);
+    let (left, pass) = advance(rt, door, pass);
+    let is_home = pass.is_none();
+    give_home(rt, door, pass);
+    ([first, second], [ran, left], is_home)
 }
 
 /// What is answered where the job is submitted, where a worker runs it, and where it is polled.
-type Answers = (Option<Answer>, Option<Worked>, Option<Reply>);
+type Answers = (Option<Answer>, Worked, Option<Reply>);
 
 /// Submits the job by the first seat, lets a worker run it, and polls it.
 fn run<R: Wait>(rt: &R, alloc: Global, door: &TenantDoor, seats: &mut [Seat]) -> Option<Answers> {
@@ -127,8 +164,8 @@ fn a_job_runs_through_the_door(rt: HostRuntime) -> Result<(), Fail> {
     let seen = (answers, door.close(seats)?.history.len());
     let made = Some((Reply::Made(1), Some(1)));
     let came = [Came::At(1), Came::Nothing];
-    let moved = [Moved::Ran, Moved::Left];
-    let worked = Some((came, moved, true));
+    let moved = [Some(Moved::Ran), Some(Moved::Left)];
+    let worked = (came, moved, true);
     let polled = Some(Reply::Job(1, Status::Complete(7)));
     let answers = Some((made, worked, polled));
     assert_same(&rt, &seen, &(answers, 4));
@@ -152,31 +189,31 @@ fn commit<R: Wait>(
     rt: &R,
     door: &TenantDoor,
     pass: Option<Pass>,
-    segment: Segment,
-) -> Option<Advanced> {
-    let pass = pass?;
-    if pass.tenant() != door.tenant() {
-        return None;
-    }
-    Some(door.commit(rt, pass, segment))
+    segment: Option<Segment>,
+) -> Moving {
+    let Some(segment) = segment else {
+        return (None, pass);
+    };
+    let Some(pass) = own(rt, door, pass) else {
+        return (None, None);
+    };
+    let Advanced {
+        moved,
+        due: _due,
+        pass,
+    } = door.commit(rt, pass, segment);
+    (Some(moved), pass)
 }
 
 /// Commits two segments of one frame, gives the pass home, and returns both answers.
-fn commit_twice<R: Wait>(rt: &R, door: &TenantDoor) -> Option<(Moved, Moved)> {
-    let arrived = door.arrive(rt, CALL);
-    let first = segment(rt, door, &arrived.pass)?;
-    let second = segment(rt, door, &arrived.pass)?;
-    let ran = commit(rt, door, arrived.pass, first)?;
-    let stale = commit(rt, door, ran.pass, second)?;
-    give_home(rt, door, stale.pass?);
-    Some((ran.moved, stale.moved))
-}
-
-/// Gives a pass home, if it is one of the door's.
-fn give_home<R: Wait>(rt: &R, door: &TenantDoor, pass: Pass) {
-    if pass.tenant() == door.tenant() {
-        door.give_home(rt, pass);
-    }
+fn commit_twice<R: Wait>(rt: &R, door: &TenantDoor) -> [Option<Moved>; 2] {
+    let (_came, pass) = arrive(rt, door, CALL);
+    let first = segment(rt, door, &pass);
+    let second = segment(rt, door, &pass);
+    let (ran, pass) = commit(rt, door, pass, first);
+    let (stale, pass) = commit(rt, door, pass, second);
+    give_home(rt, door, pass);
+    [ran, stale]
 }
 
 /// Submits the job by the first seat, and commits two segments of its first frame.
@@ -185,9 +222,9 @@ fn submit_and_commit<R: Wait>(
     alloc: Global,
     door: &TenantDoor,
     seats: &mut [Seat],
-) -> Option<(Moved, Moved)> {
+) -> Option<[Option<Moved>; 2]> {
     let _made = submit(rt, alloc, door, seats.first_mut()?);
-    commit_twice(rt, door)
+    Some(commit_twice(rt, door))
 }
 
 #[test]
@@ -195,7 +232,7 @@ fn a_private_run_is_committed_once(rt: HostRuntime) -> Result<(), Fail> {
     let (door, mut seats) = TenantDoor::new(rt.alloc(), 0, two_slots()?, 1)?;
     let committed = submit_and_commit(&rt, rt.alloc(), &door, seats.as_mut_slice());
     let seen = (committed, door.close(seats)?.history.len());
-    let committed = Some((Moved::Ran, Moved::Stale));
+    let committed = Some([Some(Moved::Ran), Some(Moved::Stale)]);
     assert_same(&rt, &seen, &(committed, 3));
     Ok(())
 }
@@ -286,32 +323,35 @@ fn submit_and_arrive<R: Wait>(
     seats: &mut [Seat],
 ) -> Option<Pass> {
     let _made = submit(rt, alloc, door, seats.first_mut()?);
-    door.arrive(rt, CALL).pass
+    arrive(rt, door, CALL).1
 }
 
 #[test]
 fn a_pass_that_is_kept_is_missed(rt: HostRuntime) -> Result<(), Fail> {
     let (door, mut seats) = TenantDoor::new(rt.alloc(), 0, two_slots()?, 1)?;
-    let _pass = submit_and_arrive(&rt, rt.alloc(), &door, seats.as_mut_slice());
+    let (other, _others) = TenantDoor::new(rt.alloc(), 0, two_slots()?, 1)?;
+    let pass = submit_and_arrive(&rt, rt.alloc(), &door, seats.as_mut_slice());
+    give_home(&rt, &other, pass);
     let fault = door.close(seats).err();
     assert_same(&rt, &fault, &Some(CloseFault::PassLost(1)));
     Ok(())
 }
 
-/// A pass of another door of the tenant, which knows of one entry: a worker arrived at the first row.
-fn pass_of_another_door<R: Wait>(rt: &R, alloc: Global) -> Result<Pass, Fail> {
-    let (door, mut seats) = TenantDoor::new(alloc, 0, two_slots()?, 1)?;
-    let pass = submit_and_arrive(rt, alloc, &door, seats.as_mut_slice());
-    Ok(pass.ok_or("a row waits")?)
-}
-
-/// Submits the job by the first seat, and lets a worker arrive at it and run it.
-fn submit_and_run<R: Wait>(
+/// Gives home a pass of another door of the tenant, which knows of one entry: a worker arrived at the first row there. The
+/// pass in whose place it goes home goes to that door.
+fn swap<R: Wait>(
     rt: &R,
     alloc: Global,
     door: &TenantDoor,
-    seats: &mut [Seat],
-) -> Option<Advanced> {
+    pass: Option<Pass>,
+    (other, seats): (&TenantDoor, &mut [Seat]),
+) {
+    give_home(rt, door, submit_and_arrive(rt, alloc, other, seats));
+    give_home(rt, other, pass);
+}
+
+/// Submits the job by the first seat, and lets a worker arrive at it and run it.
+fn submit_and_run<R: Wait>(rt: &R, alloc: Global, door: &TenantDoor, seats: &mut [Seat]) -> Moving {
     let pass = submit_and_arrive(rt, alloc, door, seats);
     advance(rt, door, pass)
 }
@@ -319,8 +359,10 @@ fn submit_and_run<R: Wait>(
 #[test]
 fn a_pass_that_was_told_of_fewer_entries_is_refused(rt: HostRuntime) -> Result<(), Fail> {
     let (door, mut seats) = TenantDoor::new(rt.alloc(), 0, two_slots()?, 1)?;
-    let _ran = submit_and_run(&rt, rt.alloc(), &door, seats.as_mut_slice());
-    give_home(&rt, &door, pass_of_another_door(&rt, rt.alloc())?);
+    let (other, mut others) = TenantDoor::new(rt.alloc(), 0, two_slots()?, 1)?;
+    let (_ran, pass) = submit_and_run(&rt, rt.alloc(), &door, seats.as_mut_slice());
+    let there = (&other, others.as_mut_slice());
+    swap(&rt, rt.alloc(), &door, pass, there);
     let fault = door.close(seats).err();
     assert_same(&rt, &fault, &Some(CloseFault::CountWrong(1)));
     Ok(())
@@ -338,14 +380,16 @@ fn submit_twice_and_arrive<R: Wait>(
     let _made = submit(rt, alloc, door, seat);
     let _cancelled = ask(rt, door, seat, Request::Cancel(1));
     let _other = submit(rt, alloc, door, seat);
-    door.arrive(rt, CALL).pass
+    arrive(rt, door, CALL).1
 }
 
 #[test]
 fn a_pass_that_was_told_of_another_row_is_refused(rt: HostRuntime) -> Result<(), Fail> {
     let (door, mut seats) = TenantDoor::new(rt.alloc(), 0, two_slots()?, 1)?;
-    let _pass = submit_twice_and_arrive(&rt, rt.alloc(), &door, seats.as_mut_slice());
-    give_home(&rt, &door, pass_of_another_door(&rt, rt.alloc())?);
+    let (other, mut others) = TenantDoor::new(rt.alloc(), 0, two_slots()?, 1)?;
+    let pass = submit_twice_and_arrive(&rt, rt.alloc(), &door, seats.as_mut_slice());
+    let there = (&other, others.as_mut_slice());
+    swap(&rt, rt.alloc(), &door, pass, there);
     let fault = door.close(seats).err();
     assert_same(&rt, &fault, &Some(CloseFault::LogWrong(1)));
     Ok(())
@@ -400,18 +444,21 @@ fn arrive_twice<R: Wait>(
     alloc: Global,
     door: &TenantDoor,
     seats: &mut [Seat],
-) -> Option<(Moved, Came, bool)> {
-    let ran = submit_and_run(rt, alloc, door, seats)?;
+) -> (Option<Moved>, Came, bool) {
+    let (ran, pass) = submit_and_run(rt, alloc, door, seats);
     let _made = submit_first(rt, alloc, door, seats);
-    let other = door.arrive(rt, CALL);
-    Some((ran.moved, other.came, other.pass.is_some()))
+    let (came, other) = arrive(rt, door, CALL);
+    let has_pass = other.is_some();
+    give_home(rt, door, other);
+    give_home(rt, door, pass);
+    (ran, came, has_pass)
 }
 
 #[test]
 fn nothing_is_found_while_the_pass_is_out(rt: HostRuntime) -> Result<(), Fail> {
     let (door, mut seats) = TenantDoor::new(rt.alloc(), 0, two_slots()?, 1)?;
     let seen = arrive_twice(&rt, rt.alloc(), &door, seats.as_mut_slice());
-    assert_same(&rt, &seen, &Some((Moved::Ran, Came::Nothing, false)));
+    assert_same(&rt, &seen, &(Some(Moved::Ran), Came::Nothing, false));
     Ok(())
 }
 
@@ -487,23 +534,26 @@ fn spawning(alloc: Global, register: Register, group: Group) -> Result<Program, 
 }
 
 /// Lets a worker run the job until it waits for the task, which another worker has: what the last advance is answered,
-/// with the first worker's pass.
+/// with the first worker's pass, and the other's.
 fn wait_for_another<R: Wait>(
     rt: &R,
     alloc: Global,
     door: &TenantDoor,
     seat: &mut Seat,
-) -> Option<(Moved, Pass)> {
+) -> Option<(Moving, Option<Pass>)> {
     let _made = ask(rt, door, seat, Request::Submit(waiting(alloc)?));
-    let spawned = advance(rt, door, door.arrive(rt, CALL).pass)?;
-    let _other = door.arrive(rt, Call { tenant: 0, slot: 2 });
-    let waits = advance(rt, door, spawned.pass)?;
-    Some((waits.moved, waits.pass?))
+    let (_came, pass) = arrive(rt, door, CALL);
+    let (_spawned, pass) = advance(rt, door, pass);
+    let (_came, other) = arrive(rt, door, Call { tenant: 0, slot: 2 });
+    Some((advance(rt, door, pass), other))
 }
 
 /// Pauses at the slot of a pass, if that is one of the door's, and says whether to stop.
-pub(super) fn pause<R: Wait>(rt: &R, door: &TenantDoor, pass: &Pass) -> bool {
-    pass.tenant() == door.tenant() && door.pause(rt, pass)
+pub(super) fn pause<R: Wait>(rt: &R, door: &TenantDoor, pass: &Option<Pass>) -> bool {
+    match pass {
+        Some(pass) => pass.tenant() == door.tenant() && door.pause(rt, pass),
+        None => false,
+    }
 }
 
 /// A worker waits at its slot in one thread, while another thread stops the door.
@@ -512,10 +562,12 @@ fn pause_until_stop<R: Threads + Wait + Sync>(
     alloc: Global,
     door: &TenantDoor,
     seats: &mut [Seat],
-) -> Option<(Moved, bool)> {
-    let (moved, pass) = wait_for_another(rt, alloc, door, seats.first_mut()?)?;
+) -> Option<(Option<Moved>, bool)> {
+    let ((moved, pass), other) = wait_for_another(rt, alloc, door, seats.first_mut()?)?;
     let stop = move || door.stop(rt);
     let stopped = thread::join(rt, || pause(rt, door, &pass), stop).0;
+    give_home(rt, door, pass);
+    give_home(rt, door, other);
     Some((moved, stopped))
 }
 
@@ -523,7 +575,7 @@ fn pause_until_stop<R: Threads + Wait + Sync>(
 fn a_worker_that_waits_at_its_slot_is_stopped(rt: HostRuntime) -> Result<(), Fail> {
     let (door, mut seats) = TenantDoor::new(rt.alloc(), 0, tenant(3, 256)?, 1)?;
     let seen = pause_until_stop(&rt, rt.alloc(), &door, seats.as_mut_slice());
-    assert_same(&rt, &seen, &Some((Moved::Idle, true)));
+    assert_same(&rt, &seen, &Some((Some(Moved::Idle), true)));
     Ok(())
 }
 
@@ -533,11 +585,13 @@ fn pause_until_full<R: Threads + Wait + Sync>(
     alloc: Global,
     door: &TenantDoor,
     seats: &mut [Seat],
-) -> Option<(Moved, bool)> {
+) -> Option<(Option<Moved>, bool)> {
     let seat = seats.first_mut()?;
-    let (moved, pass) = wait_for_another(rt, alloc, door, seat)?;
+    let ((moved, pass), other) = wait_for_another(rt, alloc, door, seat)?;
     let fill = move || poll(rt, door, seat, 1);
-    let stopped = thread::join(rt, || pause(rt, door, &pass), fill).0;
+    let (stopped, _reply) = thread::join(rt, || pause(rt, door, &pass), fill);
+    give_home(rt, door, pass);
+    give_home(rt, door, other);
     Some((moved, stopped))
 }
 
@@ -545,7 +599,7 @@ fn pause_until_full<R: Threads + Wait + Sync>(
 fn a_worker_that_waits_at_its_slot_stops_at_a_full_history(rt: HostRuntime) -> Result<(), Fail> {
     let (door, mut seats) = TenantDoor::new(rt.alloc(), 0, tenant(3, 5)?, 1)?;
     let seen = pause_until_full(&rt, rt.alloc(), &door, seats.as_mut_slice());
-    assert_same(&rt, &seen, &Some((Moved::Idle, true)));
+    assert_same(&rt, &seen, &Some((Some(Moved::Idle), true)));
     Ok(())
 }
 
@@ -564,7 +618,7 @@ fn wait_beside_the_worker<R: Threads + Wait + Sync>(
             move || is_stopped(rt, door, two, second),
         )
     };
-    let (both, _worked) = thread::join(rt, waits, move || work_and_leave(rt, door).is_some());
+    let (both, _worked) = thread::join(rt, waits, move || work_and_leave(rt, door));
     [both.0, both.1]
 }
 
@@ -638,19 +692,16 @@ fn hand_over_twice<R: Wait>(
 ) -> Option<[Option<u8>; 4]> {
     let (_reply, first) = submit(rt, alloc, door, seat)?;
     let (_reply, second) = submit(rt, alloc, door, seat)?;
-    let ran = advance(rt, door, door.arrive(rt, CALL).pass)?;
-    let again = hand_over(rt, door, ran.pass)?;
-    let ran = advance(rt, door, door.arrive(rt, CALL).pass)?;
-    let none = hand_over(rt, door, ran.pass)?;
+    let again = run_and_hand_over(rt, door)?;
+    let none = run_and_hand_over(rt, door)?;
     Some([first, second, again, none])
 }
 
-/// Hands the slot of a pass over, if that is one of the door's.
-fn hand_over<R: Wait>(rt: &R, door: &TenantDoor, pass: Option<Pass>) -> Option<Option<u8>> {
-    let pass = pass?;
-    if pass.tenant() != door.tenant() {
-        return None;
-    }
+/// A worker arrives, runs the job, and hands its slot over: the slot that is due then. None if it had no pass.
+fn run_and_hand_over<R: Wait>(rt: &R, door: &TenantDoor) -> Option<Option<u8>> {
+    let (_came, pass) = arrive(rt, door, CALL);
+    let (_ran, pass) = advance(rt, door, pass);
+    let pass = own(rt, door, pass)?;
     Some(door.hand_over(rt, pass))
 }
 

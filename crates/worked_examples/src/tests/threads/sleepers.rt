@@ -1,6 +1,6 @@
 // Who is woken at the slots of a tenant, by counts of wakes.
 
-use super::locks::{advance, ask, pause, poll, tenant, waiting};
+use super::locks::{advance, arrive, ask, give_home, pause, poll, tenant, waiting};
 use crate::tests::assert_same;
 use job_language::{Moved, Request};
 use market_config::Call;
@@ -19,7 +19,7 @@ const ENTRIES: u32 = 100;
 const LOOKS: u32 = 20_000_000;
 
 /// A worker's pass whose slot waits for a task, and the pass of the slot that has the task.
-type Pair = (Pass, Pass);
+type Pair = (Option<Pass>, Option<Pass>);
 
 /// Lets a worker at that slot run a job until it waits for a task that another worker has at the next slot.
 fn pair<R: Wait>(
@@ -30,17 +30,36 @@ fn pair<R: Wait>(
     slot: u8,
 ) -> Option<Pair> {
     let _made = ask(rt, door, seat, Request::Submit(waiting(alloc)?));
-    let spawned = advance(rt, door, door.arrive(rt, Call { tenant: 0, slot }).pass)?;
-    let next = slot.checked_add(1)?;
-    let other = door.arrive(
-        rt,
-        Call {
-            tenant: 0,
-            slot: next,
-        },
-    );
-    let idle = advance(rt, door, spawned.pass)?;
-    Some((idle.pass?, other.pass?))
+    let next = Call {
+        tenant: 0,
+        slot: slot.checked_add(1)?,
+    };
+    let (_came, pass) = arrive(rt, door, Call { tenant: 0, slot });
+    let (_spawned, pass) = advance(rt, door, pass);
+    let (_came, other) = arrive(rt, door, next);
+    let (_idle, pass) = advance(rt, door, pass);
+    Some((pass, other))
+}
+
+/// As `pair`; no passes if it has none.
+fn pair_or_none<R: Wait>(
+    rt: &R,
+    alloc: Global,
+    door: &TenantDoor,
+    seat: &mut Seat,
+    slot: u8,
+) -> Pair {
+    match pair(rt, alloc, door, seat, slot) {
+        Some(pair) => pair,
+        None => (None, None),
+    }
+}
+
+/// Advances the slot of a pass, and gives it home: the answer.
+fn finish<R: Wait>(rt: &R, door: &TenantDoor, pass: &mut Option<Pass>) -> Option<Moved> {
+    let (moved, pass) = advance(rt, door, pass.take());
+    give_home(rt, door, pass);
+    moved
 }
 
 /// Lets others run until that many slots have a sleeper, and that many were woken. It gives up after some seconds, so
@@ -75,13 +94,15 @@ fn sleep_beside_polls<R: Threads + Wait + Sync>(
     door: &TenantDoor,
     seat: &mut Seat,
 ) -> Option<Slept> {
-    let (waits, works) = pair(rt, alloc, door, seat, 1)?;
+    let (waits, mut works) = pair(rt, alloc, door, seat, 1)?;
+    let task = &mut works;
     let act = move || {
         let slept = poll_often(rt, door, seat);
-        let done = advance(rt, door, Some(works));
-        (slept, done.map(|done| done.moved))
+        (slept, finish(rt, door, task))
     };
     let (stopped, (slept, done)) = thread::join(rt, || pause(rt, door, &waits), act);
+    give_home(rt, door, waits);
+    give_home(rt, door, works);
     Some((stopped, slept, done))
 }
 
@@ -113,15 +134,16 @@ fn sleep_beside_another<R: Threads + Wait + Sync>(
     door: &TenantDoor,
     seat: &mut Seat,
 ) -> Option<([bool; 2], Waits)> {
-    let (one, works) = pair(rt, alloc, door, seat, 1)?;
-    let (two, last) = pair(rt, alloc, door, seat, 3)?;
+    let (one, mut works) = pair(rt, alloc, door, seat, 1)?;
+    let (two, mut last) = pair_or_none(rt, alloc, door, seat, 3);
     let (first, second) = (&one, &two);
+    let tasks = (&mut works, &mut last);
     let act = move || {
         watch(rt, door, 2, 0);
-        let _done = advance(rt, door, Some(works));
+        let _done = finish(rt, door, tasks.0);
         watch(rt, door, 1, 1);
         let slept = door.waits(rt);
-        let _done = advance(rt, door, Some(last));
+        let _done = finish(rt, door, tasks.1);
         slept
     };
     let sleep = move || {
@@ -132,6 +154,10 @@ fn sleep_beside_another<R: Threads + Wait + Sync>(
         )
     };
     let (stopped, slept) = thread::join(rt, sleep, act);
+    give_home(rt, door, one);
+    give_home(rt, door, two);
+    give_home(rt, door, works);
+    give_home(rt, door, last);
     Some(([stopped.0, stopped.1], slept))
 }
 
@@ -146,8 +172,11 @@ fn an_entry_wakes_the_slot_alone_that_it_lets_move(rt: HostRuntime) -> Result<()
 }
 
 /// Sleeps at the slot of a pass until a flag is raised, and says whether to stop.
-fn pause_until<R: Wait>(rt: &R, door: &TenantDoor, pass: &Pass, stop: &StopFlag) -> bool {
-    pass.tenant() == door.tenant() && door.pause_until(rt, pass, stop)
+fn pause_until<R: Wait>(rt: &R, door: &TenantDoor, pass: &Option<Pass>, stop: &StopFlag) -> bool {
+    match pass {
+        Some(pass) => pass.tenant() == door.tenant() && door.pause_until(rt, pass, stop),
+        None => false,
+    }
 }
 
 /// A worker sleeps at its slot, and once it does another thread raises its flag.
@@ -157,7 +186,7 @@ fn sleep_until_the_flag<R: Threads + Wait + Sync>(
     door: &TenantDoor,
     seat: &mut Seat,
 ) -> Option<bool> {
-    let (waits, _works) = pair(rt, alloc, door, seat, 1)?;
+    let (waits, works) = pair(rt, alloc, door, seat, 1)?;
     let stop = &StopFlag::new();
     let raise = move || {
         watch(rt, door, 1, 0);
@@ -165,7 +194,10 @@ fn sleep_until_the_flag<R: Threads + Wait + Sync>(
         door.wake(rt);
     };
     let slept = || pause_until(rt, door, &waits, stop);
-    Some(thread::join(rt, slept, raise).0)
+    let (stopped, _raised) = thread::join(rt, slept, raise);
+    give_home(rt, door, waits);
+    give_home(rt, door, works);
+    Some(stopped)
 }
 
 #[test]
