@@ -2,5 +2,4 @@ pub mod Bound
 pub mod Entered
 pub mod Nested
 pub mod Places
-pub mod Shared
 pub mod Waiting

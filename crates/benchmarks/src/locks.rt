@@ -1,12 +1,12 @@
 // Threads at the locked doors of tenants.
 mod asks;
 mod closing;
-mod crew;
 mod fib;
 mod jobs;
+mod lines;
 mod load;
 mod meeting;
-mod shared;
+mod served;
 mod steps;
 
 use crate::stops::Stop;
@@ -19,7 +19,7 @@ use std::thread::Threads;
 const FEW: usize = 1_000;
 
 /// `steps EVENTS THREADS TENANTS` lets THREADS threads make EVENTS events each, over TENANTS tenants, and
-/// prints how many entries the closed histories have. Without words it executes a job by a caller beside two
+/// prints how many entries the closed histories have. Without words it executes a job by a session beside two
 /// workers, lets two private runs meet, and makes a few events.
 pub(crate) fn run<R>(rt: &R, words: &[&str]) -> Result<(), Stop>
 where

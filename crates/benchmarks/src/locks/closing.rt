@@ -1,19 +1,20 @@
 // The end of a tenant.
 use crate::stops::Stop;
 use job_language::{Entry, TenantConfig};
+use socket_server::House;
 use solo_eval::{Verdict, check};
 use std::alloc::Global;
-use tenant_lock::TenantDoor;
 use tenant_record::Seat;
 
-/// Closes a door with its seats, and takes the history again. How many entries it has.
+/// Closes the only tenant of a house with its seats, and takes the history again. How many entries it has.
 pub(crate) fn close_checked(
     alloc: Global,
     config: TenantConfig,
-    door: TenantDoor,
+    house: House,
     seats: Vec<Seat>,
 ) -> Result<usize, Stop> {
-    let closed = door.close(seats)?;
+    let mut ends = house.close(alloc, seats)?;
+    let closed = ends.pop().ok_or(Stop::Place)??;
     checked(alloc, config, closed.history.as_slice())
 }
 

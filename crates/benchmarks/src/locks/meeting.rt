@@ -1,20 +1,16 @@
 // Two private runs on one tenant that are under way at once.
-ghost use Rattle.std.specs.Prelude.{◌≡◌};
-
-use crate::locks::closing::close_checked;
-use crate::locks::crew::{Crew, Post, serve_both};
-use crate::locks::jobs::{with_slots, worked_job};
-use crate::locks::shared::SharedTenant;
+use crate::locks::jobs::with_slots;
+use crate::locks::lines::{HELLO, push_job};
+use crate::locks::served::serve;
 use crate::stops::Stop;
-use job_language::{Job, TenantConfig};
 use std::alloc::Global;
 use std::sync::{Mutex, Wait};
-use std::thread;
 use std::thread::{Threads, yield_now};
-use tenant_lock::TenantDoor;
-use tenant_record::Seat;
 use worked_jobs::FIRST;
 use worker_main::Gate;
+
+/// Waits for both jobs.
+const COLLECTS: &str = "{\"job\":1,\"op\":\"collect\"}\n{\"job\":2,\"op\":\"collect\"}\n";
 
 /// More entries than the jobs make.
 const STEPS: usize = 256;
@@ -72,77 +68,30 @@ pub(crate) struct Met {
     pub(crate) entries: usize,
 }
 
-/// Lets two workers run a job each on a tenant of two slots, of which none is reserved. Then the door is
-/// closed, and its history taken again.
+/// Lets two workers run a job each, which a session submits, on a tenant of two slots, of which none is reserved.
 pub(crate) fn meet<R: Threads + Wait + Sync>(rt: &R, alloc: Global) -> Result<Met, Stop> {
-    let config = with_slots(2, 0, STEPS)?;
-    let (door, mut seats) = TenantDoor::new(alloc, 0, config, 1)?;
-    let saw_two = meet_at(rt, alloc, config, &door, seats.as_mut_slice());
-    let entries = close_checked(alloc, config, door, seats);
-    Ok(Met {
-        saw_two: saw_two?,
-        entries: entries?,
-    })
-}
-
-/// Submits both jobs at a door by the first seat. How many private runs saw two in the gate.
-fn meet_at<R: Threads + Wait + Sync>(
-    rt: &R,
-    alloc: Global,
-    config: TenantConfig,
-    door: &TenantDoor,
-    seats: &mut [Seat],
-) -> Result<u32, Stop>
-    requires { door.now.tenant ≡ 0 }
-{
-    let seat = seats.first_mut().ok_or(Stop::Place)?;
-    if seat.tenant() != 0 {
-        return Err(Stop::Place);
-    }
-    let jobs = (worked_job(alloc, FIRST)?, worked_job(alloc, FIRST)?);
-    let (shared, passes) = SharedTenant::open(alloc, config, door)?;
-    Ok(in_three_threads(rt, Crew::new(&shared, passes), seat, jobs))
-}
-
-fn in_three_threads<R: Threads + Wait + Sync>(
-    rt: &R,
-    crew: Crew<'_>,
-    seat: &mut Seat,
-    jobs: (Job, Job),
-) -> u32
-    requires { seat.old.tenant ≡ 0 }
-{
-    let Crew {
-        caller,
-        first,
-        second,
-    } = crew;
     let inside = Mutex::new(Inside {
         came: 0,
         saw_two: 0,
     });
-    let gate = TwoGate {
-        rt,
-        inside: &inside,
-    };
-    let shared = &gate;
-    let _done = thread::join(
-        rt,
-        move ||
-            requires { seat.now.tenant ≡ 0 }
-        { submit_and_stop(rt, caller, seat, jobs) },
-        move || serve_both(rt, first, second, shared),
-    );
-    inside.into_inner().saw_two
+    let entries = meet_at(rt, alloc, &inside)?;
+    Ok(Met {
+        saw_two: inside.into_inner().saw_two,
+        entries,
+    })
 }
 
-/// Submits both jobs, waits for their outcomes, and tells the workers to stop.
-fn submit_and_stop<R: Wait>(rt: &R, caller: Post<'_>, seat: &mut Seat, jobs: (Job, Job))
-    requires { seat.old.tenant ≡ 0 }
-{
-    let shared = caller.shared;
-    caller.submit_both(rt, seat, jobs);
-    let _stops = shared.door.pause_for(rt, seat, 1);
-    let _stops = shared.door.pause_for(rt, seat, 2);
-    shared.stop(rt);
+/// Lets the private runs meet at a gate. How many entries the history has.
+fn meet_at<R: Threads + Wait + Sync>(
+    rt: &R,
+    alloc: Global,
+    inside: &Mutex<Inside>,
+) -> Result<usize, Stop> {
+    let mut lines = String::from_str(alloc, HELLO)?;
+    push_job(&mut lines, "submit", FIRST)?;
+    push_job(&mut lines, "submit", FIRST)?;
+    lines.push_str(COLLECTS)?;
+    let gate = TwoGate { rt, inside };
+    let served = serve(rt, alloc, with_slots(2, 0, STEPS)?, lines.as_str(), &gate)?;
+    Ok(served.entries)
 }
