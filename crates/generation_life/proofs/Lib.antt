@@ -1,2 +1,3 @@
 pub mod Forward
 pub mod Newest
+pub mod Staying

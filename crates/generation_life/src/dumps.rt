@@ -1,5 +1,5 @@
 // Which dumps of a tenant stay.
-ghost use Rattle.std.specs.Prelude.{◌≡◌, ◌≤◌, ◌∷◌, ◌++◌, [], length, EachIndex, IfSome, OnErr, OnOk, None, Contains, slice_index};
+ghost use Rattle.std.specs.Prelude.{◌≡◌, ◌≤◌, ◌∷◌, ◌++◌, [], length, EachIndex, IfOk, IfSome, OnErr, OnOk, None, Ok, Contains, slice_index};
 ghost use Rattle.generation_life.specs.Dumps.{newer, without, AreNewest, IsTooOld};
 
 use std::alloc::{AllocError, Global};
@@ -29,8 +29,21 @@ impl Shelf {
         }
     }
 
+    /// Notes that the dump of a generation is there, and takes the oldest one away if at least `keep` newer ones are there
+    /// then: its number. None if all of them are to stay. If those that were there are all among the newest `keep`, so are
+    /// those that stay. If an allocation fails, nothing has changed.
+    pub fn put(&mut self, number: u64, keep: u64) -> Result<Option<u64>, AllocError>
+        ensures all { result ≡ Ok None → self.new ≡ self.old ++ (number ∷ []) }
+        ensures gone { IfOk result (λ gone. IfSome gone (λ o. IsTooOld keep (self.old ++ (number ∷ [])) o × (self.new ≡ without o (self.old ++ (number ∷ []))))) }
+        ensures newest { OnOk result (AreNewest keep self.old → AreNewest keep self.new) }
+        ensures refused { OnErr result (self.new ≡ self.old) }
+    {
+        self.add(number)?;
+        Ok(self.take_too_old(keep))
+    }
+
     /// Notes that the dump of a generation is there. If an allocation fails, nothing has changed.
-    pub fn add(&mut self, number: u64) -> Result<(), AllocError>
+    fn add(&mut self, number: u64) -> Result<(), AllocError>
         ensures added { OnOk result (self.new ≡ self.old ++ (number ∷ [])) }
         ensures refused { OnErr result (self.new ≡ self.old) }
     {
@@ -39,7 +52,7 @@ impl Shelf {
     }
 
     /// Takes the oldest dump away, if at least `keep` newer ones are there. None if all of them are to stay.
-    pub fn take_too_old(&mut self, keep: u64) -> Option<u64>
+    fn take_too_old(&mut self, keep: u64) -> Option<u64>
         ensures was_there { IfSome result (λ n. Contains self.old n) }
         ensures too_old { IfSome result (λ n. IsTooOld keep self.old n) }
         ensures taken { IfSome result (λ n. self.new ≡ without n self.old) }

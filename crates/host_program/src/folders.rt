@@ -100,8 +100,7 @@ impl Folder {
         generation: u64,
         keep: u32,
     ) -> Result<(), AllocError> {
-        shelves.add(alloc, name, generation)?;
-        if let Some(old) = shelves.take_too_old(name, keep) {
+        if let Some(old) = shelves.put(alloc, name, generation, keep)? {
             // It may be gone. It is tried again at the next start if it can't be removed now.
             let _ = fs::remove_file(rt, self.dump(alloc, name, old)?.as_str());
         }

@@ -26,30 +26,26 @@ impl Shelves {
         }
     }
 
-    /// Notes that a tenant's dump of a generation is there. It is not known of if an allocation fails.
-    pub(crate) fn add(
+    /// Notes that a tenant's dump of a generation is there, and takes the generation of its oldest one away, if at least
+    /// `keep` newer ones are there then. None if all of them are to stay. It is not known of if an allocation fails.
+    pub(crate) fn put(
         &mut self,
         alloc: Global,
         name: &str,
         generation: u64,
-    ) -> Result<(), AllocError> {
+        keep: u32,
+    ) -> Result<Option<u64>, AllocError> {
+        let keep = u64::from(keep);
         match self.place(name) {
-            Some(place) => self.tenants[place].shelf.add(generation),
+            Some(place) => self.tenants[place].shelf.put(generation, keep),
             None => {
                 let mut shelf = Shelf::new(alloc);
-                shelf.add(generation)?;
+                let gone = shelf.put(generation, keep)?;
                 let name = String::from_str(alloc, name)?;
                 self.tenants.push(Named { name, shelf })?;
-                Ok(())
+                Ok(gone)
             }
         }
-    }
-
-    /// Takes the generation of a tenant's oldest dump away, if at least `keep` newer ones are there. None if all of them
-    /// are to stay.
-    pub(crate) fn take_too_old(&mut self, name: &str, keep: u32) -> Option<u64> {
-        let place = self.place(name)?;
-        self.tenants[place].shelf.take_too_old(u64::from(keep))
     }
 
     /// Where the dumps of the tenant of that name are.
