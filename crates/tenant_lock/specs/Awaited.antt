@@ -36,7 +36,7 @@ abbrev pub jobs_of : Option Jobs → Jobs
 jobs_of None = no_jobs
 jobs_of (Some jobs) = jobs
 
--- The job is noted at a free place, or, if there is none, it is known that there are others.
+-- The job is noted at a free place, or it is known that there are others. That it is noted if a place is free is not said.
 abbrev pub AddsJob : Jobs → ℕ → Jobs → Type 0
 AddsJob before job after =
     ((place : ℕ) × (place < length before.noted) × (slice_index_or before.noted place None ≡ None) × (after ≡ record before { noted = slice_set before.noted place (Some job) }))

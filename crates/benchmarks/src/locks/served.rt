@@ -97,7 +97,7 @@ fn serve_lines<R: Wait>(
     Session { replies, seats }
 }
 
-/// Two workers serve calls until the house is told to stop.
+/// Two workers serve calls until the house stops.
 fn work_both<R: Threads + Wait + Sync, G: Gate + Sync>(
     rt: &R,
     house: &House,
