@@ -5,8 +5,10 @@ Replies are compared with what the jobs give under any schedule. No generation t
 the host said that its rotation waits; no more may be there than its page says; each tenant of each generation must close;
 the newest dumps of each tenant must be kept, and whole.
 
-usage: checks/host/soak.py [MINUTES], at the top of the repository, after `rt ci`. It runs for ten minutes if none are
-said, prints what it has seen, and ends with a status other than 0 at the first thing that is not as it must be.
+usage: checks/host/soak.py [MINUTES [ASKS]], at the top of the repository, after `rt ci` or `make build`. It runs for ten
+minutes if none are said, and its clients ask as fast as they are answered, or ASKS times a second together, so that a soak can
+run beside other work. It prints what it has seen, and ends with a status other than 0 at the first thing that is not as it
+must be.
 """
 import collections
 import os
@@ -30,8 +32,9 @@ KEEP = 2
 class Soak:
     """A host, its clients, and what was seen of both."""
 
-    def __init__(self, minutes):
+    def __init__(self, minutes, asks=None):
         self.end = time.monotonic() + 60 * minutes
+        self.pause = CLIENTS / asks if asks else 0.0  # the mean time between two asks of a client, in seconds
         dice = random.Random(3)
         tenants = [{**tenant_config(number, dice), "steps": dice.choice([5_000, 20_000, 100_000])} for number in range(TENANTS)]
         self.names = [it["name"] for it in tenants]
@@ -61,6 +64,8 @@ class Soak:
         try:
             for _ in range(dice.randrange(1, 8)):
                 job, outcome = dice.choice(JOBS)
+                if self.pause:
+                    time.sleep(dice.expovariate(1 / self.pause))
                 if dice.random() < 0.05:
                     connection[0].sendall(b'{"job":1,"op":"collect"}\n')
                     met["gone while it waits"] += 1
@@ -128,7 +133,7 @@ class Soak:
 
 
 def main():
-    soak = Soak(float(sys.argv[1]) if len(sys.argv) > 1 else 10.0)
+    soak = Soak(*map(float, sys.argv[1:3] or ["10"]))
     status = soak.run()
     soak.report()
     host = soak.host

@@ -190,13 +190,13 @@ def hostile_lines_have_their_errors():
     assert server.end() == (["acme: closed, 4 entries"], "", 0)
 
 
-def requests_have_exactly_their_members():
+def lines_with_replies():
     """Each line beside its reply. A request that is read is answered by the tenant, and one that is not is none."""
     limits = {"priority": "normal", "reserved": 1, "slots": 1}
     bad_json, bad_request = {"code": 2, "error": "bad_json"}, {"code": 3, "error": "bad_request"}
     bad_program, unknown_job = {"code": 4, "error": "bad_program"}, {"code": 6, "error": "unknown_job"}
     unknown_tenant, line_too_long = {"code": 5, "error": "unknown_tenant"}, {"code": 1, "error": "line_too_long"}
-    table = [
+    return [
         ('{"op":"hello","tenant":"No Name"}', unknown_tenant),
         ('{"op":"hello","tenant":7}', bad_request),
         ('{"op":"hello"}', bad_request),
@@ -230,6 +230,10 @@ def requests_have_exactly_their_members():
         (' {"op":"\\u0061rena"}\r', limits),
         ('{"op":"retire"}', {"epoch": 1}),
     ]
+
+
+def requests_have_exactly_their_members():
+    table = lines_with_replies()
     server = Server([tenant("acme", 1, 1)], 1, 1)
     with server.connect() as client:
         client.sendall("".join(line + "\n" for line, _ in table).encode())
