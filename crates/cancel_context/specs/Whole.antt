@@ -1,5 +1,5 @@
 -- What is true of all contexts.
-use Rattle.std.specs.Prelude.{◌≡◌, ℕ, List, []}
+use Rattle.std.specs.Prelude.{◌≡◌, []}
 use Rattle.cancel_context.specs.Forest.{Forest}
 use Rattle.cancel_context.specs.Order.{IsSound}
 use Rattle.cancel_context.specs.Below.{Links, IsLinked}

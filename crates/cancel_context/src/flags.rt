@@ -107,8 +107,7 @@ impl Flags {
         ensures none { self.new.reached ≡ [] }
     {
         self.is_cancelled[context.index()] = is_cancelled;
-        let pushed = self.reached.push(context);
-        prove!(pushed.is_ok());
+        self.reached.push_reserved(context);
         while let Some(parent) = self.reached.pop() {
             self.spread(bindings, below, parent, is_cancelled);
         }
@@ -136,8 +135,7 @@ impl Flags {
         ensures capacity { vec_capacity turned.new ≡ vec_capacity turned.old }
     {
         self.is_cancelled[context.index()] = true;
-        let pushed = self.reached.push(context);
-        prove!(pushed.is_ok());
+        self.reached.push_reserved(context);
         while let Some(parent) = self.reached.pop() {
             turned.push_reserved(parent);
             self.spread(bindings, below, parent, true);
@@ -178,8 +176,7 @@ impl Flags {
             return;
         }
         self.is_cancelled[place] = is_cancelled;
-        let pushed = self.reached.push(context);
-        prove!(pushed.is_ok());
+        self.reached.push_reserved(context);
     }
 }
 

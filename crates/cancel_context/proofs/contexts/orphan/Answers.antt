@@ -1,6 +1,6 @@
-use Rattle.std.proofs.Common.{◌≡◌, ◌<◌, Option, Some, None, length, sym, ◌∙◌, ap, subst, arith}
+use Rattle.std.proofs.Common.{◌≡◌, Option, Some, length, sym, ◌∙◌, ap, subst, arith}
 use Rattle.std.specs.Prelude.{slice_set}
-use Rattle.cancel_context.specs.Forest.{Binding, IsHeld, binding, leaving, without_parent}
+use Rattle.cancel_context.specs.Forest.{Binding, IsHeld, binding, without_parent}
 use Rattle.cancel_context.specs.Below.{next_of}
 use Rattle.cancel_context.proofs.Along.{IsOrphaning, along-fewer, orphaning-place, orphaning-held, orphaning-more, orphaning-end}
 use Rattle.cancel_context.proofs.Rows.{steps}

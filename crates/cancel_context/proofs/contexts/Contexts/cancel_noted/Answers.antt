@@ -1,4 +1,4 @@
-use Rattle.std.proofs.Common.{◌≡◌, true, false, [], ◌∷◌, refl, sym, ◌∙◌, ap, subst, inl, arith}
+use Rattle.std.proofs.Common.{◌≡◌, true, false, [], ◌∷◌, refl, sym, ◌∙◌, ap, subst, inl}
 use Rattle.std.specs.Prelude.{slice_set}
 use Rattle.cancel_context.specs.Forest.{Forest, IsHeld, IsForest, is_cancelled, with_request}
 use Rattle.cancel_context.specs.Order.{HasBindingOrder}

@@ -1,8 +1,7 @@
-use Rattle.std.proofs.Common.{◌≡◌, ◌≤◌, ◌+◌, ◌*◌, ◌^◌, Option, None, [], false, length, sym, subst, ap, ◌∙◌, arith}
+use Rattle.std.proofs.Common.{◌≡◌, ◌≤◌, ◌+◌, ◌*◌, ◌^◌, Option, None, [], false, length, sym, subst, ap, arith}
 use Rattle.std.specs.Prelude.{replicate}
 use Rattle.std.proofs.lemmas.List.{length-replicate}
 use Rattle.cancel_context.specs.Forest.{Forest, Binding}
-use Rattle.cancel_context.specs.Order.{IsSound}
 use Rattle.cancel_context.specs.Below.{Links, IsLinked}
 use Rattle.cancel_context.specs.Flags.{Flagged, AreFlags}
 use Rattle.cancel_context.proofs.Chains.{IsForest-ordered}

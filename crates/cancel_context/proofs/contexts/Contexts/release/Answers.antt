@@ -1,9 +1,9 @@
-use Rattle.std.proofs.Common.{◌≡◌, ◌<◌, ℕ, Some, None, map, true, refl, sym, ap, ◌∙◌, subst, arith}
+use Rattle.std.proofs.Common.{◌≡◌, ℕ, Some, None, map, true, sym, ap, ◌∙◌, subst}
 use Rattle.std.specs.Prelude.{slice_set}
-use Rattle.cancel_context.specs.Forest.{Forest, IsHeld, held_count, binding, parent, is_cancelled, without_parent, without}
+use Rattle.cancel_context.specs.Forest.{Forest, IsHeld, held_count, parent, is_cancelled, without_parent, without}
 use Rattle.cancel_context.specs.Below.{Links, left, IsLinked}
 use Rattle.cancel_context.specs.Flags.{AreFlags}
-use Rattle.cancel_context.proofs.Chains.{IsHeld-within, parents-held, IsSound-is, is_cancelled-is, IsForest-ordered}
+use Rattle.cancel_context.proofs.Chains.{parents-held, IsSound-is, is_cancelled-is, IsForest-ordered}
 use Rattle.cancel_context.proofs.Released.{held_count-is, held_count-without, IsSound-without, is_cancelled-without}
 use Rattle.cancel_context.proofs.Lists.{place-held, leave-before, leave-after, leave-apart, IsLinked-without}
 use Rattle.cancel_context.proofs.Kept.{AreFlags-without}

@@ -1,7 +1,6 @@
-use Rattle.std.proofs.Common.{◌≡◌, ◌<◌, ◌||◌, true, false, [], ◌∷◌, Some, None, length, option_copied, refl, sym, ◌∙◌, ap, subst, arith}
+use Rattle.std.proofs.Common.{◌≡◌, ◌||◌, true, false, [], ◌∷◌, Some, option_copied, sym, ◌∙◌, ap, subst, arith}
 use Rattle.std.specs.Prelude.{slice_set}
 use Rattle.std.specs.Option.{option_map_or}
-use Rattle.std.proofs.lemmas.List.{get_or_default, length-set}
 use Rattle.cancel_context.specs.Forest.{Forest, IsHeld, IsForest, binding, parent_in, parent, asks_in, with_request}
 use Rattle.cancel_context.specs.Order.{HasBindingOrder}
 use Rattle.cancel_context.specs.Below.{IsLinked}

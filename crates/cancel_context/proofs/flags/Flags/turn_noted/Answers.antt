@@ -38,14 +38,14 @@ loop-parent-preserved c =
     let before : (d : ℕ) → flag c.self-in-loop-parent.inside.is_cancelled.items d ≡ flag now.flags d = λ d. ap (λ (f : Flagged). flag f.flags d) seen in
     record {
       spreads = c.spread.ensures.spreads;
-      noted = λ d. noted_more now.reached popped c.spread.new.self.reached c.loop-parent.turned.items c.push_reserved.new.self.items parent d (flag c.args.self.now.flags d) (flag now.flags d) (flag c.spread.new.self.flags d) taken c.push_reserved.ensures.items (c.loop-parent.invariant.noted d) (elim (c.spread.ensures.turned d) [ inl same ↦ inl (same ∙ before d) | inr i ↦ inr i ]) (c.spread.ensures.kept d);
+      noted = λ d. noted_more now.reached popped c.spread.new.self.reached c.loop-parent.turned.items c.push_reserved-in-Some.new.self.items parent d (flag c.args.self.now.flags d) (flag now.flags d) (flag c.spread.new.self.flags d) taken c.push_reserved-in-Some.ensures.items (c.loop-parent.invariant.noted d) (elim (c.spread.ensures.turned d) [ inl same ↦ inl (same ∙ before d) | inr i ↦ inr i ]) (c.spread.ensures.kept d);
       room =
           let size : length c.spread.new.self.flags ≡ length now.flags = c.spread.ensures.spreads.size ∙ sym c.loop-parent.invariant.spreads.size in
           let one : length now.reached ≡ length popped + 1 = ap length taken ∙ length-append popped (parent ∷ []) in
-          let noted : length c.push_reserved.new.self.items ≡ length c.loop-parent.turned.items + 1 = ap length c.push_reserved.ensures.items ∙ length-append c.loop-parent.turned.items (parent ∷ []) in
+          let noted : length c.push_reserved-in-Some.new.self.items ≡ length c.loop-parent.turned.items + 1 = ap length c.push_reserved-in-Some.ensures.items ∙ length-append c.loop-parent.turned.items (parent ∷ []) in
           let count = ap (λ (f : Flagged). count_by (differs true) f.flags) seen in
           omega (arith, size, one, noted, count, c.spread.ensures.fewer, c.loop-parent.invariant.room);
-      capacity = c.push_reserved.ensures.capacity ∙ c.loop-parent.invariant.capacity;
+      capacity = c.push_reserved-in-Some.ensures.capacity ∙ c.loop-parent.invariant.capacity;
     }
 
 pub returns-clause-flags : goal.returns-clause-flags
