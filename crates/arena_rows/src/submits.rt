@@ -38,13 +38,12 @@ impl Parts {
             fault: None,
             retired: false,
         };
-        let pushed = self.jobs.push(CurrentJob {
+        self.jobs.push_reserved(CurrentJob {
             work,
             value: 0,
             open_rows: 1,
             context,
         });
-        prove!(pushed.is_ok());
         self.enter_row(Source::Root, number, None, stage, context)
     }
 
