@@ -82,7 +82,7 @@ above_kept : (forest : Forest) (c : ℕ) (p q : Option ℕ) → binding forest c
 above_kept forest c p None free ordered held = refl
 above_kept forest c p (Some r) free ordered held = is_cancelled-with_bound_other forest c p free ordered r (apart forest c r free (held r refl))
 
--- a new context is cancelled where what it is bound to is
+-- a new context is cancelled if what it is bound to is
 pub is_cancelled-with_bound : (forest : Forest) (c : ℕ) (p : Option ℕ) → c < length forest → binding forest c ≡ None → ((q : ℕ) → p ≡ Some q → IsHeld forest q) → HasBindingOrder forest → is_cancelled (with_bound forest c p) c ≡ option_map_or (is_cancelled forest) p false
 is_cancelled-with_bound forest c p within free held ordered =
     let after : IsForest (with_bound forest c p) = IsForest-ordered (with_bound forest c p) (ordered-with_bound forest c p within free held ordered) in

@@ -36,7 +36,7 @@ parents-held forest (order, o) c p e =
     let held : IsHeld forest c = IsHeld-parent_in (binding forest c) p e in
     IsHeld-in forest order p o.newest_first (parent_in_order forest order c p o.newest_first (o.has_all c held) e)
 
--- two chains above agree where they agree at each context of a list
+-- two chains above agree if they agree at each context of a list
 chain_from-same : (o : Option ℕ) (older : List ℕ) (f g : ℕ → List ℕ) → ParentIn o older → ((p : ℕ) → IsIn older p → f p ≡ g p) → chain_from o f ≡ chain_from o g
 chain_from-same None older f g i h = refl
 chain_from-same (Some p) older f g i h = h p i

@@ -90,7 +90,7 @@ module _ (forest after : Forest) (c : ℕ) (flags : List Bool) (value : Bool) (f
   right_before d ne h =
       says-right forest flags ordered a d (sym (same_held d) ∙ h) ∙ ap (λ o. asks_in o || option_map_or (flag flags) (parent forest d) false) (sym (same_binding d ne)) ∙ ap (λ o. asks_in (binding after d) || option_map_or (flag flags) o false) (sym (same_parent d))
 
-  -- where the flag has its value already, all are right
+  -- if the flag has its value already, all are right
   pub flags-unturned : HasBindingOrder after → flag flags c ≡ value → AreFlags after flags
   flags-unturned ordered_after e = record {
     size = a.size ∙ sym size;
@@ -142,7 +142,7 @@ module _ (forest after : Forest) (c : ℕ) (flags : List Bool) (value : Bool) (f
     room = let many = count_by-le-length (differs value) flags in let fewer = count-turned flags c value within_flags d in omega (arith, length-set flags c value);
   }
 
--- where a context is not passed over
+-- if a context is not passed over
 turns : (value b asks : Bool) → (not (differs value b) || asks) ≡ false → (differs value b ≡ true) × (asks ≡ false)
 turns value b asks e =
     elim (bool_cases (differs value b)) [
@@ -324,7 +324,7 @@ visiting-more forest links flags reached x d value after e v =
 pub visiting-end : (forest : Forest) (links : Links) (flags : List Bool) (reached : List ℕ) (d : ℕ) (value : Bool) → IsVisiting forest links flags reached None d value → IsSpreading forest flags reached [] value
 visiting-end forest links flags reached d value v = subst (λ l. IsSpreading forest flags reached l value) (along-end forest links d v.rest v.along) v.spreads
 
--- Where nothing is left to be looked at, all flags are right.
+-- If nothing is left to be looked at, all flags are right.
 pub spreading-end : (forest : Forest) (flags : List Bool) (reached : List ℕ) (value : Bool) → HasBindingOrder forest → reached ≡ [] → IsSpreading forest flags reached [] value → AreFlags forest flags
 spreading-end forest flags reached value ordered none s = record {
   size = s.size;

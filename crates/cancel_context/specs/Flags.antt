@@ -17,7 +17,7 @@ pub record AreFlags (forest : Forest) (flags : List Bool) : Type 0 where
   pub size : length flags ≡ length forest
   pub says : (c : ℕ) → IsHeld forest c → flag flags c ≡ is_cancelled forest c
 
--- A flag is right where it follows from the context's own and from the flag above.
+-- A flag is right if it follows from the context's own state and from the flag above.
 abbrev pub IsRight : Forest → List Bool → ℕ → Type 0
 IsRight forest flags c = flag flags c ≡ (asks_in (binding forest c) || option_map_or (flag flags) (parent forest c) false)
 

@@ -9,7 +9,7 @@ pub record Binding : Type 0 where
   pub is_asked : Bool
   pub is_orphan : Bool
 
--- The contexts by their ids. At an id there is nothing where no context is held.
+-- The contexts by their ids. At an id there is nothing if no context with it is held.
 abbrev pub Forest : Type 0
 Forest = List (Option Binding)
 
@@ -49,7 +49,7 @@ abbrev pub asks_in : Option Binding → Bool
 asks_in None = false
 asks_in (Some b) = b.is_asked || b.is_orphan
 
--- A context is cancelled where one on its chain has a request, or was bound to one that was released while it was cancelled.
+-- A context is cancelled if one on its chain has a request, or was bound to one that was released while it was cancelled.
 abbrev pub is_cancelled : Forest → ℕ → Bool
 is_cancelled forest c = list_any (λ d. asks_in (binding forest d)) (chain forest c)
 

@@ -22,8 +22,8 @@ pub const MAX_ROWS: usize = 4_096;
 
 const _: () = prove!(BASE_CONTEXTS == 256 && CONTEXTS_PER_ROW == 5 && MAX_ROWS == 4_096);
 
-/// Contexts that are bound to one another. A context is cancelled where it has a cancel request of
-/// its own, or one that it is bound to is cancelled.
+/// Contexts that are bound to one another. A context is cancelled if it has a cancel request of its
+/// own, or if one that it is bound to is cancelled.
 pub struct Contexts {
     bindings: PlaceTable<Binding>,
     below: Below,
@@ -165,10 +165,10 @@ impl Contexts {
         self.set_request(context, false);
     }
 
-    /// Ends a context. Where it is cancelled, what is bound to it stays cancelled for good.
+    /// Ends a context. If it is cancelled, what is bound to it stays cancelled for good.
     pub fn release(&mut self, context: ContextId)
         requires held { IsHeld self.old context }
-        // What is bound to it is so only where it is cancelled.
+        // Something is bound to it only if it is cancelled.
         requires ends { (c : ℕ) → parent self.old c ≡ Some context → IsTrue (is_cancelled self.old context) }
         ensures released { self.new ≡ without self.old context }
         ensures keeps { (c : ℕ) → c ≢ context → IsHeld self.old c → IsHeld self.new c }

@@ -142,7 +142,7 @@ impl Flags {
         }
     }
 
-    /// Turns the flags of those bound to a context, where they follow its flag.
+    /// Turns the flags of the contexts that are bound to a context and follow its flag.
     fn spread(
         &mut self,
         bindings: &PlaceTable<Binding>,

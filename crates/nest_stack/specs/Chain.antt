@@ -19,11 +19,11 @@ rows_of nodes stack = rows_from nodes stack.height stack.top
 abbrev pub no_stack : Stack
 no_stack = record { top = None; height = 0 }
 
--- the stack of a slot, empty where the slot is not there
+-- the stack of a slot, empty if there is no such slot
 abbrev pub stack_at : List Stack → ℕ → Stack
 stack_at stacks slot = slice_index_or stacks slot no_stack
 
--- At a position there is a node, of this slot, with so many rows below it.
+-- At a position there is a node of this slot, with `below` rows under it.
 pub record IsTop (nodes : Slab Node) (owner : ℕ → ℕ × ℕ) (slot below : ℕ) (top : Option ℕ) : Type 0 where
   pub key : ℕ
   pub node : Node
@@ -31,7 +31,7 @@ pub record IsTop (nodes : Slab Node) (owner : ℕ → ℕ × ℕ) (slot below : 
   pub there : get nodes key ≡ Some node
   pub owned : owner key ≡ (slot, below)
 
--- From a position downwards there are exactly so many nodes, all of this slot.
+-- From a position down there are exactly `height` nodes, all of this slot.
 abbrev pub IsChain : Slab Node → (owner : ℕ → ℕ × ℕ) → (slot height : ℕ) → (top : Option ℕ) → Type 0
 IsChain nodes owner slot zero top = top ≡ None
 IsChain nodes owner slot (suc n) top = (t : IsTop nodes owner slot n top) × IsChain nodes owner slot n t.node.below

@@ -15,7 +15,7 @@ abbrev pub set_at : List (Option ℕ) → Option ℕ → Option ℕ → List (Op
 set_at links None to = links
 set_at links (Some at) to = slice_set links at to
 
--- An end of a list moves where nothing is beyond it.
+-- An end of a list moves if nothing is beyond it.
 abbrev pub end_moved : List (Option ℕ) → ℕ → (beyond to : Option ℕ) → List (Option ℕ)
 end_moved ends list None to = slice_set ends list to
 end_moved ends list (Some x) to = ends

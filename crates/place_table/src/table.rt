@@ -72,7 +72,7 @@ impl<T: Drop> PlaceTable<T> {
         self.values.is_empty()
     }
 
-    /// What stands at a place; nothing where it is free, or not there.
+    /// What stands at a place; nothing if it is free, or not there.
     pub fn get(&self, place: usize) -> Option<&T>
         ensures { option_copied result ≡ slice_index_or self.now place None }
     {

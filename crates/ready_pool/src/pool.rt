@@ -30,7 +30,7 @@ pub struct Pool {
     slots: usize,
     // The rows, each at a position.
     rows: Slab<Waiting>,
-    // By place, the position of the row that waits there. Where none waits it says nothing.
+    // By place, the position of the row that waits there. If none waits, it says nothing.
     positions: Vec<usize>,
     // Positions in order of making: of all rows, by the slot on which a row was made, by the place of
     // its region, and by both.
@@ -201,7 +201,7 @@ impl Pool {
         Some(row_at(&self.rows, position)?.row)
     }
 
-    /// The pick for a waiter outside all regions. The oldest row is looked at only where it is taken.
+    /// The pick for a waiter outside all regions. The oldest row is looked at only if it is taken.
     fn pick_outside(&self, slot: usize) -> Option<RowId>
         ensures { result ≡ option_or (last_or None (filter (λ w. is_made_on slot w.made_on) self.now.rows)) (first_of self.now.rows) }
     {
