@@ -13,7 +13,7 @@ use Rattle.tenant_model.specs.Advance.{advance_run, after_run, begin, is_idle_wa
 use Rattle.tenant_model.proofs.Entries.{unless_full-room, unless_full-full}
 use Rattle.tenant_model.proofs.Within.{either_way}
 use Rattle.arena_steps.proofs.Rooms.{IsEntry, is_recorded, after_run_enters, nest_enters}
-use Rattle.arena_steps.proofs.Takes.{advance_run_on}
+use Rattle.arena_steps.proofs.Takes.{advance_run_on, advance_run_waits}
 
 pub none_is : {A : Type 0} (o : Option A) (b : Bool) → is_some o ≡ not b → b ≡ true → o ≡ None
 none_is None b says is = refl
@@ -25,8 +25,7 @@ idle_stays s r idle = rw idle refl
 
 pub idle_waits : (s : State) (slot n : ℕ) (r : Run) → r ≡ run_on s slot n → is_idle_wait s n r.count r.stop ≡ true → pick s slot ≡ None → (unless_full s (advance_run s slot n (run_on s slot n))).0 ≡ moved.Idle
 idle_waits s slot n r run waits none =
-    let first : advance_run s slot n r ≡ nest_pick s slot n (pick s slot) = rw waits refl in
-    let all : advance_run s slot n (run_on s slot n) ≡ (moved.Idle, s) = sym (ap (advance_run s slot n) run) ∙ first ∙ ap (nest_pick s slot n) none in
+    let all : advance_run s slot n (run_on s slot n) ≡ (moved.Idle, s) = advance_run_waits s slot n r run waits ∙ ap (nest_pick s slot n) none in
     idle_stays s (advance_run s slot n (run_on s slot n)) (ap (λ (q : Moved × State). q.0) all)
 
 pub idle_reserved : (s : State) (slot : ℕ) → nat_lt slot s.config.reserved ≡ true → (o : Option ℕ) → (unless_full s (begin s slot o)).0 ≡ moved.Idle
@@ -56,8 +55,7 @@ run_moves s slot n r run runs =
 
 pub pick_moves : (s : State) (slot n m : ℕ) (r : Run) → r ≡ run_on s slot n → is_idle_wait s n r.count r.stop ≡ true → pick s slot ≡ Some m → (unless_full s (advance_run s slot n (run_on s slot n))).0 ≢ moved.Idle
 pick_moves s slot n m r run waits some =
-    let first : advance_run s slot n r ≡ nest_pick s slot n (pick s slot) = rw waits refl in
-    let all : advance_run s slot n (run_on s slot n) ≡ nest_pick s slot n (Some m) = sym (ap (advance_run s slot n) run) ∙ first ∙ ap (nest_pick s slot n) some in
+    let all : advance_run s slot n (run_on s slot n) ≡ nest_pick s slot n (Some m) = advance_run_waits s slot n r run waits ∙ ap (nest_pick s slot n) some in
     subst (λ q. (unless_full s q).0 ≢ moved.Idle) (sym all) (entry_moves s (nest_pick s slot n (Some m)) (nest_enters s slot n m))
 
 left_not_idle : moved.Left ≢ moved.Idle

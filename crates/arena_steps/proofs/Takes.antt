@@ -9,7 +9,7 @@ use Rattle.nest_stack.specs.Nest as nest_stack
 use Rattle.tenant_model.specs.State.{State}
 use Rattle.tenant_model.specs.Walks.{height, pick, top}
 use Rattle.tenant_model.specs.Changes.{entry, nest}
-use Rattle.tenant_model.specs.Advance.{advance, advance_run, advance_top, after_run, begin, is_idle_wait, run_on, unless_full}
+use Rattle.tenant_model.specs.Advance.{advance, advance_run, advance_top, after_run, begin, is_idle_wait, nest_pick, run_on, unless_full}
 use Rattle.tenant_model.proofs.Picks.{top_is, top_none}
 use Rattle.arena_rows.specs.Held.{Held}
 use Rattle.arena_rows.specs.HeldChanges.{picked}
@@ -64,6 +64,11 @@ pub advance_run_on : (s : State) (slot n : ℕ) (r : Run) → r ≡ run_on s slo
 advance_run_on s slot n r run runs =
     let moves : is_idle_wait s n (run_on s slot n).count (run_on s slot n).stop ≡ false = rw (← run) runs in
     let all : advance_run s slot n r ≡ after_run s slot n r.count r.end r.stop = rw runs refl in
+    sym (ap (advance_run s slot n) run) ∙ all
+
+pub advance_run_waits : (s : State) (slot n : ℕ) (r : Run) → r ≡ run_on s slot n → is_idle_wait s n r.count r.stop ≡ true → advance_run s slot n (run_on s slot n) ≡ nest_pick s slot n (pick s slot)
+advance_run_waits s slot n r run waits =
+    let all : advance_run s slot n r ≡ nest_pick s slot n (pick s slot) = rw waits refl in
     sym (ap (advance_run s slot n) run) ∙ all
 
 -- an empty slot

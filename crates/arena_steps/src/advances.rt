@@ -17,7 +17,7 @@ ghost use Rattle.arena_rows.specs.Represents.{Gives, Holds, Rests, RestsSomehow}
 ghost use Rattle.arena_steps.specs.Runs.{HasRun, RunFits};
 ghost use Rattle.arena_steps.specs.Within.{advance_within, within};
 
-use crate::runs::{after_run, is_idle_wait, run_top};
+use crate::runs::{after_run, run_top, stops_blocked};
 use arena_rows::Parts;
 use job_language::{JobFault, Moved};
 use job_step::Run;
@@ -105,7 +105,8 @@ fn advance_by(parts: &mut Parts, slot: u8, run: &Run, has_room: bool) -> Moved
     ensures { (s : State) (n : ℕ) → RunFits parts.old s slot n run.now
         → Gives parts.new result (within has_room s (unless_full s (advance_run s slot n (run_on s slot n)))) }
 {
-    if is_idle_wait(parts, slot, run) {
+    let is_blocked = stops_blocked(parts, slot, run);
+    if is_blocked && run.count == 0 {
         return advance_waiting(parts, slot, has_room);
     }
     if lacks_room(parts, has_room) {
@@ -113,7 +114,7 @@ fn advance_by(parts: &mut Parts, slot: u8, run: &Run, has_room: bool) -> Moved
     }
     // Proof hint: the tenant's steps are limited, and so are its rows.
     let _ = parts.config();
-    after_run(parts, slot, run)
+    after_run(parts, slot, run, is_blocked)
 }
 
 /// Advances a slot by its topmost row.
@@ -151,7 +152,10 @@ fn is_row_idle(parts: &Parts, slot: u8) -> bool
         → (unless_full s (advance_run s slot n (run_on s slot n))).0 ≢ moved.Idle }
 {
     let run = run_top(parts, slot);
-    is_idle_wait(parts, slot, &run) && parts.pick(slot).is_none()
+    if stops_blocked(parts, slot, &run) && run.count == 0 {
+        return parts.pick(slot).is_none();
+    }
+    false
 }
 
 /// Advances a slot by the private run of its topmost row, which was made before.

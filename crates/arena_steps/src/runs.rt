@@ -9,7 +9,8 @@ ghost use Rattle.tenant_model.specs.State.{State, row};
 ghost use Rattle.tenant_model.specs.Walks.{top};
 ghost use Rattle.tenant_model.specs.Changes.{faults};
 ghost use Rattle.tenant_model.specs.Shared.{execute};
-ghost use Rattle.tenant_model.specs.Advance.{after_run, is_blocked, is_idle_wait, move_on, pay, run_on};
+ghost use Rattle.tenant_model.specs.Advance.{after_run, move_on, pay, run_on};
+ghost use Rattle.tenant_model.specs.Blocked.{stops_blocked};
 ghost use Rattle.arena_rows.specs.Represents.{Gives, Holds, HasTop, Rests};
 ghost use Rattle.arena_rows.specs.MarkedGroups.{RestsWithTop};
 ghost use Rattle.arena_steps.specs.Frames.{FrameFits, CanMove};
@@ -33,27 +34,16 @@ pub(crate) fn run_top(parts: &Parts, slot: u8) -> Run
     run_private(parts.program(slot), parts.frame(slot), slot, slots)
 }
 
-/// Whether a slot's topmost row would be at a wait for pending members.
-fn is_blocked(parts: &Parts, slot: u8, instr: &Instr) -> bool
-    requires { HasTop parts.now slot }
-    ensures { (s : State) (n : ℕ) → Holds parts.now s → top s.rows slot ≡ Some n → result ≡ is_blocked s n instr.now }
-{
-    match *instr {
-        Instr::Wait(_total, _status, group) => parts.is_pending(slot, group),
-        _ => false,
-    }
-}
-
-/// Whether a slot's topmost row is at a wait for pending members and ran nothing before it.
+/// Whether the run of a slot's topmost row stopped at a wait for pending members.
 #[inline(always)]
-pub(crate) fn is_idle_wait(parts: &Parts, slot: u8, run: &Run) -> bool
+pub(crate) fn stops_blocked(parts: &Parts, slot: u8, run: &Run) -> bool
     requires { HasTop parts.now slot }
-    ensures { (s : State) (n : ℕ) → Holds parts.now s → top s.rows slot ≡ Some n → result ≡ is_idle_wait s n run.now.count run.now.stop }
+    ensures { (s : State) (n : ℕ) → Holds parts.now s → top s.rows slot ≡ Some n
+        → result ≡ stops_blocked s n run.now.stop }
 {
     match run.stop {
-        Stop::Shared(instr) => is_blocked(parts, slot, &instr) && run.count == 0,
-        Stop::Yield => false,
-        Stop::Fault => false,
+        Stop::Shared(Instr::Wait(_total, _status, group)) => parts.is_pending(slot, group),
+        _ => false,
     }
 }
 
@@ -99,36 +89,25 @@ fn pay_to_execute(parts: &mut Parts, slot: u8, count: u32, frame: Frame, instr: 
     execute(parts, slot, frame, instr)
 }
 
-/// Ends a step of a slot after the run of its topmost row, which stopped at a shared instruction.
+/// Ends a step of a slot after the run of its topmost row. `is_blocked` says whether the run stopped
+/// at a wait for pending members.
 #[inline(always)]
-fn after_shared(parts: &mut Parts, slot: u8, run: &Run, instr: &Instr) -> Moved
+pub(crate) fn after_run(parts: &mut Parts, slot: u8, run: &Run, is_blocked: bool) -> Moved
     requires runs { HasRun parts.old slot run.now }
-    requires stops { run.now.stop ≡ Shared instr.now }
-    requires room { parts.old.entries < parts.old.config.steps }
-    requires few { parts.old.made + 1 < 2 ^ 32 }
-    requires place { is_last instr.now ≡ false → run.now.end.place < LAST_PLACE }
-    ensures { (s : State) (n : ℕ) → RunFits parts.old s slot n run.now
-        → Gives parts.new result (after_run s slot n run.now.count run.now.end (Shared instr.now)) }
-{
-    if is_blocked(parts, slot, instr) {
-        return pay_to_move(parts, slot, run.count, run.end);
-    }
-    pay_to_execute(parts, slot, run.count, run.end, instr)
-}
-
-/// Ends a step of a slot after the run of its topmost row.
-#[inline(always)]
-pub(crate) fn after_run(parts: &mut Parts, slot: u8, run: &Run) -> Moved
-    requires runs { HasRun parts.old slot run.now }
+    requires blocked { (s : State) (n : ℕ) → RunFits parts.old s slot n run.now
+        → is_blocked ≡ stops_blocked s n run.now.stop }
     requires room { parts.old.entries < parts.old.config.steps }
     requires few { parts.old.made + 1 < 2 ^ 32 }
     requires next { (i : Instr) → run.now.stop ≡ Shared i → is_last i ≡ false → run.now.end.place < LAST_PLACE }
     ensures { (s : State) (n : ℕ) → RunFits parts.old s slot n run.now
         → Gives parts.new result (after_run s slot n run.now.count run.now.end run.now.stop) }
 {
+    if is_blocked {
+        return pay_to_move(parts, slot, run.count, run.end);
+    }
     match run.stop {
         Stop::Yield => pay_to_move(parts, slot, run.count, run.end),
         Stop::Fault => pay_to_fault(parts, slot, run.count),
-        Stop::Shared(instr) => after_shared(parts, slot, run, &instr),
+        Stop::Shared(instr) => pay_to_execute(parts, slot, run.count, run.end, &instr),
     }
 }

@@ -8,7 +8,8 @@ ghost use Rattle.solo_eval.specs.Execution.{cost_of, MakesRow, StopsToMake};
 ghost use Rattle.solo_eval.specs.Present.{IsNumberIn, HasRoom};
 ghost use Rattle.tenant_model.specs.State.{row};
 ghost use Rattle.tenant_model.specs.Walks.{top, pick};
-ghost use Rattle.tenant_model.specs.Advance.{advance, arrive, after_run, advance_run, nest_pick, begin, is_blocked, is_idle_wait, is_poor, move_on, is_open_to_workers, run_on, unless_full};
+ghost use Rattle.tenant_model.specs.Blocked.{stops_blocked};
+ghost use Rattle.tenant_model.specs.Advance.{advance, arrive, after_run, advance_run, nest_pick, begin, is_poor, move_on, is_open_to_workers, run_on, unless_full};
 
 use crate::groups::is_pending;
 use crate::stacks::{height, pick, top};
@@ -27,20 +28,30 @@ impl TenantState {
         pick(&self.config().isolation, self.rows(), slot)
     }
 
-    /// Whether a row is at a wait for pending members.
-    fn is_blocked(&self, number: u64, instr: &Instr) -> bool
+    /// Whether a row's run stopped at a wait for pending members.
+    fn stops_blocked(&self, number: u64, run: &Run) -> bool
         requires row { IsNumberIn self.now.rows number }
-        ensures { result ≡ is_blocked self.now number instr.now }
+        ensures { result ≡ stops_blocked self.now number run.now.stop }
     {
-        match *instr {
-            Instr::Wait(_total, _status, group) => is_pending(self.rows(), number, group.index()),
+        match run.stop {
+            Stop::Shared(Instr::Wait(_total, _status, group)) => {
+                is_pending(self.rows(), number, group.index())
+            }
             _ => false,
         }
     }
 
-    /// Records what the topmost row of a slot did in a run.
+    /// Records what the topmost row of a slot did in a run. `is_blocked` says whether the run stopped
+    /// at a wait for pending members.
     #[tactic(auto, using(crate::proofs::Fuel::out_of_fuel))]
-    fn record(&mut self, slot: u8, number: u64, run: &Run) -> Result<Moved, AllocError>
+    fn record(
+        &mut self,
+        slot: u8,
+        number: u64,
+        run: &Run,
+        is_blocked: bool,
+    ) -> Result<Moved, AllocError>
+        requires blocked { is_blocked ≡ stops_blocked self.old number run.now.stop }
         requires room { HasRoom self.old }
         requires row { IsNumberIn self.old.rows number }
         requires slot { slot < MAX_SLOTS }
@@ -51,9 +62,12 @@ impl TenantState {
         ensures err { OnErr result (self.new ≡ self.old) }
         ensures makes { OnErr result (StopsToMake run.now.stop) }
     {
-        let cost = self.cost(number, run);
+        let cost = self.cost(number, run, is_blocked);
         if self.is_poor(number, cost) {
             return Ok(self.fault_out_of_fuel(slot, number));
+        }
+        if is_blocked {
+            return Ok(self.move_on(slot, number, run.end, cost));
         }
         match run.stop {
             Stop::Yield => Ok(self.move_on(slot, number, run.end, cost)),
@@ -62,33 +76,20 @@ impl TenantState {
                 let job = self.row(number).job;
                 Ok(self.fault(slot, job, JobFault::Division))
             }
-            Stop::Shared(instr) => {
-                if self.is_blocked(number, &instr) {
-                    Ok(self.move_on(slot, number, run.end, cost))
-                } else {
-                    self.execute(slot, number, run.end, &instr, cost)
-                }
-            }
+            Stop::Shared(instr) => self.execute(slot, number, run.end, &instr, cost),
         }
     }
 
     /// What a run of a row costs: its private instructions, and the shared one that the row executes
     /// after them.
-    fn cost(&self, number: u64, run: &Run) -> u64
-        requires row { IsNumberIn self.now.rows number }
+    fn cost(&self, number: u64, run: &Run, is_blocked: bool) -> u64
+        requires blocked { is_blocked ≡ stops_blocked self.now number run.now.stop }
         ensures { result ≡ cost_of self.now number run.now.count run.now.stop }
     {
         let count = u64::from(run.count);
         match run.stop {
-            Stop::Shared(instr) => {
-                if self.is_blocked(number, &instr) {
-                    count
-                } else {
-                    count + 1
-                }
-            }
-            Stop::Yield => count,
-            Stop::Fault => count,
+            Stop::Shared(_instr) if !is_blocked => count + 1,
+            _ => count,
         }
     }
 
@@ -102,18 +103,6 @@ impl TenantState {
         self.pay(number, cost);
         self.set_frame(number, frame);
         self.finish_step(slot)
-    }
-
-    /// Whether a row is at a wait for pending members and ran nothing before it.
-    fn is_idle_wait(&self, number: u64, run: &Run) -> bool
-        requires row { IsNumberIn self.now.rows number }
-        ensures { result ≡ is_idle_wait self.now number run.now.count run.now.stop }
-    {
-        match run.stop {
-            Stop::Shared(instr) => self.is_blocked(number, &instr) && run.count == 0,
-            Stop::Yield => false,
-            Stop::Fault => false,
-        }
     }
 
     /// Takes the pick onto a slot whose topmost row waits.
@@ -171,13 +160,14 @@ impl TenantState {
         let frame = self.row(number).frame;
         let slots = self.config().slots;
         let run = run_private(&self.job_of(number).program, frame, slot, slots);
-        if self.is_idle_wait(number, &run) {
+        let is_blocked = self.stops_blocked(number, &run);
+        if is_blocked && run.count == 0 {
             return Ok(self.nest_pick(slot, number));
         }
         if self.is_full() {
             return Ok(Moved::Full);
         }
-        self.record(slot, number, &run)
+        self.record(slot, number, &run, is_blocked)
     }
 
     /// Advances a slot. If an allocation failed, nothing has changed.

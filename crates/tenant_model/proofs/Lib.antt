@@ -27,6 +27,7 @@ pub mod UnstuckSteps
 mod SerialWorkedProofs
 mod WorkedProofs
 pub mod SerialRule
+pub mod Blocked
 pub mod Running
 pub mod Invariance
 pub mod Tending

@@ -9,6 +9,7 @@ pub mod Regions
 pub mod Naming
 pub mod Shared
 pub mod Advance
+pub mod Blocked
 pub mod Asks
 pub mod Solo
 pub mod Told
