@@ -1,12 +1,11 @@
 -- What stays where a row's frame moves on.
-use Rattle.std.proofs.Common.{◌≡◌, ℕ, ◌+◌, ◌<◌, ◌≤◌, ℤ, length, length-set, Some, refl, sym, ap, ◌∙◌, arith}
-use Rattle.std.specs.Prelude.{slice_set}
+use Rattle.std.proofs.Common.{◌≡◌, ℕ, ◌+◌, ◌<◌, ℤ, length-set, Some, sym, ap, ◌∙◌, arith}
 use Rattle.job_language.specs.declared.tenants.Tenant.{Tenant}
 use Rattle.job_step.specs.declared.frames.Frame.{Frame}
 use Rattle.job_step.specs.Frame.{at_place, write_and_step}
 use Rattle.thread_cells.specs.Cells.{Table}
 use Rattle.tenant_model.specs.Changes.{with_cells}
-use Rattle.tenant_model.specs.State.{State, row}
+use Rattle.tenant_model.specs.State.{State}
 use Rattle.tenant_model.specs.Walks.{top}
 use Rattle.arena_rows.specs.Held.{Held}
 use Rattle.arena_rows.specs.Represents.{Holds, Rests, HasTop}

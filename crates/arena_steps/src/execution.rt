@@ -7,7 +7,7 @@ ghost use Rattle.thread_cells.specs.Cells.{cell_sum, cell_count};
 ghost use Rattle.tenant_model.specs.Walks.{is_context_cancelled};
 ghost use Rattle.tenant_model.specs.Shared.{execute, write_register};
 ghost use Rattle.arena_rows.specs.Represents.{Gives};
-ghost use Rattle.arena_steps.specs.Frames.{FrameFits, CanMove};
+ghost use Rattle.arena_steps.specs.Frames.{FrameFits, CanStep};
 ghost use Rattle.arena_steps.specs.Ready.{IsReady, CanExecute};
 
 use crate::makes::{isolate, post, spawn};
@@ -20,9 +20,7 @@ use job_step::Frame;
 /// Writes 1 where the context of a slot's topmost row is cancelled, and 0 otherwise
 /// (`is_current_task_group_canceling`).
 fn ask(parts: &mut Parts, slot: u8, frame: Frame, to: Register) -> Moved
-    requires fits { CanMove parts.old slot frame }
-    requires room { parts.old.entries < parts.old.config.steps }
-    requires place { frame.place < LAST_PLACE }
+    requires { CanStep parts.old slot frame }
     ensures { (s : State) (n : ℕ) → FrameFits parts.old s slot n frame
         → Gives parts.new result (write_register s slot n frame to (if is_context_cancelled s n then pos 1 else pos 0)) }
 {
@@ -32,9 +30,7 @@ fn ask(parts: &mut Parts, slot: u8, frame: Frame, to: Register) -> Moved
 
 /// Writes the sum of a key's cells.
 fn sum(parts: &mut Parts, slot: u8, frame: Frame, to: Register, key: Key) -> Moved
-    requires fits { CanMove parts.old slot frame }
-    requires room { parts.old.entries < parts.old.config.steps }
-    requires place { frame.place < LAST_PLACE }
+    requires { CanStep parts.old slot frame }
     ensures { (s : State) (n : ℕ) → FrameFits parts.old s slot n frame
         → Gives parts.new result (write_register s slot n frame to (cell_sum s.cells key)) }
 {
@@ -44,9 +40,7 @@ fn sum(parts: &mut Parts, slot: u8, frame: Frame, to: Register, key: Key) -> Mov
 
 /// Writes the number of a key's cells.
 fn count(parts: &mut Parts, slot: u8, frame: Frame, to: Register, key: Key) -> Moved
-    requires fits { CanMove parts.old slot frame }
-    requires room { parts.old.entries < parts.old.config.steps }
-    requires place { frame.place < LAST_PLACE }
+    requires { CanStep parts.old slot frame }
     ensures { (s : State) (n : ℕ) → FrameFits parts.old s slot n frame
         → Gives parts.new result (write_register s slot n frame to (pos (cell_count s.cells key))) }
 {

@@ -1,11 +1,10 @@
 // Shared instructions of a slot's topmost row that make a row.
 ghost use Rattle.std.specs.Prelude.{◌≡◌, ◌<◌, ◌+◌, ◌^◌, ℕ};
-ghost use Rattle.job_step.specs.declared.frames.TheConstants.{LAST_PLACE};
 ghost use Rattle.tenant_model.specs.State.{State};
 ghost use Rattle.tenant_model.specs.Shared.{spawn, post, isolate_at, called_frame};
 ghost use Rattle.arena_steps.specs.Isolates.{CanIsolate, IsAtIsolate};
 ghost use Rattle.arena_rows.specs.Represents.{Gives};
-ghost use Rattle.arena_steps.specs.Frames.{FrameFits, CanMove};
+ghost use Rattle.arena_steps.specs.Frames.{FrameFits, CanStep};
 
 use arena_rows::Parts;
 use job_language::{Group, JobFault, Moved, Register};
@@ -32,10 +31,8 @@ pub fn spawn(
     first: Register,
     second: Register,
 ) -> Moved
-    requires fits { CanMove parts.old slot frame }
-    requires room { parts.old.entries < parts.old.config.steps }
+    requires step { CanStep parts.old slot frame }
     requires few { parts.old.made + 1 < 2 ^ 32 }
-    requires place { frame.place < LAST_PLACE }
     ensures { (s : State) (n : ℕ) → FrameFits parts.old s slot n frame → Gives parts.new result (spawn s slot n frame group procedure first second) }
 {
     // Proof hint: a frame has the group.
@@ -58,10 +55,8 @@ pub fn post(
     first: Register,
     second: Register,
 ) -> Moved
-    requires fits { CanMove parts.old slot frame }
-    requires room { parts.old.entries < parts.old.config.steps }
+    requires step { CanStep parts.old slot frame }
     requires few { parts.old.made + 1 < 2 ^ 32 }
-    requires place { frame.place < LAST_PLACE }
     ensures { (s : State) (n : ℕ) → FrameFits parts.old s slot n frame → Gives parts.new result (post s slot n frame procedure first second) }
 {
     if parts.is_row_limit_met() {

@@ -7,7 +7,7 @@ ghost use Rattle.tenant_model.specs.Walks.{top, is_pending};
 ghost use Rattle.tenant_model.specs.Changes.{finish_step, with_frame};
 ghost use Rattle.tenant_model.specs.Shared.{write_register, load, store, wait, cancel};
 ghost use Rattle.arena_rows.specs.Represents.{Gives};
-ghost use Rattle.arena_steps.specs.Frames.{FrameFits, CanMove, CanPass};
+ghost use Rattle.arena_steps.specs.Frames.{FrameFits, CanMove, CanPass, CanStep};
 
 use arena_rows::Parts;
 use job_language::{Group, Key, Moved, Register};
@@ -51,9 +51,7 @@ pub(crate) fn move_to(parts: &mut Parts, slot: u8, frame: Frame) -> Moved
 
 /// Writes a register of a slot's topmost row.
 pub fn write_register(parts: &mut Parts, slot: u8, frame: Frame, to: Register, value: i64) -> Moved
-    requires fits { CanMove parts.old slot frame }
-    requires room { parts.old.entries < parts.old.config.steps }
-    requires place { frame.place < LAST_PLACE }
+    requires { CanStep parts.old slot frame }
     ensures { (s : State) (n : ℕ) → FrameFits parts.old s slot n frame → Gives parts.new result (write_register s slot n frame to value) }
 {
     move_to(parts, slot, frame.write_and_step(to, value))
@@ -61,9 +59,7 @@ pub fn write_register(parts: &mut Parts, slot: u8, frame: Frame, to: Register, v
 
 /// Reads the slot's cell of a key into a register (`enumerable_thread_specific::local`).
 pub fn load(parts: &mut Parts, slot: u8, frame: Frame, to: Register, key: Key) -> Moved
-    requires fits { CanMove parts.old slot frame }
-    requires room { parts.old.entries < parts.old.config.steps }
-    requires place { frame.place < LAST_PLACE }
+    requires { CanStep parts.old slot frame }
     ensures { (s : State) (n : ℕ) → FrameFits parts.old s slot n frame → Gives parts.new result (load s slot n frame to key) }
 {
     let value = parts.local(slot, key);
@@ -72,9 +68,7 @@ pub fn load(parts: &mut Parts, slot: u8, frame: Frame, to: Register, key: Key) -
 
 /// Gives the slot's cell of a key the value of a register.
 pub fn store(parts: &mut Parts, slot: u8, frame: Frame, key: Key, from: Register) -> Moved
-    requires fits { CanMove parts.old slot frame }
-    requires room { parts.old.entries < parts.old.config.steps }
-    requires place { frame.place < LAST_PLACE }
+    requires { CanStep parts.old slot frame }
     ensures { (s : State) (n : ℕ) → FrameFits parts.old s slot n frame → Gives parts.new result (store s slot n frame key from) }
 {
     let value = read(&frame, from);
@@ -84,9 +78,7 @@ pub fn store(parts: &mut Parts, slot: u8, frame: Frame, key: Key, from: Register
 
 /// Cancels a group of a slot's topmost row (`task_group::cancel`).
 pub fn cancel(parts: &mut Parts, slot: u8, frame: Frame, group: Group) -> Moved
-    requires fits { CanMove parts.old slot frame }
-    requires room { parts.old.entries < parts.old.config.steps }
-    requires place { frame.place < LAST_PLACE }
+    requires { CanStep parts.old slot frame }
     ensures { (s : State) (n : ℕ) → FrameFits parts.old s slot n frame → Gives parts.new result (cancel s slot n frame group) }
 {
     parts.cancel_group(slot, group, frame.next());

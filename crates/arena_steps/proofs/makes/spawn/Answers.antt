@@ -15,7 +15,7 @@ use Rattle.arena_steps.proofs.Moving.{same_slots, same_room, has_top}
 use Rattle.arena_steps.proofs.makes.spawn.Goals as goal
 
 pub fault-requires-clause-top : goal.fault-requires-clause-top
-fault-requires-clause-top c = has_top c.args.parts.now c.args.slot c.args.frame c.requires.fits
+fault-requires-clause-top c = has_top c.args.parts.now c.args.slot c.args.frame c.requires.step.fits
 
 pub returns-then-is_row_limit_met : goal.returns-then-is_row_limit_met
 returns-then-is_row_limit_met c = λ s n fits.
@@ -23,13 +23,13 @@ returns-then-is_row_limit_met c = λ s n fits.
     rw met (c.fault.ensures s n fits.rests.holds fits.on_top)
 
 pub move_on-requires : goal.move_on-requires
-move_on-requires c = has_top c.args.parts.now c.args.slot c.args.frame c.requires.fits
+move_on-requires c = has_top c.args.parts.now c.args.slot c.args.frame c.requires.step.fits
 
 pub spawn_settled-requires-clause-rests : goal.spawn_settled-requires-clause-rests
 spawn_settled-requires-clause-rests c =
     let a = c.args.parts.now in
     let f = c.args.frame in
-    let h : CanMove a c.args.slot f = c.requires.fits in
+    let h : CanMove a c.args.slot f = c.requires.step.fits in
     let now = next_rests a c.move_on.new.self h.0 c.args.slot h.1 f c.next.result c.next.ensures h.2 (c.move_on.ensures h.0 h.1 h.2.rests h.2.on_top) in
     still_rests a c.move_on.new.self h.0 c.args.slot h.1 (next_place f) h.2.rests.holds h.2.on_top now
 
@@ -37,7 +37,7 @@ pub spawn_settled-requires-clause-free : goal.spawn_settled-requires-clause-free
 spawn_settled-requires-clause-free c =
     let a = c.args.parts.now in
     let f = c.args.frame in
-    let h : CanMove a c.args.slot f = c.requires.fits in
+    let h : CanMove a c.args.slot f = c.requires.step.fits in
     let now = next_rests a c.move_on.new.self h.0 c.args.slot h.1 f c.next.result c.next.ensures h.2 (c.move_on.ensures h.0 h.1 h.2.rests h.2.on_top) in
     let limit : is_row_limit_met h.0 ≡ false = sym (c.is_row_limit_met.ensures.value h.0 h.2.rests.holds) ∙ c.if-is_row_limit_met.false in
     still_free a c.move_on.new.self h.0 c.args.slot h.1 (next_place f) h.2.rests.holds h.2.on_top now limit
@@ -46,14 +46,14 @@ pub spawn_settled-requires-clause-few : goal.spawn_settled-requires-clause-few
 spawn_settled-requires-clause-few c =
     let a = c.args.parts.now in
     let f = c.args.frame in
-    let h : CanMove a c.args.slot f = c.requires.fits in
+    let h : CanMove a c.args.slot f = c.requires.step.fits in
     let now = next_rests a c.move_on.new.self h.0 c.args.slot h.1 f c.next.result c.next.ensures h.2 (c.move_on.ensures h.0 h.1 h.2.rests h.2.on_top) in
     let made = same_made a c.move_on.new.self h.0 c.args.slot h.1 (next_place f) h.2.rests.holds h.2.on_top now in
     rw made c.requires.few
 
 pub finish_step-requires-clause-rests : goal.finish_step-requires-clause-rests
 finish_step-requires-clause-rests c =
-    let h : CanMove c.args.parts.now c.args.slot c.args.frame = c.requires.fits in
+    let h : CanMove c.args.parts.now c.args.slot c.args.frame = c.requires.step.fits in
     let a = c.args.parts.now in
     let f = c.args.frame in
     let slot = c.args.slot in
@@ -69,7 +69,7 @@ finish_step-requires-clause-rests c =
 
 pub finish_step-requires-clause-slot : goal.finish_step-requires-clause-slot
 finish_step-requires-clause-slot c =
-    let h : CanMove c.args.parts.now c.args.slot c.args.frame = c.requires.fits in
+    let h : CanMove c.args.parts.now c.args.slot c.args.frame = c.requires.step.fits in
     let a = c.args.parts.now in
     let f = c.args.frame in
     let slot = c.args.slot in
@@ -85,7 +85,7 @@ finish_step-requires-clause-slot c =
 
 pub finish_step-requires-clause-room : goal.finish_step-requires-clause-room
 finish_step-requires-clause-room c =
-    let h : CanMove c.args.parts.now c.args.slot c.args.frame = c.requires.fits in
+    let h : CanMove c.args.parts.now c.args.slot c.args.frame = c.requires.step.fits in
     let a = c.args.parts.now in
     let f = c.args.frame in
     let slot = c.args.slot in
@@ -97,7 +97,7 @@ finish_step-requires-clause-room c =
     let few : c.args.group < GROUPS = rw value at c.index.ensures.in_range in
     let steady = steady_spawned h.0 slot h.1 (top_at a h.0 h.2.rests.holds slot h.1 h.2.on_top) h.2.rests.holds.steady (next_place f) c.args.group c.args.procedure c.args.first c.args.second h.2.same few (has_room h.0 limit) in
     let it : Rests c.spawn_settled.new.self (settle (add_row (with_frame h.0 h.1 (next_place f)) (new_row (Spawned h.1 c.args.group) (row h.0.rows h.1).job (Some slot) (called_frame f c.args.procedure c.args.first c.args.second) Unstarted))) = born_rests a b h.0 slot h.1 (next_place f) h.2.rests.holds h.2.on_top now c.spawn_settled.new.self (Spawned h.1 c.args.group) (Some slot) c.called_frame.result (called_frame f c.args.procedure c.args.first c.args.second) c.called_frame.ensures steady (c.spawn_settled.ensures (with_frame h.0 h.1 (next_place f)) h.1 now on_top) in
-    same_room a c.spawn_settled.new.self h.0 (settle (add_row (with_frame h.0 h.1 (next_place f)) (new_row (Spawned h.1 c.args.group) (row h.0.rows h.1).job (Some slot) (called_frame f c.args.procedure c.args.first c.args.second) Unstarted))) h.2.rests.holds it.holds refl refl c.requires.room
+    same_room a c.spawn_settled.new.self h.0 (settle (add_row (with_frame h.0 h.1 (next_place f)) (new_row (Spawned h.1 c.args.group) (row h.0.rows h.1).job (Some slot) (called_frame f c.args.procedure c.args.first c.args.second) Unstarted))) h.2.rests.holds it.holds refl refl c.requires.step.room
 
 pub returns : goal.returns
 returns c = λ s n fits.

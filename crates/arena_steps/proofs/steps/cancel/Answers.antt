@@ -1,8 +1,8 @@
-use Rattle.std.proofs.Common.{◌≡◌, length, refl, sym, ap, ◌∙◌}
+use Rattle.std.proofs.Common.{◌≡◌, length, refl, ap, ◌∙◌}
 use Rattle.job_step.specs.declared.frames.Frame.{Frame}
 use Rattle.tenant_model.specs.State.{row}
 use Rattle.arena_rows.specs.MarkedGroups.{with_group_cancelled}
-use Rattle.arena_steps.specs.Frames.{FrameFits, CanMove}
+use Rattle.arena_steps.specs.Frames.{CanMove}
 use Rattle.arena_steps.proofs.Moving.{same_slots}
 use Rattle.arena_steps.proofs.steps.cancel.Goals as goal
 

@@ -1,6 +1,5 @@
-use Rattle.std.proofs.Common.{◌≡◌, ℤ, pos, refl, sym, ap, ◌∙◌, subst, w64, FitsSigned}
+use Rattle.std.proofs.Common.{refl, sym, ap, ◌∙◌, subst, w64, FitsSigned}
 use Rattle.std.proofs.lemmas.Int.{to_z-of_z}
-use Rattle.job_step.specs.declared.frames.Frame.{Frame}
 use Rattle.job_step.specs.Frame.{write_and_step}
 use Rattle.tenant_model.specs.State.{State}
 use Rattle.thread_cells.specs.Cells.{with_cell}

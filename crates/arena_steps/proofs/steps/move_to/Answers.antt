@@ -1,6 +1,6 @@
 use Rattle.std.proofs.Common.{refl}
 use Rattle.tenant_model.specs.Changes.{with_frame}
-use Rattle.arena_steps.specs.Frames.{FrameFits, CanMove}
+use Rattle.arena_steps.specs.Frames.{CanMove}
 use Rattle.arena_steps.proofs.Moving.{same_slots, same_room, has_top}
 use Rattle.arena_steps.proofs.steps.move_to.Goals as goal
 

@@ -1,8 +1,7 @@
-use Rattle.std.proofs.Common.{◌≡◌, ◌+◌, ℤ, pos, refl, sym, ap, ◌∙◌, subst, w64, FitsSigned}
+use Rattle.std.proofs.Common.{◌+◌, refl, sym, subst, w64, FitsSigned}
 use Rattle.std.proofs.lemmas.Int.{to_z-of_z}
 use Rattle.arena_rows.specs.Represents.{Rests, Gives}
-use Rattle.job_step.specs.declared.frames.Frame.{Frame}
-use Rattle.job_step.specs.Frame.{at_place, register}
+use Rattle.job_step.specs.Frame.{at_place}
 use Rattle.tenant_model.specs.State.{State}
 use Rattle.thread_cells.specs.Cells.{with_cell}
 use Rattle.tenant_model.specs.Changes.{finish_step, with_frame, with_cells}

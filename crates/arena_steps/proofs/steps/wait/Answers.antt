@@ -1,15 +1,15 @@
-use Rattle.std.proofs.Common.{◌≡◌, ℕ, ℤ, List, length, length-set, refl, sym, ap, ◌∙◌, subst, w64, FitsSigned, to_z, of_z}
+use Rattle.std.proofs.Common.{◌≡◌, ℤ, length, length-set, refl, ap, ◌∙◌, subst, w64, FitsSigned, to_z, of_z}
 use Rattle.std.proofs.lemmas.Int.{to_z-of_z}
 use Rattle.std.specs.Prelude.{slice_set}
 use Rattle.job_step.specs.declared.frames.Frame.{Frame}
 use Rattle.job_step.specs.Frame.{write_and_step}
-use Rattle.tenant_model.specs.State.{State, row}
+use Rattle.tenant_model.specs.State.{row}
 use Rattle.tenant_model.specs.Walks.{total}
 use Rattle.tenant_model.specs.Shared.{group_status}
 use Rattle.tenant_model.specs.Changes.{finish_step}
 use Rattle.arena_rows.specs.MarkedGroups.{with_wait_passed}
 use Rattle.arena_rows.specs.Represents.{Gives}
-use Rattle.arena_steps.specs.Frames.{FrameFits, CanPass}
+use Rattle.arena_steps.specs.Frames.{CanPass}
 use Rattle.arena_steps.proofs.Moving.{same_slots, same_room}
 use Rattle.arena_steps.proofs.steps.wait.Goals as goal
 

@@ -1,6 +1,5 @@
-use Rattle.std.proofs.Common.{◌≡◌, sym, ap, ◌∙◌, subst, w64}
+use Rattle.std.proofs.Common.{sym, ap, ◌∙◌, subst, w64}
 use Rattle.std.proofs.lemmas.Int.{to_z-of_z}
-use Rattle.job_step.specs.declared.frames.Frame.{Frame}
 use Rattle.job_step.specs.Frame.{write_and_step}
 use Rattle.tenant_model.specs.Changes.{finish_step, with_frame}
 use Rattle.arena_rows.specs.Represents.{Gives}
