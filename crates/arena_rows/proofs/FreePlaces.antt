@@ -15,7 +15,7 @@ one o = one_if (is_some o)
 taken_set : (table : List (Option OpenRow)) (p : ℕ) (o : Option OpenRow) → p < length table → count_by is_some (slice_set table p o) + one (at_place table p) ≡ count_by is_some table + one o
 taken_set table p o within = sum_by-set one table p o None within
 
--- A row comes to a free place,
+-- A row is put at a free place,
 pub one_taken : (table : List (Option OpenRow)) (p : ℕ) (e : OpenRow) → IsFree table p → count_by is_some (slice_set table p (Some e)) ≡ count_by is_some table + 1
 one_taken table p e free = omega (arith, taken_set table p (Some e) free.within, ap one free.vacant)
 

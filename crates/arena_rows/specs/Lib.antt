@@ -7,3 +7,6 @@ pub mod HeldReads
 pub mod Retiring
 pub mod Founding
 pub mod OpenRows
+pub mod RowChanges
+pub mod HeldJobs
+pub mod NewRows

@@ -1,4 +1,4 @@
--- All jobs of an arena retired, where no row is open.
+-- All jobs of an arena retired, once no row is open.
 use Rattle.std.specs.Prelude.{◌≡◌, ◌≢◌, ℕ, ◌+◌, ◌<◌, ◌≤◌, false, List, [], Some, get_or, length}
 use Rattle.std.specs.List.{list_any}
 use Rattle.cancel_context.specs.Forest.{Forest, IsHeld, held_count, parent}

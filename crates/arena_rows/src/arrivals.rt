@@ -3,7 +3,7 @@ ghost use Rattle.std.specs.Prelude.{◌≡◌, ◌<◌, true, length};
 ghost use Rattle.nest_stack.specs.Nest.{stack};
 ghost use Rattle.tenant_model.specs.State.{State};
 ghost use Rattle.tenant_model.specs.Advance.{arrive, is_open_to_workers};
-ghost use Rattle.arena_rows.specs.Represents.{Rests, RestsSomehow};
+ghost use Rattle.arena_rows.specs.Represents.{Rests, RestsSomehow, Gives};
 
 use crate::parts::Parts;
 use job_language::Came;
@@ -25,7 +25,7 @@ impl Parts {
     /// Lets a worker arrive at a slot; nothing happens at a slot that the tenant lacks.
     pub fn arrive(&mut self, slot: u8) -> Came
         requires { RestsSomehow self.old }
-        ensures { (s : State) → Rests self.old s → (result ≡ (arrive s slot).0) × Rests self.new (arrive s slot).1 }
+        ensures { (s : State) → Rests self.old s → Gives self.new result (arrive s slot) }
     {
         if !self.is_open_to_workers(slot) {
             return Came::Nothing;

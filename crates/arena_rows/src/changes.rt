@@ -11,6 +11,7 @@ ghost use Rattle.arena_rows.specs.declared.rows.Stage.TheVariants as stage;
 ghost use Rattle.arena_rows.specs.Held.{HasFreePlace};
 ghost use Rattle.arena_rows.specs.Represents.{at_place, IsFree};
 ghost use Rattle.arena_rows.specs.HeldChanges.{started, counted, framed, next_id, index_of, outer_of, entered, job_counted, new_entry, with_entry, with_member, put, region_pushed, CanWait};
+ghost use Rattle.arena_rows.specs.HeldJobs.{held_job};
 ghost use Rattle.region_tag.specs.Region.{region_of};
 
 use crate::parts::Parts;
@@ -26,7 +27,8 @@ impl Parts {
         requires place { row.place < length self.old.table }
         requires slot { slot < length self.old.nests }
         requires height { length (stack self.old.nests slot) < MAX_HEIGHT }
-        ensures { (e : OpenRow) (f : Frame) → at_place self.old.table row.place ≡ Some e → e.stage ≡ stage.Waiting f
+        ensures { (e : OpenRow) (f : Frame) → at_place self.old.table row.place ≡ Some e
+            → e.stage ≡ stage.Waiting f
             → self.new ≡ started self.old slot row e f }
     {
         let on = usize::from(slot);
@@ -81,11 +83,14 @@ impl Parts {
         requires free { HasFreePlace self.old }
         requires few { self.old.made < 2 ^ 32 }
         requires regions { length self.old.regions ≡ length self.old.table }
-        requires vacant { (p : ℕ) → IsFree self.old.table p → slice_index_or self.old.regions p None ≡ None }
-        requires earlier { ForSome (outer_of self.old.regions source) (λ region. region.number < self.old.made + 1) }
+        requires vacant { (p : ℕ) → IsFree self.old.table p
+            → slice_index_or self.old.regions p None ≡ None }
+        requires earlier { ForSome (outer_of self.old.regions source)
+            (λ region. region.number < self.old.made + 1) }
         ensures place { IsFree self.old.table result.place }
         ensures row { result ≡ next_id self.old result.place }
-        ensures entered { self.new ≡ entered self.old result.place (new_entry (self.old.made + 1) source job made_on stage context) }
+        ensures entered { self.new ≡ entered self.old result.place
+            (new_entry (self.old.made + 1) source job made_on stage context) }
     {
         self.made += 1;
         let number = self.made;
@@ -106,7 +111,8 @@ impl Parts {
     pub(crate) fn count_row(&mut self, job: u64)
         requires above { self.old.retired < job }
         requires below { job - self.old.retired ≤ length self.old.jobs }
-        requires few { (d : CurrentJob) → (slice_index_or self.old.jobs (index_of self.old job) d).open_rows < length self.old.table }
+        requires few { (d : CurrentJob)
+            → (held_job self.old job d).open_rows < length self.old.table }
         ensures { (d : CurrentJob) → self.new ≡ job_counted self.old job d }
     {
         // Proof hint: the number of places is in range.
@@ -118,8 +124,10 @@ impl Parts {
     /// Lets the row at a place have one more member in a group.
     pub(crate) fn join(&mut self, place: usize, number: Group)
         requires place { place < length self.old.table }
-        requires few { (e : OpenRow) → at_place self.old.table place ≡ Some e → (group e.groups number).pending < u32.MAX }
-        ensures { (e : OpenRow) → at_place self.old.table place ≡ Some e → self.new ≡ with_entry self.old place (with_member number e) }
+        requires few { ForSome (at_place self.old.table place)
+            (λ e. (group e.groups number).pending < u32.MAX) }
+        ensures { ForSome (at_place self.old.table place)
+            (λ e. self.new ≡ with_entry self.old place (with_member number e)) }
     {
         let Some(_maker) = self.rows.get(place) else {
             return;
@@ -130,7 +138,11 @@ impl Parts {
     /// Lets a row wait to be started.
     pub(crate) fn wait(&mut self, row: RowId, made_on: Option<u8>)
         requires { CanWait self.old row made_on }
-        ensures { self.new ≡ put self.old (record { row = row; made_on = made_on; region = region_of self.old.regions row }) }
+        ensures { self.new ≡ put self.old (record {
+          row = row;
+          made_on = made_on;
+          region = region_of self.old.regions row;
+        }) }
     {
         let region = self.regions.region_of(row);
         let made_on = made_on.map(usize::from);

@@ -1,17 +1,17 @@
-// Rows that rows spawn where their contexts are cancelled, for every state that the parts stand for.
+// Rows that are spawned under a cancelled context, for every state that the parts stand for.
 ghost use Rattle.std.specs.Prelude.{◌≡◌, ◌<◌, ◌+◌, ◌^◌, ℕ, length, slice_set, true, Some, IsSome};
+ghost use Rattle.std.specs.Option.{ForSome};
 ghost use Rattle.task_group.specs.Groups.{group};
-ghost use Rattle.tenant_model.specs.State.{State, row};
+ghost use Rattle.tenant_model.specs.State.{State};
 ghost use Rattle.tenant_model.specs.Walks.{top};
-ghost use Rattle.tenant_model.specs.Changes.{new_row, add_row};
 ghost use Rattle.tenant_model.specs.Sound.{IsSteady};
-ghost use Rattle.tenant_model.specs.declared.rows.Kind.TheVariants.{Spawned};
 ghost use Rattle.tenant_model.specs.declared.rows.Phase.TheVariants.{Dropped};
 ghost use Rattle.job_step.specs.declared.frames.Frame.{Frame};
 ghost use Rattle.arena_rows.specs.declared.rows.OpenRow.{OpenRow};
 ghost use Rattle.arena_rows.specs.HeldChanges.{with_entry};
 ghost use Rattle.arena_rows.specs.MarkedGroups.{more_made, with_ended_member};
 ghost use Rattle.arena_rows.specs.Represents.{at_place, Rests, HasTop};
+ghost use Rattle.arena_rows.specs.NewRows.{with_spawned};
 
 use crate::parts::Parts;
 use job_language::{GROUPS, Group};
@@ -31,8 +31,10 @@ impl Parts {
     fn join_ended(&mut self, place: usize, number: Group)
         requires within { place < length self.old.table }
         requires there { IsSome (at_place self.old.table place) }
-        requires few { (e : OpenRow) → at_place self.old.table place ≡ Some e → (group e.groups number).pending < u32.MAX }
-        ensures { (e : OpenRow) → at_place self.old.table place ≡ Some e → self.new ≡ with_entry self.old place (with_ended_member number e) }
+        requires few { ForSome (at_place self.old.table place)
+            (λ e. (group e.groups number).pending < u32.MAX) }
+        ensures { ForSome (at_place self.old.table place)
+            (λ e. self.new ≡ with_entry self.old place (with_ended_member number e)) }
     {
         let mut groups = self.groups_at(place);
         add_ended(&mut groups, number.index());
@@ -52,9 +54,10 @@ impl Parts {
     pub fn spawn_dropped(&mut self, slot: u8, group: Group)
         requires top { HasTop self.old slot }
         requires few { self.old.made + 1 < 2 ^ 32 }
-        ensures { (s : State) (n : ℕ) (rests : Rests self.old s) (c : ℕ) (frame : Frame) → top s.rows slot ≡ Some n → rests.holds.assigned.of_group n group ≡ Some c
-            → IsSteady (add_row s (new_row (Spawned n group) (row s.rows n).job (Some slot) frame Dropped))
-            → Rests self.new (add_row s (new_row (Spawned n group) (row s.rows n).job (Some slot) frame Dropped)) }
+        ensures { (s : State) (n : ℕ) (rests : Rests self.old s) (c : ℕ) (frame : Frame)
+            → top s.rows slot ≡ Some n → rests.holds.assigned.of_group n group ≡ Some c
+            → IsSteady (with_spawned s n slot group frame Dropped)
+            → Rests self.new (with_spawned s n slot group frame Dropped) }
     {
         // Proof hint: the group's number is in range.
         let _ = group.index();
@@ -69,7 +72,8 @@ fn add_ended(groups: &mut Groups, number: usize)
     requires number { number < GROUPS }
     requires all { length groups.old ≡ GROUPS }
     requires few { (group groups.old number).pending < u32.MAX }
-    ensures { groups.new ≡ slice_set groups.old number (record (group groups.old number) { is_used = true }) }
+    ensures { groups.new
+        ≡ slice_set groups.old number (record (group groups.old number) { is_used = true }) }
 {
     groups.add(number);
     groups.drop_one(number);

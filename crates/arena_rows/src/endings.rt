@@ -1,5 +1,6 @@
 // Rows that end: what they held is given back.
-ghost use Rattle.std.specs.Prelude.{◌≡◌, ◌<◌, ◌≤◌, ◌-◌, ℕ, length, slice_index_or, slice_set, Some, None, IsSome};
+ghost use Rattle.std.specs.Prelude.{◌≡◌, ◌<◌, ◌≤◌, ◌-◌, ℕ, length, slice_set, Some, None, IsSome};
+ghost use Rattle.std.specs.Option.{ForSome};
 ghost use Rattle.task_group.specs.Groups.{group};
 ghost use Rattle.region_tag.specs.Region.{IsEntered};
 ghost use Rattle.job_language.specs.declared.instructions.TheConstants.{GROUPS};
@@ -8,6 +9,7 @@ ghost use Rattle.arena_rows.specs.declared.rows.CurrentJob.{CurrentJob};
 ghost use Rattle.arena_rows.specs.Represents.{at_place};
 ghost use Rattle.arena_rows.specs.HeldChanges.{index_of, with_entry};
 ghost use Rattle.arena_rows.specs.Endings.{Left, below, contexts_of, MayLeave, MayEnd, member_left, open_maker, parted, with_ended, CanEnd, HasEnded};
+ghost use Rattle.arena_rows.specs.HeldJobs.{held_job};
 
 use crate::open_rows::OpenRows;
 use crate::parts::Parts;
@@ -60,8 +62,10 @@ impl Parts {
     /// Lets the row at a place have one pending member less in a group, which ended with a value.
     fn leave(&mut self, place: usize, number: Group, value: i64)
         requires place { place < length self.old.table }
-        requires pending { (e : OpenRow) → at_place self.old.table place ≡ Some e → 0 < (group e.groups number).pending }
-        ensures { (e : OpenRow) → at_place self.old.table place ≡ Some e → self.new ≡ with_entry self.old place (member_left number value e) }
+        requires pending { ForSome (at_place self.old.table place)
+            (λ e. 0 < (group e.groups number).pending) }
+        ensures { ForSome (at_place self.old.table place)
+            (λ e. self.new ≡ with_entry self.old place (member_left number value e)) }
     {
         let Some(_maker) = self.rows.get(place) else {
             return;
@@ -71,9 +75,12 @@ impl Parts {
 
     /// Lets what spawned a row have one pending member less, if it is open.
     fn leave_maker(&mut self, source: Source, value: i64)
-        requires place { (p : ℕ × ℕ) → open_maker self.old.table source ≡ Some p → p.0 < length self.old.table }
-        requires there { (p : ℕ × ℕ) → open_maker self.old.table source ≡ Some p → IsSome (at_place self.old.table p.0) }
-        requires pending { (p : ℕ × ℕ) (e : OpenRow) → open_maker self.old.table source ≡ Some p → at_place self.old.table p.0 ≡ Some e → 0 < (group e.groups p.1).pending }
+        requires place { ForSome (open_maker self.old.table source)
+            (λ p. p.0 < length self.old.table) }
+        requires there { ForSome (open_maker self.old.table source)
+            (λ p. IsSome (at_place self.old.table p.0)) }
+        requires pending { (p : ℕ × ℕ) (e : OpenRow) → open_maker self.old.table source ≡ Some p
+            → at_place self.old.table p.0 ≡ Some e → 0 < (group e.groups p.1).pending }
         ensures { self.new ≡ record self.old { table = parted self.old.table source value } }
     {
         if let Some((place, group)) = self.open_maker(source) {
@@ -99,18 +106,22 @@ impl Parts {
     fn count_out(&mut self, job: u64, number: u64, value: i64)
         requires above { self.old.retired < job }
         requires below { job - self.old.retired ≤ length self.old.jobs }
-        requires some { (d : CurrentJob) → 0 < (slice_index_or self.old.jobs (index_of self.old job) d).open_rows }
-        ensures { (d : CurrentJob) → self.new ≡ record self.old { jobs = slice_set self.old.jobs (index_of self.old job) (with_ended number value (slice_index_or self.old.jobs (index_of self.old job) d)) } }
+        requires some { (d : CurrentJob) → 0 < (held_job self.old job d).open_rows }
+        ensures { (d : CurrentJob) → self.new ≡ record self.old {
+          jobs = slice_set self.old.jobs (index_of self.old job)
+              (with_ended number value (held_job self.old job d));
+        } }
     {
         let index = self.index_of(job);
         self.jobs[index].end_row(number, value);
     }
 
-    /// Ends an open row with a value, which is 0 where it has none. The caller takes it off its slot
+    /// Ends an open row with a value, which is 0 if it has none. The caller takes it off its slot
     /// or out of the pool.
     pub(crate) fn end(&mut self, row: RowId, value: i64)
         requires { CanEnd self.old row }
-        ensures { (e : OpenRow) → at_place self.old.table row.place ≡ Some e → HasEnded self.old self.new row e value }
+        ensures { ForSome (at_place self.old.table row.place)
+            (λ e. HasEnded self.old self.new row e value) }
     {
         let entry = *self.entry_at(row.place);
         release_all(&mut self.rows, &entry);

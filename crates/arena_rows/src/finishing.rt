@@ -36,7 +36,8 @@ impl Parts {
     /// A slot's topmost row, which has no used group, is done with a value.
     pub fn finish(&mut self, slot: u8, value: i64)
         requires { HasUnused self.old slot }
-        ensures { (s : State) (n : ℕ) (frame : Frame) → Rests self.old s → top s.rows slot ≡ Some n → has_used_group s n ≡ false
+        ensures { (s : State) (n : ℕ) (frame : Frame) → Rests self.old s → top s.rows slot ≡ Some n
+            → has_used_group s n ≡ false
             → length frame.registers ≡ length (row s.rows n).frame.registers
             → Rests self.new (on_row s n (λ r. record r { frame = frame; phase = Done value })) }
     {
@@ -49,10 +50,12 @@ impl Parts {
     fn fault_top(&mut self, slot: u8)
         requires faulty { HasFaulty self.old slot }
         requires forest { IsForest self.old.contexts }
-        ensures holds { (s : State) (n : ℕ) → Holds self.old s → top s.rows slot ≡ Some n → IsSome (job s.jobs (row s.rows n).job).fault
+        ensures holds { (s : State) (n : ℕ) → Holds self.old s → top s.rows slot ≡ Some n
+            → IsSome (job s.jobs (row s.rows n).job).fault
             → Holds self.new (on_row s n (λ r. record r { phase = Faulted })) }
         ensures forest { IsForest self.new.contexts }
-        ensures height { length (stack self.new.nests slot) + 1 ≡ length (stack self.old.nests slot) }
+        ensures height { length (stack self.new.nests slot) + 1
+            ≡ length (stack self.old.nests slot) }
     {
         let row = self.top_row(slot);
         self.end(row, 0);
@@ -62,7 +65,8 @@ impl Parts {
     /// Whether a slot's topmost row is a region.
     pub fn is_region_on(&self, slot: u8) -> bool
         requires { HasTop self.now slot }
-        ensures { (s : State) (n : ℕ) (is : Holds self.now s) → top s.rows slot ≡ Some n → result ≡ is_region (row s.rows n).kind }
+        ensures { (s : State) (n : ℕ) (is : Holds self.now s) → top s.rows slot ≡ Some n
+            → result ≡ is_region (row s.rows n).kind }
     {
         let Some(top) = self.top(slot) else {
             unreachable!();
@@ -75,7 +79,8 @@ impl Parts {
     pub(crate) fn fault_rows(&mut self, slot: u8)
         requires faulty { HasFaulty self.old slot }
         requires forest { IsForest self.old.contexts }
-        ensures holds { (s : State) (n : ℕ) → Holds self.old s → top s.rows slot ≡ Some n → IsSome (job s.jobs (row s.rows n).job).fault
+        ensures holds { (s : State) (n : ℕ) → Holds self.old s → top s.rows slot ≡ Some n
+            → IsSome (job s.jobs (row s.rows n).job).fault
             → Holds self.new (faulted_rows s slot) }
         ensures forest { IsForest self.new.contexts }
     {
@@ -89,12 +94,14 @@ impl Parts {
     /// A row that waits is dropped.
     pub fn drop_row(&mut self, id: RowId)
         requires { IsWaiting self.old id }
-        ensures holds { (s : State) (n : ℕ) (is : Holds self.old s) → is_unstarted (row s.rows n).phase ≡ true → id ≡ id_of is.places n
+        ensures holds { (s : State) (n : ℕ) (is : Holds self.old s)
+            → is_unstarted (row s.rows n).phase ≡ true → id ≡ id_of is.places n
             → Holds self.new (on_row s n (λ r. record r { phase = Dropped })) }
         ensures forest { IsForest self.old.contexts → IsForest self.new.contexts }
         ensures long { length self.new.table ≡ length self.old.table }
         ensures freed { count_by is_some self.new.table + 1 ≡ count_by is_some self.old.table }
-        ensures numbers { (q : ℕ) (e : OpenRow) → at_place self.new.table q ≡ Some e → number_at self.old.table q ≡ Some e.number }
+        ensures numbers { (q : ℕ) (e : OpenRow) → at_place self.new.table q ≡ Some e
+            → number_at self.old.table q ≡ Some e.number }
     {
         self.end(id, 0);
         self.unwait(id);

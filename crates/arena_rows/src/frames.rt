@@ -17,16 +17,18 @@ impl Parts {
     pub fn move_on(&mut self, slot: u8, frame: Frame)
         requires { HasTop self.old slot }
         ensures { (s : State) (n : ℕ) → Rests self.old s → top s.rows slot ≡ Some n
-            → length frame.registers ≡ length (row s.rows n).frame.registers → Rests self.new (with_frame s n frame) }
+            → length frame.registers ≡ length (row s.rows n).frame.registers
+            → Rests self.new (with_frame s n frame) }
     {
         self.set_frame(slot, frame);
     }
 
-    /// The value of a slot's cell of a key. The cell is made as 0 where there is none.
+    /// The value of a slot's cell of a key. The cell is made as 0 if there is none.
     #[tactic(auto, using(crate::proofs::CellsHeld::cell_rests))]
     pub fn local(&mut self, slot: u8, key: Key) -> i64
         requires { slot < MAX_SLOTS }
-        ensures { (s : State) → Rests self.old s → (result ≡ unwrap_or (cell s.cells key slot) (pos 0))
+        ensures { (s : State) → Rests self.old s
+            → (result ≡ unwrap_or (cell s.cells key slot) (pos 0))
             × Rests self.new (with_cells s (with_cell s.cells key slot result)) }
     {
         self.local_cell(slot, key)
@@ -35,16 +37,18 @@ impl Parts {
     fn local_cell(&mut self, slot: u8, key: Key) -> i64
         requires { slot < MAX_SLOTS }
         ensures value { result ≡ unwrap_or (cell self.old.cells key slot) (pos 0) }
-        ensures made { self.new ≡ with_cells_held self.old (with_cell self.old.cells key slot result) }
+        ensures made { self.new
+            ≡ with_cells_held self.old (with_cell self.old.cells key slot result) }
     {
         self.cells.local(key.index(), usize::from(slot))
     }
 
-    /// Gives a slot's cell of a key a value, and makes the cell where there is none.
+    /// Gives a slot's cell of a key a value, and makes the cell if there is none.
     #[tactic(auto, using(crate::proofs::CellsHeld::cell_rests))]
     pub fn store(&mut self, slot: u8, key: Key, value: i64)
         requires { slot < MAX_SLOTS }
-        ensures { (s : State) → Rests self.old s → Rests self.new (with_cells s (with_cell s.cells key slot value)) }
+        ensures { (s : State) → Rests self.old s
+            → Rests self.new (with_cells s (with_cell s.cells key slot value)) }
     {
         self.store_cell(slot, key, value);
     }

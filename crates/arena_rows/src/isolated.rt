@@ -2,14 +2,12 @@
 ghost use Rattle.std.specs.Prelude.{◌≡◌, ◌<◌, ◌+◌, ◌^◌, ℕ, length, Some};
 ghost use Rattle.nest_stack.specs.declared.stack.TheConstants.{MAX_HEIGHT};
 ghost use Rattle.nest_stack.specs.Nest.{stack};
-ghost use Rattle.tenant_model.specs.State.{State, row};
-ghost use Rattle.tenant_model.specs.Walks.{top, height};
-ghost use Rattle.tenant_model.specs.Changes.{new_row, add_row};
+ghost use Rattle.tenant_model.specs.State.{State};
+ghost use Rattle.tenant_model.specs.Walks.{top};
 ghost use Rattle.tenant_model.specs.Sound.{IsSteady};
-ghost use Rattle.tenant_model.specs.declared.rows.Kind.TheVariants.{Region};
-ghost use Rattle.tenant_model.specs.declared.rows.Phase.TheVariants.{Live};
 ghost use Rattle.arena_rows.specs.Held.{HasFreePlace};
 ghost use Rattle.arena_rows.specs.Represents.{id_of, Holds, HasTop};
+ghost use Rattle.arena_rows.specs.NewRows.{with_region};
 
 use crate::parts::Parts;
 use crate::rows::{Source, Stage};
@@ -20,7 +18,8 @@ impl Parts {
     /// The id of a slot's topmost row.
     pub(crate) fn top_row(&self, slot: u8) -> RowId
         requires { HasTop self.now slot }
-        ensures { (s : State) (n : ℕ) (is : Holds self.now s) → top s.rows slot ≡ Some n → result ≡ id_of is.places n }
+        ensures { (s : State) (n : ℕ) (is : Holds self.now s) → top s.rows slot ≡ Some n
+            → result ≡ id_of is.places n }
     {
         let Some(top) = self.top(slot) else {
             unreachable!();
@@ -35,8 +34,8 @@ impl Parts {
         requires few { self.old.made < 2 ^ 32 }
         requires height { length (stack self.old.nests slot) < MAX_HEIGHT }
         ensures { (s : State) (n : ℕ) → Holds self.old s → top s.rows slot ≡ Some n
-            → IsSteady (add_row s (new_row (Region n) (row s.rows n).job (Some slot) frame (Live slot (height s.rows slot + 1))))
-            → Holds self.new (add_row s (new_row (Region n) (row s.rows n).job (Some slot) frame (Live slot (height s.rows slot + 1)))) }
+            → IsSteady (with_region s n slot frame)
+            → Holds self.new (with_region s n slot frame) }
     {
         let maker = self.top_row(slot);
         let entry = self.top_entry(slot);

@@ -1,5 +1,5 @@
 // Changes of jobs: what they pay, their faults and their cancels.
-ghost use Rattle.std.specs.Prelude.{◌≡◌, ◌<◌, ◌≤◌, ◌-◌, ℕ, not, length, slice_index_or, Some, IsSome};
+ghost use Rattle.std.specs.Prelude.{◌≡◌, ◌<◌, ◌≤◌, ◌-◌, ℕ, not, length, Some, IsSome};
 ghost use Rattle.tenant_model.specs.State.{State, row};
 ghost use Rattle.tenant_model.specs.Changes.{on_job};
 ghost use Rattle.cancel_context.specs.Forest.{IsForest, IsHeld, held_count};
@@ -7,7 +7,8 @@ ghost use Rattle.tenant_model.specs.Walks.{top};
 ghost use Rattle.tenant_model.specs.Advance.{is_poor, with_fuel_paid};
 ghost use Rattle.arena_rows.specs.declared.rows.CurrentJob.{CurrentJob};
 ghost use Rattle.arena_rows.specs.Represents.{at_place, IsRow, Holds, Rests, HasTop, HoldsSomehow};
-ghost use Rattle.arena_rows.specs.HeldChanges.{index_of, job_changed, job_asked, with_fuel_left, with_fault, cancelled_work};
+ghost use Rattle.arena_rows.specs.HeldChanges.{job_changed, job_asked, with_fuel_left, with_fault, cancelled_work};
+ghost use Rattle.arena_rows.specs.HeldJobs.{held_job};
 
 use crate::parts::Parts;
 use crate::rows::OpenRow;
@@ -30,7 +31,8 @@ impl Parts {
     pub(crate) fn top_entry(&self, slot: u8) -> &OpenRow
         requires { HasTop self.now slot }
         ensures entry { (s : State) (n : ℕ) (is : Holds self.now s) → top s.rows slot ≡ Some n
-            → (at_place self.now.table (is.places n) ≡ Some result.now) × IsRow s.rows is.places n result.now }
+            → (at_place self.now.table (is.places n) ≡ Some result.now)
+            × IsRow s.rows is.places n result.now }
         ensures above { self.now.retired < result.now.job }
         ensures below { result.now.job - self.now.retired ≤ length self.now.jobs }
     {
@@ -44,7 +46,7 @@ impl Parts {
     fn fuel_of(&self, job: u64) -> u64
         requires above { self.now.retired < job }
         requires below { job - self.now.retired ≤ length self.now.jobs }
-        ensures { (d : CurrentJob) → result ≡ (slice_index_or self.now.jobs (index_of self.now job) d).work.fuel }
+        ensures { (d : CurrentJob) → result ≡ (held_job self.now job d).work.fuel }
     {
         let index = self.index_of(job);
         self.jobs[index].work.fuel
@@ -61,7 +63,7 @@ impl Parts {
     }
 
     /// Lets the job of a slot's topmost row pay for that many instructions, and says whether its fuel
-    /// sufficed; where it did not, none is left.
+    /// sufficed. If it did not, none is left.
     pub fn pay(&mut self, slot: u8, cost: u64) -> bool
         requires { HasTop self.old slot }
         ensures pays { (s : State) (n : ℕ) → Rests self.old s → top s.rows slot ≡ Some n
@@ -98,7 +100,8 @@ impl Parts {
     fn ask_job(&mut self, job: u64)
         requires above { self.old.retired < job }
         requires below { job - self.old.retired ≤ length self.old.jobs }
-        requires held { (d : CurrentJob) → IsHeld self.old.contexts (slice_index_or self.old.jobs (index_of self.old job) d).context }
+        requires held { (d : CurrentJob)
+            → IsHeld self.old.contexts (held_job self.old job d).context }
         ensures asked { (d : CurrentJob) → self.new ≡ job_asked self.old job d }
         ensures count { held_count self.new.contexts ≡ held_count self.old.contexts }
         ensures forest { IsForest self.new.contexts }

@@ -3,7 +3,8 @@ ghost use Rattle.std.specs.Prelude.{◌≡◌, ◌⊎◌, ◌≢◌, ◌+◌, �
 ghost use Rattle.cancel_context.specs.Forest.{IsForest, IsHeld, binding, held_count, is_cancelled, parent, with_bound, with_request, without};
 ghost use Rattle.cancel_context.specs.declared.contexts.TheConstants.{BASE_CONTEXTS, CONTEXTS_PER_ROW, MAX_ROWS};
 ghost use Rattle.place_lists.specs.Filing.{filed_in};
-ghost use Rattle.arena_rows.specs.OpenRows.{AreFiled, AreFine, IsDoomed, changed_at, list_for};
+ghost use Rattle.arena_rows.specs.OpenRows.{AreFiled, AreFine, IsDoomed, list_for};
+ghost use Rattle.arena_rows.specs.RowChanges.{row_changed};
 ghost use Rattle.arena_rows.specs.Represents.{IsFree};
 ghost use Rattle.arena_rows.specs.HeldChanges.{new_entry, with_group, with_member};
 ghost use Rattle.arena_rows.specs.Endings.{member_left};
@@ -57,14 +58,18 @@ impl Model for OpenRows {
 
     ghost view = { λ r. record { table = r.table; contexts = r.contexts } };
 
-    ghost invariant = { λ r. AreFiled r.table r.contexts r.filing r.doomed r.turned.items × (length r.contexts ≤ vec_capacity r.turned) };
+    ghost invariant = { λ r. AreFiled r.table r.contexts r.filing r.doomed r.turned.items
+        × (length r.contexts ≤ vec_capacity r.turned) };
 }
 
 impl OpenRows {
     /// No rows and no contexts, with room for as many rows as asked for and for their contexts.
     pub(crate) fn new(alloc: Global, rows: usize) -> Result<OpenRows, AllocError>
         requires { rows ≤ MAX_ROWS }
-        ensures { IfOk result (λ made. made ≡ record { table = replicate rows None; contexts = replicate (BASE_CONTEXTS + CONTEXTS_PER_ROW * rows) None }) }
+        ensures { IfOk result (λ made. made ≡ record {
+          table = replicate rows None;
+          contexts = replicate (BASE_CONTEXTS + CONTEXTS_PER_ROW * rows) None;
+        }) }
     {
         let doomed = BASE_CONTEXTS + CONTEXTS_PER_ROW * rows;
         let table = PlaceTable::new(alloc, rows)?;
@@ -108,7 +113,7 @@ impl OpenRows {
         self.table.is_empty()
     }
 
-    /// What stands at a place; nothing where it is free, or not there.
+    /// What stands at a place; nothing if it is free, or not there.
     pub(crate) fn get(&self, place: usize) -> Option<&OpenRow>
         ensures { option_copied result ≡ slice_index_or self.now.table place None }
     {
@@ -128,7 +133,10 @@ impl OpenRows {
     ) -> usize
         requires { count_by is_some self.old.table < length self.old.table }
         ensures free { IsFree self.old.table result }
-        ensures put { self.new ≡ record self.old { table = slice_set self.old.table result (Some (new_entry number source job made_on stage context)) } }
+        ensures put { self.new ≡ record self.old {
+          table = slice_set self.old.table result
+              (Some (new_entry number source job made_on stage context));
+        } }
     {
         let entry = OpenRow {
             number,
@@ -160,7 +168,8 @@ impl OpenRows {
     pub(crate) fn start(&mut self, place: usize, slot: u8, height: u64)
         requires place { place < length self.old.table }
         requires there { IsSome (slice_index_or self.old.table place None) }
-        ensures { self.new ≡ record self.old { table = changed_at self.old.table place (λ e. record e { stage = stage.Live slot height }) } }
+        ensures { self.new ≡ row_changed self.old place
+            (λ e. record e { stage = stage.Live slot height }) }
     {
         let entry = self.table.at_mut(place);
         entry.stage = Stage::Live(slot as usize, height);
@@ -171,7 +180,7 @@ impl OpenRows {
     pub(crate) fn set_groups(&mut self, place: usize, groups: Groups)
         requires place { place < length self.old.table }
         requires there { IsSome (slice_index_or self.old.table place None) }
-        ensures { self.new ≡ record self.old { table = changed_at self.old.table place (λ e. record e { groups = groups }) } }
+        ensures { self.new ≡ row_changed self.old place (λ e. record e { groups = groups }) }
     {
         let entry = self.table.at_mut(place);
         entry.groups = groups;
@@ -181,8 +190,9 @@ impl OpenRows {
     pub(crate) fn add_member(&mut self, place: usize, number: Group)
         requires place { place < length self.old.table }
         requires there { IsSome (slice_index_or self.old.table place None) }
-        requires few { (e : OpenRow) → slice_index_or self.old.table place None ≡ Some e → (group e.groups number).pending < u32.MAX }
-        ensures { self.new ≡ record self.old { table = changed_at self.old.table place (with_member number) } }
+        requires few { ForSome (slice_index_or self.old.table place None)
+            (λ e. (group e.groups number).pending < u32.MAX) }
+        ensures { self.new ≡ row_changed self.old place (with_member number) }
     {
         self.table.at_mut(place).join(number);
     }
@@ -191,8 +201,9 @@ impl OpenRows {
     pub(crate) fn finish_member(&mut self, place: usize, number: Group, value: i64)
         requires place { place < length self.old.table }
         requires there { IsSome (slice_index_or self.old.table place None) }
-        requires pending { (e : OpenRow) → slice_index_or self.old.table place None ≡ Some e → 0 < (group e.groups number).pending }
-        ensures { self.new ≡ record self.old { table = changed_at self.old.table place (member_left number value) } }
+        requires pending { ForSome (slice_index_or self.old.table place None)
+            (λ e. 0 < (group e.groups number).pending) }
+        ensures { self.new ≡ row_changed self.old place (member_left number value) }
     {
         self.table.at_mut(place).leave(number, value);
     }
@@ -201,8 +212,9 @@ impl OpenRows {
     pub(crate) fn empty_group(&mut self, place: usize, number: Group)
         requires place { place < length self.old.table }
         requires there { IsSome (slice_index_or self.old.table place None) }
-        requires ended { (e : OpenRow) → slice_index_or self.old.table place None ≡ Some e → (group e.groups number).pending ≡ 0 }
-        ensures { self.new ≡ record self.old { table = changed_at self.old.table place (with_group_emptied number) } }
+        requires ended { ForSome (slice_index_or self.old.table place None)
+            (λ e. (group e.groups number).pending ≡ 0) }
+        ensures { self.new ≡ row_changed self.old place (with_group_emptied number) }
     {
         self.table.at_mut(place).empty_group(number);
     }
@@ -211,7 +223,7 @@ impl OpenRows {
     pub(crate) fn set_group_context(&mut self, place: usize, group: Group, context: ContextId)
         requires place { place < length self.old.table }
         requires there { IsSome (slice_index_or self.old.table place None) }
-        ensures { self.new ≡ record self.old { table = changed_at self.old.table place (with_group group context) } }
+        ensures { self.new ≡ row_changed self.old place (with_group group context) }
     {
         let entry = self.table.at_mut(place);
         entry.group_contexts[group.index()] = Some(context);
@@ -241,7 +253,8 @@ impl OpenRows {
         requires room { held_count self.old.contexts < length self.old.contexts }
         requires parent { ForSome parent (IsHeld self.old.contexts) }
         ensures fresh { binding self.old.contexts result ≡ None }
-        ensures bound { self.new ≡ record self.old { contexts = with_bound self.old.contexts result parent } }
+        ensures bound { self.new
+            ≡ record self.old { contexts = with_bound self.old.contexts result parent } }
         ensures held { IsHeld self.new.contexts result }
         ensures count { held_count self.new.contexts ≡ held_count self.old.contexts + 1 }
     {
@@ -255,7 +268,8 @@ impl OpenRows {
     /// doomed.
     pub(crate) fn cancel(&mut self, context: ContextId)
         requires { IsHeld self.old.contexts context }
-        ensures requested { self.new ≡ record self.old { contexts = with_request self.old.contexts context true } }
+        ensures requested { self.new
+            ≡ record self.old { contexts = with_request self.old.contexts context true } }
         ensures count { held_count self.new.contexts ≡ held_count self.old.contexts }
         ensures forest { IsForest self.new.contexts }
     {
@@ -266,20 +280,25 @@ impl OpenRows {
     /// Takes back the cancel request of a context.
     pub(crate) fn reset(&mut self, context: ContextId)
         requires { IsHeld self.old.contexts context }
-        ensures taken_back { self.new ≡ record self.old { contexts = with_request self.old.contexts context false } }
+        ensures taken_back { self.new
+            ≡ record self.old { contexts = with_request self.old.contexts context false } }
         ensures count { held_count self.new.contexts ≡ held_count self.old.contexts }
     {
         self.contexts.reset(context);
     }
 
-    /// Ends a context. Where it is cancelled, what is bound to it stays cancelled for good.
+    /// Ends a context. If it is cancelled, what is bound to it stays cancelled for good.
     pub(crate) fn release(&mut self, context: ContextId)
         requires held { IsHeld self.old.contexts context }
-        requires ends { (c : ℕ) → parent self.old.contexts c ≡ Some context → is_cancelled self.old.contexts context ≡ true }
-        ensures released { self.new ≡ record self.old { contexts = without self.old.contexts context } }
-        ensures keeps { (c : ℕ) → c ≢ context → IsHeld self.old.contexts c → IsHeld self.new.contexts c }
+        requires ends { (c : ℕ) → parent self.old.contexts c ≡ Some context
+            → is_cancelled self.old.contexts context ≡ true }
+        ensures released { self.new
+            ≡ record self.old { contexts = without self.old.contexts context } }
+        ensures keeps { (c : ℕ) → c ≢ context → IsHeld self.old.contexts c
+            → IsHeld self.new.contexts c }
         ensures count { held_count self.new.contexts + 1 ≡ held_count self.old.contexts }
-        ensures others { (c : ℕ) → c ≢ context → is_cancelled self.new.contexts c ≡ is_cancelled self.old.contexts c }
+        ensures others { (c : ℕ) → c ≢ context
+            → is_cancelled self.new.contexts c ≡ is_cancelled self.old.contexts c }
         ensures forest { IsForest self.new.contexts }
     {
         self.contexts.release(context);
@@ -326,7 +345,8 @@ fn next_doomed(
     requires { AreFiled table.now contexts.now filing.old doomed [] }
     ensures filed { AreFiled table.now contexts.now filing.new doomed [] }
     ensures none { result ≡ None → AreFine (record { table = table.now; contexts = contexts.now }) }
-    ensures some { IfSome result (IsDoomed (record { table = table.now; contexts = contexts.now })) }
+    ensures some { IfSome result
+        (IsDoomed (record { table = table.now; contexts = contexts.now })) }
 {
     while let Some(place) = filing.first(doomed) {
         let list = list_at(table, contexts, doomed, place);
@@ -342,7 +362,8 @@ fn next_doomed(
 fn file(filing: &mut Filing, place: usize, list: Option<usize>)
     requires place { place < length filing.old.by_place }
     requires list { ForSome list (λ l. l < filing.old.lists) }
-    ensures { filing.new ≡ record filing.old { by_place = slice_set filing.old.by_place place list } }
+    ensures { filing.new
+        ≡ record filing.old { by_place = slice_set filing.old.by_place place list } }
 {
     match list {
         Some(list) => filing.file(place, list),
@@ -353,8 +374,10 @@ fn file(filing: &mut Filing, place: usize, list: Option<usize>)
 /// Files with the doomed what waits under contexts that were cancelled, and forgets these.
 fn doom(filing: &mut Filing, turned: &mut Vec<ContextId>, doomed: usize)
     requires { doomed < filing.old.lists }
-    ensures moved { (p c : ℕ) → Contains turned.old.items c → filed_in filing.old p ≡ Some c → filed_in filing.new p ≡ Some doomed }
-    ensures others { (p : ℕ) → (filed_in filing.new p ≡ filed_in filing.old p) ⊎ (filed_in filing.new p ≡ Some doomed) }
+    ensures moved { (p c : ℕ) → Contains turned.old.items c → filed_in filing.old p ≡ Some c
+        → filed_in filing.new p ≡ Some doomed }
+    ensures others { (p : ℕ)
+        → (filed_in filing.new p ≡ filed_in filing.old p) ⊎ (filed_in filing.new p ≡ Some doomed) }
     ensures places { length filing.new.by_place ≡ length filing.old.by_place }
     ensures lists { filing.new.lists ≡ filing.old.lists }
     ensures none { turned.new.items ≡ [] }

@@ -98,7 +98,8 @@ impl Parts {
     /// The region of a slot's topmost row.
     fn region_on(&self, slot: u8) -> Option<RowId>
         requires { slot < length self.now.nests }
-        ensures { result ≡ option_and_then (λ n. region_of self.now.regions n.row) (top (stack self.now.nests slot)) }
+        ensures { result ≡ option_and_then
+            (λ n. region_of self.now.regions n.row) (top (stack self.now.nests slot)) }
     {
         let top = self.nests.top(usize::from(slot))?;
         self.regions.region_of(top.row)

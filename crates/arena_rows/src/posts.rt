@@ -1,15 +1,14 @@
 // Rows in no group and no region that wait to be started, for every state that the parts stand for.
-ghost use Rattle.std.specs.Prelude.{◌≡◌, ◌<◌, ◌≤◌, ◌-◌, ◌^◌, ℕ, length, slice_index_or, Some, None};
-ghost use Rattle.tenant_model.specs.State.{State, row};
+ghost use Rattle.std.specs.Prelude.{◌≡◌, ◌<◌, ◌≤◌, ◌-◌, ◌^◌, ℕ, length, Some};
+ghost use Rattle.tenant_model.specs.State.{State};
 ghost use Rattle.tenant_model.specs.Walks.{top};
-ghost use Rattle.tenant_model.specs.Changes.{new_row, add_row};
 ghost use Rattle.tenant_model.specs.Sound.{IsSteady};
-ghost use Rattle.tenant_model.specs.declared.rows.Kind.TheVariants.{Posted};
 ghost use Rattle.tenant_model.specs.declared.rows.Phase.TheVariants.{Unstarted};
 ghost use Rattle.arena_rows.specs.declared.rows.CurrentJob.{CurrentJob};
 ghost use Rattle.arena_rows.specs.Held.{HasFreePlace};
 ghost use Rattle.arena_rows.specs.Represents.{Holds, Rests, RestsSomehow, HasTop};
-ghost use Rattle.arena_rows.specs.HeldChanges.{index_of};
+ghost use Rattle.arena_rows.specs.HeldJobs.{held_job};
+ghost use Rattle.arena_rows.specs.NewRows.{with_posted};
 
 use crate::parts::Parts;
 use crate::rows::{Source, Stage};
@@ -21,7 +20,7 @@ impl Parts {
     fn context_of(&self, job: u64) -> ContextId
         requires above { self.now.retired < job }
         requires below { job - self.now.retired ≤ length self.now.jobs }
-        ensures { (d : CurrentJob) → result ≡ (slice_index_or self.now.jobs (index_of self.now job) d).context }
+        ensures { (d : CurrentJob) → result ≡ (held_job self.now job d).context }
     {
         let index = self.index_of(job);
         self.jobs[index].context
@@ -34,8 +33,8 @@ impl Parts {
         requires free { HasFreePlace self.old }
         requires few { self.old.made < 2 ^ 32 }
         ensures { (s : State) (n : ℕ) → Rests self.old s → top s.rows slot ≡ Some n
-            → IsSteady (add_row s (new_row Posted (row s.rows n).job None frame Unstarted))
-            → Holds self.new (add_row s (new_row Posted (row s.rows n).job None frame Unstarted)) }
+            → IsSteady (with_posted s n frame Unstarted)
+            → Holds self.new (with_posted s n frame Unstarted) }
     {
         let job = self.top_entry(slot).job;
         let context = self.context_of(job);

@@ -1,13 +1,13 @@
 // What a slot's topmost row sees of itself and of its groups, for every state that the parts stand for.
-ghost use Rattle.std.specs.Prelude.{◌≡◌, ◌<◌, ◌≤◌, ◌-◌, ◌||◌, ℕ, length, slice_index_or, Some};
+ghost use Rattle.std.specs.Prelude.{◌≡◌, ◌<◌, ◌≤◌, ◌-◌, ◌||◌, ℕ, length, Some};
 ghost use Rattle.cancel_context.specs.Forest.{IsForest, IsHeld, is_cancelled};
 ghost use Rattle.tenant_model.specs.State.{State, row, job};
 ghost use Rattle.tenant_model.specs.Shared.{group_status, has_used_group};
 ghost use Rattle.tenant_model.specs.Walks.{is_context_cancelled, is_job_cancelled, is_pending, mark, top, total};
 ghost use Rattle.arena_rows.specs.declared.rows.CurrentJob.{CurrentJob};
-ghost use Rattle.arena_rows.specs.HeldChanges.{index_of};
 ghost use Rattle.arena_rows.specs.Represents.{Holds, HasTop};
 ghost use Rattle.arena_rows.specs.MarkedGroups.{HasEndedGroup};
+ghost use Rattle.arena_rows.specs.HeldJobs.{held_job};
 
 use crate::parts::Parts;
 use cancel_context::ContextId;
@@ -19,7 +19,8 @@ impl Parts {
     /// The frame of a slot's topmost row.
     pub fn frame(&self, slot: u8) -> Frame
         requires { HasTop self.now slot }
-        ensures { (s : State) (n : ℕ) → Holds self.now s → top s.rows slot ≡ Some n → result ≡ (row s.rows n).frame }
+        ensures { (s : State) (n : ℕ) → Holds self.now s → top s.rows slot ≡ Some n
+            → result ≡ (row s.rows n).frame }
     {
         let Some(top) = self.top(slot) else {
             unreachable!();
@@ -31,7 +32,7 @@ impl Parts {
     fn work_of(&self, job: u64) -> &Work
         requires above { self.now.retired < job }
         requires below { job - self.now.retired ≤ length self.now.jobs }
-        ensures { (d : CurrentJob) → result.now ≡ (slice_index_or self.now.jobs (index_of self.now job) d).work }
+        ensures { (d : CurrentJob) → result.now ≡ (held_job self.now job d).work }
     {
         let index = self.index_of(job);
         &self.jobs[index].work
@@ -69,7 +70,8 @@ impl Parts {
     /// Whether the context of a slot's topmost row is cancelled.
     pub fn is_cancelled(&self, slot: u8) -> bool
         requires { HasTop self.now slot }
-        ensures { (s : State) (n : ℕ) → Holds self.now s → top s.rows slot ≡ Some n → result ≡ is_context_cancelled s n }
+        ensures { (s : State) (n : ℕ) → Holds self.now s → top s.rows slot ≡ Some n
+            → result ≡ is_context_cancelled s n }
     {
         let context = self.top_entry(slot).context;
         self.is_context_cancelled(context)
@@ -88,10 +90,11 @@ impl Parts {
         self.is_context_cancelled(context)
     }
 
-    /// The status that a passed wait stores: 2 where the group was cancelled, and 1 otherwise.
+    /// The status that a passed wait stores: 2 if the group was cancelled, and 1 otherwise.
     pub fn group_status(&self, slot: u8, group: Group) -> i64
         requires { HasTop self.now slot }
-        ensures { (s : State) (n : ℕ) → Holds self.now s → top s.rows slot ≡ Some n → result ≡ group_status s n group }
+        ensures { (s : State) (n : ℕ) → Holds self.now s → top s.rows slot ≡ Some n
+            → result ≡ group_status s n group }
     {
         if self.is_group_cancelled(slot, group) {
             2
@@ -103,7 +106,8 @@ impl Parts {
     /// Whether a member of a group of a slot's topmost row is open.
     pub fn is_pending(&self, slot: u8, group: Group) -> bool
         requires { HasTop self.now slot }
-        ensures { (s : State) (n : ℕ) → Holds self.now s → top s.rows slot ≡ Some n → result ≡ is_pending s.rows n group }
+        ensures { (s : State) (n : ℕ) → Holds self.now s → top s.rows slot ≡ Some n
+            → result ≡ is_pending s.rows n group }
     {
         self.top_entry(slot).groups.pending(group.index()) > 0
     }
@@ -111,7 +115,8 @@ impl Parts {
     /// Whether a group of a slot's topmost row has a member, open or ended.
     pub fn has_used_group(&self, slot: u8) -> bool
         requires { HasTop self.now slot }
-        ensures { (s : State) (n : ℕ) → Holds self.now s → top s.rows slot ≡ Some n → result ≡ has_used_group s n }
+        ensures { (s : State) (n : ℕ) → Holds self.now s → top s.rows slot ≡ Some n
+            → result ≡ has_used_group s n }
     {
         let groups = &self.top_entry(slot).groups;
         groups.is_used(0) || groups.is_used(1) || groups.is_used(2) || groups.is_used(3)
@@ -121,7 +126,8 @@ impl Parts {
     /// have ended.
     pub fn group_total(&self, slot: u8, group: Group) -> i64
         requires { HasEndedGroup self.now slot group }
-        ensures { (s : State) (n : ℕ) → Holds self.now s → top s.rows slot ≡ Some n → result ≡ total s.rows n group }
+        ensures { (s : State) (n : ℕ) → Holds self.now s → top s.rows slot ≡ Some n
+            → result ≡ total s.rows n group }
     {
         self.top_entry(slot).groups.total(group.index())
     }

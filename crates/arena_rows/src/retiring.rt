@@ -27,18 +27,22 @@ impl Parts {
         self.entries += 1;
     }
 
-    /// Retires all jobs, where no row is open, and enters the next epoch without cells. It is an entry.
+    /// Retires all jobs, once no row is open, and enters the next epoch without cells. It is an entry.
     pub fn retire(&mut self)
         requires idle { IsIdle self.old }
         requires room { self.old.entries < self.old.config.steps }
         ensures { (s : State) → Rests self.old s
-            → Rests self.new (entry (record s { jobs = map retired_work s.jobs; cells = no_cells; epoch = s.epoch + 1 })) }
+            → Rests self.new (entry (record s {
+              jobs = map retired_work s.jobs;
+              cells = no_cells;
+              epoch = s.epoch + 1;
+            })) }
     {
         self.end_jobs();
     }
 }
 
-/// Releases the contexts of jobs, where no others are held.
+/// Releases the contexts of jobs, which are all that is held.
 fn release_jobs(rows: &mut OpenRows, jobs: &[CurrentJob])
     requires { HoldJobs rows.old.contexts jobs.now 0 }
     ensures none { held_count rows.new.contexts ≡ 0 }

@@ -41,8 +41,8 @@ pub struct OpenRow {
     /// Its groups, and the context of each that is used or cancelled.
     pub groups: Groups,
     pub group_contexts: [Option<ContextId>; GROUPS],
-    /// The context that its groups are bound to: its own where it was spawned, its maker's for a
-    /// region, its job's for a root or a post.
+    /// The context that its groups are bound to: its own if it was spawned, its maker's if it is a
+    /// region, and its job's if it is a root or was posted.
     pub context: ContextId,
 }
 

@@ -1,16 +1,15 @@
 // Rows that rows spawn into their groups, for every state that the parts stand for.
 ghost use Rattle.std.specs.Prelude.{◌≡◌, ◌<◌, ◌+◌, ◌^◌, ℕ, length, Some, None, IsSome};
+ghost use Rattle.std.specs.Option.{ForSome};
 ghost use Rattle.cancel_context.specs.Forest.{binding, held_count, IsHeld};
 ghost use Rattle.tenant_model.specs.State.{State, row, job};
 ghost use Rattle.tenant_model.specs.Walks.{top};
-ghost use Rattle.tenant_model.specs.Changes.{new_row, add_row};
 ghost use Rattle.tenant_model.specs.Sound.{IsSteady, IsSettled};
-ghost use Rattle.tenant_model.specs.declared.rows.Kind.TheVariants.{Spawned};
 ghost use Rattle.tenant_model.specs.declared.rows.Phase.TheVariants.{Unstarted};
-ghost use Rattle.arena_rows.specs.declared.rows.OpenRow.{OpenRow};
 ghost use Rattle.arena_rows.specs.Held.{HasFreePlace};
 ghost use Rattle.arena_rows.specs.Represents.{at_place, Holds, HasTop, HasGroup, IsGiven};
 ghost use Rattle.arena_rows.specs.HeldChanges.{bound_to, group_given};
+ghost use Rattle.arena_rows.specs.NewRows.{with_spawned};
 
 use crate::parts::Parts;
 use crate::rows::{Source, Stage};
@@ -24,11 +23,13 @@ impl Parts {
         requires within { place < length self.old.table }
         requires there { IsSome (at_place self.old.table place) }
         requires room { held_count self.old.contexts < length self.old.contexts }
-        requires parent { (e : OpenRow) → at_place self.old.table place ≡ Some e → IsHeld self.old.contexts e.context }
+        requires parent { ForSome (at_place self.old.table place)
+            (λ e. IsHeld self.old.contexts e.context) }
         ensures fresh { binding self.old.contexts result ≡ None }
         ensures held { IsHeld self.new.contexts result }
         ensures count { held_count self.new.contexts ≡ held_count self.old.contexts + 1 }
-        ensures given { (e : OpenRow) → at_place self.old.table place ≡ Some e → self.new ≡ group_given self.old place group result e }
+        ensures given { ForSome (at_place self.old.table place)
+            (λ e. self.new ≡ group_given self.old place group result e) }
     {
         let parent = self.entry_at(place).context;
         let context = self.rows.bind(Some(parent));
@@ -48,10 +49,11 @@ impl Parts {
         self.rows.bind(Some(group))
     }
 
-    /// The context of a group of a slot's topmost row, made where there is none yet.
+    /// The context of a group of a slot's topmost row, made if there is none yet.
     pub fn group_context(&mut self, slot: u8, group: Group) -> ContextId
         requires { HasTop self.old slot }
-        ensures given { (s : State) (n : ℕ) (is : Holds self.old s) → top s.rows slot ≡ Some n → IsGiven self.old self.new s is n group result }
+        ensures given { (s : State) (n : ℕ) (is : Holds self.old s) → top s.rows slot ≡ Some n
+            → IsGiven self.old self.new s is n group result }
         ensures free { HasFreePlace self.old → HasFreePlace self.new }
         ensures made { self.new.made ≡ self.old.made }
     {
@@ -69,9 +71,11 @@ impl Parts {
         requires given { HasGroup self.old slot group context }
         requires free { HasFreePlace self.old }
         requires few { self.old.made + 1 < 2 ^ 32 }
-        ensures { (s : State) (n : ℕ) (is : Holds self.old s) → IsSettled s → top s.rows slot ≡ Some n → is.assigned.of_group n group ≡ Some context
-            → (job s.jobs (row s.rows n).job).fault ≡ None → IsSteady (add_row s (new_row (Spawned n group) (row s.rows n).job (Some slot) frame Unstarted))
-            → Holds self.new (add_row s (new_row (Spawned n group) (row s.rows n).job (Some slot) frame Unstarted)) }
+        ensures { (s : State) (n : ℕ) (is : Holds self.old s) → IsSettled s
+            → top s.rows slot ≡ Some n → is.assigned.of_group n group ≡ Some context
+            → (job s.jobs (row s.rows n).job).fault ≡ None
+            → IsSteady (with_spawned s n slot group frame Unstarted)
+            → Holds self.new (with_spawned s n slot group frame Unstarted) }
     {
         // Proof hint: the group's number is in range.
         let _ = group.index();

@@ -3,7 +3,7 @@ ghost use Rattle.std.specs.Prelude.{◌≡◌, ◌<◌, ◌==◌, ◌&&◌, ℕ,
 ghost use Rattle.tenant_model.specs.State.{State, row};
 ghost use Rattle.tenant_model.specs.Walks.{top, height};
 ghost use Rattle.tenant_model.specs.Changes.{faults, finish_step};
-ghost use Rattle.arena_rows.specs.Represents.{Holds, HoldsSomehow, Rests, RestsSomehow, HasTop};
+ghost use Rattle.arena_rows.specs.Represents.{Holds, HoldsSomehow, Rests, RestsSomehow, HasTop, Gives};
 
 use crate::parts::Parts;
 use job_language::{JobFault, Moved};
@@ -12,7 +12,8 @@ impl Parts {
     /// Whether a slot is a reserved one with nothing on it.
     fn is_freed(&self, slot: u8) -> bool
         requires { slot < length self.now.nests }
-        ensures { (s : State) → Holds self.now s → result ≡ (nat_lt slot s.config.reserved && (height s.rows slot == 0)) }
+        ensures { (s : State) → Holds self.now s
+            → result ≡ (nat_lt slot s.config.reserved && (height s.rows slot == 0)) }
     {
         if self.config().reserved <= slot {
             return false;
@@ -38,7 +39,7 @@ impl Parts {
         requires rests { RestsSomehow self.old }
         requires slot { slot < self.old.config.slots }
         requires room { self.old.entries < self.old.config.steps }
-        ensures { (s : State) → Rests self.old s → (result ≡ (finish_step slot s).0) × Rests self.new (finish_step slot s).1 }
+        ensures { (s : State) → Rests self.old s → Gives self.new result (finish_step slot s) }
     {
         let moved = self.moved(slot);
         self.enter();
@@ -50,7 +51,7 @@ impl Parts {
         requires held { HoldsSomehow self.old }
         requires slot { slot < self.old.config.slots }
         requires room { self.old.entries < self.old.config.steps }
-        ensures { (s : State) → Holds self.old s → (result ≡ (finish_step slot s).0) × Rests self.new (finish_step slot s).1 }
+        ensures { (s : State) → Holds self.old s → Gives self.new result (finish_step slot s) }
     {
         let moved = self.moved(slot);
         self.enter_and_settle();
@@ -63,7 +64,7 @@ impl Parts {
         requires top { HasTop self.old slot }
         requires room { self.old.entries < self.old.config.steps }
         ensures { (s : State) (n : ℕ) → Holds self.old s → top s.rows slot ≡ Some n
-            → (result ≡ (faults slot (row s.rows n).job fault s).0) × Rests self.new (faults slot (row s.rows n).job fault s).1 }
+            → Gives self.new result (faults slot (row s.rows n).job fault s) }
     {
         self.fault_job(slot, fault);
         self.fault_rows(slot);

@@ -18,7 +18,8 @@ impl Parts {
         requires slot { slot < self.old.config.slots }
         requires next { picked self.old slot ≡ Some row }
         requires height { length (stack self.old.nests slot) < MAX_HEIGHT }
-        ensures { (s : State) → Rests self.old s → (pick s slot ≡ Some row.number) × Rests self.new (nest s slot row.number) }
+        ensures { (s : State) → Rests self.old s
+            → (pick s slot ≡ Some row.number) × Rests self.new (nest s slot row.number) }
     {
         self.start(slot, row);
     }

@@ -39,7 +39,8 @@ impl Parts {
 
     /// How many rows wait to be started.
     pub fn waiting_rows(&self) -> usize
-        ensures { (s : State) → Holds self.now s → result ≡ count_by (λ r. is_unstarted r.phase) s.rows }
+        ensures { (s : State) → Holds self.now s
+            → result ≡ count_by (λ r. is_unstarted r.phase) s.rows }
     {
         self.pool.len()
     }
@@ -116,7 +117,8 @@ impl Parts {
     /// How far the job of a number is, unless it is retired.
     #[tactic(auto, using(crate::proofs::JobsTold::status_told))]
     pub fn status(&self, job: u64) -> Option<Status>
-        ensures { (s : State) → Holds self.now s → result ≡ option_map (status s.rows job) (known_job s job) }
+        ensures { (s : State) → Holds self.now s
+            → result ≡ option_map (status s.rows job) (known_job s job) }
     {
         self.known_status(job)
     }
@@ -147,10 +149,11 @@ impl Parts {
     }
 
     /// Whether a cancel of the job of a number would be its first: it was not cancelled and has no
-    /// outcome. There is none where the job is retired or was not made.
+    /// outcome. There is no answer if the job is retired or was not made.
     #[tactic(auto, using(crate::proofs::JobsTold::cancel_told))]
     pub fn is_first_cancel(&self, job: u64) -> Option<bool>
-        ensures value { (s : State) → Holds self.now s → result ≡ option_map (is_first_cancel s.rows job) (known_job s job) }
+        ensures value { (s : State) → Holds self.now s
+            → result ≡ option_map (is_first_cancel s.rows job) (known_job s job) }
         ensures above { OnSome result (self.now.retired < job) }
         ensures below { OnSome result (job - self.now.retired ≤ length self.now.jobs) }
     {
@@ -175,7 +178,7 @@ impl Parts {
 }
 
 impl CurrentJob {
-    /// How far it is: it has an outcome where none of its rows is open.
+    /// How far it is: it has an outcome once none of its rows is open.
     pub fn status(&self) -> Status
         ensures { result ≡ held_status self.now }
     {
