@@ -23,7 +23,7 @@ use region_tag::RowId;
 
 impl Parts {
     /// A row that waits goes live on top of a slot.
-    pub fn start(&mut self, slot: u8, row: RowId)
+    pub(crate) fn start(&mut self, slot: u8, row: RowId)
         requires place { row.place < length self.old.table }
         requires slot { slot < length self.old.nests }
         requires height { length (stack self.old.nests slot) < MAX_HEIGHT }
@@ -45,7 +45,7 @@ impl Parts {
     }
 
     /// Counts an entry.
-    pub fn count(&mut self)
+    pub(crate) fn count(&mut self)
         requires { self.old.entries < self.old.config.steps }
         ensures { self.new ≡ counted self.old }
     {
@@ -53,7 +53,7 @@ impl Parts {
     }
 
     /// Moves the frame of a slot's topmost row on.
-    pub fn set_frame(&mut self, slot: u8, frame: Frame)
+    pub(crate) fn set_frame(&mut self, slot: u8, frame: Frame)
         requires slot { slot < length self.old.nests }
         requires height { 0 < length (stack self.old.nests slot) }
         ensures { self.new ≡ framed self.old slot frame }

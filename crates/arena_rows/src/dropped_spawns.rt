@@ -51,7 +51,7 @@ impl Parts {
 
     /// Counts a row that is dropped as it is made, in a group of a slot's topmost row whose context is
     /// there and cancelled (`task_group::run`). Nothing else is made for it.
-    pub fn spawn_dropped(&mut self, slot: u8, group: Group)
+    pub(crate) fn spawn_dropped(&mut self, slot: u8, group: Group)
         requires top { HasTop self.old slot }
         requires few { self.old.made + 1 < 2 ^ 32 }
         ensures { (s : State) (n : ℕ) (rests : Rests self.old s) (c : ℕ) (frame : Frame)

@@ -92,7 +92,7 @@ impl Parts {
     }
 
     /// A row that waits is dropped.
-    pub fn drop_row(&mut self, id: RowId)
+    pub(crate) fn drop_row(&mut self, id: RowId)
         requires { IsWaiting self.old id }
         ensures holds { (s : State) (n : ℕ) (is : Holds self.old s)
             → is_unstarted (row s.rows n).phase ≡ true → id ≡ id_of is.places n

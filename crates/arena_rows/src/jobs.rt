@@ -112,7 +112,7 @@ impl Parts {
 
     /// Notes a fault of the job of a slot's topmost row, unless it has one already, and cancels what
     /// the job still does.
-    pub fn fault_job(&mut self, slot: u8, fault: JobFault)
+    pub(crate) fn fault_job(&mut self, slot: u8, fault: JobFault)
         requires { HasTop self.old slot }
         ensures holds { (s : State) (n : ℕ) → Holds self.old s → top s.rows slot ≡ Some n
             → Holds self.new (on_job s (row s.rows n).job (with_fault fault)) }

@@ -27,7 +27,7 @@ impl Parts {
     }
 
     /// Makes a row of the job of a slot's topmost row, in no group and no region (`enqueue`).
-    pub fn post(&mut self, slot: u8, frame: Frame)
+    pub(crate) fn post(&mut self, slot: u8, frame: Frame)
         requires rests { RestsSomehow self.old }
         requires top { HasTop self.old slot }
         requires free { HasFreePlace self.old }

@@ -49,7 +49,7 @@ impl Parts {
     }
 
     /// Whether the job of a slot's topmost row was cancelled by request or has a fault.
-    pub fn is_job_cancelled(&self, slot: u8) -> bool
+    pub(crate) fn is_job_cancelled(&self, slot: u8) -> bool
         requires { HasTop self.now slot }
         ensures { (s : State) (n : ℕ) → Holds self.now s → top s.rows slot ≡ Some n
             → result ≡ is_job_cancelled (job s.jobs (row s.rows n).job) }
@@ -78,7 +78,7 @@ impl Parts {
     }
 
     /// Whether a group of a slot's topmost row is cancelled, directly or from above.
-    pub fn is_group_cancelled(&self, slot: u8, group: Group) -> bool
+    pub(crate) fn is_group_cancelled(&self, slot: u8, group: Group) -> bool
         requires { HasTop self.now slot }
         ensures { (s : State) (n : ℕ) → Holds self.now s → top s.rows slot ≡ Some n
             → result ≡ ((mark s.rows n group).cancelled || is_context_cancelled s n) }

@@ -25,7 +25,7 @@ impl Parts {
     }
 
     /// Drops the rows that wait and whose context is cancelled.
-    pub fn settle(&mut self)
+    pub(crate) fn settle(&mut self)
         requires { HoldsSomehow self.old }
         ensures { (s : State) → Holds self.old s → Rests self.new (settle s) }
     {

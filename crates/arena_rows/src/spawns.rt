@@ -50,7 +50,7 @@ impl Parts {
     }
 
     /// The context of a group of a slot's topmost row, made if there is none yet.
-    pub fn group_context(&mut self, slot: u8, group: Group) -> ContextId
+    pub(crate) fn group_context(&mut self, slot: u8, group: Group) -> ContextId
         requires { HasTop self.old slot }
         ensures given { (s : State) (n : ℕ) (is : Holds self.old s) → top s.rows slot ≡ Some n
             → IsGiven self.old self.new s is n group result }
@@ -67,7 +67,7 @@ impl Parts {
 
     /// Makes a row that waits, in a group of a slot's topmost row whose context is there
     /// (`task_group::run`). The row's job has no fault: otherwise the new row would be dropped at once.
-    pub fn spawn_waiting(&mut self, slot: u8, group: Group, context: ContextId, frame: Frame)
+    pub(crate) fn spawn_waiting(&mut self, slot: u8, group: Group, context: ContextId, frame: Frame)
         requires given { HasGroup self.old slot group context }
         requires free { HasFreePlace self.old }
         requires few { self.old.made + 1 < 2 ^ 32 }

@@ -124,7 +124,7 @@ impl Parts {
     }
 
     /// How many rows were made, the number of the last one.
-    pub fn row_count(&self) -> u64
+    pub(crate) fn row_count(&self) -> u64
         ensures { result ≡ self.now.made }
     {
         self.made
