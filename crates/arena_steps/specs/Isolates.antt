@@ -1,4 +1,4 @@
--- Where a slot's topmost row can make a region.
+-- When a slot's topmost row can make a region.
 use Rattle.std.specs.Prelude.{◌≡◌, ℕ, Some}
 use Rattle.job_language.specs.declared.instructions.Instr.TheVariants.{Isolate}
 use Rattle.job_step.specs.declared.frames.Frame.{Frame}

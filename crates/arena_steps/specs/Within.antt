@@ -1,4 +1,4 @@
--- Advances and arrivals where the caller may have no room for one more entry.
+-- Advances and arrivals for a caller who may have no room for one more entry.
 use Rattle.std.specs.Prelude.{ℕ, Bool, ◌&&◌, not, if◌then◌else◌}
 use Rattle.job_language.specs.declared.answers.Answer.TheVariants as answer
 use Rattle.job_language.specs.declared.answers.Came.{Came}
@@ -7,11 +7,15 @@ use Rattle.job_language.specs.declared.answers.Moved.{Moved}
 use Rattle.job_language.specs.declared.answers.Moved.TheVariants as moved
 use Rattle.job_language.specs.Recorded.{is_entry}
 use Rattle.tenant_model.specs.State.{State}
-use Rattle.tenant_model.specs.Advance.{advance, arrive}
+use Rattle.tenant_model.specs.Advance.{advance, arrive, unless_full}
 
--- A step that would be an entry changes nothing where there is no room for it.
+-- A step that would be an entry changes nothing if there is no room for it.
 abbrev pub within : (has_room : Bool) → State → Moved × State → Moved × State
 within has_room s step = if is_entry (answer.Moved step.0) && not has_room then (moved.Full, s) else step
+
+-- nor if the history is full
+abbrev pub if_room : (has_room : Bool) → State → Moved × State → Moved × State
+if_room has_room s step = within has_room s (unless_full s step)
 
 abbrev pub advance_within : (has_room : Bool) → State → (slot : ℕ) → Moved × State
 advance_within has_room s slot = within has_room s (advance s slot)

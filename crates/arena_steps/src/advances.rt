@@ -1,10 +1,6 @@
 // Advances of a slot, and arrivals at one.
 ghost use Rattle.std.specs.Prelude.{◌≡◌, ◌≢◌, ◌<◌, ◌≤◌, ◌||◌, not, ℕ, false, true, length, Some};
 ghost use Rattle.job_language.specs.declared.answers.Moved.TheVariants as moved;
-ghost use Rattle.job_language.specs.declared.instructions.Instr.{Instr};
-ghost use Rattle.job_language.specs.Program.{is_last};
-ghost use Rattle.job_step.specs.declared.frames.TheConstants.{LAST_PLACE};
-ghost use Rattle.job_step.specs.declared.runs.Stop.TheVariants.{Shared};
 ghost use Rattle.nest_stack.specs.declared.stack.TheConstants.{MAX_HEIGHT};
 ghost use Rattle.nest_stack.specs.Nest.{stack};
 ghost use Rattle.tenant_model.specs.State.{State};
@@ -14,8 +10,8 @@ ghost use Rattle.tenant_model.specs.Advance.{advance, advance_run, begin, nest_p
 ghost use Rattle.arena_rows.specs.HeldChanges.{picked};
 ghost use Rattle.arena_rows.specs.MarkedGroups.{RestsWithTop};
 ghost use Rattle.arena_rows.specs.Represents.{Gives, Holds, Rests, RestsSomehow};
-ghost use Rattle.arena_steps.specs.Runs.{HasRun, RunFits};
-ghost use Rattle.arena_steps.specs.Within.{advance_within, within};
+ghost use Rattle.arena_steps.specs.Runs.{HasNextPlace, HasRun, RunFits};
+ghost use Rattle.arena_steps.specs.Within.{advance_within, if_room};
 
 use crate::runs::{after_run, run_top, stops_blocked};
 use arena_rows::Parts;
@@ -39,14 +35,15 @@ fn take(parts: &mut Parts, slot: u8, row: RowId) -> Moved
     requires next { picked parts.old slot ≡ Some row }
     requires height { length (stack parts.old.nests slot) < MAX_HEIGHT }
     requires room { parts.old.entries < parts.old.config.steps }
-    ensures { (s : State) → Rests parts.old s → Gives parts.new result (moved.Nested row.number, entry (nest s slot row.number)) }
+    ensures { (s : State) → Rests parts.old s
+        → Gives parts.new result (moved.Nested row.number, entry (nest s slot row.number)) }
 {
     parts.nest(slot, row);
     parts.enter();
     Moved::Nested(row.number)
 }
 
-/// Takes a slot's pick on top of its topmost row, which waits. Where the slot has as many rows as it
+/// Takes a slot's pick on top of its topmost row, which waits. If the slot has as many rows as it
 /// may, its task ends with the fault `TooDeep`.
 fn take_on_top(parts: &mut Parts, slot: u8, row: RowId) -> Moved
     requires top { RestsWithTop parts.old slot }
@@ -65,7 +62,7 @@ fn take_on_top(parts: &mut Parts, slot: u8, row: RowId) -> Moved
 fn advance_waiting(parts: &mut Parts, slot: u8, has_room: bool) -> Moved
     requires { RestsWithTop parts.old slot }
     ensures { (s : State) (n : ℕ) → Rests parts.old s → top s.rows slot ≡ Some n
-        → Gives parts.new result (within has_room s (unless_full s (nest_pick s slot n (pick s slot)))) }
+        → Gives parts.new result (if_room has_room s (nest_pick s slot n (pick s slot))) }
 {
     let Some(row) = parts.pick(slot) else {
         return Moved::Idle;
@@ -82,7 +79,7 @@ fn advance_empty(parts: &mut Parts, slot: u8, has_room: bool) -> Moved
     requires slot { slot < parts.old.config.slots }
     requires empty { length (stack parts.old.nests slot) ≡ 0 }
     ensures { (s : State) → Rests parts.old s
-        → Gives parts.new result (within has_room s (unless_full s (begin s slot (pick s slot)))) }
+        → Gives parts.new result (if_room has_room s (begin s slot (pick s slot))) }
 {
     if slot < parts.config().reserved {
         return Moved::Idle;
@@ -100,10 +97,10 @@ fn advance_empty(parts: &mut Parts, slot: u8, has_room: bool) -> Moved
 #[inline(always)]
 fn advance_by(parts: &mut Parts, slot: u8, run: &Run, has_room: bool) -> Moved
     requires runs { HasRun parts.old slot run.now }
-    requires next { (i : Instr) → run.now.stop ≡ Shared i → is_last i ≡ false → run.now.end.place < LAST_PLACE }
+    requires next { HasNextPlace run.now }
     requires counted { parts.old.made ≤ parts.old.entries }
     ensures { (s : State) (n : ℕ) → RunFits parts.old s slot n run.now
-        → Gives parts.new result (within has_room s (unless_full s (advance_run s slot n (run_on s slot n)))) }
+        → Gives parts.new result (if_room has_room s (advance_run s slot n (run_on s slot n))) }
 {
     let is_blocked = stops_blocked(parts, slot, run);
     if is_blocked && run.count == 0 {
@@ -122,7 +119,7 @@ fn advance_row(parts: &mut Parts, slot: u8, has_room: bool) -> Moved
     requires top { RestsWithTop parts.old slot }
     requires counted { parts.old.made ≤ parts.old.entries }
     ensures { (s : State) (n : ℕ) → Rests parts.old s → top s.rows slot ≡ Some n
-        → Gives parts.new result (within has_room s (unless_full s (advance_run s slot n (run_on s slot n)))) }
+        → Gives parts.new result (if_room has_room s (advance_run s slot n (run_on s slot n))) }
 {
     let run = run_top(parts, slot);
     advance_by(parts, slot, &run, has_room)
@@ -131,8 +128,10 @@ fn advance_row(parts: &mut Parts, slot: u8, has_room: bool) -> Moved
 /// Whether an advance of a slot would be idle.
 pub fn is_idle(parts: &Parts, slot: u8) -> bool
     requires { RestsSomehow parts.now }
-    ensures idle { (s : State) → Rests parts.now s → result ≡ true → (advance s slot).0 ≡ moved.Idle }
-    ensures moves { (s : State) → Rests parts.now s → result ≡ false → (advance s slot).0 ≢ moved.Idle }
+    ensures idle { (s : State) → Rests parts.now s → result ≡ true
+        → (advance s slot).0 ≡ moved.Idle }
+    ensures moves { (s : State) → Rests parts.now s → result ≡ false
+        → (advance s slot).0 ≢ moved.Idle }
 {
     if parts.config().slots <= slot {
         return true;
@@ -146,9 +145,11 @@ pub fn is_idle(parts: &Parts, slot: u8) -> bool
 /// Whether an advance of a slot by its topmost row would be idle.
 fn is_row_idle(parts: &Parts, slot: u8) -> bool
     requires { RestsWithTop parts.now slot }
-    ensures idle { (s : State) (n : ℕ) → Rests parts.now s → top s.rows slot ≡ Some n → result ≡ true
+    ensures idle { (s : State) (n : ℕ) → Rests parts.now s → top s.rows slot ≡ Some n
+        → result ≡ true
         → (unless_full s (advance_run s slot n (run_on s slot n))).0 ≡ moved.Idle }
-    ensures moves { (s : State) (n : ℕ) → Rests parts.now s → top s.rows slot ≡ Some n → result ≡ false
+    ensures moves { (s : State) (n : ℕ) → Rests parts.now s → top s.rows slot ≡ Some n
+        → result ≡ false
         → (unless_full s (advance_run s slot n (run_on s slot n))).0 ≢ moved.Idle }
 {
     let run = run_top(parts, slot);
@@ -161,7 +162,7 @@ fn is_row_idle(parts: &Parts, slot: u8) -> bool
 /// Advances a slot by the private run of its topmost row, which was made before.
 pub fn commit_within(parts: &mut Parts, slot: u8, run: &Run, has_room: bool) -> Moved
     requires runs { HasRun parts.old slot run.now }
-    requires next { (i : Instr) → run.now.stop ≡ Shared i → is_last i ≡ false → run.now.end.place < LAST_PLACE }
+    requires next { HasNextPlace run.now }
     requires counted { parts.old.made ≤ parts.old.entries }
     ensures { (s : State) (n : ℕ) → RunFits parts.old s slot n run.now
         → Gives parts.new result (advance_within has_room s slot) }
@@ -174,7 +175,8 @@ pub fn commit_within(parts: &mut Parts, slot: u8, run: &Run, has_room: bool) -> 
 pub fn advance_within(parts: &mut Parts, slot: u8, has_room: bool) -> Moved
     requires rests { RestsSomehow parts.old }
     requires counted { parts.old.made ≤ parts.old.entries }
-    ensures { (s : State) → Rests parts.old s → Gives parts.new result (advance_within has_room s slot) }
+    ensures { (s : State) → Rests parts.old s
+        → Gives parts.new result (advance_within has_room s slot) }
 {
     if parts.config().slots <= slot {
         return Moved::Idle;

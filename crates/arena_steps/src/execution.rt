@@ -17,12 +17,13 @@ use arena_rows::Parts;
 use job_language::{Instr, Key, Moved, Register};
 use job_step::Frame;
 
-/// Writes 1 where the context of a slot's topmost row is cancelled, and 0 otherwise
+/// Writes 1 if the context of a slot's topmost row is cancelled, and 0 otherwise
 /// (`is_current_task_group_canceling`).
 fn ask(parts: &mut Parts, slot: u8, frame: Frame, to: Register) -> Moved
     requires { CanStep parts.old slot frame }
     ensures { (s : State) (n : ℕ) → FrameFits parts.old s slot n frame
-        → Gives parts.new result (write_register s slot n frame to (if is_context_cancelled s n then pos 1 else pos 0)) }
+        → Gives parts.new result
+        (write_register s slot n frame to (if is_context_cancelled s n then pos 1 else pos 0)) }
 {
     let is_cancelled = parts.is_cancelled(slot);
     write_register(parts, slot, frame, to, i64::from(is_cancelled))
@@ -51,12 +52,13 @@ fn count(parts: &mut Parts, slot: u8, frame: Frame, to: Register, key: Key) -> M
 /// Executes the shared instruction that a slot's topmost row is at, with its frame. A wait has
 /// nothing pending.
 #[inline(always)]
-pub fn execute(parts: &mut Parts, slot: u8, frame: Frame, instr: &Instr) -> Moved
+pub(crate) fn execute(parts: &mut Parts, slot: u8, frame: Frame, instr: &Instr) -> Moved
     requires ready { CanExecute parts.old slot frame instr.now }
     requires room { parts.old.entries < parts.old.config.steps }
     requires few { parts.old.made + 1 < 2 ^ 32 }
     requires place { is_last instr.now ≡ false → frame.place < LAST_PLACE }
-    ensures { (s : State) (n : ℕ) → IsReady parts.old s slot n frame instr.now → Gives parts.new result (execute s slot n frame instr.now) }
+    ensures { (s : State) (n : ℕ) → IsReady parts.old s slot n frame instr.now
+        → Gives parts.new result (execute s slot n frame instr.now) }
 {
     match *instr {
         Instr::Spawn(group, procedure, first, second) => {

@@ -1,4 +1,5 @@
-//! Advances of a slot: private runs, payments, shared instructions and picks, for every state that the parts of an arena stand for.
+//! Advances of a slot: private runs, payments, shared instructions and picks, for every state that
+//! the parts of an arena stand for.
 #![tactic(auto)]
 
 mod advances;
@@ -11,7 +12,3 @@ mod steps;
 
 pub use advances::{advance, advance_within, commit_within, is_idle};
 pub use arrivals::arrive_within;
-pub use execution::execute;
-pub use makes::{isolate, post, spawn};
-pub use returns::ret;
-pub use steps::{cancel, load, store, wait, write_register};

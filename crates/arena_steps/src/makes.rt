@@ -20,9 +20,9 @@ fn called_frame(frame: &Frame, procedure: u8, first: Register, second: Register)
     Frame::new(procedure, first, second)
 }
 
-/// Makes a row in a group of a slot's topmost row (`task_group::run`). Where no place is free, the
+/// Makes a row in a group of a slot's topmost row (`task_group::run`). If no place is free, the
 /// slot's task ends with the fault `TaskLimit`.
-pub fn spawn(
+pub(crate) fn spawn(
     parts: &mut Parts,
     slot: u8,
     frame: Frame,
@@ -33,7 +33,8 @@ pub fn spawn(
 ) -> Moved
     requires step { CanStep parts.old slot frame }
     requires few { parts.old.made + 1 < 2 ^ 32 }
-    ensures { (s : State) (n : ℕ) → FrameFits parts.old s slot n frame → Gives parts.new result (spawn s slot n frame group procedure first second) }
+    ensures { (s : State) (n : ℕ) → FrameFits parts.old s slot n frame
+        → Gives parts.new result (spawn s slot n frame group procedure first second) }
 {
     // Proof hint: a frame has the group.
     let _ = group.index();
@@ -45,9 +46,9 @@ pub fn spawn(
     parts.finish_step(slot)
 }
 
-/// Makes a row of the job of a slot's topmost row, in no group and no region (`enqueue`). Where no
+/// Makes a row of the job of a slot's topmost row, in no group and no region (`enqueue`). If no
 /// place is free, the slot's task ends with the fault `TaskLimit`.
-pub fn post(
+pub(crate) fn post(
     parts: &mut Parts,
     slot: u8,
     frame: Frame,
@@ -57,7 +58,8 @@ pub fn post(
 ) -> Moved
     requires step { CanStep parts.old slot frame }
     requires few { parts.old.made + 1 < 2 ^ 32 }
-    ensures { (s : State) (n : ℕ) → FrameFits parts.old s slot n frame → Gives parts.new result (post s slot n frame procedure first second) }
+    ensures { (s : State) (n : ℕ) → FrameFits parts.old s slot n frame
+        → Gives parts.new result (post s slot n frame procedure first second) }
 {
     if parts.is_row_limit_met() {
         return parts.fault(slot, JobFault::TaskLimit);
@@ -68,9 +70,9 @@ pub fn post(
 }
 
 /// Makes a region on top of a slot's topmost row, which stays at its isolate while the region runs
-/// (`this_task_arena::isolate`). Where the slot has as many rows as it may, its task ends with the
-/// fault `TooDeep`, and where no place is free, with `TaskLimit`.
-pub fn isolate(
+/// (`this_task_arena::isolate`). If the slot has as many rows as it may, its task ends with the
+/// fault `TooDeep`, and if no place is free, with `TaskLimit`.
+pub(crate) fn isolate(
     parts: &mut Parts,
     slot: u8,
     frame: Frame,
@@ -81,8 +83,10 @@ pub fn isolate(
     requires fits { CanIsolate parts.old slot frame procedure first second }
     requires room { parts.old.entries < parts.old.config.steps }
     requires few { parts.old.made + 1 < 2 ^ 32 }
-    ensures { (s : State) (n d : ℕ) → FrameFits parts.old s slot n frame → IsAtIsolate s n frame d procedure first second
-        → Gives parts.new result (isolate_at s slot n frame (called_frame frame procedure first second)) }
+    ensures { (s : State) (n d : ℕ) → FrameFits parts.old s slot n frame
+        → IsAtIsolate s n frame d procedure first second
+        → Gives parts.new result
+        (isolate_at s slot n frame (called_frame frame procedure first second)) }
 {
     let height = parts.height(slot) as u64;
     if height == MAX_HEIGHT {

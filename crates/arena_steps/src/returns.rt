@@ -28,7 +28,8 @@ fn handed_frame(instr: &Instr, frame: Frame, value: i64) -> Frame
 /// Hands the value of a region to its maker, the topmost row of a slot, which continues.
 fn hand(parts: &mut Parts, slot: u8, value: i64)
     requires { RestsWithTop parts.old slot }
-    ensures { (s : State) (m : ℕ) → Rests parts.old s → top s.rows slot ≡ Some m → Rests parts.new (hand_to s m value) }
+    ensures { (s : State) (m : ℕ) → Rests parts.old s → top s.rows slot ≡ Some m
+        → Rests parts.new (hand_to s m value) }
 {
     let frame = parts.frame(slot);
     if let Some(instr) = frame.instr_in(parts.program(slot)) {
@@ -39,11 +40,12 @@ fn hand(parts: &mut Parts, slot: u8, value: i64)
 }
 
 /// Ends a slot's topmost row with the value of a register. The maker of a region continues with the
-/// value. Where a group of the row has a member, the slot's task ends with the fault `MissingWait`.
-pub fn ret(parts: &mut Parts, slot: u8, frame: Frame, from: Register) -> Moved
+/// value. If a group of the row has a member, the slot's task ends with the fault `MissingWait`.
+pub(crate) fn ret(parts: &mut Parts, slot: u8, frame: Frame, from: Register) -> Moved
     requires fits { CanMove parts.old slot frame }
     requires room { parts.old.entries < parts.old.config.steps }
-    ensures { (s : State) (n : ℕ) → FrameFits parts.old s slot n frame → Gives parts.new result (ret s slot n frame from) }
+    ensures { (s : State) (n : ℕ) → FrameFits parts.old s slot n frame
+        → Gives parts.new result (ret s slot n frame from) }
 {
     if parts.has_used_group(slot) {
         return parts.fault(slot, JobFault::MissingWait);

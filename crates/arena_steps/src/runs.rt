@@ -15,7 +15,7 @@ ghost use Rattle.arena_rows.specs.Represents.{Gives, Holds, HasTop, Rests};
 ghost use Rattle.arena_rows.specs.MarkedGroups.{RestsWithTop};
 ghost use Rattle.arena_steps.specs.Frames.{FrameFits, CanMove};
 ghost use Rattle.arena_steps.specs.Ready.{IsReady, CanExecute};
-ghost use Rattle.arena_steps.specs.Runs.{RunFits, HasRun};
+ghost use Rattle.arena_steps.specs.Runs.{HasNextPlace, HasRun, RunFits};
 
 use crate::execution::execute;
 use crate::steps::move_to;
@@ -27,8 +27,9 @@ use job_step::{Frame, Run, Stop, run_private};
 #[inline(always)]
 pub(crate) fn run_top(parts: &Parts, slot: u8) -> Run
     requires { HasTop parts.now slot }
-    ensures run { (s : State) (n : ℕ) → Holds parts.now s → top s.rows slot ≡ Some n → result ≡ run_on s slot n }
-    ensures next { (i : Instr) → result.stop ≡ Shared i → is_last i ≡ false → result.end.place < LAST_PLACE }
+    ensures run { (s : State) (n : ℕ) → Holds parts.now s → top s.rows slot ≡ Some n
+        → result ≡ run_on s slot n }
+    ensures next { HasNextPlace result }
 {
     let slots = parts.config().slots;
     run_private(parts.program(slot), parts.frame(slot), slot, slots)
@@ -51,7 +52,8 @@ pub(crate) fn stops_blocked(parts: &Parts, slot: u8, run: &Run) -> bool
 fn pay_to_move(parts: &mut Parts, slot: u8, count: u32, frame: Frame) -> Moved
     requires fits { CanMove parts.old slot frame }
     requires room { parts.old.entries < parts.old.config.steps }
-    ensures { (s : State) (n : ℕ) → FrameFits parts.old s slot n frame → Gives parts.new result (move_on s slot n count frame) }
+    ensures { (s : State) (n : ℕ) → FrameFits parts.old s slot n frame
+        → Gives parts.new result (move_on s slot n count frame) }
 {
     if !parts.pay(slot, u64::from(count)) {
         return parts.fault(slot, JobFault::Fuel);
@@ -64,7 +66,8 @@ fn pay_to_fault(parts: &mut Parts, slot: u8, count: u32) -> Moved
     requires top { RestsWithTop parts.old slot }
     requires room { parts.old.entries < parts.old.config.steps }
     ensures { (s : State) (n : ℕ) → Rests parts.old s → top s.rows slot ≡ Some n
-        → Gives parts.new result (pay s slot n count (λ t. faults slot (row t.rows n).job fault.Division t)) }
+        → Gives parts.new result
+        (pay s slot n count (λ t. faults slot (row t.rows n).job fault.Division t)) }
 {
     if !parts.pay(slot, u64::from(count)) {
         return parts.fault(slot, JobFault::Fuel);
@@ -81,7 +84,8 @@ fn pay_to_execute(parts: &mut Parts, slot: u8, count: u32, frame: Frame, instr: 
     requires few { parts.old.made + 1 < 2 ^ 32 }
     requires place { is_last instr.now ≡ false → frame.place < LAST_PLACE }
     ensures { (s : State) (n : ℕ) → IsReady parts.old s slot n frame instr.now
-        → Gives parts.new result (pay s slot n (count + 1) (λ t. execute t slot n frame instr.now)) }
+        → Gives parts.new result
+        (pay s slot n (count + 1) (λ t. execute t slot n frame instr.now)) }
 {
     if !parts.pay(slot, u64::from(count) + 1) {
         return parts.fault(slot, JobFault::Fuel);
@@ -89,8 +93,8 @@ fn pay_to_execute(parts: &mut Parts, slot: u8, count: u32, frame: Frame, instr: 
     execute(parts, slot, frame, instr)
 }
 
-/// Ends a step of a slot after the run of its topmost row. `is_blocked` says whether the run stopped
-/// at a wait for pending members.
+/// Ends a step of a slot after the run of its topmost row. `is_blocked` says whether the run
+/// stopped at a wait for pending members.
 #[inline(always)]
 pub(crate) fn after_run(parts: &mut Parts, slot: u8, run: &Run, is_blocked: bool) -> Moved
     requires runs { HasRun parts.old slot run.now }
@@ -98,7 +102,7 @@ pub(crate) fn after_run(parts: &mut Parts, slot: u8, run: &Run, is_blocked: bool
         → is_blocked ≡ stops_blocked s n run.now.stop }
     requires room { parts.old.entries < parts.old.config.steps }
     requires few { parts.old.made + 1 < 2 ^ 32 }
-    requires next { (i : Instr) → run.now.stop ≡ Shared i → is_last i ≡ false → run.now.end.place < LAST_PLACE }
+    requires next { HasNextPlace run.now }
     ensures { (s : State) (n : ℕ) → RunFits parts.old s slot n run.now
         → Gives parts.new result (after_run s slot n run.now.count run.now.end run.now.stop) }
 {
