@@ -1,5 +1,5 @@
 -- What is held stands for the state with one row more.
-use Rattle.std.proofs.Common.{◌≡◌, ℕ, zero, suc, ◌+◌, ◌<◌, ◌≤◌, List, [], ◌∷◌, ◌++◌, length, Option, Some, None, true, refl, sym, ap, ◌∙◌, arith, map, length-set, pos, subst}
+use Rattle.std.proofs.Common.{◌≡◌, ℕ, zero, suc, ◌+◌, ◌<◌, ◌≤◌, List, [], ◌∷◌, ◌++◌, length, Option, Some, None, true, false, refl, sym, ap, ◌∙◌, arith, map, length-set, pos, subst}
 use Rattle.std.specs.Prelude.{IfSome, count_by, slice_index_or, slice_set, is_some, replicate}
 use Rattle.std.specs.Option.{option_map}
 use Rattle.std.proofs.lemmas.List.{length_push}
@@ -14,7 +14,7 @@ use Rattle.tenant_model.specs.declared.rows.Kind.{Kind}
 use Rattle.tenant_model.specs.declared.rows.Kind.TheVariants as kind
 use Rattle.tenant_model.specs.declared.rows.Row.{Row}
 use Rattle.tenant_model.specs.State.{State, row}
-use Rattle.tenant_model.specs.Walks.{maker_of, is_open, is_region, value_in}
+use Rattle.tenant_model.specs.Walks.{maker_of, is_open, is_region, is_spawned_by, value_in}
 use Rattle.tenant_model.specs.Changes.{add_row}
 use Rattle.tenant_model.specs.Linked.{MakersPrecede}
 use Rattle.tenant_model.specs.Sound.{IsSteady}
@@ -27,7 +27,7 @@ use Rattle.arena_rows.specs.Represents.{Places, id_of, at_place, source_of, stag
 use Rattle.arena_rows.specs.HeldChanges.{next_id, outer_of, is_region_source, with_open}
 use Rattle.arena_rows.proofs.FreePlaces.{one_taken}
 use Rattle.arena_rows.proofs.PushedRows.{IsGroup-new}
-use Rattle.arena_rows.proofs.Pushing.{AreRows-pushed, AreFree-pushed, AreTagged-pushed, AreJobs-pushed}
+use Rattle.arena_rows.proofs.Pushing.{IsRow-pushed, AreRows-pushed, AreFree-pushed, AreTagged-pushed, AreJobs-pushed}
 use Rattle.arena_rows.proofs.Making.{is_next}
 
 pub no_group : (g : ℕ) → group no_members g ≡ unused
@@ -61,6 +61,20 @@ pub record IsJoined (a : Held) (s : State) (places : Places) (r : Row) (table : 
   pub tags : (q : ℕ) → option_map (tagged_of s.rows places) (at_place table q) ≡ option_map (tagged_of s.rows places) (at_place a.table q)
   pub vacant : (q : ℕ) → at_place a.table q ≡ None → at_place table q ≡ None
   pub taken : count_by is_some table ≡ count_by is_some a.table
+
+-- a new row that is a member of no group leaves the table as it is
+pub IsJoined-alone : (a : Held) (s : State) (is : Holds a s) (r : Row) → MakersPrecede s.rows → MakersPrecede (s.rows ++ r ∷ []) → ((m g : ℕ) → g < GROUPS → is_spawned_by m g r.kind ≡ false) → IsJoined a s is.places r a.table
+IsJoined-alone a s is r precede precede' alone = record {
+  long = refl;
+  each = λ m opened.
+      let its = is.table.each m opened in
+      let there = open_there s.rows m opened in
+      record { within = its.within; entry = its.entry; there = its.there; is = IsRow-pushed s.rows r precede precede' is.places m its.entry there.1 (alone m) its.is };
+  only = is.table.only;
+  tags = λ q. refl;
+  vacant = λ q none. none;
+  taken = refl;
+}
 
 module _ (a : Held) (s : State) (is : Holds a s) (place : ℕ) (r : Row) (e : OpenRow) (kept : IsSteady (add_row s r)) (vacant : IsFree a.table place) (placed : is.places (length s.rows + 1) ≡ place) (opened : is_open r.phase ≡ true) (none : value_in r.phase ≡ pos 0) (fresh : IsFresh a is.places r e)
     (table : List (Option OpenRow)) (joined : IsJoined a s is.places r table) where

@@ -25,8 +25,8 @@ use Rattle.arena_rows.specs.Held.{Held, HasFreePlace}
 use Rattle.arena_rows.specs.Represents.{id_of, waiting, waiting_of, Assigned, IsRowContext, AreContexts, open_of, Holds, IsFree}
 use Rattle.arena_rows.specs.HeldChanges.{next_id, index_of, entered, job_counted, posted_entry, put}
 use Rattle.arena_rows.proofs.Making.{IsNext, is_next}
-use Rattle.arena_rows.proofs.Made.{IsFresh, IsJoined, made_holds}
-use Rattle.arena_rows.proofs.Pushing.{IsRow-pushed, AreNests-waiting, waiting-one}
+use Rattle.arena_rows.proofs.Made.{IsFresh, IsJoined, IsJoined-alone, made_holds}
+use Rattle.arena_rows.proofs.Pushing.{AreNests-waiting, waiting-one}
 use Rattle.arena_rows.proofs.Spawned.{joined, AreContexts-joined}
 
 abbrev no_group_contexts : List (Option ℕ)
@@ -59,17 +59,7 @@ module _ (a : Held) (s : State) (is : Holds a s) (place : ℕ) (placed : is.plac
   fresh = record { number = refl; source = refl; job = refl; made_on = refl; stage = refl; groups = refl; contexts = refl }
 
   table_joined : IsJoined a s is.places r a.table
-  table_joined = record {
-    long = refl;
-    each = λ m opened.
-        let its = is.table.each m opened in
-        let there = open_there s.rows m opened in
-        record { within = its.within; entry = its.entry; there = its.there; is = IsRow-pushed s.rows r precede precede' is.places m its.entry there.1 (λ g few. refl) its.is };
-    only = is.table.only;
-    tags = λ q. refl;
-    vacant = λ q none. none;
-    taken = refl;
-  }
+  table_joined = IsJoined-alone a s is r precede precede' (λ m g few. refl)
 
   abbrev at : Assigned
   at = joined s a.retired (length a.jobs) a.table a.contexts is.assigned ctx place r e precede precede' is.contexts refl refl (λ m h. refl)

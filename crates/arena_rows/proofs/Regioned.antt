@@ -23,8 +23,8 @@ use Rattle.arena_rows.specs.Held.{Held}
 use Rattle.arena_rows.specs.Represents.{id_of, tag_of, nested_of, waiting, waiting_of, AreNests, Assigned, IsRowContext, AreContexts, Holds, IsFree}
 use Rattle.arena_rows.specs.HeldChanges.{next_id, outer_of, index_of, entered, job_counted, region_entry, region_pushed}
 use Rattle.arena_rows.proofs.Making.{IsNext, is_next, tag_there}
-use Rattle.arena_rows.proofs.Made.{IsFresh, IsJoined, made_holds}
-use Rattle.arena_rows.proofs.Pushing.{IsRow-pushed, waiting-none}
+use Rattle.arena_rows.proofs.Made.{IsFresh, IsJoined, IsJoined-alone, made_holds}
+use Rattle.arena_rows.proofs.Pushing.{waiting-none}
 use Rattle.arena_rows.proofs.Pushed.{AreNests-pushed}
 use Rattle.arena_rows.proofs.Started.{some_none}
 use Rattle.arena_rows.proofs.Tops.{height_is}
@@ -80,17 +80,7 @@ module _ (a : Held) (s : State) (is : Holds a s) (place : ℕ) (placed : is.plac
   ]
 
   table_joined : IsJoined a s is.places r a.table
-  table_joined = record {
-    long = refl;
-    each = λ m opened.
-        let its = is.table.each m opened in
-        let there = open_there s.rows m opened in
-        record { within = its.within; entry = its.entry; there = its.there; is = IsRow-pushed s.rows r precede precede' is.places m its.entry there.1 (λ g few. refl) its.is };
-    only = is.table.only;
-    tags = λ q. refl;
-    vacant = λ q none. none;
-    taken = refl;
-  }
+  table_joined = IsJoined-alone a s is r precede precede' (λ m g few. refl)
 
   abbrev at : Assigned
   at = joined s a.retired (length a.jobs) a.table a.contexts is.assigned ctx place r e precede precede' is.contexts refl refl (λ m h. refl)

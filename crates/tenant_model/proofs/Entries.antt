@@ -1,13 +1,15 @@
--- What a private run leads to is an entry.
-use Rattle.std.proofs.Common.{◌≡◌, ℕ, ◌+◌, ◌==◌, Bool, true, false, ◌&&◌, refl, nat_lt}
+-- Which advances are entries: what a private run leads to, and a pick that is taken.
+use Rattle.std.proofs.Common.{◌≡◌, ℕ, ◌+◌, ◌==◌, Bool, true, false, ◌&&◌, Some, refl, nat_lt, arith}
 use Rattle.std.specs.Prelude.{if◌then◌else◌}
 use Rattle.std.proofs.lemmas.Bool.{cond_both, and_right}
 use Rattle.job_language.specs.declared.errors.JobFault.{JobFault}
 use Rattle.job_language.specs.declared.errors.JobFault.TheVariants as fault
 use Rattle.job_language.specs.declared.instructions.Instr.{Instr}
 use Rattle.job_language.specs.declared.instructions.Instr.TheVariants.{Set, Add, Sub, Mul, Div, Lt, Jz, Jmp, Slot, Width, Spawn, Post, Wait, Cancel, Ask, Isolate, Load, Store, Sum, Count, Ret}
+use Rattle.job_language.specs.declared.answers.Answer.TheVariants as answer
 use Rattle.job_language.specs.declared.answers.Moved.{Moved}
-use Rattle.job_language.specs.declared.answers.Moved.TheVariants.{Full, Freed, Ran}
+use Rattle.job_language.specs.declared.answers.Moved.TheVariants as moved
+use Rattle.job_language.specs.Recorded.{is_entry}
 use Rattle.job_step.specs.declared.frames.Frame.{Frame}
 use Rattle.job_step.specs.declared.runs.Stop.{Stop}
 use Rattle.job_step.specs.declared.runs.Stop.TheVariants.{Shared, Yield, Fault}
@@ -16,23 +18,32 @@ use Rattle.tenant_model.specs.State.{State, row}
 use Rattle.tenant_model.specs.Walks.{height}
 use Rattle.tenant_model.specs.Changes.{is_full, is_row_limit_met, finish_step, faults, with_frame}
 use Rattle.tenant_model.specs.Shared.{execute, has_used_group}
-use Rattle.tenant_model.specs.Advance.{would_be_recorded, unless_full, pay, is_poor, with_fuel, with_fuel_paid, is_blocked, move_on, after_run}
+use Rattle.tenant_model.specs.Advance.{would_be_recorded, unless_full, pay, is_poor, with_fuel, with_fuel_paid, is_blocked, move_on, after_run, nest_pick}
 
 -- If the history has room, a step is answered as it is without the limit.
 pub unless_full-room : (s : State) (r : Moved × State) → is_full s ≡ false → unless_full s r ≡ r
 unless_full-room s r room = rw (room, and_right (would_be_recorded r.0) false refl) refl
 
 -- an entry at a full history
-pub unless_full-full : (s : State) (r : Moved × State) → would_be_recorded r.0 ≡ true → is_full s ≡ true → unless_full s r ≡ (Full, s)
+pub unless_full-full : (s : State) (r : Moved × State) → would_be_recorded r.0 ≡ true → is_full s ≡ true → unless_full s r ≡ (moved.Full, s)
 unless_full-full s r entry full = rw (entry, full) refl
 
-abbrev IsEntry : Moved × State → Type 0
-IsEntry r = would_be_recorded r.0 ≡ true
+abbrev pub IsEntry : Moved × State → Type 0
+IsEntry r = is_entry (answer.Moved r.0) ≡ true
+
+pub is_recorded : (m : Moved) → is_entry (answer.Moved m) ≡ true → would_be_recorded m ≡ true
+is_recorded moved.Ran enters = refl
+is_recorded (moved.Nested n) enters = refl
+is_recorded moved.Freed enters = refl
+is_recorded moved.Left enters = absurd (grind (arith, enters))
+is_recorded moved.Idle enters = absurd (grind (arith, enters))
+is_recorded moved.Stale enters = refl
+is_recorded moved.Full enters = refl
 
 either : (b : Bool) (r q : Moved × State) → IsEntry r → IsEntry q → IsEntry (if b then r else q)
 either b r q yes_then yes_else = cond_both b r q IsEntry (λ _. yes_then) (λ _. yes_else)
 
-freed_or_ran : (b : Bool) → would_be_recorded (if b then Freed else Ran) ≡ true
+freed_or_ran : (b : Bool) → is_entry (answer.Moved (if b then moved.Freed else moved.Ran)) ≡ true
 freed_or_ran true = refl
 freed_or_ran false = refl
 
@@ -75,8 +86,15 @@ execute_enters s slot n f (Width d) = search freed_or_ran
 move_on_enters : (s : State) (slot n count : ℕ) (f : Frame) → IsEntry (move_on s slot n count f)
 move_on_enters s slot n count f = pay_enters s slot n count (λ t. finish_step slot (with_frame t n f)) (λ t. ran_enters slot (with_frame t n f))
 
-pub after_run_enters : (s : State) (slot n count : ℕ) (f : Frame) (stop : Stop) → would_be_recorded (after_run s slot n count f stop).0 ≡ true
+pub after_run_enters : (s : State) (slot n count : ℕ) (f : Frame) (stop : Stop) → IsEntry (after_run s slot n count f stop)
 after_run_enters s slot n count f Yield = move_on_enters s slot n count f
 after_run_enters s slot n count f Fault = pay_enters s slot n count (λ t. faults slot (row t.rows n).job fault.Division t) (λ t. faults_enters slot (row t.rows n).job fault.Division t)
 after_run_enters s slot n count f (Shared i) =
     either (is_blocked s n i) _ _ (move_on_enters s slot n count f) (pay_enters s slot n (count + 1) (λ t. execute t slot n f i) (λ t. execute_enters t slot n f i))
+
+-- and so it would be recorded
+pub after_run_recorded : (s : State) (slot n count : ℕ) (f : Frame) (stop : Stop) → would_be_recorded (after_run s slot n count f stop).0 ≡ true
+after_run_recorded s slot n count f stop = is_recorded (after_run s slot n count f stop).0 (after_run_enters s slot n count f stop)
+
+pub nest_enters : (s : State) (slot n m : ℕ) → IsEntry (nest_pick s slot n (Some m))
+nest_enters s slot n m = either (height s.rows slot == MAX_HEIGHT) _ _ (faults_enters slot (row s.rows n).job fault.TooDeep s) refl

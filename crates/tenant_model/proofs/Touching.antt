@@ -24,7 +24,7 @@ use Rattle.tenant_model.specs.Shared.{execute, has_used_group, hand_back}
 use Rattle.tenant_model.specs.Advance.{begin, nest_pick, is_poor, with_fuel_paid, move_on, is_blocked, after_run, is_idle_wait, run_on, advance_run, advance_top, would_be_recorded, unless_full, advance}
 use Rattle.tenant_model.specs.Regions.{Change, Touch, change_of, change_after, touch_by, touch}
 use Rattle.tenant_model.proofs.Within.{either_way}
-use Rattle.tenant_model.proofs.Entries.{unless_full-room, unless_full-full, after_run_enters}
+use Rattle.tenant_model.proofs.Entries.{unless_full-room, unless_full-full, after_run_recorded}
 
 -- the change of a touch
 abbrev pub change_in : Option Touch → Option Change
@@ -136,7 +136,7 @@ run_full s slot n r = elim (either_way (is_full s)) [
   | inr room ↦ inr room
   | inl full ↦ inl (elim (either_way (is_idle_wait s n r.count r.stop)) [
     | inl stuck ↦ rw stuck (either s.cells (would_be_recorded (nest_pick s slot n (pick s slot)).0 && is_full s) _ _ (λ _. refl) (λ _. blocked_cells s slot n (pick s slot)))
-    | inr goes ↦ rw goes (ap (λ (q : Moved × State). q.1.cells) (unless_full-full s (after_run s slot n r.count r.end r.stop) (after_run_enters s slot n r.count r.end r.stop) full))
+    | inr goes ↦ rw goes (ap (λ (q : Moved × State). q.1.cells) (unless_full-full s (after_run s slot n r.count r.end r.stop) (after_run_recorded s slot n r.count r.end r.stop) full))
   ])
 ]
 

@@ -2,7 +2,7 @@ use Rattle.std.proofs.Common.{◌≡◌, true, false, sym, ◌∙◌, arith}
 use Rattle.tenant_model.specs.Changes.{is_full}
 use Rattle.tenant_model.specs.Advance.{after_run, is_idle_wait, run_on}
 use Rattle.tenant_model.proofs.Blocked.{no_idle_wait}
-use Rattle.tenant_model.proofs.Entries.{unless_full-full, after_run_enters}
+use Rattle.tenant_model.proofs.Entries.{unless_full-full, after_run_recorded}
 use Rattle.solo_eval.proofs.state.TenantState.advance_row.Goals as goal
 use Rattle.solo_eval.proofs.state.TenantState.advance_row.Goals.{else-is_blocked-via-then-is_blocked+else-run-eq0, else-is_blocked-via-else-is_blocked}
 
@@ -17,4 +17,4 @@ returns-then-is_full-clause-ok c =
       | else-is_blocked-via-else-is_blocked v ↦ absurd (grind (arith, waits, v.if-is_blocked.false))
     ]) in
     let full : is_full s ≡ true = sym c.is_full.ensures ∙ c.if-is_full.true in
-    rw (← run, moves) (unless_full-full s (after_run s c.args.slot n r.count r.end r.stop) (after_run_enters s c.args.slot n r.count r.end r.stop) full)
+    rw (← run, moves) (unless_full-full s (after_run s c.args.slot n r.count r.end r.stop) (after_run_recorded s c.args.slot n r.count r.end r.stop) full)
