@@ -22,8 +22,7 @@ use Rattle.serial_law.specs.SerialValues.{number_made, KeepsSerialValues}
 use Rattle.tenant_model.specs.Sound.{ShareJobs, IsSound}
 use Rattle.tenant_model.proofs.Tended.{no_row_made}
 use Rattle.tenant_model.specs.State.{State, row, job, empty}
-use Rattle.tenant_model.specs.Walks.{maker_of, is_open, value_in}
-use Rattle.tenant_model.specs.Advance.{advance, arrive}
+use Rattle.tenant_model.specs.Walks.{is_open, value_in}
 use Rattle.tenant_model.specs.Asks.{ask, has_outcome, outcome, status}
 use Rattle.tenant_model.specs.Solo.{step, after}
 use Rattle.tenant_model.specs.WellFormed.{IsWellFormed}

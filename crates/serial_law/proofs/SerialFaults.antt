@@ -1,24 +1,21 @@
 -- A fault reaches rows of one job alone.
-use Rattle.std.proofs.Common.{◌≡◌, ◌≢◌, ℕ, zero, suc, ◌+◌, ◌-◌, ◌==◌, ◌≤◌, List, [], ◌∷◌, length, Option, Some, None, max, Bool, true, false, ◌&&◌, refl, sym, ap, ◌∙◌, arith, inl, inr, map}
-use Rattle.std.specs.Prelude.{count_by, fold, nat_le, is_some, ◌||◌}
+use Rattle.std.proofs.Common.{◌≡◌, ◌≢◌, ℕ, ◌-◌, ◌==◌, ◌≤◌, List, length, Option, Some, None, true, false, ◌&&◌, refl, sym, ap, ◌∙◌, arith, inl, inr, map}
+use Rattle.std.specs.Prelude.{nat_le, is_some, ◌||◌}
 use Rattle.std.proofs.lemmas.Bool.{cases_eq}
 use Rattle.job_language.specs.declared.errors.JobFault.{JobFault}
-use Rattle.tenant_model.specs.declared.rows.Kind.{Kind}
-use Rattle.tenant_model.specs.declared.rows.Kind.TheVariants.{Root, Posted, Spawned, Region}
 use Rattle.tenant_model.specs.declared.rows.Phase.{Phase}
 use Rattle.tenant_model.specs.declared.rows.Phase.TheVariants.{Unstarted, Live, Done, Dropped, Faulted}
 use Rattle.tenant_model.specs.declared.rows.Row.{Row}
 use Rattle.tenant_model.specs.declared.works.Work.{Work}
 use Rattle.tenant_model.specs.State.{State, row, job, with_at_number}
-use Rattle.tenant_model.specs.Walks.{is_region, is_open, is_live_at, is_job_cancelled, value_in, height}
-use Rattle.tenant_model.specs.Changes.{on_job, task_height_of, task_height, faulted_phase, faulted_row, first_fault, faults}
+use Rattle.tenant_model.specs.Walks.{is_open, is_job_cancelled, value_in, height}
+use Rattle.tenant_model.specs.Changes.{on_job, task_height, faulted_phase, faulted_row, first_fault, faults}
 use Rattle.tenant_model.specs.Sound.{ShareJobs}
 use Rattle.tenant_model.specs.WellFormed.{AreStacked, StandOnMakers}
 use Rattle.tenant_model.proofs.Within.{either_way}
-use Rattle.tenant_model.proofs.Changed.{at_number-with_same, at_number-with_other, row-with_other, row-map, length-with}
+use Rattle.tenant_model.proofs.Changed.{at_number-with_same, at_number-with_other, row-map, length-with}
 use Rattle.tenant_model.proofs.Linked.{SameSources-map, IsLinked-same, IsLinked-more_jobs}
-use Rattle.tenant_model.proofs.Stacking.{one_if, count-cons, count-with}
-use Rattle.tenant_model.proofs.Insides.{live_there, live_low}
+use Rattle.tenant_model.proofs.Insides.{live_low}
 use Rattle.tenant_model.proofs.Together.{same_job}
 use Rattle.serial_law.proofs.SerialMoves.{SameJob}
 use Rattle.serial_law.proofs.SerialFollows.{Origin, shared_of, Good, OneJob-same, SameWork, Follows-same, entry_good}

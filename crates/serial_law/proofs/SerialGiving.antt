@@ -1,12 +1,6 @@
 -- What a task gives, and by how many instructions.
-use Rattle.std.proofs.Common.{◌≡◌, ℕ, zero, suc, ◌+◌, ◌<◌, List, [], ◌∷◌, length, get_or, inl, inr, Option, Some, None, Bool, true, false, refl, sym, ap, ◌∙◌, arith, ℤ, unwrap_or}
-use Rattle.std.specs.Prelude.{slice_get, slice_index_or, is_some, IfSome}
-use Rattle.std.proofs.lemmas.Bool.{cases_lt}
-use Rattle.std.proofs.lemmas.Option.{slice_get-get_or, slice_get_within}
-use Rattle.job_language.proofs.Groups.{group_of}
-use Rattle.job_language.specs.Program.{IsValidProgram, IsInRange}
-use Rattle.job_language.specs.declared.instructions.TheConstants.{GROUPS}
-use Rattle.job_step.proofs.RunSteps.{instr_at-past_procs}
+use Rattle.std.proofs.Common.{◌≡◌, ℕ, zero, suc, ◌+◌, List, [], ◌∷◌, Option, Some, None, Bool, true, false, refl, sym, ap, ◌∙◌, arith, ℤ, unwrap_or}
+use Rattle.std.specs.Prelude.{slice_get, slice_index_or, is_some}
 use Rattle.std.specs.List.{list_all}
 use Rattle.job_language.specs.declared.instructions.Instr.{Instr}
 use Rattle.job_language.specs.declared.instructions.Instr.TheVariants.{Set, Add, Sub, Mul, Div, Lt, Jz, Jmp, Slot, Width, Spawn, Post, Wait, Cancel, Ask, Isolate, Load, Store, Sum, Count, Ret}

@@ -1,9 +1,8 @@
 -- The worked example computes.
-use Rattle.std.proofs.Common.{refl, ℕ, arith, List, [], ◌∷◌, length, get_or, rules}
-use Rattle.std.specs.Prelude.{All, ⊤}
+use Rattle.std.proofs.Common.{refl, arith, [], get_or, rules}
+use Rattle.std.specs.Prelude.{All}
 use Rattle.std.proofs.lemmas.List.Elements.{All-cons, All-nil}
-use Rattle.job_language.specs.declared.instructions.Instr.{Instr}
-use Rattle.job_language.specs.Program.{IsInRange, IsValidProc, Calls}
+use Rattle.job_language.specs.Program.{IsInRange, IsValidProc}
 use Rattle.job_step.specs.Run.{run_for}
 use Rattle.tenant_model.specs.Worked.{fib}
 use Rattle.serial_law.specs.Worked.{FibIsValid, FibIsSerial, FibIsJob1, FibCompletesWith8}

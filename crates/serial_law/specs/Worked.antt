@@ -1,13 +1,12 @@
 -- A worked example that meets the premises of the law: the sixth Fibonacci number, on one reserved slot.
-use Rattle.std.specs.Prelude.{◌≡◌, pos, true, List, [], ◌∷◌, replicate, Some}
-use Rattle.job_language.specs.Brought.{job_of}
+use Rattle.std.specs.Prelude.{◌≡◌, pos, true, ◌∷◌, replicate, Some}
 use Rattle.job_language.specs.Program.{IsValidProgram}
 use Rattle.job_language.specs.Serial.{is_serial}
 use Rattle.job_language.specs.declared.answers.Status.TheVariants.{Complete}
 use Rattle.job_language.specs.declared.requests.Request.TheVariants.{Execute}
 use Rattle.job_language.specs.declared.steps.Step.TheVariants.{Ask, Advance}
 use Rattle.job_language.specs.declared.tenants.Isolation.TheVariants.{Exact}
-use Rattle.tenant_model.specs.State.{State, empty, job}
+use Rattle.tenant_model.specs.State.{empty, job}
 use Rattle.tenant_model.specs.Asks.{ask, status}
 use Rattle.tenant_model.specs.Solo.{after}
 use Rattle.tenant_model.specs.Worked.{tenant, fib}

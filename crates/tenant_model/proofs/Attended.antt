@@ -1,40 +1,31 @@
 -- Makers stay while what they made is open, unless their job has a fault.
-use Rattle.std.proofs.Common.{◌≡◌, ◌≢◌, ℕ, zero, suc, ◌+◌, ◌-◌, ◌==◌, ◌<◌, ◌≤◌, List, [], ◌∷◌, ◌++◌, length, get_or, Option, Some, None, IsSome, Bool, true, false, ◌&&◌, ◌||◌, refl, sym, ap, ◌∙◌, arith, inl, inr, ◌⊎◌, map, nat_lt, ℤ, max}
-use Rattle.std.specs.Prelude.{nat_le, slice_set, filter, is_some, unwrap_or, slice_get}
+use Rattle.std.proofs.Common.{◌≡◌, ◌≢◌, ℕ, zero, suc, ◌+◌, ◌-◌, ◌==◌, ◌<◌, ◌≤◌, List, [], ◌∷◌, ◌++◌, length, get_or, Some, None, IsSome, true, false, ◌&&◌, refl, sym, ap, ◌∙◌, arith, inl, inr, ◌⊎◌, map, nat_lt, ℤ}
+use Rattle.std.specs.Prelude.{nat_le, filter}
 use Rattle.std.specs.List.{enumerate_from}
-use Rattle.std.specs.Option.{option_map}
 use Rattle.std.proofs.lemmas.Bool.{cases_eq, cases_lt}
 use Rattle.std.proofs.lemmas.List.{length_push}
-use Rattle.std.proofs.lemmas.Option.{slice_get-map}
-use Rattle.job_language.specs.declared.errors.JobFault.{JobFault}
-use Rattle.job_language.specs.declared.instructions.Instr.TheVariants.{Spawn}
 use Rattle.job_language.specs.declared.instructions.TheConstants.{GROUPS}
-use Rattle.job_language.specs.declared.tenants.Tenant.{Tenant}
 use Rattle.job_step.specs.declared.frames.Frame.{Frame}
-use Rattle.job_step.specs.Frame.{register, instr_at}
+use Rattle.job_step.specs.Frame.{instr_at}
 use Rattle.tenant_model.specs.declared.rows.Kind.{Kind}
 use Rattle.tenant_model.specs.declared.rows.Kind.TheVariants.{Root, Posted, Spawned, Region}
 use Rattle.tenant_model.specs.declared.rows.Phase.{Phase}
 use Rattle.tenant_model.specs.declared.rows.Phase.TheVariants.{Unstarted, Live, Done, Dropped, Faulted}
 use Rattle.tenant_model.specs.declared.rows.Row.{Row}
 use Rattle.tenant_model.specs.declared.works.Work.{Work}
-use Rattle.tenant_model.specs.State.{State, empty, row, job, at_number, with_at_number}
-use Rattle.thread_cells.specs.Cells.{Table, no_cells}
-use Rattle.tenant_model.specs.Walks.{NumberedRow, maker_of, is_unstarted, is_open, is_spawned_by, is_used, is_live_at, mark, members, height, pick, settled_row, settle}
-use Rattle.tenant_model.specs.Changes.{on_row, on_job, new_row, add_row, entry, with_frame, with_cells, nest, task_height, faulted_row, faulted_phase, first_fault}
-use Rattle.tenant_model.specs.Shared.{called_frame, handed_frame, hand_back, has_used_group, next_place}
-use Rattle.tenant_model.specs.Advance.{with_fuel}
-use Rattle.tenant_model.specs.Asks.{add_job, new_job, retired_work}
-use Rattle.tenant_model.specs.Naming.{IsUnstuck}
+use Rattle.tenant_model.specs.State.{State, row, job, with_at_number}
+use Rattle.thread_cells.specs.Cells.{Table}
+use Rattle.tenant_model.specs.Walks.{NumberedRow, maker_of, is_unstarted, is_open, is_spawned_by, is_used, mark, height}
+use Rattle.tenant_model.specs.Changes.{on_row, add_row, with_frame, task_height, faulted_row, faulted_phase}
+use Rattle.tenant_model.specs.Shared.{handed_frame, hand_back, has_used_group}
 use Rattle.tenant_model.specs.WellFormed.{IsWellFormed}
 use Rattle.tenant_model.specs.Sound.{IsTended, MakersStay}
 use Rattle.tenant_model.proofs.Within.{either_way}
-use Rattle.tenant_model.proofs.Changed.{row-with_same, row-with_other, row-push_old, row-push_new, row-past, row-get_or, row-map, at_number-with_same, at_number-with_other, at_number-push_old, length-with}
-use Rattle.tenant_model.proofs.Insides.{live_there, live_low}
-use Rattle.tenant_model.proofs.Picks.{pick_is}
-use Rattle.tenant_model.proofs.Invariance.{IsAt, KeepsAdvances, KeepsAsks, program_of, faulted_at, waited_at, cancelled_at, done_at}
+use Rattle.tenant_model.proofs.Changed.{row-with_same, row-with_other, row-push_old, row-push_new, row-past, row-get_or, row-map, length-with}
+use Rattle.tenant_model.proofs.Insides.{live_low}
+use Rattle.tenant_model.proofs.Invariance.{IsAt}
 use Rattle.tenant_model.proofs.Tending.{made_there, EndsSome}
-use Rattle.tenant_model.proofs.Tended.{top_is_bare, EndsSome-settle, EndsSome-faulted}
+use Rattle.tenant_model.proofs.Tended.{top_is_bare}
 use Rattle.tenant_model.proofs.Together.{same_job}
 
 -- a fault that is there stays

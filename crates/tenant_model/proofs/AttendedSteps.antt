@@ -1,19 +1,17 @@
 -- At every step, what made an open row stays open, unless its job has a fault.
-use Rattle.std.proofs.Common.{◌≡◌, ℕ, zero, suc, ◌+◌, ◌-◌, ◌<◌, ◌≤◌, List, [], ◌∷◌, ◌++◌, length, Option, Some, None, IsSome, Bool, true, false, ◌⊎◌, refl, sym, ap, ◌∙◌, arith, inl, inr, map, length-set, pos}
+use Rattle.std.proofs.Common.{◌≡◌, ℕ, zero, suc, ◌+◌, ◌<◌, ◌≤◌, List, [], ◌∷◌, ◌++◌, length, Option, Some, None, IsSome, Bool, true, false, refl, sym, ap, ◌∙◌, arith, inl, inr, map, pos}
 use Rattle.std.specs.Prelude.{slice_index_or, slice_get, slice_set, unwrap_or, is_some}
 use Rattle.std.specs.Option.{option_map}
 use Rattle.std.proofs.lemmas.Bool.{cases_eq, cases_lt}
 use Rattle.std.proofs.lemmas.Option.{slice_get-map, slice_get_past}
-use Rattle.job_language.specs.Brought.{BringsValid}
 use Rattle.job_language.specs.declared.errors.JobFault.{JobFault}
-use Rattle.job_language.specs.declared.instructions.Instr.{Instr}
-use Rattle.job_language.specs.declared.instructions.Instr.TheVariants.{Spawn, Isolate}
+use Rattle.job_language.specs.declared.instructions.Instr.TheVariants.{Spawn}
 use Rattle.job_language.specs.declared.instructions.TheConstants.{GROUPS}
 use Rattle.job_language.specs.declared.jobs.Job.{Job}
 use Rattle.job_language.specs.declared.requests.Request.{Request}
 use Rattle.job_language.specs.declared.tenants.Tenant.{Tenant}
 use Rattle.job_step.specs.declared.frames.Frame.{Frame}
-use Rattle.job_step.specs.Frame.{new_frame, register, instr_at}
+use Rattle.job_step.specs.Frame.{new_frame, register}
 use Rattle.tenant_model.specs.declared.rows.Kind.{Kind}
 use Rattle.tenant_model.specs.declared.rows.Kind.TheVariants.{Root, Posted, Spawned, Region}
 use Rattle.tenant_model.specs.declared.rows.Phase.{Phase}
@@ -23,22 +21,21 @@ use Rattle.tenant_model.specs.declared.works.Work.{Work}
 use Rattle.tenant_model.specs.State.{State, empty, row, job, at_number, with_at_number}
 use Rattle.thread_cells.specs.Cells.{no_cells}
 use Rattle.tenant_model.specs.Walks.{maker_of, is_region, is_unstarted, is_open, is_context_cancelled, mark, height, pick, settled_row, settle}
-use Rattle.tenant_model.specs.Changes.{on_row, on_job, new_row, add_row, entry, with_frame, nest, task_height, faulted_row, first_fault}
+use Rattle.tenant_model.specs.Changes.{new_row, entry, with_frame, nest, task_height, faulted_row, first_fault}
 use Rattle.tenant_model.specs.Shared.{called_frame, next_place}
-use Rattle.tenant_model.specs.Advance.{with_fuel, advance, arrive}
+use Rattle.tenant_model.specs.Advance.{advance, arrive}
 use Rattle.tenant_model.specs.Asks.{add_job, new_job, retired_work, ask}
 use Rattle.tenant_model.specs.Naming.{IsUnstuck}
 use Rattle.tenant_model.specs.WellFormed.{IsWellFormed}
-use Rattle.tenant_model.specs.Sound.{IsTended, MakersStay}
+use Rattle.tenant_model.specs.Sound.{MakersStay}
 use Rattle.tenant_model.proofs.Changed.{at_number-with_same, at_number-with_other, at_number-push_old, row-past}
-use Rattle.tenant_model.proofs.Keeping.{on_job_kept, on_row_kept}
+use Rattle.tenant_model.proofs.Keeping.{on_row_kept}
 use Rattle.tenant_model.proofs.Parts.{row-settle}
 use Rattle.tenant_model.proofs.Picks.{pick_is}
-use Rattle.tenant_model.proofs.Running.{NamesGroups, names_groups}
-use Rattle.tenant_model.proofs.Invariance.{IsAt, KeepsAdvances, KeepsAsks, advance_keeps, arrive_keeps, ask_keeps, program_of, faulted_at, waited_at, cancelled_at, done_at}
+use Rattle.tenant_model.proofs.Running.{names_groups}
+use Rattle.tenant_model.proofs.Invariance.{IsAt, KeepsAdvances, KeepsAsks, advance_keeps, arrive_keeps, ask_keeps, program_of, faulted_at}
 use Rattle.tenant_model.proofs.Unstuck.{on_job_unstuck}
 use Rattle.tenant_model.proofs.UnstuckSteps.{known_there}
-use Rattle.tenant_model.proofs.Tending.{EndsSome}
 use Rattle.tenant_model.proofs.Tended.{EndsSome-settle, EndsSome-faulted, entry_tended, tended_advances, tended_asks, no_row_made}
 use Rattle.tenant_model.proofs.Attended.{KeepFaults, Both, MakersStay-jobs, MakersStay-beside, MakersStay-ends, MakersStay-set, MakersStay-push, kept_at, framed_kept, made_kept, over_kept, done_kept_by, faulted_of}
 

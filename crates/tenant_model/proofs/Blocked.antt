@@ -1,6 +1,5 @@
 -- What a row does at a wait, by where its run stopped and by what it ran.
 use Rattle.std.proofs.Common.{◌≡◌, ℕ, Bool, true, false, ◌==◌, ◌&&◌, refl, sym, ◌∙◌, ap, arith}
-use Rattle.std.proofs.lemmas.Bool.{cases_eq}
 use Rattle.job_step.specs.declared.runs.Stop.{Stop}
 use Rattle.job_step.specs.declared.runs.Stop.TheVariants.{Shared, Yield, Fault}
 use Rattle.tenant_model.specs.State.{State}

@@ -1,5 +1,5 @@
 -- Each step is a few changes and then an entry: what all of these keep, every step keeps.
-use Rattle.std.proofs.Common.{◌≡◌, ℕ, ◌+◌, ◌-◌, ◌==◌, ◌<◌, ◌≤◌, [], ◌∷◌, length, Option, Some, None, Bool, true, false, ◌&&◌, ◌||◌, refl, sym, ap, ◌∙◌, arith, nat_lt, length-set, map, List, IsSome, ℤ}
+use Rattle.std.proofs.Common.{◌≡◌, ℕ, ◌+◌, ◌==◌, ◌<◌, ◌≤◌, length, Option, Some, None, Bool, true, false, ◌&&◌, ◌||◌, refl, ap, ◌∙◌, arith, nat_lt, length-set, map, List, ℤ}
 use Rattle.std.specs.Prelude.{if◌then◌else◌, slice_set, nat_le, not}
 use Rattle.std.specs.List.{list_any, range_with_len}
 use Rattle.std.specs.Option.{option_map_or}
@@ -16,8 +16,6 @@ use Rattle.job_language.specs.declared.answers.Status.TheVariants as status
 use Rattle.job_language.specs.declared.jobs.Job.{Job}
 use Rattle.job_language.specs.declared.requests.Request.{Request}
 use Rattle.job_language.specs.declared.requests.Request.TheVariants as request
-use Rattle.job_language.specs.declared.steps.Step.{Step}
-use Rattle.job_language.specs.declared.steps.Step.TheVariants as step
 use Rattle.job_step.specs.declared.frames.Frame.{Frame}
 use Rattle.job_step.specs.Frame.{register, write_and_step, instr_at}
 use Rattle.job_step.specs.declared.runs.Stop.{Stop}

@@ -1,5 +1,5 @@
 -- Changes that undo nothing.
-use Rattle.std.proofs.Common.{◌≡◌, ◌≢◌, ℕ, zero, suc, ◌+◌, ◌<◌, ◌≤◌, List, [], ◌∷◌, ◌++◌, length, Option, Some, None, Bool, true, false, refl, sym, ap, ◌∙◌, arith, inl, inr, map}
+use Rattle.std.proofs.Common.{◌≡◌, ◌≢◌, ℕ, zero, suc, ◌+◌, ◌≤◌, List, [], ◌∷◌, ◌++◌, length, Option, Some, None, true, refl, sym, ap, ◌∙◌, arith, inl, inr, map}
 use Rattle.std.specs.Prelude.{slice_get, unwrap_or}
 use Rattle.std.specs.Option.{option_map}
 use Rattle.std.proofs.lemmas.Bool.{cases_eq, cases_lt}
@@ -11,7 +11,7 @@ use Rattle.tenant_model.specs.State.{State, row, job, with_at_number}
 use Rattle.thread_cells.specs.Cells.{Table}
 use Rattle.tenant_model.specs.Walks.{is_open}
 use Rattle.tenant_model.specs.Asks.{retired_work}
-use Rattle.tenant_model.specs.Later.{IsRowLater, IsWorkLater, HasEnded, StaysEnded, IsLater}
+use Rattle.tenant_model.specs.Later.{IsRowLater, IsWorkLater, HasEnded, IsLater}
 use Rattle.tenant_model.proofs.Changed.{row-with_same, row-with_other, row-push_old, row-push_new, row-past, at_number-with_same, at_number-with_other, at_number-push_old, length-with}
 
 pub row_later-same : (r : Row) → IsRowLater r r

@@ -1,11 +1,10 @@
 -- No step undoes anything.
-use Rattle.std.proofs.Common.{◌≡◌, ◌≢◌, ℕ, zero, suc, ◌+◌, ◌-◌, ◌==◌, ◌<◌, ◌≤◌, List, [], ◌∷◌, ◌++◌, length, Option, Some, None, Bool, true, false, ◌&&◌, ◌||◌, refl, sym, ap, ◌∙◌, arith, inl, inr, map, ℤ, pos}
-use Rattle.std.specs.Prelude.{slice_set, slice_index_or, not}
+use Rattle.std.proofs.Common.{◌≡◌, ℕ, zero, suc, ◌+◌, ◌-◌, ◌==◌, ◌≤◌, List, [], ◌∷◌, ◌++◌, length, Some, None, Bool, true, false, ◌&&◌, refl, sym, ap, ◌∙◌, arith, inl, inr, map, ℤ, pos}
+use Rattle.std.specs.Prelude.{slice_set, slice_index_or}
 use Rattle.std.specs.List.{list_any}
 use Rattle.std.proofs.lemmas.Bool.{cases_eq, cases_lt}
 use Rattle.job_language.specs.declared.errors.JobFault.{JobFault}
 use Rattle.job_language.specs.declared.jobs.Job.{Job}
-use Rattle.job_language.specs.declared.requests.Request.{Request}
 use Rattle.job_language.specs.declared.steps.Step.{Step}
 use Rattle.job_language.specs.declared.steps.Step.TheVariants.{Ask, Arrive, Advance}
 use Rattle.job_step.specs.declared.frames.Frame.{Frame}
@@ -15,28 +14,27 @@ use Rattle.tenant_model.specs.declared.rows.Kind.TheVariants.{Root, Posted, Spaw
 use Rattle.tenant_model.specs.declared.rows.Phase.{Phase}
 use Rattle.tenant_model.specs.declared.rows.Phase.TheVariants.{Unstarted, Live, Done, Dropped, Faulted}
 use Rattle.tenant_model.specs.declared.rows.Row.{Row}
-use Rattle.tenant_model.specs.declared.works.Work.{Work}
 use Rattle.tenant_model.specs.State.{State, row, job, at_number, with_at_number}
 use Rattle.thread_cells.specs.Cells.{no_cells}
-use Rattle.tenant_model.specs.Walks.{maker_of, is_open, is_unstarted, is_job_cancelled, is_context_cancelled, mark, height, pick, settled_row, settle}
-use Rattle.tenant_model.specs.Changes.{on_row, on_job, new_row, add_row, entry, with_frame, nest, task_height, faulted_row, faulted_phase, first_fault}
+use Rattle.tenant_model.specs.Walks.{maker_of, is_open, is_context_cancelled, mark, height, settled_row, settle}
+use Rattle.tenant_model.specs.Changes.{on_row, new_row, add_row, entry, with_frame, task_height, faulted_row, faulted_phase, first_fault}
 use Rattle.tenant_model.specs.Shared.{called_frame, handed_frame, hand_back, next_place}
-use Rattle.tenant_model.specs.Advance.{with_fuel, advance, arrive}
-use Rattle.tenant_model.specs.Asks.{has_outcome, outcome, status, add_job, new_job, retired_work, ask, known_job}
+use Rattle.tenant_model.specs.Advance.{with_fuel}
+use Rattle.tenant_model.specs.Asks.{has_outcome, add_job, new_job, retired_work}
 use Rattle.tenant_model.specs.Solo.{step}
 use Rattle.tenant_model.specs.WellFormed.{IsWellFormed}
-use Rattle.tenant_model.specs.Later.{IsRowLater, IsWorkLater, HasEnded, IsLater}
+use Rattle.tenant_model.specs.Later.{IsRowLater, HasEnded, IsLater}
 use Rattle.tenant_model.proofs.Within.{either_way}
-use Rattle.tenant_model.proofs.Changed.{row-map, row-past, row-with_same, row-with_other, at_number-with_same, length-with}
+use Rattle.tenant_model.proofs.Changed.{row-map, row-past, row-with_same, row-with_other, length-with}
 use Rattle.tenant_model.proofs.Parts.{SameSources-settle, row-settle}
 use Rattle.tenant_model.proofs.Linked.{SameSources-map}
 use Rattle.tenant_model.proofs.Picks.{pick_is}
 use Rattle.tenant_model.proofs.UnstuckSteps.{known_there}
-use Rattle.tenant_model.proofs.Invariance.{IsAt, KeepsAdvances, KeepsAsks, advance_keeps, arrive_keeps, ask_keeps, program_of, faulted_at, waited_at, cancelled_at, done_at}
+use Rattle.tenant_model.proofs.Invariance.{IsAt, KeepsAdvances, KeepsAsks, advance_keeps, arrive_keeps, ask_keeps, faulted_at}
 use Rattle.tenant_model.proofs.Tending.{made_there}
-use Rattle.tenant_model.proofs.Tended.{by_place, faulted_cases, unstarted_open, Nothing}
+use Rattle.tenant_model.proofs.Tended.{by_place, unstarted_open, Nothing}
 use Rattle.tenant_model.proofs.Together.{row-cons}
-use Rattle.tenant_model.proofs.Later.{row_later-same, work_later-same, later-same, later-then, later-rows, later-set, later-push, later-set_job, later-push_job, later-retired, later-beside}
+use Rattle.tenant_model.proofs.Later.{row_later-same, later-same, later-then, later-rows, later-set, later-push, later-set_job, later-push_job, later-retired, later-beside}
 
 -- a test that none of the rows passes
 none_passes : (p : Row → Bool) (rows : List Row) → ((n : ℕ) → 1 ≤ n → n ≤ length rows → p (row rows n) ≡ false) → list_any p rows ≡ false

@@ -9,7 +9,6 @@ use Rattle.std.proofs.lemmas.List.Elements.{All-append, All-from_get_or}
 use Rattle.std.proofs.lemmas.List.Folds.{list_any_at}
 use Rattle.std.proofs.lemmas.List.Sums.{fold-append}
 use Rattle.job_language.specs.declared.tenants.TheConstants.{MAX_SLOTS}
-use Rattle.job_language.specs.declared.tenants.Tenant.{Tenant}
 use Rattle.job_language.specs.declared.jobs.Job.{Job}
 use Rattle.job_language.specs.declared.requests.Request.{Request}
 use Rattle.job_language.specs.declared.requests.Request.TheVariants.{Hello, Submit, Execute, Poll, Collect, Cancel, Cells, Arena, Retire}
@@ -37,7 +36,7 @@ use Rattle.tenant_model.specs.Sound.{IsSound}
 use Rattle.tenant_model.specs.WellFormed.{IsTable, IsWellFormed}
 use Rattle.tenant_model.specs.Regions.{Change, Touch, changes, cells_on, cells_after, change_after, touch_by, touch, touch_at, touches, IsInterval, IsolatesRows, AdvancesWithin, CellsFollowTouches, TouchesAreWithin, EqualChangesEqualCells, KeepsRegions}
 use Rattle.tenant_model.proofs.Changed.{row-get_or}
-use Rattle.tenant_model.proofs.Within.{with_makers-cong, either_way, within_itself}
+use Rattle.tenant_model.proofs.Within.{either_way, within_itself}
 use Rattle.tenant_model.proofs.Insides.{live_there, live_low}
 use Rattle.tenant_model.proofs.Picks.{top_is}
 use Rattle.tenant_model.proofs.Touching.{change_in, with_change, advance_cells}

@@ -1,6 +1,6 @@
 -- The end of a private run: it has as many registers as at its start, and is at the instruction that stops it. What an instruction of a valid program names.
 use Rattle.std.proofs.Common.{◌≡◌, ℕ, zero, suc, ◌+◌, ◌<◌, List, [], length, get_or, inl, inr, arith, unwrap_or, Option, Some, None, refl, sym, ap, ◌∙◌, length-set, ℤ, pos}
-use Rattle.std.specs.Prelude.{int_lt, if◌then◌else◌, is_some, slice_get, slice_index_or, slice_set, IfSome}
+use Rattle.std.specs.Prelude.{int_lt, if◌then◌else◌, is_some, slice_index_or, IfSome}
 use Rattle.std.specs.Int.{int_wrapping_add, int_wrapping_sub, int_wrapping_mul, int_wrapping_div, w64}
 use Rattle.std.proofs.lemmas.Bool.{cond_both, cases_lt}
 use Rattle.std.proofs.lemmas.Option.{slice_get-get_or, slice_get_within}
@@ -15,7 +15,7 @@ use Rattle.job_step.specs.declared.effects.Effect.TheVariants.{Moves, DividesByZ
 use Rattle.job_step.specs.declared.frames.Frame.{Frame}
 use Rattle.job_step.specs.declared.runs.Run.{Run}
 use Rattle.job_step.specs.declared.runs.Stop.{Stop}
-use Rattle.job_step.specs.declared.runs.Stop.TheVariants.{Shared, Yield, Fault}
+use Rattle.job_step.specs.declared.runs.Stop.TheVariants.{Shared}
 use Rattle.job_step.specs.Frame.{instr_at, write_and_step, register, is_zero, effect}
 use Rattle.job_step.specs.Run.{effect_at, stop_at, run_on, run_for, run_of}
 

@@ -1,8 +1,8 @@
 -- Every step keeps a state sound.
-use Rattle.std.proofs.Common.{◌≡◌, ◌≢◌, ℕ, zero, suc, ◌+◌, ◌<◌, ◌≤◌, List, [], ◌∷◌, ◌++◌, length, Option, Some, None, Bool, true, false, ◌&&◌, ◌||◌, refl, sym, ap, ◌∙◌, arith, inl, inr, map, ℤ, pos}
+use Rattle.std.proofs.Common.{◌≡◌, ℕ, zero, suc, ◌+◌, ◌≤◌, List, [], ◌∷◌, length, None, Bool, true, false, ◌||◌, refl, sym, ap, ◌∙◌, arith, inl, inr, ℤ, pos}
 use Rattle.std.proofs.lemmas.Bool.{cases_eq, cases_lt}
 use Rattle.std.proofs.lemmas.List.{length_push, length-map}
-use Rattle.std.specs.Prelude.{is_some, if◌then◌else◌, slice_index_or}
+use Rattle.std.specs.Prelude.{slice_index_or}
 use Rattle.std.specs.List.{list_any}
 use Rattle.job_language.specs.declared.requests.Request.{Request}
 use Rattle.job_language.specs.declared.steps.Step.{Step}
@@ -17,25 +17,23 @@ use Rattle.job_language.specs.declared.jobs.Job.{Job}
 use Rattle.tenant_model.specs.declared.rows.Phase.{Phase}
 use Rattle.tenant_model.specs.declared.rows.Phase.TheVariants.{Unstarted, Live, Done, Dropped, Faulted}
 use Rattle.tenant_model.specs.declared.rows.Row.{Row}
-use Rattle.tenant_model.specs.declared.works.Work.{Work}
-use Rattle.tenant_model.specs.State.{State, empty, row, job, with_at_number}
-use Rattle.tenant_model.specs.Walks.{is_unstarted, is_open, is_job_cancelled, is_group_cancelled, is_context_cancelled, chain, height, settled_row, settle}
+use Rattle.tenant_model.specs.State.{State, empty, row, job}
+use Rattle.tenant_model.specs.Walks.{is_unstarted, is_job_cancelled, is_group_cancelled, is_context_cancelled, chain, settled_row, settle}
 use Rattle.tenant_model.specs.Changes.{on_row, new_row, add_row, entry, with_frame, nest, task_height, faulted_row}
 use Rattle.tenant_model.specs.Shared.{hand_back}
 use Rattle.tenant_model.specs.Advance.{with_fuel, advance, arrive}
-use Rattle.tenant_model.specs.Asks.{has_outcome, outcome, status, add_job, new_job, retired_work, ask}
+use Rattle.tenant_model.specs.Asks.{add_job, new_job, retired_work, ask}
 use Rattle.tenant_model.specs.Solo.{step, after}
 use Rattle.tenant_model.specs.Naming.{IsUnstuck}
 use Rattle.tenant_model.specs.WellFormed.{IsWellFormed}
 use Rattle.tenant_model.specs.Sound.{IsTended, IsCounted, IsSettled, IsSound, MakersStay}
-use Rattle.tenant_model.specs.Later.{HasEnded, IsLater, OutcomesStay}
+use Rattle.tenant_model.specs.Later.{IsLater, OutcomesStay}
 use Rattle.tenant_model.proofs.Within.{either_way}
 use Rattle.tenant_model.proofs.Changed.{row-past, at_number-with_same, at_number-with_other, length-with}
-use Rattle.tenant_model.proofs.Contexts.{SameContexts, is_context_cancelled-same}
+use Rattle.tenant_model.proofs.Contexts.{is_context_cancelled-same}
 use Rattle.tenant_model.proofs.Parts.{row-settle}
 use Rattle.tenant_model.proofs.KeptAdvances.{step_kept, empty_kept}
 use Rattle.tenant_model.proofs.Invariance.{IsAt, KeepsAdvances, KeepsAsks, advance_keeps, arrive_keeps, ask_keeps}
-use Rattle.tenant_model.proofs.Tending.{EndsSome}
 use Rattle.tenant_model.proofs.Tended.{EndsSome-settle, Nothing, advance_tended, arrive_tended, ask_tended, empty_tended}
 use Rattle.tenant_model.proofs.AttendedSteps.{advance_attended, arrive_attended, ask_attended}
 use Rattle.tenant_model.proofs.LaterSteps.{ended_outcome, outcome_ended, step_later}

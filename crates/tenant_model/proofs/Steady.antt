@@ -1,8 +1,7 @@
 -- Changes of a step keep a state steady, one at a time.
-use Rattle.std.proofs.Common.{◌≡◌, ◌≢◌, ℕ, zero, suc, ◌+◌, ◌-◌, ◌<◌, ◌≤◌, List, [], ◌∷◌, ◌++◌, length, Option, Some, None, IsSome, Bool, true, false, refl, sym, ap, ◌∙◌, arith, inl, inr, map, length-set, ℤ}
-use Rattle.std.specs.Prelude.{slice_set, nat_le}
+use Rattle.std.proofs.Common.{◌≡◌, ◌≢◌, ℕ, ◌+◌, ◌<◌, ◌≤◌, length, Option, Some, None, IsSome, true, false, refl, sym, ap, ◌∙◌, arith, inl, inr, map, ℤ}
+use Rattle.std.specs.Prelude.{slice_set}
 use Rattle.std.proofs.lemmas.Bool.{cases_eq}
-use Rattle.job_language.specs.declared.instructions.Instr.{Instr}
 use Rattle.job_language.specs.declared.instructions.Instr.TheVariants.{Isolate}
 use Rattle.job_language.specs.declared.instructions.TheConstants.{GROUPS}
 use Rattle.job_language.specs.declared.jobs.Job.{Job}
@@ -10,8 +9,7 @@ use Rattle.job_language.specs.declared.tenants.Tenant.{Tenant}
 use Rattle.job_language.specs.declared.tenants.TheConstants.{MAX_SLOTS}
 use Rattle.job_step.specs.declared.frames.Frame.{Frame}
 use Rattle.job_step.specs.Frame.{instr_at}
-use Rattle.tenant_model.specs.declared.rows.Kind.{Kind}
-use Rattle.tenant_model.specs.declared.rows.Kind.TheVariants.{Root, Posted, Spawned, Region}
+use Rattle.tenant_model.specs.declared.rows.Kind.TheVariants.{Posted, Spawned, Region}
 use Rattle.tenant_model.specs.declared.rows.Phase.{Phase}
 use Rattle.tenant_model.specs.declared.rows.Phase.TheVariants.{Unstarted, Live, Done, Dropped, Faulted}
 use Rattle.tenant_model.specs.declared.rows.Row.{Row}
@@ -19,31 +17,30 @@ use Rattle.tenant_model.specs.declared.rows.TheConstants.{MAX_HEIGHT}
 use Rattle.tenant_model.specs.declared.works.Work.{Work}
 use Rattle.tenant_model.specs.State.{State, empty, row, job, with_at_number}
 use Rattle.thread_cells.specs.Cells.{Table, no_cells}
-use Rattle.tenant_model.specs.Walks.{is_open, is_unstarted, is_live_on, is_live_at, is_region, maker_of, is_pending, mark, height, top, pick}
-use Rattle.tenant_model.specs.Changes.{on_row, on_job, new_row, add_row, entry, open_rows, with_frame, with_cells, nest}
-use Rattle.tenant_model.specs.Shared.{called_frame, hand_back, has_used_group, next_place}
-use Rattle.tenant_model.specs.Advance.{with_fuel}
+use Rattle.tenant_model.specs.Walks.{is_open, is_unstarted, is_live_on, is_live_at, maker_of, is_pending, mark, height, top, pick}
+use Rattle.tenant_model.specs.Changes.{on_row, on_job, new_row, add_row, open_rows, with_frame, with_cells, nest}
+use Rattle.tenant_model.specs.Shared.{called_frame, hand_back, has_used_group}
 use Rattle.tenant_model.specs.Asks.{add_job, retired_work}
 use Rattle.tenant_model.specs.WellFormed.{IsTable, IsWellFormed}
-use Rattle.tenant_model.specs.Sound.{IsTended, MakersStay, IsSteady}
+use Rattle.tenant_model.specs.Sound.{IsSteady}
 use Rattle.tenant_model.proofs.Changed.{row-with_same, row-with_other}
 use Rattle.tenant_model.proofs.Stacking.{one_if, count-with, AreSame, AreStacked-same}
 use Rattle.tenant_model.proofs.Stacked.{IsOff}
 use Rattle.tenant_model.proofs.Linked.{IsLinked-set, IsLinked-more_jobs}
-use Rattle.tenant_model.proofs.Marked.{mark_in, mark_fits, AreMarked-set}
+use Rattle.tenant_model.proofs.Marked.{mark_fits, AreMarked-set}
 use Rattle.tenant_model.proofs.Insides.{live_low}
-use Rattle.tenant_model.proofs.OnMakers.{StartFewer, StandOnMakers-fewer, changed}
-use Rattle.tenant_model.proofs.Parts.{AreInside-set, open-set, off_live}
-use Rattle.tenant_model.proofs.Picks.{top_is, top_none, pick_is}
-use Rattle.tenant_model.proofs.Keeping.{entry_kept, on_job_kept, done_kept}
+use Rattle.tenant_model.proofs.OnMakers.{StartFewer, StandOnMakers-fewer}
+use Rattle.tenant_model.proofs.Parts.{AreInside-set, open-set}
+use Rattle.tenant_model.proofs.Picks.{top_none}
+use Rattle.tenant_model.proofs.Keeping.{on_job_kept, done_kept}
 use Rattle.tenant_model.proofs.KeptSteps.{add_job_kept, place_job_kept, no_cells_kept}
 use Rattle.tenant_model.proofs.KeptAdvances.{IsTop, moved_kept, set_kept, spawned_kept, region_kept, ended_kept, handed_kept, empty_kept}
 use Rattle.tenant_model.proofs.Nesting.{nest_first_kept, nest_top_kept}
 use Rattle.tenant_model.proofs.Running.{SameRegisters}
-use Rattle.tenant_model.proofs.Invariance.{IsAt, program_of, waited_at, cancelled_at, done_at}
-use Rattle.tenant_model.proofs.Tending.{made_there, IsChangeOf, IsTended-set, IsTended-jobs}
+use Rattle.tenant_model.proofs.Invariance.{IsAt, program_of, waited_at, cancelled_at}
+use Rattle.tenant_model.proofs.Tending.{IsTended-set, IsTended-jobs}
 use Rattle.tenant_model.proofs.Tended.{SameJobs-set, IsTended-beside, top_is_bare, retired_same, tended_advances, tended_asks, empty_tended, made_tended, new_shaped, same_number, no_number, not_on, over_tended, ended_tended}
-use Rattle.tenant_model.proofs.Attended.{KeepFaults, Both, MakersStay-jobs, MakersStay-beside, MakersStay-set, framed_kept, kept_at, made_kept, over_kept, done_kept_by}
+use Rattle.tenant_model.proofs.Attended.{Both, MakersStay-jobs, MakersStay-beside, MakersStay-set, framed_kept, kept_at, made_kept, over_kept, done_kept_by}
 use Rattle.tenant_model.proofs.AttendedSteps.{KeepFaults-set, KeepFaults-retired, nested_stays, added_stay, spawned_group, no_region, empty_attended}
 
 at_top : (s : State) (slot n : ℕ) → IsAt s slot n → IsTop s slot n

@@ -1,12 +1,11 @@
 -- Every step keeps a state tended.
-use Rattle.std.proofs.Common.{◌≡◌, ◌≢◌, ℕ, zero, suc, ◌+◌, ◌-◌, ◌==◌, ◌<◌, ◌≤◌, List, [], ◌∷◌, ◌++◌, length, get_or, Option, Some, None, Bool, true, false, ◌&&◌, ◌||◌, refl, sym, ap, ◌∙◌, arith, inl, inr, ◌⊎◌, length-set, map, nat_lt, ℤ, pos}
-use Rattle.std.specs.Prelude.{nat_le, slice_set, slice_index_or, slice_get, unwrap_or, filter, if◌then◌else◌}
+use Rattle.std.proofs.Common.{◌≡◌, ◌≢◌, ℕ, zero, suc, ◌+◌, ◌-◌, ◌==◌, ◌<◌, ◌≤◌, List, [], ◌∷◌, ◌++◌, length, get_or, Option, Some, None, Bool, true, false, ◌&&◌, refl, sym, ap, ◌∙◌, arith, inl, inr, ◌⊎◌, length-set, map, nat_lt, ℤ, pos}
+use Rattle.std.specs.Prelude.{nat_le, slice_set, slice_index_or, slice_get, unwrap_or, filter}
 use Rattle.std.specs.List.{list_any, enumerate_from}
 use Rattle.std.specs.Option.{option_map}
 use Rattle.std.proofs.lemmas.Bool.{cases_eq, cases_lt}
 use Rattle.std.proofs.lemmas.List.{length_push, length-map}
 use Rattle.std.proofs.lemmas.Option.{slice_get-map}
-use Rattle.job_language.specs.declared.errors.JobFault.{JobFault}
 use Rattle.job_language.specs.declared.instructions.Instr.{Instr}
 use Rattle.job_language.specs.declared.instructions.Instr.TheVariants.{Set, Add, Sub, Mul, Div, Lt, Jz, Jmp, Slot, Width, Spawn, Post, Wait, Cancel, Ask, Isolate, Load, Store, Sum, Count, Ret}
 use Rattle.job_language.specs.declared.jobs.Job.{Job}
@@ -22,30 +21,28 @@ use Rattle.tenant_model.specs.declared.rows.Row.{Row}
 use Rattle.tenant_model.specs.declared.works.Work.{Work}
 use Rattle.tenant_model.specs.State.{State, empty, row, job, with_at_number, at_number}
 use Rattle.thread_cells.specs.Cells.{Table, no_cells}
-use Rattle.tenant_model.specs.Walks.{NumberedRow, numbered_rows, pick, maker_of, is_unstarted, is_open, is_live_at, is_spawned_by, is_pending, is_context_cancelled, mark, height, settled_row, settle}
-use Rattle.tenant_model.specs.Changes.{on_row, on_job, new_row, add_row, entry, with_frame, with_cells, nest, task_height, faulted_row, faulted_phase, first_fault}
+use Rattle.tenant_model.specs.Walks.{NumberedRow, pick, maker_of, is_unstarted, is_open, is_live_at, is_spawned_by, is_pending, is_context_cancelled, mark, height, settled_row, settle}
+use Rattle.tenant_model.specs.Changes.{on_row, on_job, new_row, add_row, entry, with_frame, nest, task_height, faulted_row, faulted_phase, first_fault}
 use Rattle.tenant_model.specs.Shared.{called_frame, handed_frame, hand_back, next_place}
-use Rattle.tenant_model.specs.Advance.{with_fuel, advance, arrive}
+use Rattle.tenant_model.specs.Advance.{advance, arrive}
 use Rattle.tenant_model.specs.Asks.{add_job, new_job, retired_work, ask}
 use Rattle.job_language.specs.declared.requests.Request.{Request}
-use Rattle.tenant_model.specs.Linked.{IsLinked}
 use Rattle.tenant_model.specs.WellFormed.{IsWellFormed}
-use Rattle.tenant_model.specs.Sound.{IsTended, IsShaped, IsIsolate, IsRoot}
+use Rattle.tenant_model.specs.Sound.{IsTended, IsShaped, IsIsolate}
 use Rattle.tenant_model.proofs.Within.{either_way}
 use Rattle.tenant_model.proofs.Changed.{row-with_same, row-map, row-past, row-get_or, row-with_other, row-push_old, row-push_new, at_number-with_same, at_number-with_other, at_number-push_old, at_number-push_new, length-with}
-use Rattle.tenant_model.proofs.Stacking.{IsCut}
 use Rattle.tenant_model.proofs.Stacked.{IsOff, IsCut-set}
 use Rattle.tenant_model.proofs.Parts.{same_place, row-settle, SameSources-settle, settle-lives}
-use Rattle.tenant_model.proofs.Linked.{SameSources, SameSources-map, IsLinked-push, IsLinked-job}
+use Rattle.tenant_model.proofs.Linked.{SameSources-map}
 use Rattle.tenant_model.proofs.Marked.{mark_in}
-use Rattle.tenant_model.proofs.OnMakers.{waits_there, StartFewer-settle}
+use Rattle.tenant_model.proofs.OnMakers.{StartFewer-settle}
 use Rattle.tenant_model.proofs.Insides.{live_low, live_there}
 use Rattle.tenant_model.proofs.Picks.{pick_is}
 use Rattle.tenant_model.proofs.Keeping.{on_row_kept, done_kept}
 use Rattle.tenant_model.proofs.UnstuckSteps.{known_there}
 use Rattle.tenant_model.proofs.Running.{SameRegisters, written_same}
-use Rattle.tenant_model.proofs.Invariance.{IsAt, KeepsAdvances, KeepsAsks, advance_keeps, arrive_keeps, ask_keeps, program_of, faulted_at, waited_at, cancelled_at, done_at}
-use Rattle.tenant_model.proofs.Tending.{every_row, made_there, EndsSome, SameJobs, IsTended-ends, IsTended-jobs, IsChangeOf, IsTended-set, IsNewIn, IsTended-push}
+use Rattle.tenant_model.proofs.Invariance.{IsAt, KeepsAdvances, KeepsAsks, advance_keeps, arrive_keeps, ask_keeps, program_of, waited_at, cancelled_at}
+use Rattle.tenant_model.proofs.Tending.{every_row, made_there, EndsSome, SameJobs, IsTended-ends, IsTended-jobs, IsChangeOf, IsTended-set, IsTended-push}
 
 -- a job changed, of the same program and root
 pub SameJobs-set : (jobs : List Work) (j : ℕ) (w : Work) → 1 ≤ j → j ≤ length jobs → w.program ≡ (job jobs j).program → w.root ≡ (job jobs j).root → SameJobs jobs (with_at_number jobs j w)

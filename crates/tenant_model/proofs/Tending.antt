@@ -1,23 +1,20 @@
 -- Changes of a state's rows and jobs that keep it tended.
-use Rattle.std.proofs.Common.{◌≡◌, ℕ, zero, suc, ◌+◌, ◌<◌, ◌≤◌, List, [], ◌∷◌, ◌++◌, length, Some, None, Bool, true, false, refl, sym, ap, ◌∙◌, arith, inl, inr, map}
+use Rattle.std.proofs.Common.{◌≡◌, ℕ, zero, suc, ◌+◌, ◌<◌, ◌≤◌, List, [], ◌∷◌, ◌++◌, length, Some, None, Bool, true, false, refl, sym, ap, ◌∙◌, arith, inl, inr}
 use Rattle.std.proofs.lemmas.Bool.{cases_eq, cases_lt}
 use Rattle.std.proofs.lemmas.List.{length_push}
-use Rattle.job_language.specs.declared.instructions.TheConstants.{GROUPS, REGISTERS}
 use Rattle.job_step.specs.Frame.{instr_at}
 use Rattle.tenant_model.specs.declared.rows.Kind.{Kind}
-use Rattle.tenant_model.specs.declared.rows.Kind.TheVariants.{Root, Posted, Spawned, Region}
-use Rattle.tenant_model.specs.declared.rows.Phase.{Phase}
-use Rattle.tenant_model.specs.declared.rows.Phase.TheVariants.{Unstarted, Live, Done, Dropped, Faulted}
+use Rattle.tenant_model.specs.declared.rows.Kind.TheVariants.{Root, Spawned, Region}
+use Rattle.tenant_model.specs.declared.rows.Phase.TheVariants.{Live}
 use Rattle.tenant_model.specs.declared.rows.Row.{Row}
 use Rattle.tenant_model.specs.declared.works.Work.{Work}
 use Rattle.tenant_model.specs.State.{State, no_marks, row, job, with_at_number}
 use Rattle.tenant_model.specs.Walks.{maker_of, is_unstarted, is_open, mark}
 use Rattle.tenant_model.specs.Linked.{IsLinked}
 use Rattle.tenant_model.specs.WellFormed.{AreMarked}
-use Rattle.tenant_model.specs.Sound.{ShareJobs, MakersStarted, PastHasEnded, IsShaped, AreOnSlots, StandAtIsolates, IsIsolate, IsRoot, IsTended}
+use Rattle.tenant_model.specs.Sound.{IsShaped, IsIsolate, IsTended}
 use Rattle.tenant_model.proofs.Changed.{row-past, row-with_same, row-with_other, row-push_old, row-push_new, length-with}
 use Rattle.tenant_model.proofs.Marked.{mark_in}
-use Rattle.tenant_model.proofs.Insides.{live_there}
 
 -- what holds of the row that is nowhere, and of those that are there, holds of all
 pub every_row : (P : Row → Type 0) → P (row [] 0) → (rows : List Row) → ((n : ℕ) → 1 ≤ n → n ≤ length rows → P (row rows n)) → (n : ℕ) → P (row rows n)

@@ -1,5 +1,5 @@
 -- What a tenant's steps never undo: where a row came from, that it is closed, what a job is, and its outcome.
-use Rattle.std.specs.Prelude.{ℕ, ◌≡◌, ◌≤◌, true, false, Option, Some, length}
+use Rattle.std.specs.Prelude.{ℕ, ◌≡◌, ◌≤◌, true, false, Some, length}
 use Rattle.job_language.specs.declared.errors.JobFault.{JobFault}
 use Rattle.tenant_model.specs.declared.rows.Row.{Row}
 use Rattle.tenant_model.specs.declared.works.Work.{Work}

@@ -1,5 +1,5 @@
 -- What holds of each state that a tenant reaches, apart from being well formed: how makers, marks, frames and jobs agree.
-use Rattle.std.specs.Prelude.{ℕ, ◌≡◌, ◌<◌, ◌≤◌, ◌⊎◌, true, false, Option, Some, None, IsSome, List, length}
+use Rattle.std.specs.Prelude.{ℕ, ◌≡◌, ◌<◌, ◌≤◌, ◌⊎◌, true, false, Option, Some, IsSome, List, length}
 use Rattle.job_language.specs.declared.instructions.Instr.{Instr}
 use Rattle.job_language.specs.declared.instructions.Instr.TheVariants.{Isolate}
 use Rattle.job_language.specs.declared.instructions.TheConstants.{GROUPS, REGISTERS}

@@ -1,7 +1,7 @@
 -- What the answer to a step shows: whether it is an entry, which slot the step changed, and whether that slot is free.
 use Rattle.std.specs.Prelude.{ℕ, ◌≡◌, ◌≢◌, ◌+◌, ◌==◌, ◌<◌, Bool, true, false, Option, Some, None}
 use Rattle.job_language.specs.declared.answers.Answer.{Answer}
-use Rattle.job_language.specs.declared.answers.Answer.TheVariants.{Replied, Came, Moved}
+use Rattle.job_language.specs.declared.answers.Answer.TheVariants.{Replied, Moved}
 use Rattle.job_language.specs.declared.answers.Moved.TheVariants.{Freed, Left}
 use Rattle.job_language.specs.declared.answers.Reply.{Reply}
 use Rattle.job_language.specs.declared.answers.Reply.TheVariants.{Placed}
