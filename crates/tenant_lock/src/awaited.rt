@@ -1,8 +1,8 @@
 // Who waits for which jobs.
-ghost use Rattle.std.specs.Prelude.{◌≡◌, Some};
+ghost use Rattle.std.specs.Prelude.{◌≡◌, ◌<◌, IfSome, Some, is_none, length, position};
 ghost use Rattle.tenant_lock.specs.Awaited.{
-  AddsJob,
   AreWaitersTold,
+  added,
   are_open,
   is_open,
   is_open_if_any,
@@ -36,14 +36,22 @@ impl Jobs {
         }
     }
 
-    /// Adds a job.
+    /// Adds a job: at the first free place, or else to the others.
     fn add(&mut self, job: u64)
-        ensures { AddsJob self.old job self.new }
+        ensures { self.new ≡ added self.old job }
     {
-        match self.noted.iter().position(|noted| noted.is_none()) {
+        match self.first_free() {
             Some(free) => self.noted[free] = Some(job),
             None => self.others = true,
         }
+    }
+
+    /// The first place at which no job is noted.
+    fn first_free(&self) -> Option<usize>
+        ensures place { result ≡ position is_none self.now.noted }
+        ensures there { IfSome result (λ place. place < length self.now.noted) }
+    {
+        self.noted.iter().position(|noted| noted.is_none())
     }
 
     /// Whether those that are noted are there without an outcome, and nobody has to stop.
@@ -58,7 +66,7 @@ impl Jobs {
 
 /// Notes that somebody is about to sleep for a job.
 pub(crate) fn note(awaited: &mut Option<Jobs>, job: u64)
-    ensures { AddsJob (jobs_of awaited.old) job (jobs_of awaited.new) }
+    ensures { awaited.new ≡ Some (added (jobs_of awaited.old) job) }
 {
     let mut jobs = match *awaited {
         Some(jobs) => jobs,

@@ -13,7 +13,7 @@ ghost use Rattle.tenant_record.specs.PassData.{GoesWith, goes_home, has_room};
 ghost use Rattle.tenant_record.specs.SeatData.{asked};
 ghost use Rattle.tenant_record.specs.Cell.{IsRight, arrival, has_slot_of, state_of};
 ghost use Rattle.tenant_record.specs.Locked.{IsArrived, given_home};
-ghost use Rattle.tenant_lock.specs.Awaited.{AddsJob, is_open, jobs_of};
+ghost use Rattle.tenant_lock.specs.Awaited.{added, is_open, jobs_of};
 ghost use Rattle.tenant_lock.specs.Doors.{Carries, ComesWith};
 ghost use Rattle.tenant_lock.specs.Looks.{IsLook, IsShown};
 ghost use Rattle.tenant_lock.specs.Pauses.{has_to_stop};
@@ -389,7 +389,7 @@ impl Held {
     /// to stop.
     pub(crate) fn sleeps_for(&mut self, job: u64) -> bool
         ensures waits { result ≡ is_open self.old.cell (has_to_stop self.old.is_stopped self.old.cell) job }
-        ensures noted { result ≡ true → AddsJob (jobs_of self.old.awaited) job (jobs_of self.new.awaited) }
+        ensures noted { result ≡ true → self.new.awaited ≡ Some (added (jobs_of self.old.awaited) job) }
         ensures kept { self.new ≡ record self.old { awaited = if result then self.new.awaited else self.old.awaited } }
     {
         let sleeps = is_open(&self.cell, self.is_over(), job);

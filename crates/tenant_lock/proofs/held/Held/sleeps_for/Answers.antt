@@ -9,5 +9,5 @@ invariant_of-self c =
     let waits = rw (c.is_over.ensures, ← c.self.view_is) at (sym c.is_open-sleeps.ensures ∙ c.if-sleeps.true) in
     record {
       slots = c.self.invariant.slots;
-      jobs = added_open h.cell (has_to_stop h.is_stopped h.cell) h.awaited c.args.job c.note.new.awaited c.self.invariant.jobs waits c.note.ensures;
+      jobs = rw c.note.ensures (added_open h.cell (has_to_stop h.is_stopped h.cell) h.awaited c.args.job c.self.invariant.jobs waits);
     }
