@@ -72,6 +72,14 @@ reason (Some why) = why
 abbrev pub begun : State → State
 begun a = record a { generations = opened (reason a.wish) a.generations; wish = None; is_opening = false }
 
+-- A generation was being opened, the host goes on, and a number was left: the next generation begins, with that number.
+pub record Begins (old : State) (number : ℕ) (new : State) : Type 0 where
+  pub opening : old.is_opening ≡ true
+  pub goes_on : old.is_stopping ≡ false
+  pub left : old.generations.next < 18446744073709551615
+  pub is_next : number ≡ old.generations.next
+  pub begun : new ≡ begun old
+
 -- The generation that serves, if one does, drains, and the host stops.
 abbrev pub stopped : State → State
 stopped a = record a { generations = drained Stop a.generations; is_stopping = true }

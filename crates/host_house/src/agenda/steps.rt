@@ -2,7 +2,7 @@
 ghost use Rattle.std.specs.Prelude.{◌≡◌, ◌≢◌, ◌↔◌, IfOk, IfSome, IsSome, IsTrue, OnErr, OnOk, None, Ok, Some, true, false, is_some};
 ghost use Rattle.generation_life.specs.declared.generations.Why.TheVariants.{File};
 ghost use Rattle.generation_life.specs.Lines.{closing, ended, stage_of, why_of};
-ghost use Rattle.host_house.specs.Agendas.{OpensNone, Takes, begun, new_agenda, stopped};
+ghost use Rattle.host_house.specs.Agendas.{Begins, OpensNone, Takes, new_agenda, stopped};
 ghost use Rattle.host_house.specs.declared.agenda.Step.TheVariants.{Hold, Wait};
 
 use super::{Agenda, Look, MOST_ALIVE, Step};
@@ -77,8 +77,7 @@ impl Agenda {
     /// drains. None if the host stops, or no number is left, or none was to be opened. If an allocation fails, nothing has
     /// changed.
     pub(crate) fn begin(&mut self) -> Result<Option<u64>, AllocError>
-        ensures begun { IfOk result (λ number. IfSome number (λ n. (n ≡ self.old.generations.next) × (self.new ≡ begun self.old))) }
-        ensures goes_on { IfOk result (λ number. IsSome number → self.old.is_stopping ≡ false) }
+        ensures begun { IfOk result (λ number. IfSome number (λ n. Begins self.old n self.new)) }
         ensures none { result ≡ Ok None → OpensNone self.old × (self.new ≡ self.old) }
         ensures refused { OnErr result (self.new ≡ self.old) }
     {
