@@ -153,7 +153,7 @@ impl Held {
     {
         // Proof hint: the cell is right.
         let _ = self.cell.history();
-        if !self.has_slot_of(&pass) {
+        if !self.cell.has_slot_of(&pass) {
             return Done::nothing(stale(pass));
         }
         let advanced = self.cell.advance(pass);
@@ -179,7 +179,7 @@ impl Held {
     {
         // Proof hint: the cell is right.
         let _ = self.cell.history();
-        if !self.has_slot_of(&pass) {
+        if !self.cell.has_slot_of(&pass) {
             return Done::nothing(stale(pass));
         }
         let advanced = self.cell.commit(pass, segment);
@@ -307,7 +307,7 @@ impl Held {
         ensures kept { has_slot_of self.old.cell pass ≡ false → self.new ≡ self.old }
         ensures stopped { self.new.is_stopped ≡ self.old.is_stopped }
     {
-        if self.has_slot_of(&pass) {
+        if self.cell.has_slot_of(&pass) {
             self.cell.give_home(pass);
         } else {
             self.cell.end_foreign(pass);
@@ -323,7 +323,7 @@ impl Held {
     {
         // Proof hint: the cell is right.
         let _ = self.cell.history();
-        if !self.has_slot_of(&pass) {
+        if !self.cell.has_slot_of(&pass) {
             self.cell.end_foreign(pass);
             return None;
         }
@@ -331,14 +331,6 @@ impl Held {
         // Proof hint: it still is.
         let _ = self.cell.history();
         due
-    }
-
-    /// Whether the slot of a pass is one of the cell's.
-    fn has_slot_of(&self, pass: &Pass) -> bool
-        ensures value { result ≡ has_slot_of self.now.cell pass.now }
-        ensures few { result ≡ true → pass.now.slot < MAX_SLOTS }
-    {
-        pass.tenant() == self.cell.tenant() && pass.slot() < self.cell.config().slots
     }
 
     /// Whether those who wait for the tenant have to stop: they were told to, or its history is full.
@@ -433,7 +425,7 @@ impl Held {
         ensures noted { self.new ≡ record self.old { noted = if result then slice_set self.old.noted pass.now.slot true else self.old.noted } }
     {
         let slot = pass.slot();
-        let sleeps = self.has_slot_of(pass) && self.is_idle(slot);
+        let sleeps = self.cell.has_slot_of(pass) && self.is_idle(slot);
         if sleeps {
             self.waiting.note(slot);
         }

@@ -5,6 +5,7 @@ ghost use Rattle.job_language.specs.Recorded.{is_entry, is_recorded_reply};
 ghost use Rattle.job_language.specs.Tenant.{IsValidTenant};
 ghost use Rattle.job_language.specs.declared.answers.Answer.{Answer};
 ghost use Rattle.job_language.specs.declared.answers.Moved.TheVariants as moved;
+ghost use Rattle.job_language.specs.declared.tenants.TheConstants.{MAX_SLOTS};
 ghost use Rattle.tenant_model.specs.declared.rows.TheConstants.{MAX_HEIGHT};
 ghost use Rattle.tenant_model.specs.Asks.{known_job, status};
 ghost use Rattle.tenant_model.specs.Changes.{open_rows};
@@ -296,6 +297,14 @@ impl TenantCell {
         ensures { self.new ≡ given_home self.old pass }
     {
         put(self.slots.home.as_mut_slice(), pass);
+    }
+
+    /// Whether the slot of a pass is one of this tenant's.
+    pub fn has_slot_of(&self, pass: &Pass) -> bool
+        ensures value { result ≡ has_slot_of self.now pass.now }
+        ensures few { result ≡ true → pass.now.slot < MAX_SLOTS }
+    {
+        pass.tenant() == self.tenant && pass.slot() < self.config().slots
     }
 
     /// Ends a pass that is not of one of this tenant's slots.

@@ -1,7 +1,4 @@
 // Jobs that run on one slot of a tenant's cell, which records each ask and each advance.
-ghost use Rattle.std.specs.Prelude.{◌≡◌};
-ghost use Rattle.tenant_record.specs.Cell.{has_slot_of};
-
 use crate::arena::runs::{Ran, two_slots};
 use crate::stops::Stop;
 use crate::tenants::{job_of, value_of};
@@ -85,7 +82,7 @@ fn counted(ran: &mut Ran, moved: Option<Moved>) -> Result<bool, Stop> {
 /// Advances the slot of a pass, if it is one of the cell's: how that was answered, and the pass unless it went home.
 fn advance(cell: &mut TenantCell, pass: Option<Pass>) -> (Option<Moved>, Option<Pass>) {
     match pass {
-        Some(pass) if has_slot_of(cell, &pass) => {
+        Some(pass) if cell.has_slot_of(&pass) => {
             let Advanced {
                 moved,
                 due: _due,
@@ -100,15 +97,8 @@ fn advance(cell: &mut TenantCell, pass: Option<Pass>) -> (Option<Moved>, Option<
 /// Puts a pass home, if there is one. One that is not of one of the cell's slots is ended.
 fn give_home(cell: &mut TenantCell, pass: Option<Pass>) {
     match pass {
-        Some(pass) if has_slot_of(cell, &pass) => cell.give_home(pass),
+        Some(pass) if cell.has_slot_of(&pass) => cell.give_home(pass),
         Some(pass) => cell.end_foreign(pass),
         None => {}
     }
-}
-
-/// Whether the slot of a pass is one of the cell's.
-fn has_slot_of(cell: &TenantCell, pass: &Pass) -> bool
-    ensures { result ≡ has_slot_of cell.now pass.now }
-{
-    pass.tenant() == cell.tenant() && pass.slot() < cell.config().slots
 }
