@@ -1,5 +1,5 @@
 -- What a thread may see and do at the doors of tenants.
-use Rattle.std.specs.Prelude.{ℕ, ◌≡◌, ◌≤◌, ◌<◌, Bool, true, false, length, Option, Some, None, MatchOption, option_map}
+use Rattle.std.specs.Prelude.{ℕ, ◌≡◌, ◌≤◌, ◌<◌, Bool, true, length, Option, None, MatchOption, option_map}
 use Rattle.job_language.specs.declared.answers.Came.{Came}
 use Rattle.job_language.specs.declared.answers.Came.TheVariants.{Nothing}
 use Rattle.job_language.specs.declared.answers.Moved.{Moved}
@@ -9,20 +9,15 @@ use Rattle.job_language.specs.declared.requests.Request.{Request}
 use Rattle.job_step.specs.declared.segments.Top.{Top}
 use Rattle.job_step.specs.declared.segments.View.{View}
 use Rattle.job_step.specs.declared.segments.View.TheVariants.{Bare}
-use Rattle.tenant_lock.specs.Doors.{Carries, ComesWith}
+use Rattle.tenant_lock.specs.Doors.{ComesBack, ComesWith}
 use Rattle.tenant_lock.specs.Under.{IsAdvanceOf, IsArrivalOf, IsAskOf, IsCommitOf, IsHandOverOf, WasUnder}
 use Rattle.tenant_model.specs.Told.{placed_on}
 use Rattle.tenant_record.specs.Cell.{CellData}
-use Rattle.tenant_record.specs.PassData.{PassData, GoesWith, goes_home}
+use Rattle.tenant_record.specs.PassData.{PassData, GoesWith}
 use Rattle.tenant_record.specs.SeatData.{SeatData, asked}
 use Rattle.tenant_record.specs.declared.slots.Advanced.{Advanced}
 use Rattle.server_doors.specs.Slots.{SlotsSeen}
 use Rattle.market_config.specs.declared.calls.Call.{Call}
-
--- the pass after an advance or a commit with that answer: it carries the answer, unless it went home
-abbrev pub IsBack : PassData → Moved → Option PassData → Type 0
-IsBack p m None = goes_home m ≡ true
-IsBack p m (Some q) = (goes_home m ≡ false) × Carries p m q
 
 -- the call for a slot of a tenant
 abbrev pub call_at : (tenant : ℕ) → ℕ → Call
@@ -37,7 +32,7 @@ pub record MakesDue (tenant : ℕ) (due : Option Call) (under : Option ℕ → T
 -- what is known of a move of a pass's slot with that answer, from which the pass q comes back: the slot that it made due is called
 abbrev pub IsMoveBy : (Advanced → CellData → CellData → Type 0) → PassData → Moved → Option Call → Option PassData → Type 0
 IsMoveBy moves p m due q =
-    IsBack p m q × MakesDue p.tenant due (λ slot. WasUnder (moves (record { moved = m; due = slot; pass = q })))
+    ComesBack p m q × MakesDue p.tenant due (λ slot. WasUnder (moves (record { moved = m; due = slot; pass = q })))
 
 -- An advance. Without a pass it is idle.
 abbrev pub Moves : SlotsSeen → Moved → Option Call → SlotsSeen → Type 0

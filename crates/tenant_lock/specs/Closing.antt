@@ -1,5 +1,5 @@
 -- What a door that is closed gives, and what it finds wrong.
-use Rattle.std.specs.Prelude.{ℕ, ◌≡◌, ◌≢◌, ◌≤◌, ◌<◌, ◌⊎◌, ◌||◌, Bool, true, false, List, [], ◌∷◌, length, All, Option, Some, None}
+use Rattle.std.specs.Prelude.{ℕ, ◌≡◌, ◌≢◌, ◌≤◌, ◌<◌, ◌⊎◌, ◌||◌, ◌&&◌, nat_lt, Bool, true, false, List, [], ◌∷◌, length, All, Option, Some, None}
 use Rattle.std.specs.List.{list_any}
 use Rattle.job_language.specs.declared.steps.Entry.{Entry}
 use Rattle.tenant_record.specs.Cell.{CellData, IsRight}
@@ -37,6 +37,10 @@ IsAskFault c seats count (Some n) = IsSeatFault c seats (Some n) ⊎ ((n ≡ cou
 -- Was a token told that the history is at its limit?
 abbrev pub is_one_full : CellData → List SeatData → Bool
 is_one_full c seats = are_some_seats_full seats || list_any is_told_full c.home
+
+-- Does one report a full history that is not at its limit?
+abbrev pub is_full_wrong : CellData → List SeatData → Bool
+is_full_wrong c seats = is_one_full c seats && nat_lt (length c.history) c.config.steps
 
 -- what is wrong with the pass of a slot, as a fault of the door
 abbrev pub fault_at : ℕ → SlotFault → CloseFault

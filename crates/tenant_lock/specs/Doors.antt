@@ -1,10 +1,11 @@
 -- What a tenant's door shows, and what its calls do to tokens.
-use Rattle.std.specs.Prelude.{ℕ, ◌≡◌, Option, Some, None}
+use Rattle.std.specs.Prelude.{ℕ, ◌≡◌, not, IfSome, Option, Some, None}
+use Rattle.std.specs.Option.{is_some}
 use Rattle.job_language.specs.declared.answers.Came.{Came}
 use Rattle.job_language.specs.declared.answers.Came.TheVariants.{At}
 use Rattle.job_language.specs.declared.answers.Moved.{Moved}
 use Rattle.job_language.specs.declared.tenants.Tenant.{Tenant}
-use Rattle.tenant_record.specs.PassData.{PassData, IsPassOf, advanced, arrived}
+use Rattle.tenant_record.specs.PassData.{PassData, IsPassOf, advanced, arrived, goes_home}
 
 -- The tenant's number and what it is given, and how many seats it has. What the lock keeps is not in it.
 pub record DoorData : Type 0 where
@@ -12,9 +13,17 @@ pub record DoorData : Type 0 where
   pub config : Tenant
   pub seats : ℕ
 
+abbrev pub door_of : (tenant : ℕ) → Tenant → (seats : ℕ) → DoorData
+door_of tenant config seats = record { tenant = tenant; config = config; seats = seats }
+
 -- The pass after an advance with that answer. How many entries the history had before it, no caller knows.
 abbrev pub Carries : PassData → Moved → PassData → Type 0
 Carries p moved q = (entries : ℕ) × (q ≡ advanced p moved entries)
+
+-- After an advance or a commit with that answer the pass comes back and carries the answer, unless it went home.
+pub record ComesBack (p : PassData) (moved : Moved) (back : Option PassData) : Type 0 where
+  pub carries : IfSome back (λ q. Carries p moved q)
+  pub home : is_some back ≡ not (goes_home moved)
 
 -- It is the pass of that slot of the tenant, and the last that its holders were told of is the arrival at that row.
 pub record HasArrived (tenant slot row : ℕ) (p : PassData) : Type 0 where

@@ -1,9 +1,11 @@
 -- What a tenant's lock keeps, and who sleeps at its slots.
-use Rattle.std.specs.Prelude.{ℕ, ◌≡◌, ◌≢◌, ◌⊎◌, ◌&&◌, ◌||◌, Bool, true, false, List, Option, Some, None, replicate, slice_index_or}
+use Rattle.std.specs.Prelude.{ℕ, ◌≡◌, ◌≢◌, ◌⊎◌, ◌&&◌, ◌||◌, Bool, true, false, List, Option, Some, None, replicate, slice_index_or, slice_set}
 use Rattle.job_language.specs.declared.answers.Moved.TheVariants.{Idle}
 use Rattle.job_language.specs.declared.tenants.TheConstants.{MAX_SLOTS}
 use Rattle.tenant_model.specs.Advance.{advance}
 use Rattle.tenant_record.specs.Cell.{CellData, state_of}
+use Rattle.tenant_lock.specs.Awaited.{added, jobs_of}
+use Rattle.tenant_lock.specs.Pauses.{has_to_stop}
 use Rattle.tenant_lock.specs.declared.awaited.Jobs.{Jobs}
 use Rattle.tenant_lock.specs.declared.waits.Slots.{Slots}
 
@@ -13,6 +15,18 @@ pub record HeldData : Type 0 where
   pub is_stopped : Bool
   pub noted : List Bool
   pub awaited : Option Jobs
+
+-- Has everybody who waits to stop?
+abbrev pub must_stop : HeldData → Bool
+must_stop h = has_to_stop h.is_stopped h.cell
+
+-- with somebody who may sleep at that slot
+abbrev pub with_sleeper : HeldData → (slot : ℕ) → HeldData
+with_sleeper h slot = record h { noted = slice_set h.noted slot true }
+
+-- with somebody who may sleep for that job
+abbrev pub with_waiter : HeldData → (job : ℕ) → HeldData
+with_waiter h job = record h { awaited = Some (added (jobs_of h.awaited) job) }
 
 -- of each slot whether it is one of these
 abbrev pub marks : Option Slots → List Bool
@@ -37,3 +51,7 @@ pub record AreTold (c : CellData) (is_over : Bool) (noted named left : List Bool
   pub once : (slot : ℕ) → (is_in named slot && is_in left slot) ≡ false
   pub move : (slot : ℕ) → is_in named slot ≡ true → CanMove c is_over slot
   pub sleep : (slot : ℕ) → is_in left slot ≡ true → IsIdle c is_over slot
+
+-- the same of slots that may be none
+abbrev pub AreNamed : CellData → (is_over : Bool) → (noted named left : Option Slots) → Type 0
+AreNamed c is_over noted named left = AreTold c is_over (marks noted) (marks named) (marks left)

@@ -1,5 +1,5 @@
 -- What a call did to the cell that lay under the lock.
-use Rattle.std.specs.Prelude.{ℕ, ◌≡◌, ◌≢◌, ◌⊎◌, true, false, Option, Some, None, option_map, length, count_by}
+use Rattle.std.specs.Prelude.{ℕ, ◌≡◌, ◌≢◌, ◌⊎◌, true, false, Option, Some, None, length, count_by}
 use Rattle.arena_core.specs.Views.{Commits}
 use Rattle.arena_steps.specs.Within.{advance_within}
 use Rattle.job_language.specs.declared.answers.Came.TheVariants.{Nothing}
@@ -21,7 +21,8 @@ use Rattle.tenant_record.specs.declared.slots.Advanced.{Advanced}
 use Rattle.tenant_record.specs.declared.slots.Arrived.{Arrived}
 use Rattle.tenant_lock.specs.declared.counts.Counts.{Counts}
 use Rattle.tenant_lock.specs.declared.counts.Tally.{Tally}
-use Rattle.tenant_lock.specs.Looks.{IsLook}
+use Rattle.tenant_lock.specs.declared.held.Turned.{Turned}
+use Rattle.tenant_lock.specs.Looks.{IsCountAfter, IsLookAfter}
 
 -- An ask of a seat of the tenant of that number is one of that tenant's cell. The cell of another tenant is not asked.
 pub record IsAskOf (tenant : ℕ) (s : SeatData) (r : Request) (a : Asked) (t : SeatData) (c d : CellData) : Type 0 where
@@ -73,12 +74,12 @@ abbrev pub IsHigh : PassData → ℕ → CellData → Type 0
 IsHigh p rows c = rows ≡ height (state_of c).rows p.slot
 
 -- The slot of a pass was moved, and looked at: what is seen, and how many rows are on it, are those after the move.
-abbrev pub AndLooked : Advanced → View → Option ℕ → (CellData → CellData → Type 0) → CellData → CellData → Type 0
-AndLooked a view rows moved c d = moved c d × IsLook d a.pass view rows
+abbrev pub AndLooked : Turned → View → (CellData → CellData → Type 0) → CellData → CellData → Type 0
+AndLooked t view moved c d = moved c d × IsLookAfter t view d
 
 -- The slot of a pass was moved, and the rows on it counted after that.
-abbrev pub AndCounted : Advanced → Option ℕ → (CellData → CellData → Type 0) → CellData → CellData → Type 0
-AndCounted a rows moved c d = moved c d × (rows ≡ option_map (λ p. height (state_of d).rows p.slot) a.pass)
+abbrev pub AndCounted : Turned → (CellData → CellData → Type 0) → CellData → CellData → Type 0
+AndCounted t moved c d = moved c d × IsCountAfter t d
 
 -- how much of the history is used
 abbrev pub AreCounts : Counts → CellData → Type 0

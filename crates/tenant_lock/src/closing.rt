@@ -1,6 +1,7 @@
 // Closing a door: its cell against its tokens.
-ghost use Rattle.std.specs.Prelude.{◌≡◌, ◌&&◌, nat_lt, length};
-ghost use Rattle.tenant_lock.specs.Closing.{IsSeatFault, IsAskFault, IsFault, fault_at, is_one_full};
+ghost use Rattle.std.specs.Prelude.{◌≡◌};
+ghost use Rattle.tenant_lock.specs.Closing.{IsSeatFault, IsAskFault, IsFault, fault_at, is_full_wrong};
+ghost use Rattle.tenant_lock.specs.Doors.{door_of};
 
 use crate::faults::CloseFault;
 use crate::seat_logs::is_seat_log;
@@ -19,7 +20,7 @@ pub fn fault_of(
     config: &TenantConfig,
     count: usize,
 ) -> Option<CloseFault>
-    ensures { IsFault cell.now seats.now (record { tenant = tenant; config = config.now; seats = count }) result }
+    ensures { IsFault cell.now seats.now (door_of tenant config.now count) result }
 {
     if !are_seats(tenant, seats, count) {
         return Some(CloseFault::SeatMissing);
@@ -81,7 +82,7 @@ fn fault_at(slot: u8, fault: SlotFault) -> CloseFault
 
 /// Whether a token reports a full history, but the history is not at its limit.
 fn is_full_wrong(cell: &TenantCell, seats: &[Seat]) -> bool
-    ensures { result ≡ (is_one_full cell.now seats.now && nat_lt (length cell.now.history) cell.now.config.steps) }
+    ensures { result ≡ is_full_wrong cell.now seats.now }
 {
     is_one_full(cell, seats) && cell.history().len() < cell.config().steps
 }

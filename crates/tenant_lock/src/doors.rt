@@ -1,19 +1,17 @@
 // The tenant's door: the calls that take the lock.
-ghost use Rattle.std.specs.Prelude.{ℕ, ◌≡◌, ◌≤◌, not, IfOk, IfErr, IfSome, Some};
+ghost use Rattle.std.specs.Prelude.{◌≡◌, ◌≤◌, IfOk, IfErr, IfSome, IsSome, Some};
 ghost use Rattle.std.specs.Option.{is_some};
-ghost use Rattle.job_language.specs.Recorded.{is_entry};
-ghost use Rattle.tenant_model.specs.Told.{placed_on};
-ghost use Rattle.tenant_model.specs.declared.rows.TheConstants.{MAX_HEIGHT};
-ghost use Rattle.tenant_record.specs.PassData.{GoesWith, goes_home};
-ghost use Rattle.tenant_record.specs.SeatData.{asked, first_seats};
-ghost use Rattle.arena_core.specs.Views.{IsSeen};
-ghost use Rattle.tenant_record.specs.Cell.{IsRight, state_of};
-ghost use Rattle.tenant_lock.specs.Closing.{Agree, Closes, IsFault, IsRefused};
-ghost use Rattle.tenant_lock.specs.Doors.{Carries, ComesWith};
-ghost use Rattle.tenant_lock.specs.Under.{AndCounted, AndLooked, AreCounts, IsAdvanceOf, IsArrivalOf, IsAskOf, IsCommitOf, IsHandOverOf, IsHigh, IsTally, WasThere, WasUnder};
-ghost use Rattle.std.specs.Prelude.{IsSome};
 ghost use Rattle.job_language.specs.Brought.{job_of};
 ghost use Rattle.job_language.specs.declared.errors.Error.TheVariants.{NoMemory};
+ghost use Rattle.tenant_model.specs.Told.{placed_on};
+ghost use Rattle.tenant_model.specs.declared.rows.TheConstants.{MAX_HEIGHT};
+ghost use Rattle.tenant_record.specs.PassData.{GoesWith};
+ghost use Rattle.tenant_record.specs.SeatData.{asked, first_seats};
+ghost use Rattle.arena_core.specs.Views.{IsSeen};
+ghost use Rattle.tenant_record.specs.Cell.{IsCollect, IsRight, state_of};
+ghost use Rattle.tenant_lock.specs.Closing.{Agree, Closes, IsFault, IsRefused};
+ghost use Rattle.tenant_lock.specs.Doors.{ComesBack, ComesWith, door_of};
+ghost use Rattle.tenant_lock.specs.Under.{AndCounted, AndLooked, AreCounts, IsAdvanceOf, IsArrivalOf, IsAskOf, IsCommitOf, IsHandOverOf, IsHigh, IsTally, WasThere, WasUnder};
 
 use crate::closing::fault_of;
 use crate::counts::{Counts, Tally};
@@ -91,7 +89,7 @@ impl TenantDoor {
         config: TenantConfig,
         seats: usize,
     ) -> Result<(TenantDoor, Vec<Seat>), AllocError>
-        ensures door { IfOk result (λ made. made.0 ≡ record { tenant = tenant; config = config; seats = seats }) }
+        ensures door { IfOk result (λ made. made.0 ≡ door_of tenant config seats) }
         ensures seats { IfOk result (λ made. made.1.items ≡ first_seats tenant config.steps seats) }
     {
         let all_seats = first_seats(alloc, tenant, config, seats)?;
@@ -122,7 +120,7 @@ impl TenantDoor {
         ensures seat { seat.new ≡ asked seat.old request result.reply }
         ensures memory { result.reply ≡ Reply.Refused NoMemory → IsSome (job_of request) }
         ensures placed { GoesWith self.now.tenant (placed_on result.reply) result.pass }
-        ensures pending { result.reply ≡ Reply.Pending → (job : ℕ) × (request ≡ Request.Collect job) }
+        ensures pending { result.reply ≡ Reply.Pending → IsCollect request }
         ensures cell { WasUnder (IsAskOf self.now.tenant seat.old request result seat.new) }
     {
         let done = self.lock(rt).ask(self.tenant, seat, request);
@@ -147,8 +145,7 @@ impl TenantDoor {
     /// Advances the slot of a pass. The pass comes back, unless it went home.
     pub fn advance<R: Wait>(&self, rt: &R, pass: Pass) -> Advanced
         requires { pass.tenant ≡ self.now.tenant }
-        ensures carries { IfSome result.pass (λ q. Carries pass result.moved q) }
-        ensures home { is_some result.pass ≡ not (goes_home result.moved) }
+        ensures back { ComesBack pass result.moved result.pass }
         ensures cell { WasUnder (IsAdvanceOf pass result) }
     {
         let done = self.lock(rt).advance(pass);
@@ -159,8 +156,7 @@ impl TenantDoor {
     /// is no longer the slot's topmost one. The pass comes back, unless it went home.
     pub fn commit<R: Wait>(&self, rt: &R, pass: Pass, segment: Segment) -> Advanced
         requires { pass.tenant ≡ self.now.tenant }
-        ensures carries { IfSome result.pass (λ q. Carries pass result.moved q) }
-        ensures home { is_some result.pass ≡ not (goes_home result.moved) }
+        ensures back { ComesBack pass result.moved result.pass }
         ensures cell { WasUnder (IsCommitOf pass segment result) }
     {
         let done = self.lock(rt).commit(pass, segment);
@@ -171,10 +167,9 @@ impl TenantDoor {
     /// that after it, or `Unshared` where no other pass of the tenant is out.
     pub fn advance_and_look<R: Wait>(&self, rt: &R, pass: Pass, view: &mut View) -> Turned
         requires { pass.tenant ≡ self.now.tenant }
-        ensures carries { IfSome result.advanced.pass (λ q. Carries pass result.advanced.moved q) }
-        ensures home { is_some result.advanced.pass ≡ not (goes_home result.advanced.moved) }
+        ensures back { ComesBack pass result.advanced.moved result.advanced.pass }
         ensures cell { WasUnder (IsAdvanceOf pass result.advanced) }
-        ensures seen { WasUnder (AndLooked result.advanced view.new result.height (IsAdvanceOf pass result.advanced)) }
+        ensures seen { WasUnder (AndLooked result view.new (IsAdvanceOf pass result.advanced)) }
         ensures look { is_some result.height ≡ is_some result.advanced.pass }
         ensures most { IfSome result.height (λ height. height ≤ MAX_HEIGHT) }
     {
@@ -185,10 +180,9 @@ impl TenantDoor {
     /// Advances the slot of a pass as `advance`, and under the same lock counts the rows on it.
     pub fn advance_and_count<R: Wait>(&self, rt: &R, pass: Pass) -> Turned
         requires { pass.tenant ≡ self.now.tenant }
-        ensures carries { IfSome result.advanced.pass (λ q. Carries pass result.advanced.moved q) }
-        ensures home { is_some result.advanced.pass ≡ not (goes_home result.advanced.moved) }
+        ensures back { ComesBack pass result.advanced.moved result.advanced.pass }
         ensures cell { WasUnder (IsAdvanceOf pass result.advanced) }
-        ensures counted { WasUnder (AndCounted result.advanced result.height (IsAdvanceOf pass result.advanced)) }
+        ensures counted { WasUnder (AndCounted result (IsAdvanceOf pass result.advanced)) }
         ensures count { is_some result.height ≡ is_some result.advanced.pass }
         ensures most { IfSome result.height (λ height. height ≤ MAX_HEIGHT) }
     {
@@ -206,10 +200,10 @@ impl TenantDoor {
         view: &mut View,
     ) -> Turned
         requires { pass.tenant ≡ self.now.tenant }
-        ensures carries { IfSome result.advanced.pass (λ q. Carries pass result.advanced.moved q) }
-        ensures home { is_some result.advanced.pass ≡ not (goes_home result.advanced.moved) }
+        ensures back { ComesBack pass result.advanced.moved result.advanced.pass }
         ensures cell { WasUnder (IsCommitOf pass segment result.advanced) }
-        ensures seen { WasUnder (AndLooked result.advanced view.new result.height (IsCommitOf pass segment result.advanced)) }
+        ensures seen { WasUnder
+            (AndLooked result view.new (IsCommitOf pass segment result.advanced)) }
         ensures look { is_some result.height ≡ is_some result.advanced.pass }
         ensures most { IfSome result.height (λ height. height ≤ MAX_HEIGHT) }
     {
@@ -405,9 +399,10 @@ fn close(
     count: usize,
 ) -> Result<Closed, CloseFault>
     ensures right { IsRight cell }
-    ensures agree { IfOk result (λ closed. Agree cell seats.now (record { tenant = tenant; config = config.now; seats = count })) }
+    ensures agree { IfOk result (λ closed. Agree cell seats.now (door_of tenant config.now count)) }
     ensures history { IfOk result (λ closed. closed.history.items ≡ cell.history) }
-    ensures refused { IfErr result (λ fault. IsFault cell seats.now (record { tenant = tenant; config = config.now; seats = count }) (Some fault)) }
+    ensures refused { let door = door_of tenant config.now count in
+        IfErr result (λ fault. IsFault cell seats.now door (Some fault)) }
 {
     // Proof hint: the cell is right.
     let _ = cell.history();

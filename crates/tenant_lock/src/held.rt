@@ -1,27 +1,22 @@
 // What a tenant's lock keeps, and the calls to which it is lent.
-ghost use Rattle.std.specs.Prelude.{ℕ, ◌≡◌, ◌≢◌, ◌<◌, ◌≤◌, ◌||◌, ◌⊎◌, not, true, false, IfSome, Some, None, count_by, length, nat_le, option_map, replicate, slice_set, if◌then◌else◌};
-ghost use Rattle.std.specs.Option.{is_some};
+ghost use Rattle.std.specs.Prelude.{◌≡◌, ◌≢◌, ◌<◌, ◌≤◌, true, false, IfSome, IsSome, None, replicate};
+ghost use Rattle.job_language.specs.Brought.{job_of};
 ghost use Rattle.job_language.specs.Recorded.{is_entry, is_recorded_reply};
 ghost use Rattle.job_language.specs.declared.answers.Moved.{Moved};
+ghost use Rattle.job_language.specs.declared.errors.Error.TheVariants.{NoMemory};
 ghost use Rattle.job_language.specs.declared.tenants.TheConstants.{MAX_SLOTS};
-ghost use Rattle.tenant_model.specs.Advance.{advance};
-ghost use Rattle.tenant_model.specs.Changes.{open_rows};
 ghost use Rattle.tenant_model.specs.Told.{placed_on};
-ghost use Rattle.tenant_model.specs.Walks.{height, is_unstarted};
 ghost use Rattle.tenant_model.specs.declared.rows.TheConstants.{MAX_HEIGHT};
-ghost use Rattle.tenant_record.specs.PassData.{GoesWith, goes_home, has_room};
+ghost use Rattle.tenant_record.specs.PassData.{GoesWith};
 ghost use Rattle.tenant_record.specs.SeatData.{asked};
-ghost use Rattle.tenant_record.specs.Cell.{IsRight, arrival, has_slot_of, state_of};
+ghost use Rattle.tenant_record.specs.Cell.{IsCollect, IsRight, arrival, has_slot_of};
 ghost use Rattle.tenant_record.specs.Locked.{IsArrived, given_home};
-ghost use Rattle.tenant_lock.specs.Awaited.{added, is_open, jobs_of};
-ghost use Rattle.tenant_lock.specs.Doors.{Carries, ComesWith};
-ghost use Rattle.tenant_lock.specs.Looks.{IsLook, IsShown};
-ghost use Rattle.tenant_lock.specs.Pauses.{has_to_stop};
-ghost use Rattle.tenant_lock.specs.Sleepers.{CanMove, IsIdle};
+ghost use Rattle.tenant_lock.specs.Awaited.{is_open};
+ghost use Rattle.tenant_lock.specs.Doors.{ComesWith};
+ghost use Rattle.tenant_lock.specs.Looks.{IsCountAfter, IsLook, IsLookAfter, IsShown, rows_on};
+ghost use Rattle.tenant_lock.specs.Sleepers.{CanMove, IsIdle, must_stop, with_sleeper, with_waiter};
 ghost use Rattle.tenant_lock.specs.Under.{AreCounts, IsAdvanceOf, IsArrivalOf, IsAskOf, IsCommitOf, IsHandOverOf, IsTally};
-ghost use Rattle.tenant_lock.specs.Watch.{KeepsWatch};
-ghost use Rattle.std.specs.Prelude.{IsSome};
-ghost use Rattle.job_language.specs.Brought.{job_of};
+ghost use Rattle.tenant_lock.specs.Watch.{IsTurn, KeepsWatch};
 
 use crate::awaited::{Jobs, is_open, note};
 use crate::counts::{Counts, JobTally, Tally};
@@ -84,13 +79,15 @@ impl Held {
     #[tactic(auto, using(crate::proofs::Asking::memory_of))]
     pub(crate) fn ask(&mut self, tenant: usize, seat: &mut Seat, request: Request) -> Done<Asked>
         ensures seat { seat.new ≡ asked seat.old request result.answer.reply }
-        ensures memory { result.answer.reply ≡ Reply.Refused Error.NoMemory → IsSome (job_of request) }
+        ensures memory { result.answer.reply ≡ Reply.Refused NoMemory → IsSome (job_of request) }
         ensures placed { GoesWith tenant (placed_on result.answer.reply) result.answer.pass }
-        ensures pending { result.answer.reply ≡ Reply.Pending → (job : ℕ) × (request ≡ Request.Collect job) }
-        ensures cell { IsAskOf tenant seat.old request result.answer seat.new self.old.cell self.new.cell }
+        ensures pending { result.answer.reply ≡ Reply.Pending → IsCollect request }
+        ensures cell { IsAskOf tenant seat.old request result.answer seat.new
+            self.old.cell self.new.cell }
         ensures right { IsRight self.old.cell × IsRight self.new.cell }
         ensures kept { self.old.cell.tenant ≢ tenant → self.new ≡ self.old }
-        ensures watch { KeepsWatch self.old self.new (is_recorded_reply result.answer.reply) result.news }
+        ensures watch { KeepsWatch self.old self.new
+            (is_recorded_reply result.answer.reply) result.news }
     {
         // Proof hint: the cell is right.
         let _ = self.cell.history();
@@ -119,7 +116,8 @@ impl Held {
         ensures cell { IsArrivalOf tenant call result.answer self.old.cell self.new.cell }
         ensures right { IsRight self.old.cell × IsRight self.new.cell }
         ensures elsewhere { call.tenant ≢ tenant → self.new ≡ self.old }
-        ensures watch { KeepsWatch self.old self.new (is_entry (Answer.Came result.answer.came)) result.news }
+        ensures watch { KeepsWatch self.old self.new
+            (is_entry (Answer.Came result.answer.came)) result.news }
     {
         // Proof hint: the cell is right.
         let _ = self.cell.history();
@@ -144,12 +142,8 @@ impl Held {
 
     /// Advances the slot of a pass.
     pub(crate) fn advance(&mut self, pass: Pass) -> Done<Advanced>
-        ensures carries { IfSome result.answer.pass (λ q. Carries pass result.answer.moved q) }
-        ensures home { is_some result.answer.pass ≡ not (goes_home result.answer.moved) }
         ensures cell { IsAdvanceOf pass result.answer self.old.cell self.new.cell }
-        ensures right { IsRight self.old.cell × IsRight self.new.cell }
-        ensures kept { has_slot_of self.old.cell pass ≡ false → self.new ≡ self.old }
-        ensures watch { KeepsWatch self.old self.new (is_entry (Answer.Moved result.answer.moved)) result.news }
+        ensures turn { IsTurn pass result.answer self.old self.new result.news }
     {
         // Proof hint: the cell is right.
         let _ = self.cell.history();
@@ -170,12 +164,8 @@ impl Held {
 
     /// Puts a private run in the place of an advance of the slot of a pass.
     pub(crate) fn commit(&mut self, pass: Pass, segment: Segment) -> Done<Advanced>
-        ensures carries { IfSome result.answer.pass (λ q. Carries pass result.answer.moved q) }
-        ensures home { is_some result.answer.pass ≡ not (goes_home result.answer.moved) }
         ensures cell { IsCommitOf pass segment result.answer self.old.cell self.new.cell }
-        ensures right { IsRight self.old.cell × IsRight self.new.cell }
-        ensures kept { has_slot_of self.old.cell pass ≡ false → self.new ≡ self.old }
-        ensures watch { KeepsWatch self.old self.new (is_entry (Answer.Moved result.answer.moved)) result.news }
+        ensures turn { IsTurn pass result.answer self.old self.new result.news }
     {
         // Proof hint: the cell is right.
         let _ = self.cell.history();
@@ -196,14 +186,10 @@ impl Held {
 
     /// Advances the slot of a pass, and looks at it.
     pub(crate) fn advance_and_look(&mut self, pass: Pass, view: &mut View) -> Done<Turned>
-        ensures carries { IfSome result.answer.advanced.pass (λ q. Carries pass result.answer.advanced.moved q) }
-        ensures home { is_some result.answer.advanced.pass ≡ not (goes_home result.answer.advanced.moved) }
         ensures cell { IsAdvanceOf pass result.answer.advanced self.old.cell self.new.cell }
-        ensures right { IsRight self.old.cell × IsRight self.new.cell }
-        ensures kept { has_slot_of self.old.cell pass ≡ false → self.new ≡ self.old }
-        ensures look { IsLook self.new.cell result.answer.advanced.pass view.new result.answer.height }
+        ensures turn { IsTurn pass result.answer.advanced self.old self.new result.news }
+        ensures look { IsLookAfter result.answer view.new self.new.cell }
         ensures most { IfSome result.answer.height (λ height. height ≤ MAX_HEIGHT) }
-        ensures watch { KeepsWatch self.old self.new (is_entry (Answer.Moved result.answer.advanced.moved)) result.news }
     {
         let Done {
             answer: advanced,
@@ -218,14 +204,10 @@ impl Held {
 
     /// Advances the slot of a pass, and counts the rows on it.
     pub(crate) fn advance_and_count(&mut self, pass: Pass) -> Done<Turned>
-        ensures carries { IfSome result.answer.advanced.pass (λ q. Carries pass result.answer.advanced.moved q) }
-        ensures home { is_some result.answer.advanced.pass ≡ not (goes_home result.answer.advanced.moved) }
         ensures cell { IsAdvanceOf pass result.answer.advanced self.old.cell self.new.cell }
-        ensures right { IsRight self.old.cell × IsRight self.new.cell }
-        ensures kept { has_slot_of self.old.cell pass ≡ false → self.new ≡ self.old }
-        ensures count { result.answer.height ≡ option_map (λ p. height (state_of self.new.cell).rows p.slot) result.answer.advanced.pass }
+        ensures turn { IsTurn pass result.answer.advanced self.old self.new result.news }
+        ensures count { IsCountAfter result.answer self.new.cell }
         ensures most { IfSome result.answer.height (λ height. height ≤ MAX_HEIGHT) }
-        ensures watch { KeepsWatch self.old self.new (is_entry (Answer.Moved result.answer.advanced.moved)) result.news }
     {
         let Done {
             answer: advanced,
@@ -240,7 +222,7 @@ impl Held {
 
     /// How many rows are on the slot of a pass, if there is one.
     fn rows_on(&self, pass: &Option<Pass>) -> Option<usize>
-        ensures count { result ≡ option_map (λ p. height (state_of self.now.cell).rows p.slot) pass.now }
+        ensures count { result ≡ rows_on self.now.cell pass.now }
         ensures most { IfSome result (λ height. height ≤ MAX_HEIGHT) }
     {
         match pass {
@@ -256,14 +238,10 @@ impl Held {
         segment: Segment,
         view: &mut View,
     ) -> Done<Turned>
-        ensures carries { IfSome result.answer.advanced.pass (λ q. Carries pass result.answer.advanced.moved q) }
-        ensures home { is_some result.answer.advanced.pass ≡ not (goes_home result.answer.advanced.moved) }
         ensures cell { IsCommitOf pass segment result.answer.advanced self.old.cell self.new.cell }
-        ensures right { IsRight self.old.cell × IsRight self.new.cell }
-        ensures kept { has_slot_of self.old.cell pass ≡ false → self.new ≡ self.old }
-        ensures look { IsLook self.new.cell result.answer.advanced.pass view.new result.answer.height }
+        ensures turn { IsTurn pass result.answer.advanced self.old self.new result.news }
+        ensures look { IsLookAfter result.answer view.new self.new.cell }
         ensures most { IfSome result.answer.height (λ height. height ≤ MAX_HEIGHT) }
-        ensures watch { KeepsWatch self.old self.new (is_entry (Answer.Moved result.answer.advanced.moved)) result.news }
     {
         let Done {
             answer: advanced,
@@ -303,7 +281,8 @@ impl Held {
 
     /// Puts a pass home, if its slot is one of the cell's. Another one is ended.
     pub(crate) fn give_home(&mut self, pass: Pass)
-        ensures home { has_slot_of self.old.cell pass ≡ true → self.new.cell ≡ given_home self.old.cell pass }
+        ensures home { has_slot_of self.old.cell pass ≡ true
+            → self.new.cell ≡ given_home self.old.cell pass }
         ensures kept { has_slot_of self.old.cell pass ≡ false → self.new ≡ self.old }
         ensures stopped { self.new.is_stopped ≡ self.old.is_stopped }
     {
@@ -335,7 +314,7 @@ impl Held {
 
     /// Whether those who wait for the tenant have to stop: they were told to, or its history is full.
     pub(crate) fn is_over(&self) -> bool
-        ensures { result ≡ has_to_stop self.now.is_stopped self.now.cell }
+        ensures { result ≡ must_stop self.now }
     {
         is_over(&self.cell, self.is_stopped)
     }
@@ -380,9 +359,9 @@ impl Held {
     /// Notes who has to sleep for a job, and says whether to sleep: the job is there without an outcome, and nobody has
     /// to stop.
     pub(crate) fn sleeps_for(&mut self, job: u64) -> bool
-        ensures waits { result ≡ is_open self.old.cell (has_to_stop self.old.is_stopped self.old.cell) job }
-        ensures noted { result ≡ true → self.new.awaited ≡ Some (added (jobs_of self.old.awaited) job) }
-        ensures kept { self.new ≡ record self.old { awaited = if result then self.new.awaited else self.old.awaited } }
+        ensures waits { result ≡ is_open self.old.cell (must_stop self.old) job }
+        ensures noted { result ≡ true → self.new ≡ with_waiter self.old job }
+        ensures kept { result ≡ false → self.new ≡ self.old }
     {
         let sleeps = is_open(&self.cell, self.is_over(), job);
         if sleeps {
@@ -412,17 +391,19 @@ impl Held {
 
     /// Whether an advance of a slot would be idle, and nobody has to stop.
     pub(crate) fn is_idle(&self, slot: u8) -> bool
-        ensures waits { result ≡ true → IsIdle self.now.cell (has_to_stop self.now.is_stopped self.now.cell) slot }
-        ensures goes { result ≡ false → CanMove self.now.cell (has_to_stop self.now.is_stopped self.now.cell) slot }
+        ensures waits { result ≡ true → IsIdle self.now.cell (must_stop self.now) slot }
+        ensures goes { result ≡ false → CanMove self.now.cell (must_stop self.now) slot }
     {
         !self.is_over() && self.cell.is_idle(slot)
     }
 
     /// Notes who has to sleep at the slot of a pass, if that is one of the cell's, and says whether to sleep.
     pub(crate) fn sleeps_at(&mut self, pass: &Pass) -> bool
-        ensures waits { result ≡ true → IsIdle self.old.cell (has_to_stop self.old.is_stopped self.old.cell) pass.now.slot }
-        ensures goes { result ≡ false → has_slot_of self.old.cell pass.now ≡ true → CanMove self.old.cell (has_to_stop self.old.is_stopped self.old.cell) pass.now.slot }
-        ensures noted { self.new ≡ record self.old { noted = if result then slice_set self.old.noted pass.now.slot true else self.old.noted } }
+        ensures waits { result ≡ true → IsIdle self.old.cell (must_stop self.old) pass.now.slot }
+        ensures goes { result ≡ false → has_slot_of self.old.cell pass.now ≡ true
+            → CanMove self.old.cell (must_stop self.old) pass.now.slot }
+        ensures noted { result ≡ true → self.new ≡ with_sleeper self.old pass.now.slot }
+        ensures kept { result ≡ false → self.new ≡ self.old }
     {
         let slot = pass.slot();
         let sleeps = self.cell.has_slot_of(pass) && self.is_idle(slot);

@@ -3,7 +3,7 @@ ghost use Rattle.std.specs.Prelude.{◌≡◌, replicate, false};
 ghost use Rattle.job_language.specs.declared.tenants.TheConstants.{MAX_SLOTS};
 ghost use Rattle.tenant_lock.specs.Awaited.{AreWaitersTold};
 ghost use Rattle.tenant_lock.specs.Pauses.{has_to_stop};
-ghost use Rattle.tenant_lock.specs.Sleepers.{AreTold, marks};
+ghost use Rattle.tenant_lock.specs.Sleepers.{AreNamed, marks};
 ghost use Rattle.tenant_record.specs.Cell.{IsRight};
 
 use crate::awaited::{Jobs, tell_waiters};
@@ -37,8 +37,11 @@ impl<T> Done<T> {
     ) -> Done<T>
         ensures answer { result.answer ≡ answer }
         ensures right { IsRight cell.now }
-        ensures slots { AreTold cell.now (has_to_stop is_stopped cell.now) (marks waiting.old.noted) (marks result.news.slots) (marks waiting.new.noted) }
-        ensures jobs { AreWaitersTold cell.now (has_to_stop is_stopped cell.now) has_entered awaited.old result.news.has_outcome awaited.new }
+        ensures slots { let is_over = has_to_stop is_stopped cell.now in
+            AreNamed cell.now is_over waiting.old.noted result.news.slots waiting.new.noted }
+        ensures jobs { let is_over = has_to_stop is_stopped cell.now in
+            AreWaitersTold cell.now is_over has_entered
+                awaited.old result.news.has_outcome awaited.new }
     {
         // Proof hint: the cell is right.
         let _ = cell.history();

@@ -1,7 +1,7 @@
 // Who waits at which slots.
 ghost use Rattle.std.specs.Prelude.{ℕ, ◌≡◌, ◌<◌, false, true, replicate, slice_set};
 ghost use Rattle.job_language.specs.declared.tenants.TheConstants.{MAX_SLOTS};
-ghost use Rattle.tenant_lock.specs.Sleepers.{AreTold, CanMove, IsIdle, is_in, marks};
+ghost use Rattle.tenant_lock.specs.Sleepers.{AreNamed, AreTold, CanMove, IsIdle, is_in, marks};
 
 use job_language::MAX_SLOTS;
 use tenant_record::TenantCell;
@@ -119,7 +119,7 @@ impl Waiting {
     /// Forgets the slots at which nobody has to sleep any more, and names them, so that who sleeps there is woken: all
     /// if everybody has to stop, else those that can move.
     pub(crate) fn tell(&mut self, cell: &TenantCell, is_over: bool) -> Option<Slots>
-        ensures { AreTold cell.now is_over (marks self.old.noted) (marks result) (marks self.new.noted) }
+        ensures { AreNamed cell.now is_over self.old.noted result self.new.noted }
     {
         let Some(noted) = self.noted else {
             return None;

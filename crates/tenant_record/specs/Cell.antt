@@ -11,6 +11,7 @@ use Rattle.job_language.specs.declared.answers.Reply.{Reply}
 use Rattle.job_language.specs.declared.answers.Reply.TheVariants.{Placed, Refused}
 use Rattle.job_language.specs.declared.errors.Error.TheVariants.{NoMemory}
 use Rattle.job_language.specs.declared.requests.Request.{Request}
+use Rattle.job_language.specs.declared.requests.Request.TheVariants.{Collect}
 use Rattle.job_language.specs.declared.steps.Entry.{Entry}
 use Rattle.job_language.specs.declared.steps.Step.{Step}
 use Rattle.job_language.specs.declared.steps.Step.TheVariants.{Ask, Arrive, Advance}
@@ -111,6 +112,10 @@ arrive_by s slot (Some p) = arrive_within (has_room p) s slot
 
 abbrev pub arrival : CellData → ℕ → Came × State
 arrival c slot = arrive_by (state_of c) slot (pass_in (place c.home slot))
+
+-- The request collects a job.
+abbrev pub IsCollect : Request → Type 0
+IsCollect request = (job : ℕ) × (request ≡ Collect job)
 
 -- An ask is answered as the definitions say, if there is room in the seat's log. Error 9 changes nothing, and comes only if the ask brings a job.
 abbrev pub AnswersAsk : CellData → SeatData → Request → Reply → CellData → Type 0

@@ -12,7 +12,7 @@ ghost use Rattle.tenant_model.specs.Changes.{open_rows};
 ghost use Rattle.tenant_model.specs.Told.{placed_on};
 ghost use Rattle.tenant_model.specs.Walks.{height, is_unstarted};
 ghost use Rattle.tenant_model.specs.Advance.{advance};
-ghost use Rattle.tenant_record.specs.Cell.{IsRight, state_of, first_cell, has_slot_of, is_on, arrival, entered, AnswersAsk, askers_of};
+ghost use Rattle.tenant_record.specs.Cell.{IsCollect, IsRight, state_of, first_cell, has_slot_of, is_on, arrival, entered, AnswersAsk, askers_of};
 ghost use Rattle.tenant_record.specs.Locked.{IsMoved, IsArrived, IsAsked, IsHandedOver, given_home};
 ghost use Rattle.tenant_record.specs.PassData.{has_room, GoesWith};
 ghost use Rattle.tenant_record.specs.Places.{place, pass_in, is_one_out, is_told_full};
@@ -226,7 +226,7 @@ impl TenantCell {
     pub fn ask(&mut self, seat: &mut Seat, request: Request) -> Asked
         ensures answer { AnswersAsk self.old seat.old request result.reply self.new }
         // A collect alone can be pending.
-        ensures pending { result.reply ≡ Reply.Pending → (job : ℕ) × (request ≡ Request.Collect job) }
+        ensures pending { result.reply ≡ Reply.Pending → IsCollect request }
         // With a job that is placed on a slot goes the slot's pass, and with no other reply a pass.
         ensures placed { GoesWith self.old.tenant (placed_on result.reply) result.pass }
         ensures asked { IsAsked self.old seat.old request result.reply result.due result.pass self.new seat.new }
