@@ -1,10 +1,10 @@
 -- Who waits for the outcomes of jobs.
-use Rattle.std.specs.Prelude.{ℕ, ◌≡◌, ◌⊎◌, ◌&&◌, not, Bool, true, false, Option, Some, None, is_none, option_map, position, replicate, slice_set}
+use Rattle.std.specs.Prelude.{ℕ, ◌≡◌, ◌⊎◌, ◌&&◌, not, Bool, true, false, Option, Some, None, is_none, position, replicate, slice_set}
 use Rattle.std.specs.List.{list_all}
 use Rattle.job_language.specs.declared.answers.Status.{Status}
 use Rattle.job_language.specs.declared.answers.Status.TheVariants.{Running}
-use Rattle.tenant_model.specs.Asks.{known_job, status}
 use Rattle.tenant_record.specs.Cell.{CellData, state_of}
+use Rattle.tenant_record.specs.Replayed.{status_of}
 use Rattle.tenant_lock.specs.declared.awaited.Jobs.{Jobs}
 use Rattle.tenant_lock.specs.declared.awaited.TheConstants.{NOTED}
 
@@ -14,7 +14,7 @@ is_running s = false
 
 -- Is the job there without an outcome, and has nobody to stop?
 abbrev pub is_open : CellData → (is_over : Bool) → ℕ → Bool
-is_open c is_over job = not is_over && is_running (option_map (status (state_of c).rows job) (known_job (state_of c) job))
+is_open c is_over job = not is_over && is_running (status_of (state_of c) job)
 
 abbrev pub is_open_if_any : CellData → (is_over : Bool) → Option ℕ → Bool
 is_open_if_any c is_over None = true

@@ -1,7 +1,5 @@
 -- What a call did to the cell that lay under the lock.
 use Rattle.std.specs.Prelude.{ℕ, ◌≡◌, ◌≢◌, ◌⊎◌, true, false, Option, Some, None, length, count_by}
-use Rattle.arena_core.specs.Views.{Commits}
-use Rattle.arena_steps.specs.Within.{advance_within}
 use Rattle.job_language.specs.declared.answers.Came.TheVariants.{Nothing}
 use Rattle.job_language.specs.declared.answers.Moved.TheVariants.{Stale}
 use Rattle.job_language.specs.declared.answers.Reply.TheVariants.{Refused}
@@ -12,9 +10,9 @@ use Rattle.job_step.specs.declared.segments.View.{View}
 use Rattle.market_config.specs.declared.calls.Call.{Call}
 use Rattle.tenant_model.specs.Changes.{open_rows}
 use Rattle.tenant_model.specs.Walks.{height, is_unstarted}
-use Rattle.tenant_record.specs.Cell.{CellData, IsRight, AnswersAsk, arrival, has_slot_of, state_of}
+use Rattle.tenant_record.specs.Cell.{CellData, IsCommitted, IsRight, AnswersAsk, advance_of, arrival, has_slot_of, state_of}
 use Rattle.tenant_record.specs.Locked.{IsArrived, IsAsked, IsHandedOver, IsMoved}
-use Rattle.tenant_record.specs.PassData.{PassData, has_room}
+use Rattle.tenant_record.specs.PassData.{PassData}
 use Rattle.tenant_record.specs.SeatData.{SeatData}
 use Rattle.tenant_record.specs.declared.cells.Asked.{Asked}
 use Rattle.tenant_record.specs.declared.slots.Advanced.{Advanced}
@@ -42,13 +40,13 @@ IsStale p a c d = (a ≡ record { moved = Stale; due = None; pass = Some p }) ×
 
 -- The slot of a pass advances.
 pub record IsAdvanceOf (p : PassData) (a : Advanced) (c d : CellData) : Type 0 where
-  pub answer : has_slot_of c p ≡ true → a.moved ≡ (advance_within (has_room p) (state_of c) p.slot).0
+  pub answer : has_slot_of c p ≡ true → a.moved ≡ (advance_of c p).0
   pub moved : has_slot_of c p ≡ true → IsMoved c p a.moved a.due a.pass d
   pub elsewhere : has_slot_of c p ≡ false → IsStale p a c d
 
 -- The private run of a frame takes the place of an advance of the slot of a pass.
 pub record IsCommitOf (p : PassData) (t : Top) (a : Advanced) (c d : CellData) : Type 0 where
-  pub answer : has_slot_of c p ≡ true → Commits (has_room p) (state_of c) p.slot t a.moved (state_of d)
+  pub answer : has_slot_of c p ≡ true → IsCommitted c p t a.moved d
   pub moved : has_slot_of c p ≡ true → IsMoved c p a.moved a.due a.pass d
   pub elsewhere : has_slot_of c p ≡ false → IsStale p a c d
 

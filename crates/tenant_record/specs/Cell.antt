@@ -6,6 +6,7 @@ use Rattle.job_language.specs.declared.answers.Answer.{Answer}
 use Rattle.job_language.specs.declared.answers.Answer.TheVariants.{Replied}
 use Rattle.job_language.specs.declared.answers.Came.{Came}
 use Rattle.job_language.specs.declared.answers.Came.TheVariants.{Nothing}
+use Rattle.job_language.specs.declared.answers.Moved.{Moved}
 use Rattle.job_language.specs.declared.answers.Moved.TheVariants.{Idle}
 use Rattle.job_language.specs.declared.answers.Reply.{Reply}
 use Rattle.job_language.specs.declared.answers.Reply.TheVariants.{Placed, Refused}
@@ -22,11 +23,13 @@ use Rattle.tenant_model.specs.State.{State}
 use Rattle.tenant_model.specs.Told.{placed_on}
 use Rattle.tenant_model.specs.Walks.{height}
 use Rattle.tenant_record.specs.History.{state_after, IsHistory}
-use Rattle.tenant_record.specs.PassData.{PassData, has_room}
+use Rattle.tenant_record.specs.PassData.{PassData, has_room, still_after}
 use Rattle.tenant_record.specs.Places.{place, is_in, pass_in, IsPlaceOf, first_places}
 use Rattle.tenant_record.specs.Replayed.{ask_within}
 use Rattle.tenant_record.specs.SeatData.{SeatData, has_seat_room}
-use Rattle.arena_steps.specs.Within.{arrive_within}
+use Rattle.arena_core.specs.Views.{Commits}
+use Rattle.arena_steps.specs.Within.{advance_within, arrive_within}
+use Rattle.job_step.specs.declared.segments.Top.{Top}
 use Rattle.tenant_record.specs.declared.places.Place.{Place}
 
 -- A tenant's number and configuration, its history, the number of the seat of each ask in the history, where the pass of each slot is, and since how many entries each slot is idle, if that is known.
@@ -117,6 +120,14 @@ arrival c slot = arrive_by (state_of c) slot (pass_in (place c.home slot))
 abbrev pub IsCollect : Request → Type 0
 IsCollect request = (job : ℕ) × (request ≡ Collect job)
 
+-- the answer of an advance of a pass's slot, and the state after it
+abbrev pub advance_of : CellData → PassData → Moved × State
+advance_of c p = advance_within (has_room p) (state_of c) p.slot
+
+-- With that answer the private run of a frame takes the place of an advance of a pass's slot.
+abbrev pub IsCommitted : CellData → PassData → Top → Moved → CellData → Type 0
+IsCommitted c p top m d = Commits (has_room p) (state_of c) p.slot top m (state_of d)
+
 -- An ask is answered as the definitions say, if there is room in the seat's log. Error 9 changes nothing, and comes only if the ask brings a job.
 abbrev pub AnswersAsk : CellData → SeatData → Request → Reply → CellData → Type 0
 AnswersAsk c seat request reply d =
@@ -134,6 +145,10 @@ counted counts slot is_entry = if is_entry then slice_set counts slot (slice_ind
 abbrev pub touched : Option ℕ → List (Option ℕ) → List (Option ℕ)
 touched None stills = stills
 touched (Some slot) stills = slice_set stills slot None
+
+-- the same after an advance of the slot with that answer, which came at that count of entries
+abbrev pub marked : List (Option ℕ) → ℕ → Moved → (entries : ℕ) → List (Option ℕ)
+marked stills slot m entries = slice_set stills slot (still_after (slice_index_or stills slot None) m entries)
 
 -- the slot, if an entry was made on it
 abbrev pub entered : ℕ → (is_entry : Bool) → Option ℕ

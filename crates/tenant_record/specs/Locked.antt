@@ -1,5 +1,5 @@
 -- What a call under a tenant's lock does to the cell and to the tokens.
-use Rattle.std.specs.Prelude.{ℕ, ◌≡◌, ◌++◌, List, length, Option, Some, None, slice_set, slice_index_or, if◌then◌else◌}
+use Rattle.std.specs.Prelude.{ℕ, ◌≡◌, ◌++◌, List, length, Option, Some, None, slice_set, if◌then◌else◌}
 use Rattle.job_language.specs.Recorded.{is_entry, is_recorded_reply}
 use Rattle.job_language.specs.declared.answers.Answer.TheVariants as answer
 use Rattle.job_language.specs.declared.answers.Came.{Came}
@@ -8,9 +8,9 @@ use Rattle.job_language.specs.declared.answers.Reply.{Reply}
 use Rattle.job_language.specs.declared.requests.Request.{Request}
 use Rattle.job_language.specs.declared.steps.Step.TheVariants.{Ask, Arrive, Advance}
 use Rattle.tenant_model.specs.Told.{placed_on}
-use Rattle.tenant_record.specs.Cell.{CellData, state_of, askers_of, touched, entered}
+use Rattle.tenant_record.specs.Cell.{CellData, state_of, askers_of, touched, marked, entered}
 use Rattle.tenant_record.specs.History.{entries_of}
-use Rattle.tenant_record.specs.PassData.{PassData, advanced, still_after, goes_home}
+use Rattle.tenant_record.specs.PassData.{PassData, advanced, goes_home}
 use Rattle.tenant_record.specs.Places.{place, pass_in, due_slot, due_after, woken, returned, taken, placed_pass, arrived_pass, arrived_place}
 use Rattle.tenant_record.specs.SeatData.{SeatData, asked}
 use Rattle.tenant_record.specs.declared.places.Place.{Place}
@@ -30,7 +30,7 @@ pub record IsMoved (c : CellData) (p : PassData) (m : Moved) (slot : Option ℕ)
   pub tenant : d.tenant ≡ c.tenant
   pub config : d.config ≡ c.config
   pub askers : d.askers ≡ c.askers
-  pub stills : d.stills ≡ slice_set c.stills p.slot (still_after (slice_index_or c.stills p.slot None) m (length c.history))
+  pub stills : d.stills ≡ marked c.stills p.slot m (length c.history)
   pub pass : q ≡ pass_back p m (length c.history)
   pub due : slot ≡ due_after (is_entry (answer.Moved m)) c.config (state_of d) (home_after c.home p m (length c.history))
   pub home : d.home ≡ woken slot (home_after c.home p m (length c.history))

@@ -1,14 +1,16 @@
 -- Where the passes of a tenant's slots are.
-use Rattle.std.specs.Prelude.{ℕ, nat_lt, ◌==◌, not, Bool, true, false, List, Option, Some, None, if◌then◌else◌, slice_get, unwrap_or, slice_set, find, length, map}
+use Rattle.std.specs.Prelude.{ℕ, ◌≡◌, IfSome, nat_lt, ◌==◌, not, Bool, true, false, List, Option, Some, None, if◌then◌else◌, slice_get, unwrap_or, slice_set, find, length, map}
 use Rattle.std.specs.List.{range_with_len}
 use Rattle.std.specs.Option.{is_some}
+use Rattle.job_language.specs.Recorded.{is_entry}
+use Rattle.job_language.specs.declared.answers.Answer.TheVariants as answer
 use Rattle.job_language.specs.declared.answers.Came.{Came}
 use Rattle.job_language.specs.declared.answers.Came.TheVariants.{At}
 use Rattle.job_language.specs.declared.answers.Moved.{Moved}
 use Rattle.job_language.specs.declared.tenants.Tenant.{Tenant}
 use Rattle.tenant_model.specs.State.{State}
 use Rattle.tenant_model.specs.Walks.{has_unstarted}
-use Rattle.tenant_record.specs.PassData.{PassData, goes_home, arrived, placed, first_pass, IsPassOf}
+use Rattle.tenant_record.specs.PassData.{PassData, goes_home, has_room, arrived, placed, first_pass, IsPassOf}
 use Rattle.tenant_record.specs.declared.places.Place.{Place}
 use Rattle.tenant_record.specs.declared.places.Place.TheVariants.{Home, Due, Out}
 
@@ -106,6 +108,10 @@ abbrev pub IsPlaceOf : (tenant slot : ℕ) → Place → Type 0
 IsPlaceOf tenant slot (Home p) = IsPassOf tenant slot p
 IsPlaceOf tenant slot (Due p) = IsPassOf tenant slot p
 IsPlaceOf tenant slot Out = Unit {0}
+
+-- The log of the pass of a slot has room for an arrival there, if that is an entry.
+abbrev pub HasRoomFor : Came → List Place → (slot : ℕ) → Type 0
+HasRoomFor came home slot = is_entry (answer.Came came) ≡ true → IfSome (pass_in (place home slot)) (λ p. has_room p ≡ true)
 
 -- the places of a tenant that has done nothing yet
 abbrev pub first_places : (tenant limit slots : ℕ) → List Place

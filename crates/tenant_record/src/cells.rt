@@ -7,17 +7,16 @@ ghost use Rattle.job_language.specs.declared.answers.Answer.{Answer};
 ghost use Rattle.job_language.specs.declared.answers.Moved.TheVariants as moved;
 ghost use Rattle.job_language.specs.declared.tenants.TheConstants.{MAX_SLOTS};
 ghost use Rattle.tenant_model.specs.declared.rows.TheConstants.{MAX_HEIGHT};
-ghost use Rattle.tenant_model.specs.Asks.{known_job, status};
 ghost use Rattle.tenant_model.specs.Changes.{open_rows};
 ghost use Rattle.tenant_model.specs.Told.{placed_on};
 ghost use Rattle.tenant_model.specs.Walks.{height, is_unstarted};
 ghost use Rattle.tenant_model.specs.Advance.{advance};
-ghost use Rattle.tenant_record.specs.Cell.{IsCollect, IsRight, state_of, first_cell, has_slot_of, is_on, arrival, entered, AnswersAsk, askers_of};
+ghost use Rattle.tenant_record.specs.Cell.{IsCollect, IsCommitted, IsRight, state_of, first_cell, has_slot_of, is_on, advance_of, arrival, entered, AnswersAsk, askers_of};
 ghost use Rattle.tenant_record.specs.Locked.{IsMoved, IsArrived, IsAsked, IsHandedOver, given_home};
-ghost use Rattle.tenant_record.specs.PassData.{has_room, GoesWith};
+ghost use Rattle.tenant_record.specs.PassData.{GoesWith};
 ghost use Rattle.tenant_record.specs.Places.{place, pass_in, is_one_out, is_told_full};
-ghost use Rattle.arena_steps.specs.Within.{advance_within};
-ghost use Rattle.arena_core.specs.Views.{Commits, IsSeen};
+ghost use Rattle.tenant_record.specs.Replayed.{status_of};
+ghost use Rattle.arena_core.specs.Views.{IsSeen};
 
 use crate::passes::Pass;
 use crate::places::{call, is_one_out, pass_at, put, room_at};
@@ -216,7 +215,7 @@ impl TenantCell {
 
     /// How far a job is, if it was made and is not retired.
     pub fn status(&self, job: u64) -> Option<Status>
-        ensures { result ≡ option_map (status (state_of self.now).rows job) (known_job (state_of self.now) job) }
+        ensures { result ≡ status_of (state_of self.now) job }
     {
         self.replay.status(job)
     }
@@ -229,7 +228,8 @@ impl TenantCell {
         ensures pending { result.reply ≡ Reply.Pending → IsCollect request }
         // With a job that is placed on a slot goes the slot's pass, and with no other reply a pass.
         ensures placed { GoesWith self.old.tenant (placed_on result.reply) result.pass }
-        ensures asked { IsAsked self.old seat.old request result.reply result.due result.pass self.new seat.new }
+        ensures asked { IsAsked self.old seat.old request result.reply
+            result.due result.pass self.new seat.new }
     {
         let (Ok(copy), Ok(kept)) = (request.try_clone(), request.try_clone()) else {
             return Asked {
@@ -250,7 +250,8 @@ impl TenantCell {
         ensures answer { result.came ≡ (arrival self.old slot).0 }
         ensures state { state_of self.new ≡ (arrival self.old slot).1 }
         // With an arrival that finds a row goes the slot's pass.
-        ensures found { GoesWith self.old.tenant (entered slot (is_entry (Answer.Came result.came))) result.pass }
+        ensures found { let at = entered slot (is_entry (Answer.Came result.came)) in
+            GoesWith self.old.tenant at result.pass }
         ensures arrived { IsArrived self.old slot result.came result.due result.pass self.new }
     {
         let Some(has_room) = room_at(self.slots.home.as_slice(), slot) else {
@@ -268,8 +269,8 @@ impl TenantCell {
     pub fn advance(&mut self, pass: Pass) -> Advanced
         requires tenant { pass.tenant ≡ self.old.tenant }
         requires slot { pass.slot < self.old.config.slots }
-        ensures answer { result.moved ≡ (advance_within (has_room pass) (state_of self.old) pass.slot).0 }
-        ensures state { state_of self.new ≡ (advance_within (has_room pass) (state_of self.old) pass.slot).1 }
+        ensures answer { result.moved ≡ (advance_of self.old pass).0 }
+        ensures state { state_of self.new ≡ (advance_of self.old pass).1 }
         ensures moved { IsMoved self.old pass result.moved result.due result.pass self.new }
     {
         let entries = self.replay.history().len();
@@ -282,7 +283,7 @@ impl TenantCell {
     pub fn commit(&mut self, pass: Pass, segment: Segment) -> Advanced
         requires tenant { pass.tenant ≡ self.old.tenant }
         requires slot { pass.slot < self.old.config.slots }
-        ensures answer { Commits (has_room pass) (state_of self.old) pass.slot segment result.moved (state_of self.new) }
+        ensures answer { IsCommitted self.old pass segment result.moved self.new }
         ensures moved { IsMoved self.old pass result.moved result.due result.pass self.new }
     {
         let entries = self.replay.history().len();

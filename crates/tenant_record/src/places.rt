@@ -1,10 +1,8 @@
 // Where the passes of a tenant's slots are.
-ghost use Rattle.std.specs.Prelude.{◌≡◌, ◌<◌, ◌≤◌, IfOk, Some, None, true, if◌then◌else◌, slice_set, find, length, option_map, IfSome};
+ghost use Rattle.std.specs.Prelude.{◌≡◌, ◌<◌, ◌≤◌, IfOk, Some, None, if◌then◌else◌, slice_set, find, length, option_map, IfSome};
 ghost use Rattle.std.specs.List.{range_with_len};
-ghost use Rattle.job_language.specs.Recorded.{is_entry};
-ghost use Rattle.job_language.specs.declared.answers.Answer.{Answer};
 ghost use Rattle.tenant_record.specs.PassData.{has_room, goes_home};
-ghost use Rattle.tenant_record.specs.Places.{place, is_home, is_told_full, pass_in, is_worker_home, is_in, is_other_out, is_one_out, other_out, due_place, due_after, arrived_pass, arrived_place, taken, placed_pass, returned, woken, first_places};
+ghost use Rattle.tenant_record.specs.Places.{HasRoomFor, place, is_home, is_told_full, pass_in, is_worker_home, is_in, is_other_out, is_one_out, other_out, due_place, due_after, arrived_pass, arrived_place, taken, placed_pass, returned, woken, first_places};
 ghost use Rattle.tenant_record.specs.Replayed.{state_of};
 ghost use Rattle.tenant_record.specs.declared.places.Place.{Place};
 
@@ -181,7 +179,7 @@ pub(crate) fn keep(home: &mut [Place], pass: Pass, moved: Moved) -> Option<Pass>
 /// Gives the pass of a slot to an arrival that found a row. After any other arrival a slot is not due.
 pub(crate) fn admit(home: &mut [Place], slot: u8, came: Came) -> Option<Pass>
     requires slot { slot < length home.old }
-    requires room { is_entry (Answer.Came came) ≡ true → IfSome (pass_in (place home.old slot)) (λ p. has_room p ≡ true) }
+    requires room { HasRoomFor came home.old slot }
     ensures pass { result ≡ arrived_pass came (pass_in (place home.old slot)) }
     ensures home { home.new ≡ slice_set home.old slot (arrived_place came (place home.old slot)) }
 {

@@ -1,20 +1,19 @@
 // An arena with the history that replays to it.
 ghost use Rattle.std.specs.Prelude.{◌≡◌, ◌≢◌, ◌++◌, [], ◌≤◌, ◌<◌, IfOk, true, false, count_by, length, vec_len, vec_capacity};
-ghost use Rattle.std.specs.Option.{option_map};
 ghost use Rattle.job_language.specs.Recorded.{is_entry};
 ghost use Rattle.job_language.specs.Tenant.{IsValidTenant};
 ghost use Rattle.job_language.specs.declared.answers.Moved.TheVariants as moved;
 ghost use Rattle.job_language.specs.declared.answers.Answer.{Answer};
 ghost use Rattle.job_language.specs.declared.answers.Reply.{Reply};
 ghost use Rattle.job_language.specs.declared.steps.Step.{Step};
-ghost use Rattle.tenant_model.specs.Asks.{is_hello, known_job, status};
+ghost use Rattle.tenant_model.specs.Asks.{is_hello};
 ghost use Rattle.tenant_model.specs.declared.rows.TheConstants.{MAX_HEIGHT};
 ghost use Rattle.tenant_model.specs.Changes.{open_rows};
 ghost use Rattle.tenant_model.specs.State.{State};
 ghost use Rattle.tenant_model.specs.Walks.{has_unstarted, height, is_unstarted};
 ghost use Rattle.tenant_model.specs.Advance.{advance};
 ghost use Rattle.tenant_record.specs.History.{entries_of, IsHistory};
-ghost use Rattle.tenant_record.specs.Replayed.{state_of, ask_within};
+ghost use Rattle.tenant_record.specs.Replayed.{state_of, status_of, ask_within};
 ghost use Rattle.arena_core.specs.Stands.{StandsFor};
 ghost use Rattle.arena_steps.specs.Within.{advance_within, arrive_within};
 ghost use Rattle.arena_core.specs.Views.{IsSeen, Commits};
@@ -145,7 +144,7 @@ impl Replay {
 
     /// How far a job is, if it was made and is not retired.
     pub fn status(&self, job: u64) -> Option<Status>
-        ensures { result ≡ option_map (status (state_of self.now).rows job) (known_job (state_of self.now) job) }
+        ensures { result ≡ status_of (state_of self.now) job }
     {
         self.arena.status(job)
     }
@@ -164,7 +163,8 @@ impl Replay {
         ensures answer { result ≡ (ask_within has_room (state_of self.old) request).0 }
         ensures state { state_of self.new ≡ (ask_within has_room (state_of self.old) request).1 }
         ensures config { self.new.config ≡ self.old.config }
-        ensures history { self.new.history ≡ self.old.history ++ entries_of (Step.Ask request) (Answer.Replied result) }
+        ensures history { self.new.history
+            ≡ self.old.history ++ entries_of (Step.Ask request) (Answer.Replied result) }
         ensures right { IsHistory self.new.config self.new.history }
     {
         let answer = Answer::Replied(ask_within(&mut self.arena, request, has_room));
@@ -178,7 +178,8 @@ impl Replay {
         ensures answer { result ≡ (arrive_within has_room (state_of self.old) slot).0 }
         ensures state { state_of self.new ≡ (arrive_within has_room (state_of self.old) slot).1 }
         ensures config { self.new.config ≡ self.old.config }
-        ensures history { self.new.history ≡ self.old.history ++ entries_of (Step.Arrive slot) (Answer.Came result) }
+        ensures history { self.new.history
+            ≡ self.old.history ++ entries_of (Step.Arrive slot) (Answer.Came result) }
         ensures right { IsHistory self.new.config self.new.history }
     {
         let came = self.arena.arrive_within(slot, has_room);
@@ -192,7 +193,8 @@ impl Replay {
         ensures answer { result ≡ (advance_within has_room (state_of self.old) slot).0 }
         ensures state { state_of self.new ≡ (advance_within has_room (state_of self.old) slot).1 }
         ensures config { self.new.config ≡ self.old.config }
-        ensures history { self.new.history ≡ self.old.history ++ entries_of (Step.Advance slot) (Answer.Moved result) }
+        ensures history { self.new.history
+            ≡ self.old.history ++ entries_of (Step.Advance slot) (Answer.Moved result) }
         ensures right { IsHistory self.new.config self.new.history }
     {
         let moved = self.arena.advance_within(slot, has_room);
@@ -207,9 +209,11 @@ impl Replay {
     /// Puts a private run in the place of an advance, and records it as one. It is `Stale` if its frame
     /// is no longer the slot's topmost one.
     pub fn commit(&mut self, slot: u8, segment: &Segment, has_room: bool) -> Moved
-        ensures answer { Commits has_room (state_of self.old) slot segment.now result (state_of self.new) }
+        ensures answer { Commits has_room (state_of self.old) slot segment.now
+            result (state_of self.new) }
         ensures config { self.new.config ≡ self.old.config }
-        ensures history { self.new.history ≡ self.old.history ++ entries_of (Step.Advance slot) (Answer.Moved result) }
+        ensures history { self.new.history
+            ≡ self.old.history ++ entries_of (Step.Advance slot) (Answer.Moved result) }
         ensures right { IsHistory self.new.config self.new.history }
     {
         let moved = self.arena.commit_within(slot, segment, has_room);
@@ -224,7 +228,9 @@ impl Replay {
 
 /// Answers an ask, or refuses it as at a full history.
 fn ask_within(arena: &mut Arena, request: Request, has_room: bool) -> Reply
-    ensures { (s : State) → StandsFor arena.old s → (result ≡ (ask_within has_room s request).0) × StandsFor arena.new (ask_within has_room s request).1 }
+    ensures { (s : State) → StandsFor arena.old s
+            → (result ≡ (ask_within has_room s request).0)
+            × StandsFor arena.new (ask_within has_room s request).1 }
 {
     if !has_room && !is_hello(&request) {
         return Reply::Refused(Error::HistoryFull);

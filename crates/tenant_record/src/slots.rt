@@ -1,14 +1,14 @@
 // What is kept of each slot of a tenant.
-ghost use Rattle.std.specs.Prelude.{◌≡◌, ◌<◌, ◌≤◌, ◌+◌, ◌^◌, ◌++◌, [], ◌∷◌, length, IfOk, IfSome, Some, None, true, replicate, if◌then◌else◌, slice_set, slice_index_or};
+ghost use Rattle.std.specs.Prelude.{◌≡◌, ◌<◌, ◌≤◌, ◌+◌, ◌^◌, length, IfOk, IfSome, None, true, replicate, slice_index_or};
 ghost use Rattle.job_language.specs.Recorded.{is_entry, is_recorded_reply};
 ghost use Rattle.job_language.specs.declared.answers.Answer.{Answer};
 ghost use Rattle.job_language.specs.declared.tenants.TheConstants.{MAX_SLOTS};
 ghost use Rattle.tenant_model.specs.Told.{placed_on};
-ghost use Rattle.tenant_record.specs.Cell.{counted, touched, entered};
+ghost use Rattle.tenant_record.specs.Cell.{counted, touched, marked, entered};
 ghost use Rattle.tenant_record.specs.Locked.{pass_back, home_after, home_arrived};
-ghost use Rattle.tenant_record.specs.PassData.{has_room, still_after};
-ghost use Rattle.tenant_record.specs.Places.{place, pass_in, due_after, woken, taken, placed_pass, arrived_pass, first_places};
-ghost use Rattle.tenant_record.specs.Replayed.{state_of};
+ghost use Rattle.tenant_record.specs.PassData.{has_room};
+ghost use Rattle.tenant_record.specs.Places.{HasRoomFor, place, pass_in, woken, taken, placed_pass, arrived_pass, first_places};
+ghost use Rattle.tenant_record.specs.Replayed.{due_in};
 
 use crate::passes::{Pass, still_after};
 use crate::places::{Place, admit, call, first_places, hand_out, keep};
@@ -52,7 +52,8 @@ impl SlotBooks {
     ) -> Result<SlotBooks, AllocError>
         ensures counts { IfOk result (λ slots. slots.counts ≡ replicate MAX_SLOTS 0) }
         ensures stills { IfOk result (λ slots. slots.stills ≡ replicate MAX_SLOTS None) }
-        ensures home { IfOk result (λ slots. slots.home.items ≡ first_places tenant config.now.steps config.now.slots) }
+        ensures home { IfOk result (λ slots. slots.home.items
+            ≡ first_places tenant config.now.steps config.now.slots) }
     {
         let config = config.tenant();
         Ok(SlotBooks {
@@ -76,11 +77,14 @@ impl SlotBooks {
         requires room { is_entry (Answer.Moved moved) ≡ true → has_room pass ≡ true }
         requires few { slice_index_or self.old.counts pass.slot 0 + 1 < 2 ^ 64 }
         ensures moved { result.moved ≡ moved }
-        ensures counts { self.new.counts ≡ counted self.old.counts pass.slot (is_entry (Answer.Moved moved)) }
-        ensures stills { self.new.stills ≡ slice_set self.old.stills pass.slot (still_after (slice_index_or self.old.stills pass.slot None) moved entries) }
+        ensures counts { self.new.counts
+            ≡ counted self.old.counts pass.slot (is_entry (Answer.Moved moved)) }
+        ensures stills { self.new.stills ≡ marked self.old.stills pass.slot moved entries }
         ensures pass { result.pass ≡ pass_back pass moved entries }
-        ensures due { result.due ≡ due_after (is_entry (Answer.Moved moved)) replay.now.config (state_of replay.now) (home_after self.old.home.items pass moved entries) }
-        ensures home { self.new.home.items ≡ woken result.due (home_after self.old.home.items pass moved entries) }
+        ensures due { result.due ≡ due_in replay.now (is_entry (Answer.Moved moved))
+            (home_after self.old.home.items pass moved entries) }
+        ensures home { self.new.home.items
+            ≡ woken result.due (home_after self.old.home.items pass moved entries) }
     {
         let mut pass = pass;
         let slot = pass.slot();
@@ -98,14 +102,18 @@ impl SlotBooks {
         requires slot { slot < length self.old.home.items }
         requires slots { length self.old.home.items ≡ replay.now.config.slots }
         requires most { replay.now.config.slots ≤ MAX_SLOTS }
-        requires room { is_entry (Answer.Came came) ≡ true → IfSome (pass_in (place self.old.home.items slot)) (λ p. has_room p ≡ true) }
+        requires room { HasRoomFor came self.old.home.items slot }
         requires few { slice_index_or self.old.counts slot 0 + 1 < 2 ^ 64 }
         ensures came { result.came ≡ came }
-        ensures counts { self.new.counts ≡ counted self.old.counts slot (is_entry (Answer.Came came)) }
-        ensures stills { self.new.stills ≡ touched (entered slot (is_entry (Answer.Came came))) self.old.stills }
+        ensures counts { self.new.counts
+            ≡ counted self.old.counts slot (is_entry (Answer.Came came)) }
+        ensures stills { self.new.stills
+            ≡ touched (entered slot (is_entry (Answer.Came came))) self.old.stills }
         ensures pass { result.pass ≡ arrived_pass came (pass_in (place self.old.home.items slot)) }
-        ensures due { result.due ≡ due_after (is_entry (Answer.Came came)) replay.now.config (state_of replay.now) (home_arrived self.old.home.items slot came) }
-        ensures home { self.new.home.items ≡ woken result.due (home_arrived self.old.home.items slot came) }
+        ensures due { result.due ≡ due_in replay.now (is_entry (Answer.Came came))
+            (home_arrived self.old.home.items slot came) }
+        ensures home { self.new.home.items
+            ≡ woken result.due (home_arrived self.old.home.items slot came) }
     {
         let has_entered = Answer::Came(came).is_entry();
         count(&mut self.counts, slot, has_entered);
@@ -127,8 +135,10 @@ impl SlotBooks {
         ensures counts { self.new.counts ≡ self.old.counts }
         ensures stills { self.new.stills ≡ touched (placed_on reply.now) self.old.stills }
         ensures pass { result.1 ≡ placed_pass (placed_on reply.now) self.old.home.items }
-        ensures due { result.0 ≡ due_after (is_recorded_reply reply.now) replay.now.config (state_of replay.now) (taken (placed_on reply.now) self.old.home.items) }
-        ensures home { self.new.home.items ≡ woken result.0 (taken (placed_on reply.now) self.old.home.items) }
+        ensures due { result.0 ≡ due_in replay.now (is_recorded_reply reply.now)
+            (taken (placed_on reply.now) self.old.home.items) }
+        ensures home { self.new.home.items
+            ≡ woken result.0 (taken (placed_on reply.now) self.old.home.items) }
     {
         let placed = placed_on(reply);
         touch(&mut self.stills, placed);
@@ -152,7 +162,7 @@ fn count(counts: &mut [usize; MAX_SLOTS as usize], slot: u8, has_entered: bool)
 /// Notes at which count of entries a slot was last found idle, after an advance of it.
 fn mark(stills: &mut [Option<usize>; MAX_SLOTS as usize], slot: u8, moved: Moved, entries: usize)
     requires { slot < MAX_SLOTS }
-    ensures { stills.new ≡ slice_set stills.old slot (still_after (slice_index_or stills.old slot None) moved entries) }
+    ensures { stills.new ≡ marked stills.old slot moved entries }
 {
     let at = slot as usize;
     stills[at] = still_after(stills[at], moved, entries);
