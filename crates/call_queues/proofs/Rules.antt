@@ -11,8 +11,8 @@ use Rattle.std.proofs.lemmas.List.{map-append, length-map}
 use Rattle.market_config.specs.declared.calls.Call.{Call}
 use Rattle.call_queues.specs.declared.marks.Marked.{Marked}
 use Rattle.call_queues.specs.declared.marks.PassLog.{PassLog}
-use Rattle.call_queues.specs.declared.marks.View.{View}
-use Rattle.call_queues.specs.declared.marks.View.TheVariants.{Owner, Keeper, Spent}
+use Rattle.call_queues.specs.declared.marks.QueueView.{QueueView}
+use Rattle.call_queues.specs.declared.marks.QueueView.TheVariants.{Owner, Keeper, Spent}
 use Rattle.call_queues.specs.Order.{LevelOrder, no_log, log_of}
 use Rattle.call_queues.specs.declared.marks.TheConstants.{MAX_CALLS}
 use Rattle.call_queues.specs.Rule.{Fits, IsKept, with_pushed, with_popped, after_push, after_pop, Drained, rest_of, next_of, both_of, view_of, Sees, SeesBy, SeesAll, Took}
@@ -41,12 +41,12 @@ same_list [] (y ∷ b) e h = absurd (omega arith)
 same_list (x ∷ a) [] e h = absurd (omega arith)
 same_list (x ∷ a) (y ∷ b) e h = let r = same_list a b (omega arith) (λ p g t. h (suc p) g t) in let s = some-injective y x (h 0 x refl) in λ i. s i ∷ r i
 
-Each : (ℕ → View → Type 0) → List View → Type 0
-Each F views = (port : ℕ) (v : View) → get_elem? views port ≡ some v → F port v
+Each : (ℕ → QueueView → Type 0) → List QueueView → Type 0
+Each F views = (port : ℕ) (v : QueueView) → get_elem? views port ≡ some v → F port v
 
-each_set : (F : ℕ → View → Type 0) (views : List View) (port : ℕ) (w : View) → F port w → ((j : ℕ) (u : View) → j ≢ port → get_elem? views j ≡ some u → F j u)
-    → (j : ℕ) (u : View) → get_elem? (set views port w) j ≡ some u → F j u
-each_set F views port w mine others j u e = ⊎_elim (λ (x : (j ≡ port) × (w ≡ u)). subst (λ (y : ℕ × View). F y.0 y.1) (λ i. (sym x.0 i, x.1 i)) mine)
+each_set : (F : ℕ → QueueView → Type 0) (views : List QueueView) (port : ℕ) (w : QueueView) → F port w → ((j : ℕ) (u : QueueView) → j ≢ port → get_elem? views j ≡ some u → F j u)
+    → (j : ℕ) (u : QueueView) → get_elem? (set views port w) j ≡ some u → F j u
+each_set F views port w mine others j u e = ⊎_elim (λ (x : (j ≡ port) × (w ≡ u)). subst (λ (y : ℕ × QueueView). F y.0 y.1) (λ i. (sym x.0 i, x.1 i)) mine)
     (λ (x : (j ≢ port) × (get_elem? views j ≡ some u)). others j u x.0 x.1) (at_set views port j w u e)
 
 apart : (owners : List ℕ) (p q port j : ℕ) → get_elem? owners p ≡ some port → get_elem? owners q ≡ some j → j ≢ port → q ≢ p
@@ -54,7 +54,7 @@ apart owners p q port j e f ne t = ne (some-injective j port (sym f ∙ ap (get_
 
 -- the others know what they knew where the log of p changes
 others_keep : (keeper : ℕ) (owners : List ℕ) (logs : List PassLog) (taken : List Marked) (p port : ℕ) (h : PassLog) → get_elem? owners p ≡ some port → port ≢ keeper
-    → (j : ℕ) (u : View) → j ≢ port → Fits keeper owners logs taken j u → Fits keeper owners (set logs p h) taken j u
+    → (j : ℕ) (u : QueueView) → j ≢ port → Fits keeper owners logs taken j u → Fits keeper owners (set logs p h) taken j u
 others_keep keeper owners logs taken p port h own nk j (Owner q g) ne f = (f.0, f.1, set_else logs p q h (apart owners p q port j own f.1 ne) ∙ f.2)
 others_keep keeper owners logs taken p port h own nk j (Keeper made known out) ne f = (
   f.0,
@@ -65,7 +65,7 @@ others_keep keeper owners logs taken p port h own nk j (Keeper made known out) n
 others_keep keeper owners logs taken p port h own nk j Spent ne f = tt
 
 -- while a pass is out, nothing is drained
-undrained : (items : List Marked) (views : List View) (k : IsKept items views) (port p : ℕ) (h : PassLog) → get_elem? views port ≡ some (Owner p h) → k.taken ≡ []
+undrained : (items : List Marked) (views : List QueueView) (k : IsKept items views) (port p : ℕ) (h : PassLog) → get_elem? views port ≡ some (Owner p h) → k.taken ≡ []
 undrained items views k port p h at = let f = k.fits port (Owner p h) at in ⊎_elim (λ e. e) (λ c. absurd (f.0 (c p port f.1))) k.closed
 
 pub pushes : (n port p : ℕ) (h : PassLog) (x : Marked) → n ≤ MAX_CALLS → x.by ≡ p → x.at ≡ length h.pushed → Pushes IsKept n port (Owner p h) x (λ w. w ≡ after_push (Owner p h) x)
@@ -76,7 +76,7 @@ pushes n port p h x few by num items views room k at =
     let e : log_of k.logs p ≡ h = here.1 in
     let order = LevelOrder-push k.logs k.past (k.taken ++ items) k.order p x here.0 by (num ∙ ap (λ (g : PassLog). length g.pushed) (sym e)) in
     let order' = subst (λ (g : PassLog). LevelOrder (set k.logs p (with_pushed g x)) k.past ((k.taken ++ items) ++ x ∷ [])) e order in
-    let w : View = Owner p (with_pushed h x) in (
+    let w : QueueView = Owner p (with_pushed h x) in (
       w,
       record {
         logs = set k.logs p (with_pushed h x);
@@ -102,7 +102,7 @@ pops port p h x items views k at =
     let here = within_at k.logs p h no_log f.2 in
     let order = LevelOrder-pop k.logs k.past items p x (subst (λ t. LevelOrder k.logs k.past (t ++ x ∷ items)) none k.order) here.0 in
     let order' = subst (λ (g : PassLog). LevelOrder (set k.logs p (with_popped g x)) (k.past ++ x ∷ []) items) here.1 order in
-    let w : View = Owner p (with_popped h x) in (
+    let w : QueueView = Owner p (with_popped h x) in (
       w,
       record {
         logs = set k.logs p (with_popped h x);
@@ -122,7 +122,7 @@ pops port p h x items views k at =
     )
 
 -- what is with the keeper, and with nobody else
-taken_keep : (keeper : ℕ) (owners : List ℕ) (logs : List PassLog) (taken more : List Marked) (j : ℕ) (u : View) → j ≢ keeper → Fits keeper owners logs taken j u → Fits keeper owners logs more j u
+taken_keep : (keeper : ℕ) (owners : List ℕ) (logs : List PassLog) (taken more : List Marked) (j : ℕ) (u : QueueView) → j ≢ keeper → Fits keeper owners logs taken j u → Fits keeper owners logs more j u
 taken_keep keeper owners logs taken more j (Owner q g) ne f = f
 taken_keep keeper owners logs taken more j (Keeper made known out) ne f = absurd (ne f.0)
 taken_keep keeper owners logs taken more j Spent ne f = tt
@@ -130,7 +130,7 @@ taken_keep keeper owners logs taken more j Spent ne f = tt
 pub drains : (port made : ℕ) (known : List PassLog) (out : List Marked) → length known ≡ made → Pops IsKept port (Keeper made known out) (Drained (Keeper made known out))
 drains port made known out all x items views k at =
     let f = k.fits port (Keeper made known out) at in
-    let w : View = Keeper made known (out ++ x ∷ []) in
+    let w : QueueView = Keeper made known (out ++ x ∷ []) in
     let more = k.taken ++ x ∷ [] in
     let few : length more + length items ≤ MAX_CALLS = (let r = k.room in omega (arith, length-append k.taken (x ∷ []))) in (
       w,
@@ -152,7 +152,7 @@ drains port made known out all x items views k at =
     )
 
 -- a new number
-more_keep : (keeper : ℕ) (owners : List ℕ) (logs : List PassLog) (taken : List Marked) (port : ℕ) (j : ℕ) (u : View) → j ≢ keeper → Fits keeper owners logs taken j u → Fits keeper (owners ++ port ∷ []) (logs ++ no_log ∷ []) taken j u
+more_keep : (keeper : ℕ) (owners : List ℕ) (logs : List PassLog) (taken : List Marked) (port : ℕ) (j : ℕ) (u : QueueView) → j ≢ keeper → Fits keeper owners logs taken j u → Fits keeper (owners ++ port ∷ []) (logs ++ no_log ∷ []) taken j u
 more_keep keeper owners logs taken port j (Owner q g) ne f = (f.0, at_longer owners (port ∷ []) q j f.1, at_longer logs (no_log ∷ []) q g f.2)
 more_keep keeper owners logs taken port j (Keeper made known out) ne f = absurd (ne f.0)
 more_keep keeper owners logs taken port j Spent ne f = tt
@@ -160,8 +160,8 @@ more_keep keeper owners logs taken port j Spent ne f = tt
 pub forks : (port made : ℕ) (known : List PassLog) → Forks IsKept port (Keeper made known []) (Keeper (made + 1) known []) (Owner made no_log)
 forks port made known items views k at =
     let f = k.fits port (Keeper made known []) at in
-    let w : View = Keeper (made + 1) known [] in
-    let v : View = Owner made no_log in
+    let w : QueueView = Keeper (made + 1) known [] in
+    let v : QueueView = Owner made no_log in
     let n = length views in
     let ports : length (set views port w) ≡ n = length-set views port w in
     let owners = k.owners ++ n ∷ [] in
@@ -179,13 +179,13 @@ forks port made known items views k at =
       seats = (let s = k.seats in omega (arith, length-append k.logs (no_log ∷ []), length-append k.owners (n ∷ [])));
       there = (let t = k.there in omega (arith, length-append (set views port w) (v ∷ [])));
       fits = λ j u e. ⊎_elim (λ t. each_set F views port w mine (λ i y ne s. more_keep k.keeper k.owners k.logs k.taken n i y (λ d. ne (d ∙ sym f.0)) (k.fits i y s)) j u t)
-          (λ (t : (j ≡ length (set views port w)) × (v ≡ u)). subst (λ (y : ℕ × View). F y.0 y.1) (λ i. ((sym ports ∙ sym t.0) i, t.1 i)) last) (snoc_at (set views port w) v u j e);
+          (λ (t : (j ≡ length (set views port w)) × (v ≡ u)). subst (λ (y : ℕ × QueueView). F y.0 y.1) (λ i. ((sym ports ∙ sym t.0) i, t.1 i)) last) (snoc_at (set views port w) v u j e);
       room = k.room;
       closed = inl (sym f.2);
     }
 
 back_keep : (keeper : ℕ) (owners : List ℕ) (logs : List PassLog) (taken : List Marked) (q other : ℕ) → get_elem? owners q ≡ some other
-    → (j : ℕ) (u : View) → j ≢ keeper → j ≢ other → Fits keeper owners logs taken j u → Fits keeper (set owners q keeper) logs taken j u
+    → (j : ℕ) (u : QueueView) → j ≢ keeper → j ≢ other → Fits keeper owners logs taken j u → Fits keeper (set owners q keeper) logs taken j u
 back_keep keeper owners logs taken q other own j (Owner r g) ne away f = (f.0, set_else owners q r keeper (apart owners q r other j own f.1 away) ∙ f.1, f.2)
 back_keep keeper owners logs taken q other own j (Keeper made known out) ne away f = absurd (ne f.0)
 back_keep keeper owners logs taken q other own j Spent ne away f = tt
@@ -200,7 +200,7 @@ pub merges : (port made : ℕ) (known : List PassLog) (out : List Marked) (other
     → Merges IsKept port (Keeper made known out) other (Owner q h) (Keeper made (known ++ h ∷ []) out) Spent
 merges port made known out other q h next items views k at two at' =
     let f = k.fits port (Keeper made known out) at in
-    let w : View = Keeper made (known ++ h ∷ []) out in
+    let w : QueueView = Keeper made (known ++ h ∷ []) out in
     let was : get_elem? views other ≡ some (Owner q h) = ⊎_elim (λ t. absurd (two t.0)) (λ t. t.1) (at_set views port other w (Owner q h) at') in
     let g = k.fits other (Owner q h) was in
     let owners = set k.owners q k.keeper in
@@ -216,10 +216,10 @@ merges port made known out other q h next items views k at two at' =
           let a : (get_elem? owners q ≡ some k.keeper) × (get_elem? k.logs q ≡ some h) = (set_here k.owners q k.keeper own.0, g.2) in
           subst (λ (y : ℕ × PassLog). (get_elem? owners y.0 ≡ some k.keeper) × (get_elem? k.logs y.0 ≡ some y.1)) (λ i. (pq i, t.1 i)) a) (snoc_at known h u p e),
     ) in
-    let spent : View = Spent in
+    let spent : QueueView = Spent in
     let vs = set views port w in
-    let F' : ℕ → View → Type 0 = λ j u. j ≢ other → F j u in
-    let first : (j : ℕ) (u : View) → get_elem? vs j ≡ some u → F' j u = each_set F' views port w (λ _. mine) (λ j u ne t away. back_keep k.keeper k.owners k.logs k.taken q other g.1 j u (λ d. ne (d ∙ sym f.0)) away (k.fits j u t)) in
+    let F' : ℕ → QueueView → Type 0 = λ j u. j ≢ other → F j u in
+    let first : (j : ℕ) (u : QueueView) → get_elem? vs j ≡ some u → F' j u = each_set F' views port w (λ _. mine) (λ j u ne t away. back_keep k.keeper k.owners k.logs k.taken q other g.1 j u (λ d. ne (d ∙ sym f.0)) away (k.fits j u t)) in
     record {
       logs = k.logs;
       past = k.past;
@@ -245,7 +245,7 @@ learns_all port made known out all items views k at =
     let same : k.logs ≡ known = same_list known k.logs (all ∙ f.1) (λ p g t. (f.3 p g t).1) in
     (k.past, subst (λ (y : List PassLog × List Marked). LevelOrder y.0 k.past (y.1 ++ items)) (λ i. (same i, sym f.2 i)) k.order)
 
-alone : (h : PassLog) (j : ℕ) (u : View) → j ≢ 0 → get_elem? (Keeper 1 (h ∷ []) [] ∷ []) j ≡ some u → Fits 0 (0 ∷ []) (h ∷ []) [] j u
+alone : (h : PassLog) (j : ℕ) (u : QueueView) → j ≢ 0 → get_elem? (Keeper 1 (h ∷ []) [] ∷ []) j ≡ some u → Fits 0 (0 ∷ []) (h ∷ []) [] j u
 alone h zero u ne e = absurd (ne refl)
 alone h (suc j) u ne e = absurd (some-ne-none u (sym e))
 
@@ -270,7 +270,7 @@ begins = record {
 
 -- the first pass pushes and pops
 first_keep : (keeper : ℕ) (owners : List ℕ) (logs : List PassLog) (taken : List Marked) (h : PassLog) → get_elem? owners 0 ≡ some keeper
-    → (j : ℕ) (u : View) → j ≢ keeper → Fits keeper owners logs taken j u → Fits keeper owners (set logs 0 h) taken j u
+    → (j : ℕ) (u : QueueView) → j ≢ keeper → Fits keeper owners logs taken j u → Fits keeper owners (set logs 0 h) taken j u
 first_keep keeper owners logs taken h own j (Owner q g) ne f = (f.0, f.1, set_else logs 0 q h (apart owners 0 q keeper j own f.1 ne) ∙ f.2)
 first_keep keeper owners logs taken h own j (Keeper made known out) ne f = absurd (ne f.0)
 first_keep keeper owners logs taken h own j Spent ne f = tt
@@ -289,7 +289,7 @@ pushes_first n port made known h x few by num items views room k at =
     let e : log_of k.logs 0 ≡ h = here.1 in
     let order = LevelOrder-push k.logs k.past (k.taken ++ items) k.order 0 x here.0 by (num ∙ ap (λ (g : PassLog). length g.pushed) (sym e)) in
     let order' = subst (λ (g : PassLog). LevelOrder (set k.logs 0 (with_pushed g x)) k.past ((k.taken ++ items) ++ x ∷ [])) e order in
-    let w : View = Keeper made (with_pushed h x ∷ known) [] in (
+    let w : QueueView = Keeper made (with_pushed h x ∷ known) [] in (
       w,
       record {
         logs = set k.logs 0 (with_pushed h x);
@@ -316,7 +316,7 @@ pops_first port made known h x items views k at =
     let here = within_at k.logs 0 h no_log own.1 in
     let order = LevelOrder-pop k.logs k.past items 0 x (subst (λ t. LevelOrder k.logs k.past (t ++ x ∷ items)) none k.order) here.0 in
     let order' = subst (λ (g : PassLog). LevelOrder (set k.logs 0 (with_popped g x)) (k.past ++ x ∷ []) items) here.1 order in
-    let w : View = Keeper made (with_popped h x ∷ known) [] in (
+    let w : QueueView = Keeper made (with_popped h x ∷ known) [] in (
       w,
       record {
         logs = set k.logs 0 (with_popped h x);
@@ -346,7 +346,7 @@ pushes_by : (n port made p : ℕ) (h : PassLog) (x : Marked) → n ≤ MAX_CALLS
 pushes_by n port made zero h x few by num = (pushes_first n port made [] h x few by num, learns_first port made [] h)
 pushes_by n port made (suc p) h x few by num = (pushes n port (suc p) h x few by num, learns port (suc p) h)
 
-pub pushes_at : (n port made p : ℕ) (h : PassLog) (x : Marked) (v : View) → v ≡ view_of made p h → n ≤ MAX_CALLS → x.by ≡ p → x.at ≡ length h.pushed
+pub pushes_at : (n port made p : ℕ) (h : PassLog) (x : Marked) (v : QueueView) → v ≡ view_of made p h → n ≤ MAX_CALLS → x.by ≡ p → x.at ≡ length h.pushed
     → Pushes IsKept n port v x (λ w. w ≡ after_push v x) × Learns IsKept port v (SeesBy v)
 pushes_at n port made p h x v e few by num = subst (λ v. Pushes IsKept n port v x (λ w. w ≡ after_push v x) × Learns IsKept port v (SeesBy v)) (sym e) (pushes_by n port made p h x few by num)
 
@@ -354,35 +354,35 @@ pops_by : (port made p : ℕ) (h : PassLog) → Pops IsKept port (view_of made p
 pops_by port made zero h = (pops_first port made [] h, learns_first port made [] h)
 pops_by port made (suc p) h = (pops port (suc p) h, learns port (suc p) h)
 
-pub pops_at : (port made p : ℕ) (h : PassLog) (v : View) → v ≡ view_of made p h → Pops IsKept port v (Took v) × Learns IsKept port v (SeesBy v)
+pub pops_at : (port made p : ℕ) (h : PassLog) (v : QueueView) → v ≡ view_of made p h → Pops IsKept port v (Took v) × Learns IsKept port v (SeesBy v)
 pops_at port made p h v e = subst (λ v. Pops IsKept port v (Took v) × Learns IsKept port v (SeesBy v)) (sym e) (pops_by port made p h)
 
 -- what the first pass's view says after its steps
-pub after_push-view : (made p : ℕ) (h : PassLog) (x : Marked) (v w : View) → v ≡ view_of made p h → w ≡ after_push v x → w ≡ view_of made p (with_pushed h x)
+pub after_push-view : (made p : ℕ) (h : PassLog) (x : Marked) (v w : QueueView) → v ≡ view_of made p h → w ≡ after_push v x → w ≡ view_of made p (with_pushed h x)
 after_push-view made zero h x v w e f = f ∙ ap (λ u. after_push u x) e
 after_push-view made (suc p) h x v w e f = f ∙ ap (λ u. after_push u x) e
 
-pub after_pop-view : (made p : ℕ) (h : PassLog) (x : Marked) (v w : View) → v ≡ view_of made p h → w ≡ after_pop v x → w ≡ view_of made p (with_popped h x)
+pub after_pop-view : (made p : ℕ) (h : PassLog) (x : Marked) (v w : QueueView) → v ≡ view_of made p h → w ≡ after_pop v x → w ≡ view_of made p (with_popped h x)
 after_pop-view made zero h x v w e f = f ∙ ap (λ u. after_pop u x) e
 after_pop-view made (suc p) h x v w e f = f ∙ ap (λ u. after_pop u x) e
 
-pub held_by : (n made p : ℕ) (h : PassLog) (v : View) → v ≡ view_of made p h → Held n (SeesBy v) → Held n (Sees p h)
+pub held_by : (n made p : ℕ) (h : PassLog) (v : QueueView) → v ≡ view_of made p h → Held n (SeesBy v) → Held n (Sees p h)
 held_by n made zero h v e held = subst (λ u. Held n (SeesBy u)) e held
 held_by n made (suc p) h v e held = subst (λ u. Held n (SeesBy u)) e held
 
-pub drains_at : (port made : ℕ) (known : List PassLog) (out : List Marked) (v : View) → v ≡ Keeper made known out → length known ≡ made → Pops IsKept port v (Drained v) × Learns IsKept port v (SeesAll v)
+pub drains_at : (port made : ℕ) (known : List PassLog) (out : List Marked) (v : QueueView) → v ≡ Keeper made known out → length known ≡ made → Pops IsKept port v (Drained v) × Learns IsKept port v (SeesAll v)
 drains_at port made known out v e all = subst (λ v. Pops IsKept port v (Drained v) × Learns IsKept port v (SeesAll v)) (sym e) (drains port made known out all, learns_all port made known out all)
 
-pub forks_at : (port made : ℕ) (known : List PassLog) (v : View) → v ≡ Keeper made known [] → Forks IsKept port v (rest_of v) (next_of v)
+pub forks_at : (port made : ℕ) (known : List PassLog) (v : QueueView) → v ≡ Keeper made known [] → Forks IsKept port v (rest_of v) (next_of v)
 forks_at port made known v e = subst (λ v. Forks IsKept port v (rest_of v) (next_of v)) (sym e) (forks port made known)
 
-pub merges_at : (port made : ℕ) (known : List PassLog) (out : List Marked) (v : View) (other q : ℕ) (h : PassLog) (u : View) → v ≡ Keeper made known out → u ≡ Owner q h → q ≡ length known
+pub merges_at : (port made : ℕ) (known : List PassLog) (out : List Marked) (v : QueueView) (other q : ℕ) (h : PassLog) (u : QueueView) → v ≡ Keeper made known out → u ≡ Owner q h → q ≡ length known
     → Merges IsKept port v other u (both_of v u) Spent
 merges_at port made known out v other q h u e f next =
-    subst (λ (y : View × View). Merges IsKept port y.0 other y.1 (both_of y.0 y.1) Spent) (λ i. (sym e i, sym f i)) (merges port made known out other q h next)
+    subst (λ (y : QueueView × QueueView). Merges IsKept port y.0 other y.1 (both_of y.0 y.1) Spent) (λ i. (sym e i, sym f i)) (merges port made known out other q h next)
 
 -- what a pop of the keeper tells
-pub drained : (v w : View) (made : ℕ) (known : List PassLog) (x : Marked) → v ≡ Keeper made known (taken_in v) → Drained v x w
+pub drained : (v w : QueueView) (made : ℕ) (known : List PassLog) (x : Marked) → v ≡ Keeper made known (taken_in v) → Drained v x w
     → (w ≡ Keeper made known (taken_in w)) × (taken_in w ≡ taken_in v ++ x ∷ []) × (length (taken_in w) ≤ MAX_CALLS)
 drained (Owner p h) w made known x e d = cc
 drained (Keeper m k out) w made known x e d =
@@ -398,7 +398,7 @@ empty [] e = refl
 empty (x ∷ items) e = absurd (omega arith)
 
 -- and one that finds nothing
-pub drained_all : (v : View) (made : ℕ) (known : List PassLog) → v ≡ Keeper made known (taken_in v) → Held 0 (SeesAll v) → (past : List Marked) × LevelOrder known past (taken_in v)
+pub drained_all : (v : QueueView) (made : ℕ) (known : List PassLog) → v ≡ Keeper made known (taken_in v) → Held 0 (SeesAll v) → (past : List Marked) × LevelOrder known past (taken_in v)
 drained_all (Owner p h) made known e d = cc
 drained_all (Keeper m k out) made known e (items, none, (past, order)) =
     let b : k ≡ known = cc in
@@ -417,11 +417,11 @@ room_left start now t more x cap begun a b few room le =
     omega arith
 
 -- of the first pass, and of another
-pub first_view : (made p : ℕ) (h : PassLog) (v : View) → v ≡ view_of made p h → p ≡ 0 → v ≡ Keeper made (h ∷ []) []
+pub first_view : (made p : ℕ) (h : PassLog) (v : QueueView) → v ≡ view_of made p h → p ≡ 0 → v ≡ Keeper made (h ∷ []) []
 first_view made zero h v e z = e
 first_view made (suc p) h v e z = absurd (omega arith)
 
-pub other_view : (made p : ℕ) (h : PassLog) (v : View) → v ≡ view_of made p h → 0 < p → v ≡ Owner p h
+pub other_view : (made p : ℕ) (h : PassLog) (v : QueueView) → v ≡ view_of made p h → 0 < p → v ≡ Owner p h
 other_view made zero h v e z = absurd (omega arith)
 other_view made (suc p) h v e z = e
 
@@ -430,6 +430,6 @@ other_made zero made h lt = absurd (omega arith)
 other_made (suc p) made h lt = refl
 
 -- what a pop tells of the pass p
-pub took_by : (made p : ℕ) (h : PassLog) (x : Marked) (v w : View) → v ≡ view_of made p h → Took v x w → (w ≡ view_of made p (with_popped h x)) × ((items : List Marked) × Sees p (with_popped h x) items)
+pub took_by : (made p : ℕ) (h : PassLog) (x : Marked) (v w : QueueView) → v ≡ view_of made p h → Took v x w → (w ≡ view_of made p (with_popped h x)) × ((items : List Marked) × Sees p (with_popped h x) items)
 took_by made zero h x v w e t = let q = t.0 ∙ ap (λ u. after_pop u x) e in (q, (t.1.0, subst (λ u. SeesBy u t.1.0) q t.1.1))
 took_by made (suc p) h x v w e t = let q = t.0 ∙ ap (λ u. after_pop u x) e in (q, (t.1.0, subst (λ u. SeesBy u t.1.0) q t.1.1))

@@ -65,7 +65,7 @@ pub struct LevelReturns {
 
 impl Model for LevelReturns {
     ghost use Rattle.std.specs.Prelude.{◌≡◌, []};
-    ghost use Rattle.call_queues.specs.declared.marks.View.TheVariants.{Keeper};
+    ghost use Rattle.call_queues.specs.declared.marks.QueueView.TheVariants.{Keeper};
     ghost use Rattle.call_queues.specs.Levels.{LevelReturnsSeen, back_in, made_in};
 
     ghost Value = { LevelReturnsSeen };

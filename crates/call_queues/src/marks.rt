@@ -24,7 +24,7 @@ pub struct PassLog {
 }
 
 /// What a pass knows of its level. No value of it is made.
-pub enum View {
+pub enum QueueView {
     /// The pass of this number, and what it pushed and popped.
     Owner(usize, PassLog),
     /// The first pass, which the others go out from and come back to: how many numbers were given

@@ -1,14 +1,14 @@
 // The rule of a level, and what each step of a pass does to what the pass knows.
-use crate::marks::{Marked, View};
+use crate::marks::{Marked, QueueView};
 use crossbeam_queue::protocol::{Join, Lesson, Outcome, Protocol, Split};
 use crossbeam_queue::{Pass, RuledArrayQueue};
 
 /// The protocol of a level: its calls stand in one order.
 pub struct Ordered;
 
-impl Protocol<Marked, View> for Ordered {
+impl Protocol<Marked, QueueView> for Ordered {
     ghost use Rattle.std.specs.Prelude.{[], ◌∷◌};
-    ghost use Rattle.call_queues.specs.declared.marks.View.TheVariants.{Keeper};
+    ghost use Rattle.call_queues.specs.declared.marks.QueueView.TheVariants.{Keeper};
     ghost use Rattle.call_queues.specs.Order.{no_log};
     ghost use Rattle.call_queues.specs.Rule.{IsKept};
 
@@ -20,14 +20,14 @@ impl Protocol<Marked, View> for Ordered {
 /// A push: the pass has pushed the call, or has seen that the level was full.
 pub struct Puts;
 
-impl Outcome<Marked, View> for Puts {
+impl Outcome<Marked, QueueView> for Puts {
     ghost use Rattle.std.specs.Prelude.{◌≡◌};
     ghost use Rattle.call_queues.specs.Rule.{after_push};
 
     ghost then = { λ v x w. w ≡ after_push v x };
 }
 
-impl Lesson<Marked, View> for Puts {
+impl Lesson<Marked, QueueView> for Puts {
     ghost use Rattle.call_queues.specs.Rule.{SeesBy};
 
     ghost fact = { λ v items. SeesBy v items };
@@ -36,13 +36,13 @@ impl Lesson<Marked, View> for Puts {
 /// A pop: the pass has popped the call, or has seen that the level was empty.
 pub struct Takes;
 
-impl Outcome<Marked, View> for Takes {
+impl Outcome<Marked, QueueView> for Takes {
     ghost use Rattle.call_queues.specs.Rule.{Took};
 
     ghost then = { λ v x w. Took v x w };
 }
 
-impl Lesson<Marked, View> for Takes {
+impl Lesson<Marked, QueueView> for Takes {
     ghost use Rattle.call_queues.specs.Rule.{SeesBy};
 
     ghost fact = { λ v items. SeesBy v items };
@@ -51,13 +51,13 @@ impl Lesson<Marked, View> for Takes {
 /// A pop by the keeper, when all passes have come back: the call is drained.
 pub struct Drains;
 
-impl Outcome<Marked, View> for Drains {
+impl Outcome<Marked, QueueView> for Drains {
     ghost use Rattle.call_queues.specs.Rule.{Drained};
 
     ghost then = { λ v x w. Drained v x w };
 }
 
-impl Lesson<Marked, View> for Drains {
+impl Lesson<Marked, QueueView> for Drains {
     ghost use Rattle.call_queues.specs.Rule.{SeesAll};
 
     ghost fact = { λ v items. SeesAll v items };
@@ -66,7 +66,7 @@ impl Lesson<Marked, View> for Drains {
 /// The keeper gives the next number to a new pass, and takes a pass back by its number.
 pub struct Numbering;
 
-impl Split<View> for Numbering {
+impl Split<QueueView> for Numbering {
     ghost use Rattle.call_queues.specs.Rule.{rest_of, next_of};
 
     ghost left = { λ v. rest_of v };
@@ -74,8 +74,8 @@ impl Split<View> for Numbering {
     ghost right = { λ v. next_of v };
 }
 
-impl Join<View> for Numbering {
-    ghost use Rattle.call_queues.specs.declared.marks.View.TheVariants.{Spent};
+impl Join<QueueView> for Numbering {
+    ghost use Rattle.call_queues.specs.declared.marks.QueueView.TheVariants.{Spent};
     ghost use Rattle.call_queues.specs.Rule.{both_of};
 
     ghost both = { λ v w. both_of v w };
@@ -84,7 +84,7 @@ impl Join<View> for Numbering {
 }
 
 /// The queue of a level.
-pub type Queue = RuledArrayQueue<Marked, View, Ordered>;
+pub type Queue = RuledArrayQueue<Marked, QueueView, Ordered>;
 
 /// A pass of that queue.
-pub type Seat = Pass<Marked, View>;
+pub type Seat = Pass<Marked, QueueView>;

@@ -7,7 +7,7 @@ use market_config::Call;
 use std::alloc::Global;
 use std::sync::Wait;
 use tenant_lock::TenantDoor;
-use tenant_record::{Advanced, Arrived, Asked, Pass, Seat};
+use tenant_record::{Advanced, Arrived, AskOutcome, Pass, Seat};
 
 /// The call of the slot for workers.
 const CALL: Call = Call { tenant: 0, slot: 1 };
@@ -47,7 +47,7 @@ fn execute<R: Wait>(
 ) -> Option<Status> {
     let seat = seats.first_mut()?;
     let asked = ask_job(rt, door, seat, || Some(Request::Execute(fibonacci(alloc)?)))?;
-    let Asked {
+    let AskOutcome {
         reply,
         due: _due,
         pass,
@@ -67,7 +67,12 @@ fn new_door(alloc: Global) -> Option<(TenantDoor, Vec<Seat>)> {
 }
 
 /// Asks by a seat.
-fn ask<R: Wait>(rt: &R, door: &TenantDoor, seat: &mut Seat, request: Request) -> Option<Asked> {
+fn ask<R: Wait>(
+    rt: &R,
+    door: &TenantDoor,
+    seat: &mut Seat,
+    request: Request,
+) -> Option<AskOutcome> {
     if seat.tenant() != door.tenant() {
         return None;
     }
@@ -75,8 +80,8 @@ fn ask<R: Wait>(rt: &R, door: &TenantDoor, seat: &mut Seat, request: Request) ->
 }
 
 /// The reply of an ask. A pass that came with it goes home.
-fn reply_of<R: Wait>(rt: &R, door: &TenantDoor, asked: Asked) -> Reply {
-    let Asked {
+fn reply_of<R: Wait>(rt: &R, door: &TenantDoor, asked: AskOutcome) -> Reply {
+    let AskOutcome {
         reply,
         due: _due,
         pass,
@@ -93,7 +98,7 @@ fn ask_job<R: Wait, F: Fn() -> Option<Request>>(
     door: &TenantDoor,
     seat: &mut Seat,
     request: F,
-) -> Option<Asked>
+) -> Option<AskOutcome>
     requires { F.IsAlwaysCallable request }
 {
     let asked = ask(rt, door, seat, request()?)?;

@@ -11,7 +11,7 @@ use std::marker::Model;
 use std::mem;
 use std::sync::Wait;
 use tenant_lock::{StopFlag, TenantDoor, Turned};
-use tenant_record::{Advanced, Arrived, Asked, Pass, Seat};
+use tenant_record::{Advanced, Arrived, AskOutcome, Pass, Seat};
 use worker_main::{CallDoors, DueDoor};
 
 /// A private run of fewer instructions is short: to run it away from the lock and to compare its frame and program under
@@ -78,7 +78,7 @@ impl<'d, R: Wait> TenantSlots<'d, R> {
         self.give_home();
         let tenant = seat.tenant();
         let doors = self.doors;
-        let Asked { reply, due, pass } = doors[tenant].ask(self.rt, seat, request);
+        let AskOutcome { reply, due, pass } = doors[tenant].ask(self.rt, seat, request);
         self.hold(pass);
         (reply, call_of(tenant, due))
     }

@@ -14,7 +14,7 @@ use Rattle.tenant_record.specs.Cell.{CellData, IsCommitted, IsRight, AnswersAsk,
 use Rattle.tenant_record.specs.Locked.{IsArrived, IsAsked, IsHandedOver, IsMoved}
 use Rattle.tenant_record.specs.PassData.{PassData}
 use Rattle.tenant_record.specs.SeatData.{SeatData}
-use Rattle.tenant_record.specs.declared.cells.Asked.{Asked}
+use Rattle.tenant_record.specs.declared.cells.AskOutcome.{AskOutcome}
 use Rattle.tenant_record.specs.declared.slots.Advanced.{Advanced}
 use Rattle.tenant_record.specs.declared.slots.Arrived.{Arrived}
 use Rattle.tenant_lock.specs.declared.counts.Counts.{Counts}
@@ -23,7 +23,7 @@ use Rattle.tenant_lock.specs.declared.held.Turned.{Turned}
 use Rattle.tenant_lock.specs.Looks.{IsCountAfter, IsLookAfter}
 
 -- An ask of a seat of the tenant of that number is one of that tenant's cell. The cell of another tenant is not asked.
-pub record IsAskOf (tenant : ℕ) (s : SeatData) (r : Request) (a : Asked) (t : SeatData) (c d : CellData) : Type 0 where
+pub record IsAskOf (tenant : ℕ) (s : SeatData) (r : Request) (a : AskOutcome) (t : SeatData) (c d : CellData) : Type 0 where
   pub answer : c.tenant ≡ tenant → AnswersAsk c s r a.reply d
   pub asked : c.tenant ≡ tenant → IsAsked c s r a.reply a.due a.pass d t
   pub elsewhere : c.tenant ≢ tenant → (a ≡ record { reply = Refused NoTenant; due = None; pass = None }) × (d ≡ c)

@@ -29,7 +29,7 @@ use std::marker::Model;
 use std::sync::atomic::{AtomicU64, Ordering};
 use std::sync::{Condvar, Mutex, MutexGuard, Wait};
 use std::thread::yield_now;
-use tenant_record::{Advanced, Arrived, Asked, Pass, Seat, TenantCell, first_seats};
+use tenant_record::{Advanced, Arrived, AskOutcome, Pass, Seat, TenantCell, first_seats};
 
 /// How often a thread looks whether the lock is free, and lets others run, before it sleeps for it.
 const LOOKS: u32 = 64;
@@ -115,7 +115,7 @@ impl TenantDoor {
 
     /// Answers an ask of a seat. With a job that is placed on a slot goes the slot's pass, and with no
     /// other reply a pass. A collect alone can be pending.
-    pub fn ask<R: Wait>(&self, rt: &R, seat: &mut Seat, request: Request) -> Asked
+    pub fn ask<R: Wait>(&self, rt: &R, seat: &mut Seat, request: Request) -> AskOutcome
         requires { seat.old.tenant ≡ self.now.tenant }
         ensures seat { seat.new ≡ asked seat.old request result.reply }
         ensures memory { result.reply ≡ Reply.Refused NoMemory → IsSome (job_of request) }

@@ -28,7 +28,7 @@ use job_step::{Segment, View};
 use market_config::Call;
 use std::marker::Model;
 use tenant_model::MAX_JOBS;
-use tenant_record::{Advanced, Arrived, Asked, Pass, Seat, TenantCell};
+use tenant_record::{Advanced, Arrived, AskOutcome, Pass, Seat, TenantCell};
 
 /// A tenant's cell, whether those who wait for it must stop, at which slots they wait, and for which jobs.
 /// By its type, whoever is noted as asleep at a slot has nothing to do there: each call that changes that
@@ -77,7 +77,12 @@ impl Held {
 
     /// Answers an ask of a seat of the tenant of that number.
     #[tactic(auto, using(crate::proofs::Asking::memory_of))]
-    pub(crate) fn ask(&mut self, tenant: usize, seat: &mut Seat, request: Request) -> Done<Asked>
+    pub(crate) fn ask(
+        &mut self,
+        tenant: usize,
+        seat: &mut Seat,
+        request: Request,
+    ) -> Done<AskOutcome>
         ensures seat { seat.new ≡ asked seat.old request result.answer.reply }
         ensures memory { result.answer.reply ≡ Reply.Refused NoMemory → IsSome (job_of request) }
         ensures placed { GoesWith tenant (placed_on result.answer.reply) result.answer.pass }
@@ -92,7 +97,7 @@ impl Held {
         // Proof hint: the cell is right.
         let _ = self.cell.history();
         if self.cell.tenant() != tenant {
-            return Done::nothing(Asked {
+            return Done::nothing(AskOutcome {
                 reply: Reply::Refused(Error::NoTenant),
                 due: None,
                 pass: None,

@@ -41,7 +41,7 @@ impl<T> Done<T> {
             AreNamed cell.now is_over waiting.old.noted result.news.slots waiting.new.noted }
         ensures jobs { let is_over = has_to_stop is_stopped cell.now in
             AreWaitersTold cell.now is_over has_entered
-                awaited.old result.news.has_outcome awaited.new }
+            awaited.old result.news.has_outcome awaited.new }
     {
         // Proof hint: the cell is right.
         let _ = cell.history();

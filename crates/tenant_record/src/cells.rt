@@ -62,7 +62,7 @@ impl Model for TenantCell {
 }
 
 /// What an ask came to.
-pub struct Asked {
+pub struct AskOutcome {
     pub reply: Reply,
     /// The slot that a worker is called to.
     pub due: Option<u8>,
@@ -222,7 +222,7 @@ impl TenantCell {
 
     /// Answers an ask of a seat. The arena, the history and the seat keep one copy of the request each;
     /// if one is refused, that is error 9, and nothing has changed.
-    pub fn ask(&mut self, seat: &mut Seat, request: Request) -> Asked
+    pub fn ask(&mut self, seat: &mut Seat, request: Request) -> AskOutcome
         ensures answer { AnswersAsk self.old seat.old request result.reply self.new }
         // A collect alone can be pending.
         ensures pending { result.reply ≡ Reply.Pending → IsCollect request }
@@ -232,7 +232,7 @@ impl TenantCell {
             result.due result.pass self.new seat.new }
     {
         let (Ok(copy), Ok(kept)) = (request.try_clone(), request.try_clone()) else {
-            return Asked {
+            return AskOutcome {
                 reply: Reply::Refused(Error::NoMemory),
                 due: None,
                 pass: None,
@@ -242,7 +242,7 @@ impl TenantCell {
         seat.tell(kept, &reply);
         note_asker(&mut self.askers, seat.number(), &reply);
         let (due, pass) = self.slots.asked(&self.replay, &reply);
-        Asked { reply, due, pass }
+        AskOutcome { reply, due, pass }
     }
 
     /// Lets a worker arrive at a slot. Nothing happens if the slot's pass is out.

@@ -12,7 +12,7 @@ mod replay;
 mod seats;
 mod slots;
 
-pub use cells::{Asked, TenantCell};
+pub use cells::{AskOutcome, TenantCell};
 pub use closing::{SlotFault, are_all_told, are_seats, first_slot_fault, is_one_full, slot_fault};
 pub use passes::Pass;
 pub use replay::Replay;

@@ -229,8 +229,8 @@ impl Replay {
 /// Answers an ask, or refuses it as at a full history.
 fn ask_within(arena: &mut Arena, request: Request, has_room: bool) -> Reply
     ensures { (s : State) → StandsFor arena.old s
-            → (result ≡ (ask_within has_room s request).0)
-            × StandsFor arena.new (ask_within has_room s request).1 }
+        → (result ≡ (ask_within has_room s request).0)
+        × StandsFor arena.new (ask_within has_room s request).1 }
 {
     if !has_room && !is_hello(&request) {
         return Reply::Refused(Error::HistoryFull);

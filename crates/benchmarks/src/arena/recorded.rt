@@ -4,7 +4,7 @@ use crate::stops::Stop;
 use crate::tenants::{job_of, value_of};
 use job_language::{Job, MAX_ROWS, MAX_STEPS, Moved, Reply, Request};
 use std::alloc::Global;
-use tenant_record::{Advanced, Asked, Pass, Seat, TenantCell, first_seats};
+use tenant_record::{Advanced, AskOutcome, Pass, Seat, TenantCell, first_seats};
 
 /// Runs a job `jobs` times, each on a cell of its own.
 pub(crate) fn run_recorded(alloc: Global, text: &str, jobs: usize) -> Result<Ran, Stop> {
@@ -28,7 +28,7 @@ fn run_alone(alloc: Global, job: &Job) -> Result<Ran, Stop> {
 
 /// Executes a job, runs it and collects its value.
 fn run(cell: &mut TenantCell, seat: &mut Seat, job: Job) -> Result<Ran, Stop> {
-    let Asked {
+    let AskOutcome {
         reply,
         due: _due,
         pass,
@@ -44,7 +44,7 @@ fn run(cell: &mut TenantCell, seat: &mut Seat, job: Job) -> Result<Ran, Stop> {
 
 /// The reply to a collection of a job.
 fn collect(cell: &mut TenantCell, seat: &mut Seat, job: u64) -> Reply {
-    let Asked {
+    let AskOutcome {
         reply,
         due: _due,
         pass,

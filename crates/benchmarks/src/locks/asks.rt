@@ -4,7 +4,7 @@ ghost use Rattle.std.specs.Prelude.{◌≡◌};
 use job_language::{Reply, Request};
 use std::sync::Wait;
 use tenant_lock::TenantDoor;
-use tenant_record::{Asked, Seat};
+use tenant_record::{AskOutcome, Seat};
 
 /// The reply to an ask of a seat. A pass that comes with it goes home.
 pub(crate) fn reply_to<R: Wait>(
@@ -16,7 +16,7 @@ pub(crate) fn reply_to<R: Wait>(
     requires { seat.old.tenant ≡ door.now.tenant }
     ensures { seat.new.tenant ≡ door.now.tenant }
 {
-    let Asked {
+    let AskOutcome {
         reply,
         due: _due,
         pass,

@@ -15,7 +15,7 @@ use std::test::Fail;
 use std::thread;
 use std::thread::Threads;
 use tenant_lock::{CloseFault, Closed, StopFlag, TenantDoor};
-use tenant_record::{Advanced, Arrived, Asked, Pass, Seat};
+use tenant_record::{Advanced, Arrived, AskOutcome, Pass, Seat};
 
 /// The call of the only slot for workers.
 pub(super) const CALL: Call = Call { tenant: 0, slot: 1 };
@@ -69,7 +69,7 @@ pub(super) fn ask<R: Wait>(
     if seat.tenant() != door.tenant() {
         return None;
     }
-    let Asked { reply, due, pass } = door.ask(rt, seat, request);
+    let AskOutcome { reply, due, pass } = door.ask(rt, seat, request);
     give_home(rt, door, pass);
     Some((reply, due))
 }

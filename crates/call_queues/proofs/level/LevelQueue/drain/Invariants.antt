@@ -1,7 +1,7 @@
 use Rattle.std.proofs.Common.{[], ◌≡◌, ◌≤◌, ◌++◌, length, map, vec_capacity}
 use Rattle.crossbeam_queue.specs.Passes.{view}
 use Rattle.call_queues.specs.declared.marks.Marked.{Marked}
-use Rattle.call_queues.specs.declared.marks.View.TheVariants.{Keeper}
+use Rattle.call_queues.specs.declared.marks.QueueView.TheVariants.{Keeper}
 use Rattle.call_queues.specs.declared.marks.TheConstants.{MAX_CALLS}
 use Rattle.call_queues.specs.Levels.{taken_in}
 use Rattle.call_queues.proofs.level.LevelQueue.drain.Given as goal
