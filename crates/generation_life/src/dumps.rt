@@ -1,6 +1,6 @@
 // Which dumps of a tenant stay.
-ghost use Rattle.std.specs.Prelude.{◌≡◌, ◌≤◌, ◌∷◌, ◌++◌, [], length, EachIndex, IfOk, IfSome, OnErr, OnOk, None, Ok, Contains, slice_index};
-ghost use Rattle.generation_life.specs.Dumps.{newer, without, AreNewest, IsTooOld};
+ghost use Rattle.std.specs.Prelude.{◌≡◌, ◌∷◌, ◌++◌, [], length, IfOk, IfSome, OnErr, OnOk, None, Ok, Contains};
+ghost use Rattle.generation_life.specs.Dumps.{newer, without, AreNewest, IsOldest, IsTooOld};
 
 use std::alloc::{AllocError, Global};
 use std::marker::Model;
@@ -36,7 +36,9 @@ impl Shelf {
         ensures all { result ≡ Ok None → self.new ≡ self.old ++ (number ∷ []) }
         ensures was_there { IfOk result (λ gone. IfSome gone (λ o. Contains (self.old ++ (number ∷ [])) o)) }
         ensures gone { IfOk result (λ gone. IfSome gone (λ o. IsTooOld keep (self.old ++ (number ∷ [])) o × (self.new ≡ without o (self.old ++ (number ∷ []))))) }
+        ensures oldest { IfOk result (λ gone. IfSome gone (λ o. IsOldest (self.old ++ (number ∷ [])) o)) }
         ensures newest { OnOk result (AreNewest keep self.old → AreNewest keep self.new) }
+        ensures stay { result ≡ Ok None → AreNewest keep self.new }
         ensures refused { OnErr result (self.new ≡ self.old) }
     {
         self.add(number)?;
@@ -55,6 +57,7 @@ impl Shelf {
     /// Takes the oldest dump away, if at least `keep` newer ones are there. None if all of them are to stay.
     fn take_too_old(&mut self, keep: u64) -> Option<u64>
         ensures was_there { IfSome result (λ n. Contains self.old n) }
+        ensures oldest { IfSome result (λ n. IsOldest self.old n) }
         ensures too_old { IfSome result (λ n. IsTooOld keep self.old n) }
         ensures taken { IfSome result (λ n. self.new ≡ without n self.old) }
         ensures newest { result ≡ None → AreNewest keep self.old }
@@ -73,6 +76,7 @@ impl Shelf {
 /// The oldest of the numbers, if at least `keep` newer ones are among them. None if all of them are to stay.
 fn too_old(numbers: &[u64], keep: u64) -> Option<u64>
     ensures was_there { IfSome result (λ n. Contains numbers.now n) }
+    ensures oldest { IfSome result (λ n. IsOldest numbers.now n) }
     ensures too_old { IfSome result (λ n. IsTooOld keep numbers.now n) }
     ensures newest { result ≡ None → AreNewest keep numbers.now }
 {
@@ -87,7 +91,7 @@ fn too_old(numbers: &[u64], keep: u64) -> Option<u64>
 /// The oldest of the numbers. None if there are none.
 fn oldest_of(numbers: &[u64]) -> Option<u64>
     ensures found { IfSome result (λ n. Contains numbers.now n) }
-    ensures least { IfSome result (λ n. EachIndex numbers.now (λ k. n ≤ slice_index numbers.now k)) }
+    ensures oldest { IfSome result (λ n. IsOldest numbers.now n) }
     ensures none { result ≡ None → length numbers.now ≡ 0 }
 {
     numbers.iter().copied().min()
