@@ -34,19 +34,21 @@ still_asked (Some File) = None
 still_asked (Some Stop) = Some Stop
 
 -- A step, and the agenda before and after it. A generation is opened only if none is being opened, the host goes on, and
--- fewer are there than may be; that it has to wait for that is said once; a failure is reported once; the host ends once it
--- stops and all generations are closed; and it waits only if there is nothing else to do.
+-- fewer are there than may be; that it has to wait for that is said once; a failure is reported once, and before anything
+-- else is done; the host ends once it stops, all generations are closed and none is being opened; and it waits only if there
+-- is nothing else to do.
 abbrev pub Takes : State → Step → State → Type 0
 Takes old Wait new = HasNothingToDo old × (new ≡ old)
 Takes old (Open left) new =
     (old.is_opening ≡ false) × (old.is_stopping ≡ false) × (old.failed ≡ None) × Leaves old.generations.serving old.wish left
     × (alive old.generations < MOST_ALIVE) × (new ≡ record old { is_opening = true; is_held = false })
 Takes old (Hold left) new =
-    (old.is_opening ≡ false) × (old.is_stopping ≡ false) × (old.is_held ≡ false) × Leaves old.generations.serving old.wish left
+    (old.is_opening ≡ false) × (old.is_stopping ≡ false) × (old.failed ≡ None) × (old.is_held ≡ false) × Leaves old.generations.serving old.wish left
     × (MOST_ALIVE ≤ alive old.generations) × (new ≡ record old { is_held = true })
 Takes old (Failed end) new =
     (old.is_opening ≡ false) × (old.failed ≡ Some end) × (new ≡ record old { failed = None; wish = still_asked old.wish })
-Takes old End new = (old.is_stopping ≡ true) × (is_over old.generations ≡ true) × (new ≡ old)
+Takes old End new =
+    (old.is_opening ≡ false) × (old.failed ≡ None) × (old.is_stopping ≡ true) × (is_over old.generations ≡ true) × (new ≡ old)
 
 -- None is to be opened, the host stops, or no number is left.
 abbrev pub OpensNone : State → Type 0
