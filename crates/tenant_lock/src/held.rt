@@ -1,5 +1,5 @@
 // What a tenant's lock keeps, and the calls to which it is lent.
-ghost use Rattle.std.specs.Prelude.{◌≡◌, ◌≢◌, ◌<◌, ◌≤◌, true, false, IfSome, IsSome, None, replicate};
+ghost use Rattle.std.specs.Prelude.{◌≡◌, ◌≢◌, ◌<◌, ◌≤◌, true, false, IfSome, IsSome, None, count_by, replicate};
 ghost use Rattle.job_language.specs.Brought.{job_of};
 ghost use Rattle.job_language.specs.Recorded.{is_entry, is_recorded_reply};
 ghost use Rattle.job_language.specs.declared.answers.Moved.{Moved};
@@ -289,7 +289,8 @@ impl Held {
         ensures home { has_slot_of self.old.cell pass ≡ true
             → self.new.cell ≡ given_home self.old.cell pass }
         ensures kept { has_slot_of self.old.cell pass ≡ false → self.new ≡ self.old }
-        ensures stopped { self.new.is_stopped ≡ self.old.is_stopped }
+        // Whoever is noted as asleep stays noted.
+        ensures rest { self.new ≡ record self.old { cell = self.new.cell } }
     {
         if self.cell.has_slot_of(&pass) {
             self.cell.give_home(pass);
@@ -303,7 +304,8 @@ impl Held {
         ensures cell { IsHandOverOf pass result self.old.cell self.new.cell }
         ensures right { IsRight self.old.cell × IsRight self.new.cell }
         ensures kept { has_slot_of self.old.cell pass ≡ false → self.new ≡ self.old }
-        ensures stopped { self.new.is_stopped ≡ self.old.is_stopped }
+        // Whoever is noted as asleep stays noted.
+        ensures rest { self.new ≡ record self.old { cell = self.new.cell } }
     {
         // Proof hint: the cell is right.
         let _ = self.cell.history();
@@ -426,7 +428,9 @@ impl Held {
     }
 
     /// How many sleep at the slots, and how often they were woken.
-    pub(crate) fn waits(&self) -> Waits {
+    pub(crate) fn waits(&self) -> Waits
+        ensures { result.asleep ≡ count_by (λ b. b) self.now.noted }
+    {
         self.waiting.waits()
     }
 

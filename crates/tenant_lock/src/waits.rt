@@ -1,5 +1,5 @@
 // Who waits at which slots.
-ghost use Rattle.std.specs.Prelude.{ℕ, ◌≡◌, ◌<◌, false, true, replicate, slice_set};
+ghost use Rattle.std.specs.Prelude.{ℕ, ◌≡◌, ◌<◌, false, true, count_by, replicate, slice_set};
 ghost use Rattle.job_language.specs.declared.tenants.TheConstants.{MAX_SLOTS};
 ghost use Rattle.tenant_lock.specs.Sleepers.{AreNamed, AreTold, CanMove, IsIdle, is_in, marks};
 
@@ -38,7 +38,9 @@ impl Slots {
     }
 
     /// How many there are.
-    fn len(self) -> usize {
+    fn len(self) -> usize
+        ensures { result ≡ count_by (λ b. b) self.is_in }
+    {
         self.is_in.iter().filter(|is_in| **is_in).count()
     }
 
@@ -146,7 +148,9 @@ impl Waiting {
     }
 
     /// How many sleep, and how often they were woken.
-    pub(crate) fn waits(&self) -> Waits {
+    pub(crate) fn waits(&self) -> Waits
+        ensures { result.asleep ≡ count_by (λ b. b) (marks self.now.noted) }
+    {
         Waits {
             asleep: self.noted.map_or(0, |noted| noted.len()),
             wakes: self.wakes,
