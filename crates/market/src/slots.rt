@@ -13,11 +13,11 @@ use world_model::SlotState;
 
 /// Where the slots of a tenant are, numbered from 0: those for masters first.
 #[derive(Drop)]
-pub struct TenantSlots {
+pub struct SlotStates {
     states: Vec<SlotState>,
 }
 
-impl Model for TenantSlots {
+impl Model for SlotStates {
     ghost use Rattle.std.specs.Prelude.{List, length, ◌≤◌};
     ghost use Rattle.job_language.specs.declared.tenants.TheConstants.{MAX_SLOTS};
     ghost use Rattle.world_model.specs.declared.calls.SlotState.{SlotState};
@@ -35,17 +35,17 @@ fn is_home(state: SlotState) -> bool
     matches!(state, SlotState::Home)
 }
 
-impl TenantSlots {
+impl SlotStates {
     /// The slots of a tenant for which nothing was done yet.
     #[tactic(auto, using(crate::proofs::Homes::first_row))]
-    pub fn new(alloc: Global, tenant: MarketTenant) -> Result<TenantSlots, AllocError>
+    pub fn new(alloc: Global, tenant: MarketTenant) -> Result<SlotStates, AllocError>
         requires { (tenant.slots ≤ MAX_SLOTS) × (tenant.reserved ≤ tenant.slots) }
         ensures { IfOk result (λ s. s ≡ first_slots tenant) }
     {
         let mut states = Vec::with_capacity(alloc, usize::from(tenant.slots))?;
         states.resize(usize::from(tenant.reserved), SlotState::Reserved)?;
         states.resize(usize::from(tenant.slots), SlotState::Home)?;
-        Ok(TenantSlots { states })
+        Ok(SlotStates { states })
     }
 
     /// Where a slot is; one that the tenant does not have is for nobody.

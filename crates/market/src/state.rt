@@ -3,7 +3,7 @@ ghost use Rattle.std.specs.Prelude.{◌≡◌, true, length, IfOk};
 ghost use Rattle.world_model.specs.Market.{slot_at, worker_at, is_due, is_free, home_slot, wake, push, pop, came, left};
 ghost use Rattle.market.specs.First.{first_market};
 
-use crate::slots::TenantSlots;
+use crate::slots::SlotStates;
 use crate::waiting::WaitingCalls;
 use job_language::Level;
 use market_config::{Call, MarketConfig};
@@ -15,7 +15,7 @@ use world_model::{SlotState, WorkerState};
 /// numbered from 0.
 pub struct MarketState {
     levels: Vec<Level>,
-    slots: Vec<TenantSlots>,
+    slots: Vec<SlotStates>,
     waiting: WaitingCalls,
     workers: Vec<WorkerState>,
 }
@@ -57,7 +57,7 @@ impl MarketState {
         let mut slots = Vec::with_capacity(alloc, tenants.len())?;
         for tenant in tenants {
             levels.push(tenant.level)?;
-            slots.push(TenantSlots::new(alloc, *tenant)?)?;
+            slots.push(SlotStates::new(alloc, *tenant)?)?;
         }
         Ok(MarketState {
             levels,
