@@ -31,20 +31,25 @@ pub trait TenantArena: Drop {
     /// Answers an ask. It fails only if it brings a job and an allocation failed, and then nothing
     /// has changed.
     fn ask(&mut self, alloc: Global, request: Request) -> Result<Reply, AllocError>
-        ensures answer { (s : State) → stands_for self.old s → IfOk result (λ reply. reply ≡ (ask s request).0) }
-        ensures next { (s : State) → stands_for self.old s → IfOk result (λ _. stands_for self.new (ask s request).1) }
-        ensures refused { (s : State) → stands_for self.old s → OnErr result (stands_for self.new s) }
+        ensures answer { (s : State) → stands_for self.old s
+            → IfOk result (λ reply. reply ≡ (ask s request).0) }
+        ensures next { (s : State) → stands_for self.old s
+            → IfOk result (λ _. stands_for self.new (ask s request).1) }
+        ensures refused { (s : State) → stands_for self.old s
+            → OnErr result (stands_for self.new s) }
         ensures brings { OnErr result (IsSome (job_of request)) };
 
     /// Lets a worker arrive at a slot.
     fn arrive(&mut self, slot: u8) -> Came
         ensures answer { (s : State) → stands_for self.old s → result ≡ (arrive s slot).0 }
-        ensures next { (s : State) → stands_for self.old s → stands_for self.new (arrive s slot).1 };
+        ensures next { (s : State) → stands_for self.old s
+            → stands_for self.new (arrive s slot).1 };
 
     /// Advances a slot.
     fn advance(&mut self, slot: u8) -> Moved
         ensures answer { (s : State) → stands_for self.old s → result ≡ (advance s slot).0 }
-        ensures next { (s : State) → stands_for self.old s → stands_for self.new (advance s slot).1 };
+        ensures next { (s : State) → stands_for self.old s
+            → stands_for self.new (advance s slot).1 };
 }
 
 impl TenantArena for Arena {

@@ -19,7 +19,8 @@ pub(crate) fn is_blank(text: &[u8]) -> bool
 /// The request of a line, with its job read. Errors 1 to 4 say why there is none, and error 9 that
 /// an allocation failed: only a text of at most 65,536 bytes takes memory.
 pub(crate) fn request_of(alloc: Global, text: &[u8]) -> Result<Request, Error>
-    ensures { ExactOrNoMemory (λ request. request) (IsShortText text.now) result (request_of text.now) }
+    ensures { ExactOrNoMemory (λ request. request) (IsShortText text.now) result
+        (request_of text.now) }
 {
     let asked = read_request(alloc, text)?;
     ready(alloc, asked)

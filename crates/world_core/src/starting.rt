@@ -15,7 +15,9 @@ pub(crate) fn first_arenas<A: TenantArena>(
     config: &Config,
 ) -> Result<Vec<A>, AllocError>
     ensures long { IfOk result (λ arenas. length arenas.items ≡ length config.now.tenants) }
-    ensures each { IfOk result (λ arenas. (t : ℕ) (d : A) → t < length arenas.items → A.stands_for (slice_index_or arenas.items t d) (empty (slice_index_or config.now.tenants t no_tenant))) }
+    ensures each { IfOk result (λ arenas. (t : ℕ) (d : A) → t < length arenas.items
+        → A.stands_for (slice_index_or arenas.items t d)
+        (empty (slice_index_or config.now.tenants t no_tenant))) }
 {
     let tenants = config.tenants();
     let mut arenas = Vec::with_capacity(alloc, tenants.len())?;

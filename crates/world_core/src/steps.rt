@@ -16,7 +16,8 @@ use std::alloc::{AllocError, Global};
 
 /// After an entry, a slot of the tenant wakes if a row of it is unstarted.
 fn wake_after<A: TenantArena>(market: &mut MarketState, arena: &A, tenant: usize, answer: &Answer)
-    ensures woken { (s : State) → A.stands_for arena.now s → market.new ≡ wake_after market.old tenant answer.now s }
+    ensures woken { (s : State) → A.stands_for arena.now s
+        → market.new ≡ wake_after market.old tenant answer.now s }
     ensures keeps { KeepsOrder market.old market.new }
 {
     if answer.is_entry() && arena.has_unstarted() {
@@ -33,8 +34,11 @@ pub(crate) fn ask<A: TenantArena>(
     tenant: usize,
     request: Request,
 ) -> Result<Answer, AllocError>
-    ensures taken { (s : State) (text : List ℕ) → A.stands_for arena.old s → IfOk result (λ answer. IsTaken A.stands_for s (raw.line tenant text) tenant (step.Ask request) market.old answer arena.new market.new) }
-    ensures refused { (s : State) → A.stands_for arena.old s → OnErr result (A.stands_for arena.new s) }
+    ensures taken { (s : State) (text : List ℕ) → A.stands_for arena.old s
+        → IfOk result (λ answer. IsTaken A.stands_for s (raw.line tenant text) tenant
+        (step.Ask request) market.old answer arena.new market.new) }
+    ensures refused { (s : State) → A.stands_for arena.old s
+        → OnErr result (A.stands_for arena.new s) }
     ensures brings { OnErr result (IsSome (job_of request)) }
     ensures unchanged { OnErr result (market.new ≡ market.old) }
     ensures keeps { KeepsOrder market.old market.new }
@@ -52,7 +56,9 @@ pub(crate) fn master<A: TenantArena>(
     tenant: usize,
     slot: u8,
 ) -> Answer
-    ensures taken { (s : State) → A.stands_for arena.old s → IsTaken A.stands_for s (raw.master tenant slot) tenant (step.Advance slot) market.old result arena.new market.new }
+    ensures taken { (s : State) → A.stands_for arena.old s
+        → IsTaken A.stands_for s (raw.master tenant slot) tenant
+        (step.Advance slot) market.old result arena.new market.new }
     ensures keeps { KeepsOrder market.old market.new }
 {
     let answer = Answer::Moved(arena.advance(slot));
@@ -67,7 +73,9 @@ pub(crate) fn arrive<A: TenantArena>(
     worker: usize,
     call: Call,
 ) -> Answer
-    ensures taken { (s : State) → A.stands_for arena.old s → IsTaken A.stands_for s (raw.arrive worker) call.tenant (step.Arrive call.slot) market.old result arena.new market.new }
+    ensures taken { (s : State) → A.stands_for arena.old s
+        → IsTaken A.stands_for s (raw.arrive worker) call.tenant
+        (step.Arrive call.slot) market.old result arena.new market.new }
     ensures keeps { KeepsOrder market.old market.new }
 {
     let came = arena.arrive(call.slot);
@@ -84,7 +92,9 @@ pub(crate) fn advance<A: TenantArena>(
     worker: usize,
     call: Call,
 ) -> Answer
-    ensures taken { (s : State) → A.stands_for arena.old s → IsTaken A.stands_for s (raw.advance worker) call.tenant (step.Advance call.slot) market.old result arena.new market.new }
+    ensures taken { (s : State) → A.stands_for arena.old s
+        → IsTaken A.stands_for s (raw.advance worker) call.tenant
+        (step.Advance call.slot) market.old result arena.new market.new }
     ensures keeps { KeepsOrder market.old market.new }
 {
     let moved = arena.advance(call.slot);

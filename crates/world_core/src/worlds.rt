@@ -62,8 +62,10 @@ impl<A: TenantArena> World<A> {
     /// Takes a step. Error 9, that an allocation failed, is answered only to a line, and then nothing
     /// has changed.
     pub fn apply(&mut self, alloc: Global, raw: &Raw) -> Outcome
-        ensures answer { (w : Known) → Represents A.stands_for self.old w → IsAnswer w (raw_of raw.now) result }
-        ensures world { (w : Known) → Represents A.stands_for self.old w → Represents A.stands_for self.new (next w (raw_of raw.now) result) }
+        ensures answer { (w : Known) → Represents A.stands_for self.old w
+            → IsAnswer w (raw_of raw.now) result }
+        ensures world { (w : Known) → Represents A.stands_for self.old w
+            → Represents A.stands_for self.new (next w (raw_of raw.now) result) }
     {
         match raw {
             Raw::Line(tenant, text) => self.line(alloc, *tenant, text.as_slice()),
@@ -83,16 +85,20 @@ impl<A: TenantArena> World<A> {
     /// answers are those of the plain evaluator on its own steps, its regions protect its cells, its
     /// serial jobs that complete have their serial values, and no call of it is forgotten.
     pub fn run(&mut self, alloc: Global, raws: &[Raw]) -> Result<Vec<Outcome>, AllocError>
-        ensures answers { (w : Known) → Represents A.stands_for self.old w → IfOk result (λ os. AreAnswers w (map raw_of raws.now) os.items) }
-        ensures world { (w : Known) → Represents A.stands_for self.old w → IfOk result (λ os. Represents A.stands_for self.new (after w (steps_taken (map raw_of raws.now) os.items))) }
+        ensures answers { (w : Known) → Represents A.stands_for self.old w
+            → IfOk result (λ os. AreAnswers w (map raw_of raws.now) os.items) }
+        ensures world { (w : Known) → Represents A.stands_for self.old w
+            → IfOk result (λ os. Represents A.stands_for self.new
+            (after w (steps_taken (map raw_of raws.now) os.items))) }
         ensures refused { OnErr result (self.new ≡ self.old) }
-        ensures isolated { (c : Configuration) → All IsValidTenant c.tenants → Represents A.stands_for self.old (start c) → IfOk result (λ os. TenantsAreIsolated c (map raw_of raws.now) os.items) }
+        ensures isolated { (c : Configuration) → All IsValidTenant c.tenants
+            → Represents A.stands_for self.old (start c)
+            → IfOk result (λ os. TenantsAreIsolated c (map raw_of raws.now) os.items) }
     {
         let mut outcomes = Vec::with_capacity(alloc, raws.len())?;
         for raw in raws {
             let outcome = self.apply(alloc, raw);
-            let pushed = outcomes.push(outcome);
-            prove!(pushed.is_ok());
+            outcomes.push_reserved(outcome);
         }
         Ok(outcomes)
     }

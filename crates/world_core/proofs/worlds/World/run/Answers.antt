@@ -1,6 +1,4 @@
-use Rattle.std.proofs.Common.{◌≡◌, ◌<◌, ◌≤◌, ◌++◌, ◌∷◌, [], ◌+◌, length, map, take, take_all, sym, ◌∙◌, subst, arith, rules, vec_len, vec_capacity}
-use Rattle.std.specs.Result.{IsOk}
-use Rattle.std.proofs.lemmas.Grind.{common_steps}
+use Rattle.std.proofs.Common.{◌≡◌, ◌<◌, ◌≤◌, ◌+◌, length, map, take, take_all, sym, ◌∙◌, subst, arith, rules}
 use Rattle.world_model.specs.Refusals.{IsAnswer, AreAnswers, next}
 use Rattle.world_model.specs.World.{start}
 use Rattle.world_model.specs.World.{World as Known}
@@ -13,6 +11,14 @@ use Rattle.world_core.specs.declared.raws.Raw.{Raw}
 use Rattle.world_core.proofs.Running.{HasRun, run_more, taken_long}
 use Rattle.world_core.proofs.worlds.World.run.Goals as goal
 
+pub push_reserved-requires : goal.push_reserved-requires
+push_reserved-requires g c =
+    let raws = c.args.raws.now in
+    let within : c.loop-raw.raw-index < length raws = c.loop-raw-test.true in
+    let long : length c.loop-raw.outcomes.items ≡ c.loop-raw.raw-index = c.loop-raw.invariant.run.long ∙ taken_long raws c.loop-raw.raw-index (omega (arith, within)) in
+    let ok = c.loop-raw.outcomes.ok.0 in
+    omega (arith, ok, long, within, c.loop-raw.invariant.room)
+
 pub loop-raw-preserved : goal.loop-raw-preserved
 loop-raw-preserved g c =
     let stands = g.A.TenantArena.stands_for in
@@ -20,17 +26,13 @@ loop-raw-preserved g c =
     let i = c.loop-raw.raw-index in
     let within : i < length raws = c.loop-raw-test.true in
     let run = c.loop-raw.invariant.run in
-    let long : length c.loop-raw.outcomes.items ≡ i = run.long ∙ taken_long raws i (omega (arith, within)) in
-    let room : vec_len c.loop-raw.outcomes < vec_capacity c.loop-raw.outcomes = (let ok = c.loop-raw.outcomes.ok.0 in omega (arith, ok, long, within, c.loop-raw.invariant.room)) in
-    let there : IsOk c.push-pushed.result = c.push-pushed.ensures.succeeds room in
     let o = c.apply-outcome.result in
-    let pushed : c.push-pushed.new.self.items ≡ c.loop-raw.outcomes.items ++ o ∷ [] = grind (arith, common_steps, c.push-pushed.ensures.items, there) in
     let more = run_more stands c.args.self.now c.loop-raw.self c.apply-outcome.new.self c.loop-raw.outcomes.items o raws i c.raw-item.result within run
     (subst (λ (r : Raw). (w : Known) → Represents stands c.loop-raw.self w → IsAnswer w (raw_of r) o) c.raw-item.is c.apply-outcome.ensures.answer)
     (subst (λ (r : Raw). (w : Known) → Represents stands c.loop-raw.self w → Represents stands c.apply-outcome.new.self (next w (raw_of r) o)) c.raw-item.is c.apply-outcome.ensures.world) in
     record {
-      room = omega (arith, c.loop-raw.invariant.room, c.push-pushed.ensures.capacity);
-      run = subst (λ (os : List Outcome). HasRun stands c.args.self.now c.apply-outcome.new.self (map raw_of (take (i + 1) raws)) os) (sym pushed) more;
+      room = omega (arith, c.loop-raw.invariant.room, c.push_reserved.ensures.capacity);
+      run = subst (λ (os : List Outcome). HasRun stands c.args.self.now c.apply-outcome.new.self (map raw_of (take (i + 1) raws)) os) (sym c.push_reserved.ensures.items) more;
     }
 
 pub returns-clause-isolated : goal.returns-clause-isolated
