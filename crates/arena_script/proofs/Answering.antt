@@ -7,7 +7,7 @@ use Rattle.reply_writer.specs.declared.serials.SerialAnswer.{SerialAnswer}
 use Rattle.request_reader.specs.Lines.{Line, newline}
 use Rattle.dump_lines.proofs.Parts.{appends_nothing}
 use Rattle.arena_script.specs.Answered.{AnswersAll}
-use Rattle.arena_script.specs.ScriptLines.{line_of, input_lines}
+use Rattle.arena_script.specs.ScriptLines.{input_lines}
 use Rattle.arena_script.specs.SerialAnswers.{job_in, serial_answer, serial_answers}
 use Rattle.arena_script.specs.declared.inputs.Input.{Input}
 use Rattle.arena_script.specs.declared.inputs.Input.TheVariants as input
@@ -24,15 +24,9 @@ appends_two (Some x) (Some y) None line rest first next = absurd next
 appends_two (Some x) (Some y) (Some z) line rest first next =
     next ∙ ap (λ t. t ++ rest) first ∙ append_assoc x (line ++ newline ∷ []) rest ∙ ap (λ t. x ++ t) (append_assoc line (newline ∷ []) rest)
 
--- An input that is not the end is one line.
-pub input_lines-line : (i : Input) (text : List ℕ) → i ≢ input.End → input_lines i text ≡ line_of i text ∷ []
-input_lines-line input.Line text h = refl
-input_lines-line input.TooLong text h = refl
-input_lines-line input.End text h = absurd (h refl)
-
--- The next input, which is no end, is one line.
-pub next_is_line : (i : Input) (text text' : List ℕ) (left left' : List Line) → text' ≡ text → i ≢ input.End → left ≡ input_lines i text ++ left' → left ≡ line_of i text' ∷ left'
-next_is_line i text text' left left' same_text going here = here ∙ ap (λ ls. ls ++ left') (input_lines-line i text going) ∙ ap (λ t. line_of i t ∷ left') (sym same_text)
+-- What was read is one line, and then come those that are left.
+pub next_is_line : (line : Line) (read left left' : List Line) → read ≡ line ∷ [] → left ≡ read ++ left' → left ≡ line ∷ left'
+next_is_line line read left left' one here = here ∙ ap (λ ls. ls ++ left') one
 
 -- At the end no lines are left, and all are answered.
 pub text_end : (i : Input) (text : List ℕ) (left left' : List Line) (answers : List Line → List ℕ) (known : Option (List ℕ)) → answers [] ≡ [] → i ≡ input.End → left ≡ input_lines i text ++ left' → left' ≡ [] → Appends known known (answers left)
@@ -52,13 +46,11 @@ module _ {S : Type 0} (takes : S → Line → List ℕ → S → Type 0) where
   answers_on line lines old mid final said before middle after taken written others =
       (said ++ newline ∷ others.0, (said, mid, others.0, taken, refl, others.1), appends_two before middle after said others.0 written others.2)
 
-  -- The next input is taken and its answer written, and then the lines that are left.
-  pub answers_step : (i : Input) (text text' : List ℕ) (left left' : List Line) (old mid final : S) (said line : List ℕ) (before middle after : Option (List ℕ)) → text' ≡ text → i ≢ input.End → left ≡ input_lines i text ++ left' → takes old (line_of i text') said mid → line ≡ said ++ newline ∷ [] → Appends before middle line → AnswersAll takes left' mid middle after final → AnswersAll takes left old before after final
-  answers_step i text text' left left' old mid final said line before middle after same_text going here taken told_as written others =
-      let taken_there : takes old (line_of i text) said mid = subst (λ (t : List ℕ). takes old (line_of i t) said mid) same_text taken in
+  -- The next line is taken and its answer written, and then the lines that are left.
+  pub answers_step : (next : Line) (read left left' : List Line) (old mid final : S) (said line : List ℕ) (before middle after : Option (List ℕ)) → read ≡ next ∷ [] → left ≡ read ++ left' → takes old next said mid → line ≡ said ++ newline ∷ [] → Appends before middle line → AnswersAll takes left' mid middle after final → AnswersAll takes left old before after final
+  answers_step next read left left' old mid final said line before middle after one here taken told_as written others =
       let written_line : Appends before middle (said ++ newline ∷ []) = subst (λ (t : List ℕ). Appends before middle t) told_as written in
-      let one_line : left ≡ line_of i text ∷ left' = here ∙ ap (λ ls. ls ++ left') (input_lines-line i text going) in
-      subst (λ (ls : List Line). AnswersAll takes ls old before after final) (sym one_line) (answers_on (line_of i text) left' old mid final said before middle after taken_there written_line others)
+      subst (λ (ls : List Line). AnswersAll takes ls old before after final) (sym (next_is_line next read left left' one here)) (answers_on next left' old mid final said before middle after taken written_line others)
 
   -- At the end no lines are left, and all are answered.
   pub answers_end : (i : Input) (text : List ℕ) (left left' : List Line) (s : S) (known : Option (List ℕ)) → i ≡ input.End → left ≡ input_lines i text ++ left' → left' ≡ [] → AnswersAll takes left s known known s
@@ -66,10 +58,9 @@ module _ {S : Type 0} (takes : S → Line → List ℕ → S → Type 0) where
       let no_lines : left ≡ [] = here ∙ ap (λ e. input_lines e text ++ left') ended ∙ none in
       subst (λ (ls : List Line). AnswersAll takes ls s known known s) (sym no_lines) ([], (refl, refl), appends_nothing known)
 
--- The next input is answered with the serial value that it asks, and then the lines that are left.
-pub serial_step : (i : Input) (text text' : List ℕ) (left left' : List Line) (answer : SerialAnswer) (line : List ℕ) (before middle after : Option (List ℕ)) → text' ≡ text → i ≢ input.End → left ≡ input_lines i text ++ left' → answer ≡ serial_answer (job_in (line_of i text')) → line ≡ serial_text answer ++ newline ∷ [] → Appends before middle line → Appends middle after (serial_answers left') → Appends before after (serial_answers left)
-serial_step i text text' left left' answer line before middle after same_text going here answered told_as written others =
-    let told_here : line ≡ serial_text (serial_answer (job_in (line_of i text))) ++ newline ∷ [] = told_as ∙ ap (λ a. serial_text a ++ newline ∷ []) answered ∙ ap (λ t. serial_text (serial_answer (job_in (line_of i t))) ++ newline ∷ []) same_text in
-    let written_line : Appends before middle (serial_text (serial_answer (job_in (line_of i text))) ++ newline ∷ []) = subst (λ (t : List ℕ). Appends before middle t) told_here written in
-    let one_line : left ≡ line_of i text ∷ left' = here ∙ ap (λ ls. ls ++ left') (input_lines-line i text going) in
-    subst (λ (ls : List Line). Appends before after (serial_answers ls)) (sym one_line) (appends_two before middle after (serial_text (serial_answer (job_in (line_of i text)))) (serial_answers left') written_line others)
+-- The next line is answered with the serial value that it asks, and then the lines that are left.
+pub serial_step : (next : Line) (read left left' : List Line) (answer : SerialAnswer) (line : List ℕ) (before middle after : Option (List ℕ)) → read ≡ next ∷ [] → left ≡ read ++ left' → answer ≡ serial_answer (job_in next) → line ≡ serial_text answer ++ newline ∷ [] → Appends before middle line → Appends middle after (serial_answers left') → Appends before after (serial_answers left)
+serial_step next read left left' answer line before middle after one here answered told_as written others =
+    let told_here : line ≡ serial_text (serial_answer (job_in next)) ++ newline ∷ [] = told_as ∙ ap (λ a. serial_text a ++ newline ∷ []) answered in
+    let written_line : Appends before middle (serial_text (serial_answer (job_in next)) ++ newline ∷ []) = subst (λ (t : List ℕ). Appends before middle t) told_here written in
+    subst (λ (ls : List Line). Appends before after (serial_answers ls)) (sym (next_is_line next read left left' one here)) (appends_two before middle after (serial_text (serial_answer (job_in next))) (serial_answers left') written_line others)

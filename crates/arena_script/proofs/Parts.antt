@@ -1,5 +1,5 @@
 -- The first part of what answers the lines of a script.
-use Rattle.std.proofs.Common.{◌≡◌, ◌≢◌, ℕ, ◌+◌, List, [], ◌∷◌, ◌++◌, length, take, Option, Some, None, refl, sym, ap, ◌∙◌, append_assoc, subst, arith}
+use Rattle.std.proofs.Common.{◌≡◌, ℕ, ◌+◌, List, [], ◌∷◌, ◌++◌, length, take, Option, Some, None, refl, sym, ap, ◌∙◌, append_assoc, subst, arith}
 use Rattle.std.proofs.Math.Seq.{take-append-add}
 use Rattle.std.proofs.lemmas.List.{take-append-le}
 use Rattle.std.specs.Io.KnownBytes.{Appends}
@@ -9,11 +9,8 @@ use Rattle.request_reader.specs.Lines.{Line, whole, too_long, newline}
 use Rattle.dump_lines.specs.Parts.{AppendsFewer, AppendsPart}
 use Rattle.dump_lines.proofs.Parts.{appends_nothing, part_none}
 use Rattle.arena_script.specs.Answered.{Answered, AnswersPart, AnswersLater, StartsFrom}
-use Rattle.arena_script.specs.ScriptLines.{line_of, input_lines}
 use Rattle.arena_script.specs.SerialAnswers.{job_in, serial_answer, serial_answers}
-use Rattle.arena_script.specs.declared.inputs.Input.{Input}
-use Rattle.arena_script.specs.declared.inputs.Input.TheVariants as input
-use Rattle.arena_script.proofs.Answering.{appends_two, input_lines-line}
+use Rattle.arena_script.proofs.Answering.{appends_two, next_is_line}
 
 -- Every line can be taken.
 abbrev pub TakesAll : {S : Type 0} → (takes : S → Line → List ℕ → S → Type 0) → Type 0
@@ -46,10 +43,6 @@ text_part_cut before after all said rest line all_is line_is cut =
     subst (λ (t : List ℕ). AppendsPart before after t) (sym all_is)
     (part_cut before after said rest (subst (λ (t : List ℕ). AppendsFewer before after t) line_is cut))
 
--- The next input, which is no end, is one line.
-one_line : (i : Input) (text : List ℕ) (left left' : List Line) → i ≢ input.End → left ≡ input_lines i text ++ left' → left ≡ line_of i text ∷ left'
-one_line i text left left' going here = here ∙ ap (λ ls. ls ++ left') (input_lines-line i text going)
-
 module _ {S : Type 0} (takes : S → Line → List ℕ → S → Type 0) (take_line : TakesAll takes) where
   -- Every list of lines can be answered.
   answer_lines : (lines : List Line) (s : S) → (text : List ℕ) × (new : S) × Answered takes lines s text new
@@ -65,27 +58,24 @@ module _ {S : Type 0} (takes : S → Line → List ℕ → S → Type 0) (take_l
       let all = answer_lines lines s in
       record { text = all.0; new = all.1; answered = all.2; part = part_none known all.0 }
 
-  module _ (i : Input) (text text' : List ℕ) (left left' : List Line) (old mid : S) (said line : List ℕ) (same_text : text' ≡ text) (going : i ≢ input.End) (here : left ≡ input_lines i text ++ left') (taken : takes old (line_of i text') said mid) (told_as : line ≡ said ++ newline ∷ []) where
-    taken_there : takes old (line_of i text) said mid
-    taken_there = subst (λ (t : List ℕ). takes old (line_of i t) said mid) same_text taken
+  module _ (next : Line) (read left left' : List Line) (old mid : S) (said line : List ℕ) (one : read ≡ next ∷ []) (here : left ≡ read ++ left') (taken : takes old next said mid) (told_as : line ≡ said ++ newline ∷ []) where
+    lines_there : next ∷ left' ≡ left
+    lines_there = sym (next_is_line next read left left' one here)
 
-    lines_there : line_of i text ∷ left' ≡ left
-    lines_there = sym (one_line i text left left' going here)
-
-    -- The next input is taken and its answer written, and then a part of the answers to the lines that are left.
+    -- The next line is taken and its answer written, and then a part of the answers to the lines that are left.
     pub answers_part_step : (before middle after : Option (List ℕ)) → Appends before middle line → AnswersPart takes left' mid middle after → AnswersPart takes left old before after
     answers_part_step before middle after written others =
         let written_line : Appends before middle (said ++ newline ∷ []) = subst (λ (t : List ℕ). Appends before middle t) told_as written in
         subst (λ (ls : List Line). AnswersPart takes ls old before after) lines_there
-        (record { text = said ++ newline ∷ others.text; new = others.new; answered = (said, mid, others.text, taken_there, refl, others.answered); part = part_on before middle after said others.text written_line others.part })
+        (record { text = said ++ newline ∷ others.text; new = others.new; answered = (said, mid, others.text, taken, refl, others.answered); part = part_on before middle after said others.text written_line others.part })
 
-    -- The next input is taken and its answer cut short.
+    -- The next line is taken and its answer cut short.
     pub answers_part_cut : (before after : Option (List ℕ)) → AppendsFewer before after line → AnswersPart takes left old before after
     answers_part_cut before after cut =
         let rest = answer_lines left' mid in
         let cut_line : AppendsFewer before after (said ++ newline ∷ []) = subst (λ (t : List ℕ). AppendsFewer before after t) told_as cut in
         subst (λ (ls : List Line). AnswersPart takes ls old before after) lines_there
-        (record { text = said ++ newline ∷ rest.0; new = rest.1; answered = (said, mid, rest.0, taken_there, refl, rest.2); part = part_cut before after said rest.0 cut_line })
+        (record { text = said ++ newline ∷ rest.0; new = rest.1; answered = (said, mid, rest.0, taken, refl, rest.2); part = part_cut before after said rest.0 cut_line })
 
 module _ {B S : Type 0} (first : List ℕ → Option B) (takes : B → S → Line → List ℕ → S → Type 0) (start : B → S) (take_line : (b : B) → TakesAll (takes b)) where
   later_none : (b : Option B) (lines : List Line) (known : Option (List ℕ)) → AnswersLater takes start b lines known known
@@ -98,21 +88,21 @@ module _ {B S : Type 0} (first : List ℕ → Option B) (takes : B → S → Lin
   starts_from_none (too_long ∷ lines) known = appends_nothing known
   starts_from_none (whole line ∷ lines) known = later_none (first line) lines known
 
-module _ (i : Input) (text text' : List ℕ) (left left' : List Line) (answer : SerialAnswer) (line : List ℕ) (same_text : text' ≡ text) (going : i ≢ input.End) (here : left ≡ input_lines i text ++ left') (answered : answer ≡ serial_answer (job_in (line_of i text'))) (told_as : line ≡ serial_text answer ++ newline ∷ []) where
-  serial_there : line ≡ serial_text (serial_answer (job_in (line_of i text))) ++ newline ∷ []
-  serial_there = told_as ∙ ap (λ a. serial_text a ++ newline ∷ []) answered ∙ ap (λ t. serial_text (serial_answer (job_in (line_of i t))) ++ newline ∷ []) same_text
+module _ (next : Line) (read left left' : List Line) (answer : SerialAnswer) (line : List ℕ) (one : read ≡ next ∷ []) (here : left ≡ read ++ left') (answered : answer ≡ serial_answer (job_in next)) (told_as : line ≡ serial_text answer ++ newline ∷ []) where
+  serial_there : line ≡ serial_text (serial_answer (job_in next)) ++ newline ∷ []
+  serial_there = told_as ∙ ap (λ a. serial_text a ++ newline ∷ []) answered
 
-  serial_lines : line_of i text ∷ left' ≡ left
-  serial_lines = sym (one_line i text left left' going here)
+  serial_lines : next ∷ left' ≡ left
+  serial_lines = sym (next_is_line next read left left' one here)
 
-  -- The next input is answered, and then a part of the lines that are left.
+  -- The next line is answered, and then a part of the lines that are left.
   pub serial_part_step : (before middle after : Option (List ℕ)) → Appends before middle line → AppendsPart middle after (serial_answers left') → AppendsPart before after (serial_answers left)
   serial_part_step before middle after written others =
       subst (λ (ls : List Line). AppendsPart before after (serial_answers ls)) serial_lines
-      (part_on before middle after (serial_text (serial_answer (job_in (line_of i text)))) (serial_answers left') (subst (λ (t : List ℕ). Appends before middle t) serial_there written) others)
+      (part_on before middle after (serial_text (serial_answer (job_in next))) (serial_answers left') (subst (λ (t : List ℕ). Appends before middle t) serial_there written) others)
 
-  -- The answer to the next input is cut short.
+  -- The answer to the next line is cut short.
   pub serial_part_cut : (before after : Option (List ℕ)) → AppendsFewer before after line → AppendsPart before after (serial_answers left)
   serial_part_cut before after cut =
       subst (λ (ls : List Line). AppendsPart before after (serial_answers ls)) serial_lines
-      (part_cut before after (serial_text (serial_answer (job_in (line_of i text)))) (serial_answers left') (subst (λ (t : List ℕ). AppendsFewer before after t) serial_there cut))
+      (part_cut before after (serial_text (serial_answer (job_in next))) (serial_answers left') (subst (λ (t : List ℕ). AppendsFewer before after t) serial_there cut))

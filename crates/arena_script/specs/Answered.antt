@@ -36,7 +36,7 @@ abbrev pub AnswersLater : {B S : Type 0} → (takes : B → S → Line → List 
 AnswersLater {B = B} {S = S} takes start None lines before after = Appends before after []
 AnswersLater {B = B} {S = S} takes start (Some b) lines before after = AnswersPart (takes b) lines (start b) before after
 
--- a part of what answers them; nothing, where the first line is no beginning
+-- a part of what answers them; nothing if the first line is no beginning
 abbrev pub StartsFrom : {B S : Type 0} → (first : List ℕ → Option B) → (takes : B → S → Line → List ℕ → S → Type 0) → (start : B → S) → List Line → Option (List ℕ) → Option (List ℕ) → Type 0
 StartsFrom {B = B} {S = S} first takes start [] before after = Appends before after []
 StartsFrom {B = B} {S = S} first takes start (too_long ∷ lines) before after = Appends before after []

@@ -30,7 +30,7 @@ abbrev pub read_on : List Line → ℕ → DumpHeld → Result DumpHeld ℕ
 read_on [] number dump = Ok dump
 read_on (line ∷ lines) number dump = option_map_or (λ it. read_on lines (number + 1) (with_said dump it)) (said_in line) (Err number)
 
--- after the first line, where it names a tenant
+-- after the first line, if it names a tenant
 abbrev pub after_first : Option DumpHeld → List Line → Result DumpHeld ℕ
 after_first (Some dump) lines = read_on lines 2 dump
 after_first None lines = Err 1

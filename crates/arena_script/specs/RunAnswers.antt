@@ -20,7 +20,7 @@ TellsOutcome names old line said new = (o : Option Outcome) × TakesLine names l
 abbrev pub AnswersRun : List Line → Option (List ℕ) → Option (List ℕ) → Type 0
 AnswersRun = AnswersFrom config_in (λ (c : Configuration). TellsOutcome (names_of c.tenants)) start
 
--- a part of what answers them; nothing, where the first line is no configuration
+-- a part of what answers them; nothing if the first line is no configuration
 abbrev pub StartsRun : List Line → Option (List ℕ) → Option (List ℕ) → Type 0
 StartsRun = StartsFrom config_in (λ (c : Configuration). TellsOutcome (names_of c.tenants)) start
 

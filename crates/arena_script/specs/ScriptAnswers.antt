@@ -1,11 +1,10 @@
 -- The bytes that answer the lines of a script of one tenant's steps.
 use Rattle.std.specs.Prelude.{ℕ, List, [], ◌∷◌, ◌++◌, drop, Option, Some, None, codes}
 use Rattle.std.specs.Option.{option_map_or}
-use Rattle.std.specs.Result.{result_ok}
 use Rattle.job_language.specs.declared.answers.Answer.{Answer}
 use Rattle.job_language.specs.declared.tenants.Tenant.{Tenant}
 use Rattle.job_json.specs.Json.{◌>>=◌}
-use Rattle.request_reader.specs.LineAsks.{value_of}
+use Rattle.request_reader.specs.LineAsks.{value_in}
 use Rattle.request_reader.specs.Lines.{Line, newline}
 use Rattle.reply_writer.specs.AnswerText.{answer_text}
 use Rattle.tenant_model.specs.State.{State, empty}
@@ -14,7 +13,7 @@ use Rattle.arena_script.specs.Steps.{value_taken}
 
 -- the answer to a line that is a step, and the tenant after it
 abbrev pub line_taken : State → Line → Option (Answer × State)
-line_taken s line = text_in line >>= λ text. result_ok (value_of text) >>= value_taken s
+line_taken s line = text_in line >>= λ text. value_in text >>= value_taken s
 
 -- the text of the answer; what is no step has one too, and changes nothing
 abbrev pub told : State → Option (Answer × State) → List ℕ × State

@@ -4,12 +4,15 @@ use Rattle.std.specs.List.{list_all}
 use Rattle.job_language.specs.declared.tenants.Tenant.{Tenant}
 use Rattle.job_json.specs.Json.{◌>>=◌}
 use Rattle.request_reader.specs.Blank.{is_blank_byte}
+use Rattle.request_reader.specs.LineAsks.{IsText}
 use Rattle.request_reader.specs.Lines.{Line, whole, too_long, lines_of}
 use Rattle.request_reader.specs.Reading.{Reading, IsPending, lines_left}
 use Rattle.dump_lines.specs.Requests.{tenant_in}
 use Rattle.arena_script.specs.declared.inputs.TheConstants.{MAX_SCRIPT_LINE}
 use Rattle.arena_script.specs.declared.inputs.Input.{Input}
 use Rattle.arena_script.specs.declared.inputs.Input.TheVariants as input
+use Rattle.arena_script.specs.declared.inputs.ScriptLine.{ScriptLine}
+use Rattle.arena_script.specs.declared.inputs.ScriptLine.TheVariants as lent
 
 abbrev pub is_filled : Line → Bool
 is_filled (whole text) = not (list_all is_blank_byte text)
@@ -37,11 +40,15 @@ abbrev pub first_tenant : List Line → Option Tenant
 first_tenant [] = None
 first_tenant (line ∷ lines) = text_in line >>= tenant_in
 
--- the line that an input is, where this is the text that was read
-abbrev pub line_of : Input → List ℕ → Line
-line_of input.Line text = whole text
-line_of input.TooLong text = too_long
-line_of input.End text = too_long
+-- the line that is lent
+abbrev pub line_seen : ScriptLine → Line
+line_seen (lent.Whole text) = whole text.now
+line_seen lent.TooLong = too_long
+
+-- a text: only such a line takes memory
+abbrev pub IsTextLine : Line → Type 0
+IsTextLine (whole text) = IsText text
+IsTextLine too_long = ⊥
 
 abbrev pub input_lines : Input → List ℕ → List Line
 input_lines input.Line text = whole text ∷ []

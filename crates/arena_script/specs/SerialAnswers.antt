@@ -1,4 +1,4 @@
--- What a line is answered whose job's serial value is asked.
+-- The answers to lines that ask for the serial values of jobs.
 use Rattle.std.specs.Prelude.{ℕ, List, [], ◌∷◌, ◌++◌, Result, Ok, Err, if◌then◌else◌}
 use Rattle.std.specs.Option.{option_map_or}
 use Rattle.std.specs.Result.{result_flatten, result_map_both}

@@ -23,7 +23,7 @@ abbrev pub asked : State → Result Request Error → Answer × State
 asked s (Ok request) = step s (Ask request)
 asked s (Err error) = (Replied (Refused error), s)
 
--- the answer to a step of that name, and the tenant after it; none where the tenant has no such step
+-- the answer to a step of that name, and the tenant after it; none if the tenant has no such step
 abbrev pub step_taken : State → List ℕ → Data → Option (Answer × State)
 step_taken s name d =
     if bytes_eq name (codes "ask") then (get (codes "request") d >>= λ request. Some (asked s (request_in request)))

@@ -38,7 +38,8 @@ pub(crate) fn check_dump<R: Source, W: Sink>(
         → (text : List ℕ) → AnswersDump (dump_of (lines_in (R.remaining reader.old))) text
         → AppendsPart (W.contents writer.old) (W.contents writer.new) text }
     ensures ends { IfErr result (IsFault command.Check) }
-    ensures cause { IfErr result (HasCause (R.failed reader.new) (AreCalls R.called MAX_TURNS 0 reader.old reader.new) (W.failed writer.new)) }
+    ensures cause { IfErr result (HasCause (R.failed reader.new)
+        (AreCalls R.called MAX_TURNS 0 reader.old reader.new) (W.failed writer.new)) }
 {
     match read_dump(alloc, reader)? {
         DumpRead::Whole(dump) => {

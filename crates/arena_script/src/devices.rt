@@ -21,11 +21,15 @@ pub(crate) fn next_line<R: Source>(
     lines: &mut LineReader,
     reader: &mut R,
 ) -> Result<Input, DeviceFault>
-    ensures lines { IsSome (R.remaining reader.old) → lines_left lines.old (unwrap_or (R.remaining reader.old) [])
-        ≡ lines_read result lines.new.line ++ lines_left lines.new (unwrap_or (R.remaining reader.new) []) }
+    ensures lines { IsSome (R.remaining reader.old)
+        → lines_left lines.old (unwrap_or (R.remaining reader.old) [])
+        ≡ lines_read result lines.new.line
+        ++ lines_left lines.new (unwrap_or (R.remaining reader.new) []) }
     ensures known { IsSome (R.remaining reader.old) → IsSome (R.remaining reader.new) }
-    ensures end { result ≡ Ok Input.End → lines_left lines.new (unwrap_or (R.remaining reader.new) []) ≡ [] }
-    ensures lowers { IfOk result (λ input. input ≢ Input.End → work_left lines.new < work_left lines.old) }
+    ensures end { result ≡ Ok Input.End
+        → lines_left lines.new (unwrap_or (R.remaining reader.new) []) ≡ [] }
+    ensures lowers { IfOk result (λ input. input ≢ Input.End
+        → work_left lines.new < work_left lines.old) }
     ensures turns { lines.new.turns ≤ lines.old.turns }
     ensures device { OnErr result (WasLost lines.old lines.new) }
     ensures calls { AreCalls R.called lines.old.turns lines.new.turns reader.old reader.new }
@@ -43,7 +47,8 @@ pub(crate) fn next_line<R: Source>(
 pub(crate) fn put<W: Sink>(writer: &mut W, line: &[u8]) -> Result<(), DeviceFault>
     ensures ok { OnOk result (Appends (W.contents writer.old) (W.contents writer.new) line.now) }
     ensures failed { OnErr result (W.failed writer.new) }
-    ensures part { OnErr result (AppendsFewer (W.contents writer.old) (W.contents writer.new) line.now) }
+    ensures part { OnErr result
+        (AppendsFewer (W.contents writer.old) (W.contents writer.new) line.now) }
 {
     match write_all_of(writer, line) {
         Ok(()) => Ok(()),

@@ -58,7 +58,8 @@ pub(crate) fn read_dump<R: Source>(alloc: Global, reader: &mut R) -> Result<Dump
     ensures read { IfOk result (λ read. IsSome (R.remaining reader.old)
         → dump_read (lines_in (R.remaining reader.old)) ≡ came_to read) }
     ensures lost { IfErr result IsLost }
-    ensures cause { IfErr result (HasCause (R.failed reader.new) (AreCalls R.called MAX_TURNS 0 reader.old reader.new) ⊥) }
+    ensures cause { IfErr result (HasCause (R.failed reader.new)
+        (AreCalls R.called MAX_TURNS 0 reader.old reader.new) ⊥) }
 {
     let mut lines = LineReader::new(alloc, MAX_SCRIPT_LINE)?;
     match read_first(alloc, &mut lines, reader)? {
@@ -104,9 +105,11 @@ fn read_on<R: Source>(
 ) -> Result<DumpRead, ScriptEnd>
     requires { work_left lines < 2 ^ 63 }
     ensures read { IfOk result (λ read. IsSome (R.remaining reader.old)
-        → read_on (lines_left lines (unwrap_or (R.remaining reader.old) [])) 2 dump ≡ came_to read) }
+        → read_on (lines_left lines (unwrap_or (R.remaining reader.old) [])) 2 dump
+        ≡ came_to read) }
     ensures lost { IfErr result IsLost }
-    ensures cause { IfErr result (HasCause (R.failed reader.new) (AreCalls R.called lines.turns 0 reader.old reader.new) ⊥) }
+    ensures cause { IfErr result (HasCause (R.failed reader.new)
+        (AreCalls R.called lines.turns 0 reader.old reader.new) ⊥) }
 {
     let mut number = 2;
     loop {

@@ -11,7 +11,7 @@ use std::alloc::{AllocError, AllocFailed};
 pub enum ScriptEnd {
     /// All lines were answered.
     Done,
-    /// A line that had to be right was not; the last line of the output names it.
+    /// A line of a dump can't be read as one; the last line of the output names it.
     BadLine,
     /// The program was not called with words that it knows.
     Words,

@@ -1,6 +1,5 @@
 // The steps of one tenant, as the lines of a script spell them, and their answers.
 ghost use Rattle.std.specs.Prelude.{◌≡◌, option_and_then, option_map, Some, None, IfNone, IfSome, IfOk, OnErr, codes};
-ghost use Rattle.std.specs.Result.{result_ok};
 ghost use Rattle.job_language.specs.declared.steps.Step.TheVariants as step;
 ghost use Rattle.job_language.specs.declared.tenants.Tenant.{Tenant as Limits};
 ghost use Rattle.tenant_model.specs.Solo.{step as step_of};
@@ -10,20 +9,20 @@ ghost use Rattle.serde_json.specs.View.{view};
 ghost use Rattle.job_json.specs.Json.{get_as};
 ghost use Rattle.request_reader.specs.Answers.{HasJob};
 ghost use Rattle.request_reader.specs.Asks.{asked_by_value};
-ghost use Rattle.request_reader.specs.LineAsks.{IsText, value_of};
+ghost use Rattle.request_reader.specs.LineAsks.{IsText, value_in};
 ghost use Rattle.arena_core.specs.Stands.{StandsFor, Takes};
 ghost use Rattle.dump_lines.specs.Requests.{request_in, tenant_in};
 ghost use Rattle.arena_script.specs.ScriptAnswers.{line_taken};
-ghost use Rattle.arena_script.specs.ScriptLines.{line_of};
+ghost use Rattle.arena_script.specs.ScriptLines.{line_seen, IsTextLine};
 ghost use Rattle.arena_script.specs.Steps.{asked, slot_of, step_taken, value_taken};
 ghost use Rattle.arena_script.specs.Taken.{or_none, StepTakesMemory, ValueTakesMemory};
 
-use crate::inputs::Input;
+use crate::inputs::ScriptLine;
 use arena_core::Arena;
 use dump_lines::{request_in, tenant_of};
-use job_json::values::has_members;
-use job_language::{Answer, Error, Reply};
-use request_reader::value_of;
+use job_json::values::{has_members, take_member};
+use job_language::{Answer, Reply};
+use request_reader::value_in;
 use serde_json::Value;
 use std::alloc::{AllocError, Global};
 
@@ -31,7 +30,8 @@ use std::alloc::{AllocError, Global};
 #[tactic(auto, using(crate::proofs::Telling::text_of_tenant))]
 pub(crate) fn read_arena(alloc: Global, line: &[u8]) -> Result<Option<Arena>, AllocError>
     ensures none { IfOk result (λ arena. IfNone arena (tenant_in line.now ≡ None)) }
-    ensures new { IfOk result (λ arena. IfSome arena (λ arena. (c : Limits) × (tenant_in line.now ≡ Some c)
+    ensures new { IfOk result (λ arena. IfSome arena
+        (λ arena. (c : Limits) × (tenant_in line.now ≡ Some c)
         × StandsFor arena (empty c))) }
     ensures takes { OnErr result (IsText line.now) }
 {
@@ -41,51 +41,55 @@ pub(crate) fn read_arena(alloc: Global, line: &[u8]) -> Result<Option<Arena>, Al
     }
 }
 
-/// Takes the step of an input, whose text is that line, and gives the answer; what is no step has
-/// none. A line that is too long is no step.
-pub(crate) fn take_input(
+/// Takes the step of a line, and gives the answer; what is no step has none. A line that is too long
+/// is no step.
+pub(crate) fn take_line(
     alloc: Global,
     arena: &mut Arena,
-    input: Input,
-    line: &[u8],
+    line: ScriptLine<'_>,
 ) -> Result<Option<Answer>, AllocError>
     ensures ok { (s : State) → StandsFor arena.old s → IfOk result (λ answer.
-        Takes arena.new answer (or_none s (line_taken s (line_of input line.now)))) }
+        Takes arena.new answer (or_none s (line_taken s (line_seen line.entry)))) }
     ensures err { OnErr result (arena.new ≡ arena.old) }
-    ensures takes { OnErr result (IsText line.now) }
+    ensures takes { OnErr result (IsTextLine (line_seen line.entry)) }
 {
-    match input {
-        Input::Line => take(alloc, arena, line),
-        Input::TooLong | Input::End => Ok(None),
+    match line {
+        ScriptLine::Whole(text) => take(alloc, arena, text),
+        ScriptLine::TooLong => Ok(None),
     }
 }
 
 /// Takes the step of a line.
 fn take(alloc: Global, arena: &mut Arena, line: &[u8]) -> Result<Option<Answer>, AllocError>
     ensures ok { (s : State) → StandsFor arena.old s → IfOk result (λ answer.
-        Takes arena.new answer (or_none s (option_and_then (value_taken s) (result_ok (value_of line.now))))) }
+        Takes arena.new answer (or_none s (option_and_then (value_taken s) (value_in line.now)))) }
     ensures err { OnErr result (arena.new ≡ arena.old) }
     ensures takes { OnErr result (IsText line.now) }
 {
-    match value_of(alloc, line) {
-        Ok(value) => take_value(alloc, arena, &value),
-        Err(Error::NoMemory) => Err(AllocError),
-        Err(_) => Ok(None),
+    match value_in(alloc, line)? {
+        Some(value) => take_value(alloc, arena, value),
+        None => Ok(None),
     }
 }
 
-fn take_value(alloc: Global, arena: &mut Arena, value: &Value) -> Result<Option<Answer>, AllocError>
+/// Takes the step that a value spells.
+fn take_value(alloc: Global, arena: &mut Arena, value: Value) -> Result<Option<Answer>, AllocError>
     ensures ok { (s : State) → StandsFor arena.old s → IfOk result (λ answer.
-        Takes arena.new answer (or_none s (value_taken s (view value.now)))) }
+        Takes arena.new answer (or_none s (value_taken s (view value)))) }
     ensures err { OnErr result (arena.new ≡ arena.old) }
-    ensures takes { OnErr result (ValueTakesMemory (view value.now)) }
+    ensures takes { OnErr result (ValueTakesMemory (view value)) }
 {
-    if !has_members(2, value) {
+    if !has_members(2, &value) {
         return Ok(None);
     }
-    match step_name(value) {
-        Some(name) => take_step(alloc, arena, name, value),
-        None => Ok(None),
+    let Some(name) = step_name(&value) else {
+        return Ok(None);
+    };
+    match name {
+        "ask" => ask(alloc, arena, value),
+        "arrive" => Ok(arrive(arena, &value)),
+        "advance" => Ok(advance(arena, &value)),
+        _ => Ok(None),
     }
 }
 
@@ -95,62 +99,41 @@ fn step_name(value: &Value) -> Option<&str>
     value.get("step")?.as_str()
 }
 
-/// Takes the step of that name which a value spells.
-fn take_step(
-    alloc: Global,
-    arena: &mut Arena,
-    name: &str,
-    value: &Value,
-) -> Result<Option<Answer>, AllocError>
+fn ask(alloc: Global, arena: &mut Arena, value: Value) -> Result<Option<Answer>, AllocError>
     ensures ok { (s : State) → StandsFor arena.old s → IfOk result (λ answer.
-        Takes arena.new answer (or_none s (step_taken s name.now (view value.now)))) }
+        Takes arena.new answer (or_none s (step_taken s (codes "ask") (view value)))) }
     ensures err { OnErr result (arena.new ≡ arena.old) }
-    ensures takes { OnErr result (StepTakesMemory name.now (view value.now)) }
+    ensures takes { OnErr result (StepTakesMemory (codes "ask") (view value)) }
 {
-    match name {
-        "ask" => ask(alloc, arena, value),
-        "arrive" => Ok(arrive(arena, value)),
-        "advance" => Ok(advance(arena, value)),
-        _ => Ok(None),
-    }
-}
-
-fn ask(alloc: Global, arena: &mut Arena, value: &Value) -> Result<Option<Answer>, AllocError>
-    ensures ok { (s : State) → StandsFor arena.old s → IfOk result (λ answer. Takes arena.new answer
-        (or_none s (option_and_then (λ request. Some (asked s (request_in request))) (get (codes "request") (view value.now))))) }
-    ensures err { OnErr result (arena.new ≡ arena.old) }
-    ensures takes { OnErr result (HasJob (option_and_then asked_by_value (get (codes "request") (view value.now)))) }
-{
-    match value.get("request") {
+    match take_member("request", value) {
         Some(request) => Ok(Some(Answer::Replied(reply_to(alloc, arena, request)?))),
         None => Ok(None),
     }
 }
 
-fn reply_to(alloc: Global, arena: &mut Arena, request: &Value) -> Result<Reply, AllocError>
+fn reply_to(alloc: Global, arena: &mut Arena, request: Value) -> Result<Reply, AllocError>
     ensures ok { (s : State) → StandsFor arena.old s → IfOk result (λ reply.
-        Takes arena.new (Answer.Replied reply) (asked s (request_in (view request.now)))) }
+        Takes arena.new (Answer.Replied reply) (asked s (request_in (view request)))) }
     ensures err { OnErr result (arena.new ≡ arena.old) }
-    ensures takes { OnErr result (HasJob (asked_by_value (view request.now))) }
+    ensures takes { OnErr result (HasJob (asked_by_value (view request))) }
 {
-    match request_in(alloc, request) {
+    match request_in(alloc, request)? {
         Ok(request) => Ok(arena.ask(request)),
-        Err(Error::NoMemory) => Err(AllocError),
         Err(error) => Ok(Reply::Refused(error)),
     }
 }
 
 fn arrive(arena: &mut Arena, value: &Value) -> Option<Answer>
-    ensures { (s : State) → StandsFor arena.old s → Takes arena.new result
-        (or_none s (option_and_then (λ slot. Some (step_of s (step.Arrive slot))) (slot_of s (view value.now)))) }
+    ensures { (s : State) → StandsFor arena.old s
+        → Takes arena.new result (or_none s (step_taken s (codes "arrive") (view value.now))) }
 {
     let slot = slot_of(arena, value)?;
     Some(Answer::Came(arena.arrive(slot)))
 }
 
 fn advance(arena: &mut Arena, value: &Value) -> Option<Answer>
-    ensures { (s : State) → StandsFor arena.old s → Takes arena.new result
-        (or_none s (option_and_then (λ slot. Some (step_of s (step.Advance slot))) (slot_of s (view value.now)))) }
+    ensures { (s : State) → StandsFor arena.old s
+        → Takes arena.new result (or_none s (step_taken s (codes "advance") (view value.now))) }
 {
     let slot = slot_of(arena, value)?;
     Some(Answer::Moved(arena.advance(slot)))

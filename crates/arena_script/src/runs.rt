@@ -8,11 +8,11 @@ ghost use Rattle.arena_script.specs.Answered.{AnswersAll, AnswersPart};
 ghost use Rattle.arena_script.specs.declared.commands.Command.TheVariants as command;
 ghost use Rattle.arena_script.specs.Faults.{HasCause, IsFault};
 ghost use Rattle.arena_script.specs.RunAnswers.{AnswersRun, HasNoConfig, StartsRun, TakesLine, TellsOutcome};
-ghost use Rattle.arena_script.specs.ScriptLines.{all_lines, line_of, script_lines};
+ghost use Rattle.arena_script.specs.ScriptLines.{all_lines, line_seen, script_lines};
 
 use crate::devices::put;
 use crate::ends::ScriptEnd;
-use crate::inputs::{Input, MAX_SCRIPT_LINE, next_input};
+use crate::inputs::{Input, MAX_SCRIPT_LINE, ScriptLine, next_input};
 use reply_writer::Sink;
 use request_reader::{LineReader, Source};
 use std::alloc::{AllocError, Global};
@@ -28,7 +28,8 @@ pub(crate) fn run<A: TenantArena, R: Source, W: Sink>(
     writer: &mut W,
 ) -> Result<(), ScriptEnd>
     ensures ends { IfErr result (IsFault command.Run) }
-    ensures cause { IfErr result (HasCause (R.failed reader.new) (AreCalls R.called MAX_TURNS 0 reader.old reader.new) (W.failed writer.new)) }
+    ensures cause { IfErr result (HasCause (R.failed reader.new)
+        (AreCalls R.called MAX_TURNS 0 reader.old reader.new) (W.failed writer.new)) }
     ensures unwritten { result ≡ Err ScriptEnd.Config → writer.new ≡ writer.old }
     ensures no_config { result ≡ Err ScriptEnd.Config → IsSome (R.remaining reader.old)
         → HasNoConfig (all_lines (R.remaining reader.old)) }
@@ -36,7 +37,8 @@ pub(crate) fn run<A: TenantArena, R: Source, W: Sink>(
         → AnswersRun (all_lines (R.remaining reader.old))
         (W.contents writer.old) (W.contents writer.new)) }
     ensures part { IsSome (R.remaining reader.old)
-        → StartsRun (all_lines (R.remaining reader.old)) (W.contents writer.old) (W.contents writer.new) }
+        → StartsRun (all_lines (R.remaining reader.old))
+        (W.contents writer.old) (W.contents writer.new) }
 {
     let mut lines = LineReader::new(alloc, MAX_SCRIPT_LINE)?;
     if next_input(&mut lines, reader)? != Input::Line {
@@ -57,7 +59,8 @@ fn take_all<A: TenantArena, R: Source, W: Sink>(
     writer: &mut W,
 ) -> Result<(), ScriptEnd>
     ensures ends { IfErr result (λ end. IsFault command.Run end × (end ≢ ScriptEnd.Config)) }
-    ensures cause { IfErr result (HasCause (R.failed reader.new) (AreCalls R.called lines.turns 0 reader.old reader.new) (W.failed writer.new)) }
+    ensures cause { IfErr result (HasCause (R.failed reader.new)
+        (AreCalls R.called lines.turns 0 reader.old reader.new) (W.failed writer.new)) }
     ensures done { (names : List (List ℕ)) (w : Known) → Knows A.stands_for names w world.old
         → OnOk result (IsSome (R.remaining reader.old) → (final : Known)
         × AnswersAll (TellsOutcome names) (script_lines lines (R.remaining reader.old)) w
@@ -69,26 +72,27 @@ fn take_all<A: TenantArena, R: Source, W: Sink>(
 {
     'steps: loop {
         let input = next_input(&mut lines, reader)?;
-        if input == Input::End {
+        let Some(line) = input.lent(&lines) else {
             return Ok(());
-        }
-        let outcome = take_input(alloc, world, input, lines.line())?;
+        };
+        let outcome = take_line(alloc, world, line)?;
         put(writer, world.told(outcome).line())?;
     }
 }
 
-/// Takes the step of an input, whose text is that line. A line that is too long is no step.
-fn take_input<A: TenantArena>(
+/// Takes the step of a line. A line that is too long is no step.
+fn take_line<A: TenantArena>(
     alloc: Global,
     world: &mut NamedWorld<A>,
-    input: Input,
-    line: &[u8],
+    line: ScriptLine<'_>,
 ) -> Result<Option<Outcome>, AllocError>
     ensures { (names : List (List ℕ)) (w : Known) → Knows A.stands_for names w world.old
-        → IfOk result (λ outcome. (v : Known) × (TakesLine names (line_of input line.now) w outcome v × Knows A.stands_for names v world.new)) }
+        → IfOk result (λ outcome. (v : Known)
+        × (TakesLine names (line_seen line.entry) w outcome v
+        × Knows A.stands_for names v world.new)) }
 {
-    match input {
-        Input::Line => world.take(alloc, line),
-        Input::TooLong | Input::End => Ok(None),
+    match line {
+        ScriptLine::Whole(text) => world.take(alloc, text),
+        ScriptLine::TooLong => Ok(None),
     }
 }

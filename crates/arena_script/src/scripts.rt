@@ -23,7 +23,7 @@ use crate::commands::Command;
 use crate::devices::put;
 use crate::ends::ScriptEnd;
 use crate::inputs::{Input, MAX_SCRIPT_LINE, next_input};
-use crate::own::{read_arena, take_input};
+use crate::own::{read_arena, take_line};
 use crate::runs::run;
 use crate::serials::serial_values;
 use arena_core::Arena;
@@ -52,39 +52,54 @@ pub fn script<R: Source, W: Sink>(
     ensures no_answer { result ≡ ScriptEnd.Config → writer.new ≡ writer.old }
 
     // Where the bytes are known, the answers to all lines are written, or the result of a check.
-    ensures no_tenant { command_of words.now ≡ Some Command.Own → result ≡ ScriptEnd.Config → IsSome (R.remaining reader.old)
+    ensures no_tenant { command_of words.now ≡ Some Command.Own → result ≡ ScriptEnd.Config
+        → IsSome (R.remaining reader.old)
         → first_tenant (all_lines (R.remaining reader.old)) ≡ None }
-    ensures no_config { command_of words.now ≡ Some Command.Run → result ≡ ScriptEnd.Config → IsSome (R.remaining reader.old)
+    ensures no_config { command_of words.now ≡ Some Command.Run → result ≡ ScriptEnd.Config
+        → IsSome (R.remaining reader.old)
         → HasNoConfig (all_lines (R.remaining reader.old)) }
-    ensures outcomes { command_of words.now ≡ Some Command.Run → result ≡ ScriptEnd.Done → IsSome (R.remaining reader.old)
-        → AnswersRun (all_lines (R.remaining reader.old)) (W.contents writer.old) (W.contents writer.new) }
-    ensures done { command_of words.now ≡ Some Command.Own → result ≡ ScriptEnd.Done → IsSome (R.remaining reader.old)
+    ensures outcomes { command_of words.now ≡ Some Command.Run → result ≡ ScriptEnd.Done
+        → IsSome (R.remaining reader.old)
+        → AnswersRun (all_lines (R.remaining reader.old))
+        (W.contents writer.old) (W.contents writer.new) }
+    ensures done { command_of words.now ≡ Some Command.Own → result ≡ ScriptEnd.Done
+        → IsSome (R.remaining reader.old)
         → IsSome (first_tenant (all_lines (R.remaining reader.old)))
-        × Appends (W.contents writer.old) (W.contents writer.new) (own_text (all_lines (R.remaining reader.old))) }
-    ensures verdict { command_of words.now ≡ Some Command.Check → result ≡ ScriptEnd.Done → IsSome (R.remaining reader.old)
+        × Appends (W.contents writer.old) (W.contents writer.new)
+        (own_text (all_lines (R.remaining reader.old))) }
+    ensures verdict { command_of words.now ≡ Some Command.Check → result ≡ ScriptEnd.Done
+        → IsSome (R.remaining reader.old)
         → IsOk (dump_of (lines_in (R.remaining reader.old)))
         × (text : List ℕ) × AnswersDump (dump_of (lines_in (R.remaining reader.old))) text
         × Appends (W.contents writer.old) (W.contents writer.new) text }
-    ensures bad_line { command_of words.now ≡ Some Command.Check → result ≡ ScriptEnd.BadLine → IsSome (R.remaining reader.old)
+    ensures bad_line { command_of words.now ≡ Some Command.Check → result ≡ ScriptEnd.BadLine
+        → IsSome (R.remaining reader.old)
         → IsErr (dump_of (lines_in (R.remaining reader.old)))
         × (text : List ℕ) × AnswersDump (dump_of (lines_in (R.remaining reader.old))) text
         × Appends (W.contents writer.old) (W.contents writer.new) text }
-    ensures values { command_of words.now ≡ Some Command.Serial → result ≡ ScriptEnd.Done → IsSome (R.remaining reader.old)
-        → Appends (W.contents writer.old) (W.contents writer.new) (serial_answers (all_lines (R.remaining reader.old))) }
+    ensures values { command_of words.now ≡ Some Command.Serial → result ≡ ScriptEnd.Done
+        → IsSome (R.remaining reader.old)
+        → Appends (W.contents writer.old) (W.contents writer.new)
+        (serial_answers (all_lines (R.remaining reader.old))) }
 
     // A device's fault is the reader's or the writer's.
-    ensures cause { HasCause (R.failed reader.new) (AreCalls R.called MAX_TURNS 0 reader.old reader.new) (W.failed writer.new) result }
+    ensures cause { HasCause (R.failed reader.new)
+        (AreCalls R.called MAX_TURNS 0 reader.old reader.new) (W.failed writer.new) result }
 
     // At each early end what is written is a first part of that.
     ensures own_part { command_of words.now ≡ Some Command.Own → IsSome (R.remaining reader.old)
-        → AppendsPart (W.contents writer.old) (W.contents writer.new) (own_text (all_lines (R.remaining reader.old))) }
+        → AppendsPart (W.contents writer.old) (W.contents writer.new)
+        (own_text (all_lines (R.remaining reader.old))) }
     ensures run_part { command_of words.now ≡ Some Command.Run → IsSome (R.remaining reader.old)
-        → StartsRun (all_lines (R.remaining reader.old)) (W.contents writer.old) (W.contents writer.new) }
+        → StartsRun (all_lines (R.remaining reader.old))
+        (W.contents writer.old) (W.contents writer.new) }
     ensures check_part { command_of words.now ≡ Some Command.Check → IsSome (R.remaining reader.old)
         → (text : List ℕ) → AnswersDump (dump_of (lines_in (R.remaining reader.old))) text
         → AppendsPart (W.contents writer.old) (W.contents writer.new) text }
-    ensures serial_part { command_of words.now ≡ Some Command.Serial → IsSome (R.remaining reader.old)
-        → AppendsPart (W.contents writer.old) (W.contents writer.new) (serial_answers (all_lines (R.remaining reader.old))) }
+    ensures serial_part { command_of words.now ≡ Some Command.Serial
+        → IsSome (R.remaining reader.old)
+        → AppendsPart (W.contents writer.old) (W.contents writer.new)
+        (serial_answers (all_lines (R.remaining reader.old))) }
 {
     let ended = match Command::of(words) {
         Some(Command::Own) => own(alloc, reader, writer),
@@ -102,15 +117,18 @@ pub fn script<R: Source, W: Sink>(
 #[tactic(auto, using(dump_lines::proofs::Parts::part_none))]
 fn own<R: Source, W: Sink>(alloc: Global, reader: &mut R, writer: &mut W) -> Result<(), ScriptEnd>
     ensures ends { IfErr result (IsFault Command.Own) }
-    ensures cause { IfErr result (HasCause (R.failed reader.new) (AreCalls R.called MAX_TURNS 0 reader.old reader.new) (W.failed writer.new)) }
+    ensures cause { IfErr result (HasCause (R.failed reader.new)
+        (AreCalls R.called MAX_TURNS 0 reader.old reader.new) (W.failed writer.new)) }
     ensures unwritten { result ≡ Err ScriptEnd.Config → writer.new ≡ writer.old }
     ensures no_tenant { result ≡ Err ScriptEnd.Config → IsSome (R.remaining reader.old)
         → first_tenant (all_lines (R.remaining reader.old)) ≡ None }
     ensures done { OnOk result (IsSome (R.remaining reader.old)
         → IsSome (first_tenant (all_lines (R.remaining reader.old)))
-        × Appends (W.contents writer.old) (W.contents writer.new) (own_text (all_lines (R.remaining reader.old)))) }
+        × Appends (W.contents writer.old) (W.contents writer.new)
+        (own_text (all_lines (R.remaining reader.old)))) }
     ensures part { IsSome (R.remaining reader.old)
-        → AppendsPart (W.contents writer.old) (W.contents writer.new) (own_text (all_lines (R.remaining reader.old))) }
+        → AppendsPart (W.contents writer.old) (W.contents writer.new)
+        (own_text (all_lines (R.remaining reader.old))) }
 {
     let mut lines = LineReader::new(alloc, MAX_SCRIPT_LINE)?;
     if next_input(&mut lines, reader)? != Input::Line {
@@ -128,7 +146,8 @@ fn take_from<R: Source, W: Sink>(
     writer: &mut W,
 ) -> Result<(), ScriptEnd>
     ensures ends { IfErr result (IsFault Command.Own) }
-    ensures cause { IfErr result (HasCause (R.failed reader.new) (AreCalls R.called lines.turns 0 reader.old reader.new) (W.failed writer.new)) }
+    ensures cause { IfErr result (HasCause (R.failed reader.new)
+        (AreCalls R.called lines.turns 0 reader.old reader.new) (W.failed writer.new)) }
     ensures unwritten { result ≡ Err ScriptEnd.Config → writer.new ≡ writer.old }
     ensures no_tenant { result ≡ Err ScriptEnd.Config → tenant_in lines.line ≡ None }
     ensures done { OnOk result (IsSome (R.remaining reader.old)
@@ -154,20 +173,23 @@ fn take_all<R: Source, W: Sink>(
     writer: &mut W,
 ) -> Result<(), ScriptEnd>
     ensures ends { IfErr result (λ end. IsFault Command.Own end × (end ≢ ScriptEnd.Config)) }
-    ensures cause { IfErr result (HasCause (R.failed reader.new) (AreCalls R.called lines.turns 0 reader.old reader.new) (W.failed writer.new)) }
+    ensures cause { IfErr result (HasCause (R.failed reader.new)
+        (AreCalls R.called lines.turns 0 reader.old reader.new) (W.failed writer.new)) }
     ensures done { (s : State) → StandsFor arena.old s
         → OnOk result (IsSome (R.remaining reader.old)
-        → Appends (W.contents writer.old) (W.contents writer.new) (own_answers s (script_lines lines (R.remaining reader.old)))) }
+        → Appends (W.contents writer.old) (W.contents writer.new)
+        (own_answers s (script_lines lines (R.remaining reader.old)))) }
     ensures part { (s : State) → StandsFor arena.old s
         → IsSome (R.remaining reader.old)
-        → AppendsPart (W.contents writer.old) (W.contents writer.new) (own_answers s (script_lines lines (R.remaining reader.old))) }
+        → AppendsPart (W.contents writer.old) (W.contents writer.new)
+        (own_answers s (script_lines lines (R.remaining reader.old))) }
 {
     'steps: loop {
         let input = next_input(&mut lines, reader)?;
-        if input == Input::End {
+        let Some(line) = input.lent(&lines) else {
             return Ok(());
-        }
-        let answer = take_input(alloc, arena, input, lines.line())?;
+        };
+        let answer = take_line(alloc, arena, line)?;
         put(writer, told(answer).line())?;
     }
 }

@@ -29,7 +29,8 @@ pub fn dump_history<R: Files>(
     history: &[Entry],
 ) -> Result<(), DumpFault>
     ensures all { OnOk result (All HasLine history.now) }
-    ensures reads_back { OnOk result (ReadsBack (dump_text config.now history.now) config.now history.now) }
+    ensures reads_back { OnOk result
+        (ReadsBack (dump_text config.now history.now) config.now history.now) }
     ensures entry { result ≡ Err NoEntry → Any (λ e. entry_data e ≡ None) history.now }
 {
     let mut part = make_part(rt, alloc, path)?;

@@ -65,10 +65,13 @@ impl<F: OpenFile + Write + Drop> Part<F> {
         history: &[Entry],
     ) -> Result<(), DumpFault>
         ensures path { self.new.path ≡ self.old.path }
-        ensures written { OnOk result (Appends (F.contents self.old.file) (F.contents self.new.file) (dump_text config.now history.now)) }
-        ensures piece { AppendsPart (F.contents self.old.file) (F.contents self.new.file) (dump_text config.now history.now) }
+        ensures written { OnOk result (Appends (F.contents self.old.file) (F.contents self.new.file)
+            (dump_text config.now history.now)) }
+        ensures piece { AppendsPart (F.contents self.old.file) (F.contents self.new.file)
+            (dump_text config.now history.now) }
         ensures all { OnOk result (All HasLine history.now) }
-        ensures reads_back { OnOk result (ReadsBack (dump_text config.now history.now) config.now history.now) }
+        ensures reads_back { OnOk result
+            (ReadsBack (dump_text config.now history.now) config.now history.now) }
         ensures entry { result ≡ Err NoEntry → Any (λ e. entry_data e ≡ None) history.now }
     {
         write_dump(alloc, &mut self.file, config, history)?;

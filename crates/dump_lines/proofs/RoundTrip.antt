@@ -1,11 +1,10 @@
 -- Lines, refusals and asks read back.
-use Rattle.std.proofs.Common.{◌≡◌, ℕ, List, Some, Ok, true, refl, subst, ap}
-use Rattle.std.specs.Option.{ok_or}
+use Rattle.std.proofs.Common.{◌≡◌, ℕ, List, Some, true, refl, subst}
 use Rattle.std.specs.Str.{IsUtf8, is_utf8}
 use Rattle.std.proofs.lemmas.Str.{is_utf8-from_IsUtf8}
 use Rattle.serde_json.specs.Data.{Data}
 use Rattle.serde_json.specs.Read.{read}
-use Rattle.request_reader.specs.LineAsks.{value_of}
+use Rattle.request_reader.specs.LineAsks.{value_in}
 use Rattle.job_language.specs.declared.answers.Reply.{Reply}
 use Rattle.job_language.specs.declared.answers.Reply.TheVariants.{Refused}
 use Rattle.job_language.specs.declared.errors.Error.{Error}
@@ -17,10 +16,10 @@ use Rattle.dump_lines.specs.Replies.{reply_in}
 use Rattle.dump_lines.specs.Requests.{request_in}
 use Rattle.dump_lines.specs.Written.{ask_data, refusal_data}
 
-pub text_reads : (line text : List ℕ) (d : Data) → text ≡ line → IsUtf8 text → read line ≡ Some d → value_of line ≡ Ok d
+pub text_reads : (line text : List ℕ) (d : Data) → text ≡ line → IsUtf8 text → read line ≡ Some d → value_in line ≡ Some d
 text_reads line text d same utf8 reads =
     let is : is_utf8 line ≡ true = is_utf8-from_IsUtf8 line (subst IsUtf8 same utf8) in
-    rw is (ap (λ r. ok_or r BadJson) reads)
+    rw is reads
 
 pub read_refusal : (e : Error) → reply_in (refusal_data e) ≡ Some (Some (Refused e))
 read_refusal LineTooLong = refl

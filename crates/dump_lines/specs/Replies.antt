@@ -1,6 +1,6 @@
 -- The replies that a dump's entries hold. A reply has exactly the members that are listed. Where its numbers are none
 -- that a tenant answers with, there is none inside.
-use Rattle.std.specs.Prelude.{ℕ, ◌==◌, ◌||◌, Bool, false, if◌then◌else◌, List, [], ◌∷◌, Option, Some, None, is_some, option_map, find, fold, codes}
+use Rattle.std.specs.Prelude.{◌≡◌, ℕ, ◌==◌, ◌||◌, Bool, false, if◌then◌else◌, List, [], ◌∷◌, Option, Some, None, is_some, option_map, find, fold, codes}
 use Rattle.std.specs.Option.{option_map_or, option_or}
 use Rattle.std.specs.Str.{bytes_eq}
 use Rattle.serde_json.specs.Data.{Data}
@@ -27,9 +27,13 @@ only n d it = if has_members n d then it else None
 abbrev pub is_word : (name text : List ℕ) → Data → Bool
 is_word name text d = option_map_or (λ it. bytes_eq it text) (get_as name as_str d) false
 
+-- Is it a whole number of 64 bits, with a sign or without?
+abbrev pub is_whole : Data → Bool
+is_whole d = is_some (whole d) || is_some (integer d)
+
 -- a member that is a whole number of 64 bits, with a sign or without, and inside what it is to a tenant
 abbrev pub number : {A : Type 0} → (Data → Option A) → List ℕ → Data → Option (Option A)
-number read name d = get_as name (λ it. if is_some (whole it) || is_some (integer it) then Some (read it) else None) d
+number read name d = get_as name (λ it. if is_whole it then Some (read it) else None) d
 
 -- a member that is always one of a tenant's
 abbrev pub sure : {A : Type 0} → (Data → Option A) → List ℕ → Data → Option (Option A)
@@ -56,19 +60,53 @@ fault_of d = whole d >>= λ code. find (λ f. fault_code_of f == code) (fault.Di
 abbrev pub job_that : List ℕ → Option (Option Status) → Data → Option (Option Reply)
 job_that word status d = if is_word (codes "status") word d then two (two Job) (number whole (codes "job") d) status else None
 
--- the first of these shapes that it has; a tenant never tells its name
+abbrev pub made_in : Data → Option (Option Reply)
+made_in d = only 1 d (option_map (option_map Made) (number whole (codes "job") d))
+
+abbrev pub epoch_in : Data → Option (Option Reply)
+epoch_in d = only 1 d (option_map (option_map Epoch) (number whole (codes "epoch") d))
+
+-- A tenant never answers with its name.
+abbrev pub named_in : Data → Option (Option Reply)
+named_in d = only 1 d (option_map (λ name. None) (get_as (codes "tenant") as_str d))
+
+abbrev pub refusal_in : Data → Option (Option Reply)
+refusal_in d = only 2 d (option_map (λ error. Some (Refused error)) (error_in d))
+
+abbrev pub placed_in : Data → Option (Option Reply)
+placed_in d = only 2 d (two (two Placed) (number whole (codes "job") d) (number (below 256) (codes "slot") d))
+
+abbrev pub canceled_in : Data → Option (Option Reply)
+canceled_in d = only 2 d (two (two reply.Cancelled) (number whole (codes "job") d) (sure as_bool (codes "first") d))
+
+abbrev pub running_in : Data → Option (Option Reply)
+running_in d = only 2 d (job_that (codes "running") (Some (Some Running)) d)
+
+abbrev pub job_canceled_in : Data → Option (Option Reply)
+job_canceled_in d = only 2 d (job_that (codes "canceled") (Some (Some Cancelled)) d)
+
+abbrev pub complete_in : Data → Option (Option Reply)
+complete_in d = only 3 d (job_that (codes "complete") (option_map (option_map Complete) (number integer (codes "value") d)) d)
+
+abbrev pub faulted_in : Data → Option (Option Reply)
+faulted_in d = only 3 d (job_that (codes "fault") (option_map (option_map Fault) (number fault_of (codes "fault") d)) d)
+
+abbrev pub arena_in : Data → Option (Option Reply)
+arena_in d =
+    only 3 d (three (three Arena) (sure level_of (codes "priority") d)
+    (number (below 256) (codes "reserved") d) (number (below 256) (codes "slots") d))
+
+abbrev pub cells_in : Data → Option (Option Reply)
+cells_in d =
+    only 3 d (three (three Cells) (number key (codes "key") d)
+    (number whole (codes "count") d) (number integer (codes "sum") d))
+
+-- the first of these shapes that it has
 abbrev pub reply_in : Data → Option (Option Reply)
 reply_in d = fold option_or None
-    (only 1 d (option_map (option_map Made) (number whole (codes "job") d))
-    ∷ only 1 d (option_map (option_map Epoch) (number whole (codes "epoch") d))
-    ∷ only 1 d (option_map (λ name. None) (get_as (codes "tenant") as_str d))
-    ∷ only 2 d (option_map (λ error. Some (Refused error)) (error_in d))
-    ∷ only 2 d (two (two Placed) (number whole (codes "job") d) (number (below 256) (codes "slot") d))
-    ∷ only 2 d (two (two reply.Cancelled) (number whole (codes "job") d) (sure as_bool (codes "first") d))
-    ∷ only 2 d (job_that (codes "running") (Some (Some Running)) d)
-    ∷ only 2 d (job_that (codes "canceled") (Some (Some Cancelled)) d)
-    ∷ only 3 d (job_that (codes "complete") (option_map (option_map Complete) (number integer (codes "value") d)) d)
-    ∷ only 3 d (job_that (codes "fault") (option_map (option_map Fault) (number fault_of (codes "fault") d)) d)
-    ∷ only 3 d (three (three Arena) (sure level_of (codes "priority") d) (number (below 256) (codes "reserved") d) (number (below 256) (codes "slots") d))
-    ∷ only 3 d (three (three Cells) (number key (codes "key") d) (number whole (codes "count") d) (number integer (codes "sum") d))
-    ∷ [])
+    (made_in d ∷ epoch_in d ∷ named_in d ∷ refusal_in d ∷ placed_in d ∷ canceled_in d
+    ∷ running_in d ∷ job_canceled_in d ∷ complete_in d ∷ faulted_in d ∷ arena_in d ∷ cells_in d ∷ [])
+
+-- It is read as this reply.
+abbrev pub SpellsReply : Data → Reply → Type 0
+SpellsReply d r = reply_in d ≡ Some (Some r)

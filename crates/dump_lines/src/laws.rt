@@ -13,11 +13,13 @@ ghost use Rattle.dump_lines.specs.Written.{reply_data};
 /// A reply that a history records has one text: what a connection is sent is the compact text of the
 /// JSON that a dump has for it. It does nothing: its contract is the law.
 pub fn replies_have_one_text()
-    ensures { (r : Reply) → is_recorded_reply r ≡ true → reply_text r ≡ compact_text (reply_data r) }
+    ensures { (r : Reply) → is_recorded_reply r ≡ true
+        → reply_text r ≡ compact_text (reply_data r) }
 {}
 
 /// The lines of a dump's text are one for the tenant, and then one for each entry, in order: none of them
 /// has a newline within. It does nothing: its contract is the law.
 pub fn dumps_have_these_lines()
-    ensures { (c : Tenant) (es : List Entry) → All HasLine es → split_lines (dump_text c es) ≡ line_texts c es }
+    ensures { (c : Tenant) (es : List Entry) → All HasLine es
+        → split_lines (dump_text c es) ≡ line_texts c es }
 {}

@@ -1,21 +1,19 @@
 // What the lines of a dump after the first say.
-ghost use Rattle.std.specs.Prelude.{◌≡◌, Some, option_map, codes, IfOk, OnErr};
+ghost use Rattle.std.specs.Prelude.{◌≡◌, Some, codes, IfOk, OnErr};
 ghost use Rattle.serde_json.specs.View.{view};
-ghost use Rattle.job_language.specs.declared.answers.Moved.TheVariants as moved;
-ghost use Rattle.job_json.specs.Instruction.{below};
-ghost use Rattle.job_json.specs.Json.{get_as, whole};
+ghost use Rattle.job_json.specs.Json.{get_as};
 ghost use Rattle.request_reader.specs.Answers.{HasJob};
 ghost use Rattle.request_reader.specs.Asks.{asked_by_value};
 ghost use Rattle.request_reader.specs.LineAsks.{IsText};
-ghost use Rattle.dump_lines.specs.Lines.{said_by, said_in_value, entry_in, ask, arrival, advance, moved_in, recorded};
-ghost use Rattle.dump_lines.specs.Replies.{number, only, reply_in, sure, two};
+ghost use Rattle.dump_lines.specs.Lines.{said_by, said_in_value, entry_in, ask_in, arrival_in, advance_in, moved_in, nested_in, ask, arrival, advance, recorded};
+ghost use Rattle.dump_lines.specs.Replies.{only, reply_in, two};
 ghost use Rattle.dump_lines.specs.Requests.{request_in};
 
 use crate::replies::{is_word, natural, reply_in, slot};
 use crate::requests::request_in;
-use job_json::values::has_members;
-use job_language::{Answer, Came, Entry, Error, Moved, Reply, Request, Step};
-use request_reader::value_of;
+use job_json::values::{has_members, take_member};
+use job_language::{Answer, Came, Entry, Moved, Reply, Request, Step};
+use request_reader::value_in;
 use serde_json::Value;
 use std::alloc::{AllocError, Global};
 
@@ -33,15 +31,14 @@ pub fn said_by(alloc: Global, line: &[u8]) -> Result<Option<Said>, AllocError>
     ensures ok { IfOk result (λ said. said ≡ said_by line.now) }
     ensures takes { OnErr result (IsText line.now) }
 {
-    match value_of(alloc, line) {
-        Ok(value) => said_in_value(alloc, &value),
-        Err(Error::NoMemory) => Err(AllocError),
-        Err(_) => Ok(None),
+    match value_in(alloc, line)? {
+        Some(value) => said_in_value(alloc, value),
+        None => Ok(None),
     }
 }
 
-fn said_in_value(alloc: Global, value: &Value) -> Result<Option<Said>, AllocError>
-    ensures { IfOk result (λ said. said ≡ said_in_value (view value.now)) }
+fn said_in_value(alloc: Global, value: Value) -> Result<Option<Said>, AllocError>
+    ensures { IfOk result (λ said. said ≡ said_in_value (view value)) }
 {
     match entry_in(alloc, value)? {
         Some(Some(entry)) => Ok(Some(Said::Entry(entry))),
@@ -51,37 +48,42 @@ fn said_in_value(alloc: Global, value: &Value) -> Result<Option<Said>, AllocErro
 }
 
 /// The entry that a value spells; one that no tenant has is an inner `None`.
-fn entry_in(alloc: Global, value: &Value) -> Result<Option<Option<Entry>>, AllocError>
-    ensures { IfOk result (λ entry. entry ≡ entry_in (view value.now)) }
+fn entry_in(alloc: Global, value: Value) -> Result<Option<Option<Entry>>, AllocError>
+    ensures { IfOk result (λ entry. entry ≡ entry_in (view value)) }
 {
-    if is_word("step", "ask", value) {
+    if is_word("step", "ask", &value) {
         asked(alloc, value)
-    } else if is_word("step", "arrive", value) && is_word("moved", "arrived", value) {
-        Ok(arrived(value))
-    } else if is_word("step", "advance", value) {
-        Ok(advanced(value))
+    } else if is_word("step", "arrive", &value) && is_word("moved", "arrived", &value) {
+        Ok(arrived(&value))
+    } else if is_word("step", "advance", &value) {
+        Ok(advanced(&value))
     } else {
         Ok(None)
     }
 }
 
-fn asked(alloc: Global, value: &Value) -> Result<Option<Option<Entry>>, AllocError>
-    ensures { IfOk result (λ entry. entry ≡ only 3 (view value.now)
-        (two (two ask) (sure (λ r. recorded (request_in r)) (codes "request") (view value.now)) (get_as (codes "reply") reply_in (view value.now)))) }
+fn asked(alloc: Global, value: Value) -> Result<Option<Option<Entry>>, AllocError>
+    ensures { IfOk result (λ entry. entry ≡ ask_in (view value)) }
 {
-    if !has_members(3, value) {
+    if !has_members(3, &value) {
         return Ok(None);
     }
-    let (Some(request), Some(reply)) = (value.get("request"), value.get("reply")) else {
+    let Some(reply) = reply_of(&value) else {
         return Ok(None);
     };
-    let Some(reply) = reply_in(reply) else {
+    let Some(request) = take_member("request", value) else {
         return Ok(None);
     };
     match recorded(alloc, request)? {
         Some(request) => Ok(Some(ask(request, reply))),
         None => Ok(None),
     }
+}
+
+fn reply_of(value: &Value) -> Option<Option<Reply>>
+    ensures { result ≡ get_as (codes "reply") reply_in (view value.now) }
+{
+    reply_in(value.get("reply")?)
 }
 
 fn ask(request: Request, reply: Option<Reply>) -> Option<Entry>
@@ -93,21 +95,19 @@ fn ask(request: Request, reply: Option<Reply>) -> Option<Entry>
     })
 }
 
-/// The request that a value spells, where it is valid and no hello.
-fn recorded(alloc: Global, value: &Value) -> Result<Option<Request>, AllocError>
-    ensures ok { IfOk result (λ request. request ≡ recorded (request_in (view value.now))) }
-    ensures takes { OnErr result (HasJob (asked_by_value (view value.now))) }
+/// The request that a value spells, if it is valid and no hello.
+fn recorded(alloc: Global, value: Value) -> Result<Option<Request>, AllocError>
+    ensures ok { IfOk result (λ request. request ≡ recorded (request_in (view value))) }
+    ensures takes { OnErr result (HasJob (asked_by_value (view value))) }
 {
-    match request_in(alloc, value) {
-        Ok(Request::Hello(_)) => Ok(None),
+    match request_in(alloc, value)? {
+        Ok(Request::Hello(_)) | Err(_) => Ok(None),
         Ok(request) => Ok(Some(request)),
-        Err(Error::NoMemory) => Err(AllocError),
-        Err(_) => Ok(None),
     }
 }
 
 fn arrived(value: &Value) -> Option<Option<Entry>>
-    ensures { result ≡ only 4 (view value.now) (two (two arrival) (number (below 256) (codes "slot") (view value.now)) (number whole (codes "row") (view value.now))) }
+    ensures { result ≡ arrival_in (view value.now) }
 {
     if !has_members(4, value) {
         return None;
@@ -126,7 +126,7 @@ fn arrival(slot: Option<u8>, row: Option<u64>) -> Option<Entry>
 }
 
 fn advanced(value: &Value) -> Option<Option<Entry>>
-    ensures { result ≡ two (two advance) (number (below 256) (codes "slot") (view value.now)) (moved_in (view value.now)) }
+    ensures { result ≡ advance_in (view value.now) }
 {
     let slot = slot("slot", value)?;
     Some(advance(slot, moved_in(value)?))
@@ -168,7 +168,7 @@ fn bare(moved: Moved, value: &Value) -> Option<Option<Moved>>
 }
 
 fn nested(value: &Value) -> Option<Option<Moved>>
-    ensures { result ≡ only 4 (view value.now) (option_map (option_map moved.Nested) (number whole (codes "row") (view value.now))) }
+    ensures { result ≡ nested_in (view value.now) }
 {
     if !has_members(4, value) {
         return None;

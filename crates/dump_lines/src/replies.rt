@@ -1,14 +1,12 @@
 // The replies that the lines of a dump hold.
-ghost use Rattle.std.specs.Prelude.{◌≡◌, ◌==◌, ◌||◌, None, Some, find, if◌then◌else◌, is_some, option_map, codes};
-ghost use Rattle.serde_json.specs.Find.{as_bool, as_str};
+ghost use Rattle.std.specs.Prelude.{◌≡◌, ◌==◌, None, Some, find, if◌then◌else◌, option_map};
+ghost use Rattle.serde_json.specs.Find.{as_str};
 ghost use Rattle.serde_json.specs.View.{view};
 ghost use Rattle.job_language.specs.declared.answers.Reply.TheVariants as reply;
-ghost use Rattle.job_language.specs.declared.answers.Status.TheVariants as status;
 ghost use Rattle.job_language.specs.ErrorCodes.{code_of};
 ghost use Rattle.job_json.specs.Instruction.{below, key};
 ghost use Rattle.job_json.specs.Json.{get_as, whole, integer};
-ghost use Rattle.job_json.specs.TenantOf.{level_of};
-ghost use Rattle.dump_lines.specs.Replies.{error_in, errors, fault_of, is_word, job_that, number, only, reply_in, sure, three, two};
+ghost use Rattle.dump_lines.specs.Replies.{arena_in, canceled_in, cells_in, complete_in, epoch_in, error_in, errors, fault_of, faulted_in, is_whole, is_word, job_canceled_in, made_in, named_in, number, placed_in, refusal_in, reply_in, running_in, three, two};
 
 use job_json::values::has_members;
 use job_language::{Error, JobFault, Key, Level, Reply, Status};
@@ -34,7 +32,7 @@ pub(crate) fn reply_in(value: &Value) -> Option<Option<Reply>>
 }
 
 fn made(value: &Value) -> Option<Option<Reply>>
-    ensures { result ≡ only 1 (view value.now) (option_map (option_map reply.Made) (number whole (codes "job") (view value.now))) }
+    ensures { result ≡ made_in (view value.now) }
 {
     if !has_members(1, value) {
         return None;
@@ -43,7 +41,7 @@ fn made(value: &Value) -> Option<Option<Reply>>
 }
 
 fn epoch(value: &Value) -> Option<Option<Reply>>
-    ensures { result ≡ only 1 (view value.now) (option_map (option_map reply.Epoch) (number whole (codes "epoch") (view value.now))) }
+    ensures { result ≡ epoch_in (view value.now) }
 {
     if !has_members(1, value) {
         return None;
@@ -51,9 +49,9 @@ fn epoch(value: &Value) -> Option<Option<Reply>>
     Some(natural("epoch", value)?.map(Reply::Epoch))
 }
 
-/// The name that a hello is answered with, which a tenant never tells.
+/// The name with which a hello is answered; a tenant never answers with it.
 fn named(value: &Value) -> Option<Option<Reply>>
-    ensures { result ≡ only 1 (view value.now) (option_map (λ name. None) (get_as (codes "tenant") as_str (view value.now))) }
+    ensures { result ≡ named_in (view value.now) }
 {
     if !has_members(1, value) {
         return None;
@@ -63,7 +61,7 @@ fn named(value: &Value) -> Option<Option<Reply>>
 }
 
 fn refused(value: &Value) -> Option<Option<Reply>>
-    ensures { result ≡ only 2 (view value.now) (option_map (λ error. Some (reply.Refused error)) (error_in (view value.now))) }
+    ensures { result ≡ refusal_in (view value.now) }
 {
     if !has_members(2, value) {
         return None;
@@ -72,7 +70,7 @@ fn refused(value: &Value) -> Option<Option<Reply>>
 }
 
 fn placed(value: &Value) -> Option<Option<Reply>>
-    ensures { result ≡ only 2 (view value.now) (two (two reply.Placed) (number whole (codes "job") (view value.now)) (number (below 256) (codes "slot") (view value.now))) }
+    ensures { result ≡ placed_in (view value.now) }
 {
     if !has_members(2, value) {
         return None;
@@ -88,7 +86,7 @@ fn placed_at(job: Option<u64>, slot: Option<u8>) -> Option<Reply>
 }
 
 fn canceled(value: &Value) -> Option<Option<Reply>>
-    ensures { result ≡ only 2 (view value.now) (two (two reply.Cancelled) (number whole (codes "job") (view value.now)) (sure as_bool (codes "first") (view value.now))) }
+    ensures { result ≡ canceled_in (view value.now) }
 {
     if !has_members(2, value) {
         return None;
@@ -104,7 +102,7 @@ fn canceled_by(job: Option<u64>, first: bool) -> Option<Reply>
 }
 
 fn running(value: &Value) -> Option<Option<Reply>>
-    ensures { result ≡ only 2 (view value.now) (job_that (codes "running") (Some (Some status.Running)) (view value.now)) }
+    ensures { result ≡ running_in (view value.now) }
 {
     if !has_members(2, value) || !is_word("status", "running", value) {
         return None;
@@ -113,7 +111,7 @@ fn running(value: &Value) -> Option<Option<Reply>>
 }
 
 fn job_canceled(value: &Value) -> Option<Option<Reply>>
-    ensures { result ≡ only 2 (view value.now) (job_that (codes "canceled") (Some (Some status.Cancelled)) (view value.now)) }
+    ensures { result ≡ job_canceled_in (view value.now) }
 {
     if !has_members(2, value) || !is_word("status", "canceled", value) {
         return None;
@@ -122,7 +120,7 @@ fn job_canceled(value: &Value) -> Option<Option<Reply>>
 }
 
 fn complete(value: &Value) -> Option<Option<Reply>>
-    ensures { result ≡ only 3 (view value.now) (job_that (codes "complete") (option_map (option_map status.Complete) (number integer (codes "value") (view value.now))) (view value.now)) }
+    ensures { result ≡ complete_in (view value.now) }
 {
     if !has_members(3, value) || !is_word("status", "complete", value) {
         return None;
@@ -132,7 +130,7 @@ fn complete(value: &Value) -> Option<Option<Reply>>
 }
 
 fn faulted(value: &Value) -> Option<Option<Reply>>
-    ensures { result ≡ only 3 (view value.now) (job_that (codes "fault") (option_map (option_map status.Fault) (number fault_of (codes "fault") (view value.now))) (view value.now)) }
+    ensures { result ≡ faulted_in (view value.now) }
 {
     if !has_members(3, value) || !is_word("status", "fault", value) {
         return None;
@@ -148,8 +146,7 @@ fn job_of(job: Option<u64>, status: Option<Status>) -> Option<Reply>
 }
 
 fn arena(value: &Value) -> Option<Option<Reply>>
-    ensures { result ≡ only 3 (view value.now)
-        (three (three reply.Arena) (sure level_of (codes "priority") (view value.now)) (number (below 256) (codes "reserved") (view value.now)) (number (below 256) (codes "slots") (view value.now))) }
+    ensures { result ≡ arena_in (view value.now) }
 {
     if !has_members(3, value) {
         return None;
@@ -166,8 +163,7 @@ fn arena_of(level: Level, reserved: Option<u8>, slots: Option<u8>) -> Option<Rep
 }
 
 fn cells(value: &Value) -> Option<Option<Reply>>
-    ensures { result ≡ only 3 (view value.now)
-        (three (three reply.Cells) (number key (codes "key") (view value.now)) (number whole (codes "count") (view value.now)) (number integer (codes "sum") (view value.now))) }
+    ensures { result ≡ cells_in (view value.now) }
 {
     if !has_members(3, value) {
         return None;
@@ -234,7 +230,8 @@ pub(crate) fn is_word(name: &str, text: &str, value: &Value) -> bool
 
 /// A member that is a whole number of 64 bits, with or without a sign.
 fn whole_member<'v>(name: &str, value: &'v Value) -> Option<&'v Value>
-    ensures { option_map (λ it. view it.now) result ≡ get_as name.now (λ it. if is_some (whole it) || is_some (integer it) then Some it else None) (view value.now) }
+    ensures { option_map (λ it. view it.now) result
+        ≡ get_as name.now (λ it. if is_whole it then Some it else None) (view value.now) }
 {
     let number = value.get(name)?;
     if number.as_u64().is_some() || number.as_i64().is_some() {
@@ -244,21 +241,21 @@ fn whole_member<'v>(name: &str, value: &'v Value) -> Option<&'v Value>
     }
 }
 
-/// Such a member, where an inner `None` is a number below 0.
+/// Such a member; an inner `None` is a number below 0.
 pub(crate) fn natural(name: &str, value: &Value) -> Option<Option<u64>>
     ensures { result ≡ number whole name.now (view value.now) }
 {
     Some(whole_member(name, value)?.as_u64())
 }
 
-/// The same, where an inner `None` is a number of 64 bits that has no room for a sign.
+/// Such a member; an inner `None` is a number of 2^63 or more.
 fn signed(name: &str, value: &Value) -> Option<Option<i64>>
     ensures { result ≡ number integer name.now (view value.now) }
 {
     Some(whole_member(name, value)?.as_i64())
 }
 
-/// The same, where an inner `None` is a number outside 0 to 255.
+/// Such a member; an inner `None` is a number outside 0 to 255.
 pub(crate) fn slot(name: &str, value: &Value) -> Option<Option<u8>>
     ensures { result ≡ number (below 256) name.now (view value.now) }
 {
@@ -276,7 +273,7 @@ fn slot_of(value: &Value) -> Option<u8>
     }
 }
 
-/// The same, where an inner `None` is the number of no key.
+/// Such a member; an inner `None` is the number of no key.
 fn key(name: &str, value: &Value) -> Option<Option<Key>>
     ensures { result ≡ number key name.now (view value.now) }
 {
@@ -289,7 +286,7 @@ fn key_of(value: &Value) -> Option<Key>
     Key::new(value.as_u64()?)
 }
 
-/// The same, where an inner `None` is the code of no fault.
+/// Such a member; an inner `None` is the code of no fault.
 fn fault(name: &str, value: &Value) -> Option<Option<JobFault>>
     ensures { result ≡ number fault_of name.now (view value.now) }
 {

@@ -39,10 +39,13 @@ pub fn write_dump<W: Write>(
     config: &TenantConfig,
     entries: &[Entry],
 ) -> Result<(), DumpFault>
-    ensures written { OnOk result (Appends (W.contents writer.old) (W.contents writer.new) (dump_text config.now entries.now)) }
-    ensures part { AppendsPart (W.contents writer.old) (W.contents writer.new) (dump_text config.now entries.now) }
+    ensures written { OnOk result (Appends (W.contents writer.old) (W.contents writer.new)
+        (dump_text config.now entries.now)) }
+    ensures part { AppendsPart (W.contents writer.old) (W.contents writer.new)
+        (dump_text config.now entries.now) }
     ensures all { OnOk result (All HasLine entries.now) }
-    ensures reads_back { OnOk result (ReadsBack (dump_text config.now entries.now) config.now entries.now) }
+    ensures reads_back { OnOk result
+        (ReadsBack (dump_text config.now entries.now) config.now entries.now) }
     ensures entry { result ≡ Err NoEntry → Any (λ e. entry_data e ≡ None) entries.now }
 {
     write_first(alloc, writer, config)?;
@@ -54,8 +57,10 @@ fn write_first<W: Write>(
     writer: &mut W,
     config: &TenantConfig,
 ) -> Result<(), DumpFault>
-    ensures written { OnOk result (Appends (W.contents writer.old) (W.contents writer.new) (first_text config.now)) }
-    ensures part { AppendsPart (W.contents writer.old) (W.contents writer.new) (first_text config.now) }
+    ensures written { OnOk result (Appends (W.contents writer.old) (W.contents writer.new)
+        (first_text config.now)) }
+    ensures part { AppendsPart (W.contents writer.old) (W.contents writer.new)
+        (first_text config.now) }
     ensures reads_back { OnOk result (NamesItself config.now) }
     ensures no_entry { result ≢ Err NoEntry }
 {
@@ -68,8 +73,10 @@ fn write_entries<W: Write>(
     writer: &mut W,
     entries: &[Entry],
 ) -> Result<(), DumpFault>
-    ensures written { OnOk result (Appends (W.contents writer.old) (W.contents writer.new) (entries_text entries.now)) }
-    ensures part { AppendsPart (W.contents writer.old) (W.contents writer.new) (entries_text entries.now) }
+    ensures written { OnOk result (Appends (W.contents writer.old) (W.contents writer.new)
+        (entries_text entries.now)) }
+    ensures part { AppendsPart (W.contents writer.old) (W.contents writer.new)
+        (entries_text entries.now) }
     ensures all { OnOk result (All HasLine entries.now) }
     ensures read_back { OnOk result (All SaysItself entries.now) }
     ensures entry { result ≡ Err NoEntry → Any (λ e. entry_data e ≡ None) entries.now }
@@ -81,8 +88,10 @@ fn write_entries<W: Write>(
 }
 
 fn write_entry<W: Write>(alloc: Global, writer: &mut W, entry: &Entry) -> Result<(), DumpFault>
-    ensures written { OnOk result (Appends (W.contents writer.old) (W.contents writer.new) (entry_text entry.now)) }
-    ensures part { AppendsPart (W.contents writer.old) (W.contents writer.new) (entry_text entry.now) }
+    ensures written { OnOk result (Appends (W.contents writer.old) (W.contents writer.new)
+        (entry_text entry.now)) }
+    ensures part { AppendsPart (W.contents writer.old) (W.contents writer.new)
+        (entry_text entry.now) }
     ensures line { OnOk result (HasLine entry.now) }
     ensures reads_back { OnOk result (SaysItself entry.now) }
     ensures entry { result ≡ Err NoEntry → entry_data entry.now ≡ None }
@@ -96,8 +105,10 @@ fn write_entry<W: Write>(alloc: Global, writer: &mut W, entry: &Entry) -> Result
 /// Writes a line and its newline.
 #[tactic(auto, using(crate::proofs::Parts::part_then, crate::proofs::Parts::part_more))]
 fn write_line<W: Write>(writer: &mut W, line: &str) -> Result<(), DumpFault>
-    ensures written { OnOk result (Appends (W.contents writer.old) (W.contents writer.new) (line_text line.now)) }
-    ensures part { AppendsPart (W.contents writer.old) (W.contents writer.new) (line_text line.now) }
+    ensures written { OnOk result (Appends (W.contents writer.old) (W.contents writer.new)
+        (line_text line.now)) }
+    ensures part { AppendsPart (W.contents writer.old) (W.contents writer.new)
+        (line_text line.now) }
     ensures no_entry { result ≢ Err NoEntry }
 {
     write_bytes(writer, line.as_bytes())?;
@@ -106,7 +117,8 @@ fn write_line<W: Write>(writer: &mut W, line: &str) -> Result<(), DumpFault>
 
 #[tactic(auto, using(crate::proofs::Parts::part_all))]
 fn write_bytes<W: Write>(writer: &mut W, bytes: &[u8]) -> Result<(), DumpFault>
-    ensures written { OnOk result (Appends (W.contents writer.old) (W.contents writer.new) bytes.now) }
+    ensures written { OnOk result
+        (Appends (W.contents writer.old) (W.contents writer.new) bytes.now) }
     ensures part { AppendsPart (W.contents writer.old) (W.contents writer.new) bytes.now }
     ensures no_entry { result ≢ Err NoEntry }
 {

@@ -30,17 +30,17 @@ pub(crate) fn rows_of_tenant(alloc: Global) -> Option<usize> {
     Some(read.tenant().rows)
 }
 
-/// The first argument of the job that a request submits. The request copies the job, which is read from
-/// the copy.
+/// The first argument of the job that a request submits. The request takes its value apart, so each
+/// try reads the text anew.
 pub(crate) fn argument_of_request(alloc: Global) -> Option<i64> {
-    let value = again(|| Value::from_str(alloc, REQUEST).ok())?;
-    match again(|| requested(alloc, &value))? {
+    match again(|| requested(alloc))? {
         Request::Submit(job) => Some(job.args[0]),
         _ => None,
     }
 }
 
-fn requested(alloc: Global, value: &Value) -> Option<Request> {
-    let asked = request_of(alloc, value).ok()?;
+fn requested(alloc: Global) -> Option<Request> {
+    let value = Value::from_str(alloc, REQUEST).ok()?;
+    let asked = request_of(value).ok()?;
     ready(alloc, asked).ok()
 }

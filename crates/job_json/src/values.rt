@@ -1,5 +1,6 @@
 // Parts of JSON values.
 ghost use Rattle.std.specs.Prelude.{◌≡◌, ◌≤◌, map, option_map, IfSome};
+ghost use Rattle.serde_json.specs.Find.{get};
 ghost use Rattle.serde_json.specs.View.{view};
 ghost use Rattle.job_json.specs.Json.{items_of, has_members, number_in};
 
@@ -22,6 +23,16 @@ pub fn has_members(count: usize, value: &Value) -> bool
     match value.as_object() {
         Some(members) => members.len() == count,
         None => false,
+    }
+}
+
+/// The member of that name, taken out of an object.
+pub fn take_member(name: &str, value: Value) -> Option<Value>
+    ensures { option_map view result ≡ get name.now (view value) }
+{
+    match value {
+        Value::Object(mut members) => members.remove(name),
+        _ => None,
     }
 }
 

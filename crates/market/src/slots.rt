@@ -80,7 +80,7 @@ impl SlotStates {
         None
     }
 
-    /// The lowest slot at home, where there is one, becomes due.
+    /// The lowest slot at home, if there is one, becomes due.
     pub fn wake(&mut self) -> Option<u8>
         ensures slot { result ≡ lowest_home 0 self.old }
         ensures state { self.new ≡ woken self.old (lowest_home 0 self.old) }

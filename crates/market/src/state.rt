@@ -40,7 +40,8 @@ impl Model for MarketState {
 
     ghost view = { λ m. market_of m.levels.items m.slots.items m.waiting m.workers.items };
 
-    ghost invariant = { λ m. IsKept (market_of m.levels.items m.slots.items m.waiting m.workers.items) m.waiting };
+    ghost invariant = { λ m. IsKept
+        (market_of m.levels.items m.slots.items m.waiting m.workers.items) m.waiting };
 }
 
 impl MarketState {
@@ -77,14 +78,14 @@ impl MarketState {
         }
     }
 
-    /// What a worker does, where it is there.
+    /// What a worker does, if there is one of that number.
     pub fn worker(&self, worker: usize) -> Option<WorkerState>
         ensures { result ≡ worker_at self.now worker }
     {
         self.workers.get(worker).copied()
     }
 
-    /// The lowest slot at home of a tenant, where there is one, becomes due. It gives that slot.
+    /// The lowest slot at home of a tenant, if there is one, becomes due. It gives that slot.
     pub fn wake(&mut self, tenant: usize) -> Option<u8>
         ensures slot { result ≡ home_slot self.old tenant }
         ensures state { self.new ≡ wake self.old tenant }

@@ -45,7 +45,9 @@ impl WaitingCalls {
     #[tactic(auto, using(crate::proofs::Rings::kept_last))]
     pub fn push(&mut self, level: Level, call: Call)
         requires { length (ring_at self.old level).items < (ring_at self.old level).capacity }
-        ensures calls { (m : Market) → holding m self.new ≡ with_calls (holding m self.old) level (calls_at (holding m self.old) level ++ call ∷ []) }
+        ensures calls { (m : Market) → holding m self.new
+            ≡ with_calls (holding m self.old) level
+            (calls_at (holding m self.old) level ++ call ∷ []) }
         ensures room { (l : Level) → (ring_at self.new l).capacity ≡ (ring_at self.old l).capacity }
     {
         // The ring has room, so that no call falls out at its front.
@@ -59,7 +61,10 @@ impl WaitingCalls {
     /// Takes the first call of the highest level that has one.
     #[tactic(auto, using(crate::proofs::Rings::none_left))]
     pub fn pop(&mut self) -> Option<Call>
-        ensures call { (m : Market) → first_call (holding m self.old) self.old.high.items self.old.normal.items self.old.low.items ≡ leaving (holding m self.new) result }
+        ensures call { (m : Market)
+            → first_call (holding m self.old)
+            self.old.high.items self.old.normal.items self.old.low.items
+            ≡ leaving (holding m self.new) result }
         ensures none { IfNone result (self.new ≡ self.old) }
         ensures room { (l : Level) → (ring_at self.new l).capacity ≡ (ring_at self.old l).capacity }
     {

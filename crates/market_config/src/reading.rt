@@ -3,18 +3,16 @@ ghost use Rattle.std.specs.Prelude.{◌≡◌, IfOk};
 ghost use Rattle.market_config.specs.Lines.{config_in};
 
 use job_json::{Refused, read_config};
-use job_language::{Config, Error};
-use request_reader::value_of;
+use job_language::Config;
+use request_reader::value_in;
 use std::alloc::{AllocError, Global};
 
 /// The configuration that a line holds, if it holds one. It fails only if an allocation failed.
 pub fn config_in(alloc: Global, line: &[u8]) -> Result<Option<Config>, AllocError>
     ensures { IfOk result (λ config. config ≡ config_in line.now) }
 {
-    let value = match value_of(alloc, line) {
-        Ok(value) => value,
-        Err(Error::NoMemory) => return Err(AllocError),
-        Err(_) => return Ok(None),
+    let Some(value) = value_in(alloc, line)? else {
+        return Ok(None);
     };
     match read_config(alloc, &value) {
         Ok(config) => Ok(Some(config)),

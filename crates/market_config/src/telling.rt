@@ -1,4 +1,4 @@
-// What the market is told of a configuration.
+// What the market has to know of a configuration.
 ghost use Rattle.std.specs.Prelude.{◌≡◌, map, IfOk};
 ghost use Rattle.market_config.specs.Told.{market_tenant};
 

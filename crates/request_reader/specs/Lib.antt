@@ -10,5 +10,4 @@ pub mod Newlines
 pub mod ReaderState
 pub mod Reading
 pub mod Ready
-pub mod Shape
 pub mod Calls

@@ -1,5 +1,5 @@
 -- What a line of bytes asks for, or the error that refuses it.
-use Rattle.std.specs.Prelude.{◌≡◌, ℕ, ◌≤◌, List, length, true, nat_lt, if◌then◌else◌, Result, Ok, Err}
+use Rattle.std.specs.Prelude.{◌≡◌, ℕ, ◌≤◌, List, length, true, nat_lt, if◌then◌else◌, Option, None, Result, Ok, Err}
 use Rattle.std.specs.Option.{ok_or}
 use Rattle.std.specs.Str.{is_utf8}
 use Rattle.serde_json.specs.Data.{Data}
@@ -10,8 +10,12 @@ use Rattle.request_reader.specs.declared.requests.TheConstants.{MAX_REQUEST}
 use Rattle.request_reader.specs.Asks.{AskedData, asked_by_value}
 
 -- the JSON value that a text is
+abbrev pub value_in : List ℕ → Option Data
+value_in line = if is_utf8 line then read line else None
+
+-- that value, or error 2
 abbrev pub value_of : List ℕ → Result Data Error
-value_of line = if is_utf8 line then ok_or (read line) BadJson else Err BadJson
+value_of line = ok_or (value_in line) BadJson
 
 -- what a value asks for, or error 3
 abbrev pub request_of : Data → Result AskedData Error

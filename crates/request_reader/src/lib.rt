@@ -11,6 +11,6 @@ mod windows;
 
 pub use job_requests::ready;
 pub use lines::{LineRead, LineReader};
-pub use requests::{Asked, MAX_REQUEST, is_blank, read_request, request_of, value_of};
+pub use requests::{Asked, MAX_REQUEST, is_blank, read_request, request_of, value_in};
 pub use sources::Source;
 pub use turns::MAX_TURNS;

@@ -1,18 +1,18 @@
 // What a line asks for.
-ghost use Rattle.std.specs.Prelude.{◌≡◌, option_map};
+ghost use Rattle.std.specs.Prelude.{◌≡◌, IfOk, OnErr, option_map};
 ghost use Rattle.std.specs.List.{list_all};
 ghost use Rattle.serde_json.specs.View.{view};
+ghost use Rattle.job_json.specs.Json.{result_map};
 ghost use Rattle.request_reader.specs.Asks.{asked_by_value, plain_of, hello_of, number_of, key_of, job_value, alone, operand};
-ghost use Rattle.request_reader.specs.Answers.{asked_data, HasJob};
+ghost use Rattle.request_reader.specs.Answers.{asked_data};
 ghost use Rattle.request_reader.specs.Blank.{is_blank_byte};
 ghost use Rattle.request_reader.specs.Exact.{ExactOrNoMemory};
-ghost use Rattle.request_reader.specs.LineAsks.{asked_by, request_of, value_of, IsShortText, IsText};
-ghost use Rattle.request_reader.specs.Shape.{asked_in};
+ghost use Rattle.request_reader.specs.LineAsks.{asked_by, request_of, value_in, IsShortText, IsText};
 
-use job_json::values::has_members;
+use job_json::values::{has_members, take_member};
 use job_language::{Error, Key, Request, TenantName};
 use serde_json::Value;
-use std::alloc::Global;
+use std::alloc::{AllocError, Global};
 
 /// How many bytes the line of a request may have, without its newline.
 pub const MAX_REQUEST: usize = 65_536;
@@ -28,14 +28,6 @@ pub enum Asked {
     Submit(Value),
     /// The job of an execute, not read yet.
     Execute(Value),
-}
-
-/// What a value asks for, with the job where it stands.
-#[derive(Drop)]
-enum Shape<'v> {
-    Plain(Request),
-    Submit(&'v Value),
-    Execute(&'v Value),
 }
 
 /// Whether a line has only spaces, tabs and carriage returns, or nothing.
@@ -59,47 +51,43 @@ pub fn read_request(alloc: Global, line: &[u8]) -> Result<Asked, Error>
     if line.len() > MAX_REQUEST {
         return Err(Error::LineTooLong);
     }
-    let value = value_of(alloc, line)?;
-    request_of(alloc, &value)
+    match value_in(alloc, line)? {
+        Some(value) => request_of(value),
+        None => Err(Error::BadJson),
+    }
 }
 
-/// The JSON value that a line spells. Its errors are `BadJson` and `NoMemory`.
-pub fn value_of(alloc: Global, line: &[u8]) -> Result<Value, Error>
-    ensures { ExactOrNoMemory view (IsText line.now) result (value_of line.now) }
+/// The JSON value that a line spells, if it spells one. It fails only if an allocation failed.
+pub fn value_in(alloc: Global, line: &[u8]) -> Result<Option<Value>, AllocError>
+    ensures ok { IfOk result (λ value. option_map view value ≡ value_in line.now) }
+    ensures takes { OnErr result (IsText line.now) }
 {
     let Ok(text) = str::from_utf8(line) else {
-        return Err(Error::BadJson);
+        return Ok(None);
     };
     match Value::from_str(alloc, text) {
-        Ok(value) => Ok(value),
-        Err(error) if error.is_memory() => Err(Error::NoMemory),
-        Err(_) => Err(Error::BadJson),
+        Ok(value) => Ok(Some(value)),
+        Err(error) if error.is_memory() => Err(AllocError),
+        Err(_) => Ok(None),
     }
 }
 
-/// The request that a value spells. The job of `submit` and `execute` is copied, whatever it is:
-/// that alone takes memory.
-pub fn request_of(alloc: Global, value: &Value) -> Result<Asked, Error>
-    ensures { ExactOrNoMemory asked_data (HasJob (asked_by_value (view value.now))) result (request_of (view value.now)) }
+/// The request that a value spells. The job of `submit` and `execute` is taken out of the value,
+/// whatever it is.
+pub fn request_of(value: Value) -> Result<Asked, Error>
+    ensures { result_map asked_data result ≡ request_of (view value) }
 {
-    let Some(shape) = shape_of(value) else {
-        return Err(Error::BadRequest);
-    };
-    match shape {
-        Shape::Plain(request) => Ok(Asked::Plain(request)),
-        Shape::Submit(job) => Ok(Asked::Submit(job.clone()?)),
-        Shape::Execute(job) => Ok(Asked::Execute(job.clone()?)),
-    }
+    asked_in(value).ok_or(Error::BadRequest)
 }
 
-fn shape_of(value: &Value) -> Option<Shape<'_>>
-    ensures { option_map asked_in result ≡ asked_by_value (view value.now) }
+fn asked_in(value: Value) -> Option<Asked>
+    ensures { option_map asked_data result ≡ asked_by_value (view value) }
 {
     let op = value.get("op")?.as_str()?;
     match op {
-        "submit" => Some(Shape::Submit(job_value(value)?)),
-        "execute" => Some(Shape::Execute(job_value(value)?)),
-        _ => Some(Shape::Plain(plain_of(op, value)?)),
+        "submit" => Some(Asked::Submit(job_value(value)?)),
+        "execute" => Some(Asked::Execute(job_value(value)?)),
+        _ => Some(Asked::Plain(plain_of(op, &value)?)),
     }
 }
 
@@ -161,8 +149,12 @@ fn key_of(value: &Value) -> Option<Key>
     Key::new(operand("key", value)?.as_u64()?)
 }
 
-fn job_value(value: &Value) -> Option<&Value>
-    ensures { option_map (λ v. view v.now) result ≡ job_value (view value.now) }
+fn job_value(value: Value) -> Option<Value>
+    ensures { option_map view result ≡ job_value (view value) }
 {
-    operand("job", value)
+    if has_members(2, &value) {
+        take_member("job", value)
+    } else {
+        None
+    }
 }

@@ -1,10 +1,8 @@
 -- What the lines of a script do to a world, and what each is answered.
-use Rattle.std.specs.Prelude.{ℕ, ◌≡◌, List, Option, Some, None, Result, Ok, Err, slice_get, codes}
+use Rattle.std.specs.Prelude.{ℕ, ◌≡◌, List, Option, Some, None, slice_get, codes}
 use Rattle.std.specs.Option.{option_map_or}
-use Rattle.serde_json.specs.Data.{Data}
-use Rattle.job_language.specs.declared.errors.Error.{Error}
 use Rattle.job_json.specs.Json.{◌>>=◌}
-use Rattle.request_reader.specs.LineAsks.{value_of}
+use Rattle.request_reader.specs.LineAsks.{value_in}
 use Rattle.reply_writer.specs.AnswerText.{answer_text}
 use Rattle.reply_writer.specs.MarketText.{market_text}
 use Rattle.reply_writer.specs.declared.markets.MarketAnswer.TheVariants as market
@@ -17,13 +15,9 @@ use Rattle.world_model.specs.World.{World}
 use Rattle.world_script.specs.Named.{raw_of}
 use Rattle.world_script.specs.RawLines.{RawData, raw_line}
 
-abbrev pub step_of_value : Result Data Error → Option RawData
-step_of_value (Ok d) = raw_line d
-step_of_value (Err error) = None
-
 -- the step that a line spells
 abbrev pub step_in : List ℕ → Option RawData
-step_in line = step_of_value (value_of line)
+step_in line = value_in line >>= raw_line
 
 -- A step with this outcome leads from one world to another. If its tenant is not there, it is not allowed now.
 abbrev pub TakesRaw : Option Raw → World → Outcome → World → Type 0

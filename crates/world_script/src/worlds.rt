@@ -14,10 +14,10 @@ ghost use Rattle.market_config.specs.Lines.{config_in};
 ghost use Rattle.world_script.specs.Takes.{step_in, told, outcome_text, held_text, TakesRaw, TakesStep};
 
 use crate::raw_lines::{RawLine, raw_line};
-use job_language::{Error, TenantName};
+use job_language::TenantName;
 use market_config::{Call, config_in, names_of};
 use reply_writer::{MarketAnswer, ReplyBuf, answer_line, bad_step_line, market_line};
-use request_reader::value_of;
+use request_reader::value_in;
 use serde_json::Value;
 use std::alloc::{AllocError, Global};
 use std::marker::Model;
@@ -66,20 +66,22 @@ impl<A: TenantArena> NamedWorld<A> {
     /// if an allocation failed, and then nothing has changed.
     pub fn take(&mut self, alloc: Global, line: &[u8]) -> Result<Option<Outcome>, AllocError>
         ensures taken { (names : List (List ℕ)) (w : Known) → Knows A.stands_for names w self.old
-            → IfOk result (λ outcome. (v : Known) × (TakesStep names (step_in line.now) w outcome v × Knows A.stands_for names v self.new)) }
+            → IfOk result (λ outcome. (v : Known)
+            × (TakesStep names (step_in line.now) w outcome v
+            × Knows A.stands_for names v self.new)) }
         ensures refused { OnErr result (self.new ≡ self.old) }
     {
-        let value = match value_of(alloc, line) {
-            Ok(value) => value,
-            Err(Error::NoMemory) => return Err(AllocError),
-            Err(_) => return Ok(None),
-        };
-        self.take_value(alloc, &value)
+        match value_in(alloc, line)? {
+            Some(value) => self.take_value(alloc, &value),
+            None => Ok(None),
+        }
     }
 
     fn take_value(&mut self, alloc: Global, value: &Value) -> Result<Option<Outcome>, AllocError>
         ensures taken { (names : List (List ℕ)) (w : Known) → Knows A.stands_for names w self.old
-            → IfOk result (λ outcome. (v : Known) × (TakesStep names (raw_line (view value.now)) w outcome v × Knows A.stands_for names v self.new)) }
+            → IfOk result (λ outcome. (v : Known)
+            × (TakesStep names (raw_line (view value.now)) w outcome v
+            × Knows A.stands_for names v self.new)) }
         ensures refused { OnErr result (self.new ≡ self.old) }
     {
         match raw_line(value) {
@@ -90,7 +92,9 @@ impl<A: TenantArena> NamedWorld<A> {
 
     fn take_step(&mut self, alloc: Global, step: &RawLine) -> Result<Outcome, AllocError>
         ensures taken { (names : List (List ℕ)) (w : Known) → Knows A.stands_for names w self.old
-            → IfOk result (λ outcome. (v : Known) × (TakesRaw (raw_of names (data_of step.now)) w outcome v × Knows A.stands_for names v self.new)) }
+            → IfOk result (λ outcome. (v : Known)
+            × (TakesRaw (raw_of names (data_of step.now)) w outcome v
+            × Knows A.stands_for names v self.new)) }
         ensures refused { OnErr result (self.new ≡ self.old) }
     {
         match raw_of(alloc, self.names.as_slice(), step)? {
@@ -101,7 +105,8 @@ impl<A: TenantArena> NamedWorld<A> {
 
     fn apply(&mut self, alloc: Global, raw: Raw) -> Outcome
         ensures { (names : List (List ℕ)) (w : Known) → Knows A.stands_for names w self.old
-            → (v : Known) × (TakesRaw (Some (stepped raw)) w result v × Knows A.stands_for names v self.new) }
+            → (v : Known)
+            × (TakesRaw (Some (stepped raw)) w result v × Knows A.stands_for names v self.new) }
     {
         self.world.apply(alloc, &raw)
     }
@@ -128,7 +133,8 @@ fn tenant_named(names: &[TenantName], name: &str) -> Option<usize>
 
 /// A slot of a tenant, if the tenant is there. No slot has a number above 255.
 fn slot_of(names: &[TenantName], name: &str, slot: u64) -> Option<Call>
-    ensures { option_map (λ call. (call.tenant, call.slot)) result ≡ slot_named names.now name.now slot }
+    ensures { option_map (λ call. (call.tenant, call.slot)) result
+        ≡ slot_named names.now name.now slot }
 {
     let tenant = tenant_named(names, name)?;
     if slot > u64::from(u8::MAX) {
@@ -160,7 +166,8 @@ fn line_of(
     name: &str,
     text: &str,
 ) -> Result<Option<Raw>, AllocError>
-    ensures { IfOk result (λ raw. option_map stepped raw ≡ raw_of names.now (line name.now text.now)) }
+    ensures { IfOk result (λ raw. option_map stepped raw
+        ≡ raw_of names.now (line name.now text.now)) }
 {
     let Some(tenant) = tenant_named(names, name) else {
         return Ok(None);

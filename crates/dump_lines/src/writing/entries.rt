@@ -2,12 +2,10 @@
 ghost use Rattle.std.specs.Prelude.{◌≡◌, Some, true, IfOk, IfSome, option_map};
 ghost use Rattle.serde_json.specs.View.{view};
 ghost use Rattle.job_language.specs.Recorded.{is_entry};
-ghost use Rattle.job_language.specs.declared.answers.Answer.TheVariants.{Moved as moved_answer, Came as arrived_answer, Replied};
-ghost use Rattle.job_language.specs.declared.answers.Came.TheVariants.{At};
+ghost use Rattle.job_language.specs.declared.answers.Answer.TheVariants.{Replied};
 ghost use Rattle.job_language.specs.declared.steps.Step.TheVariants as step;
-ghost use Rattle.dump_lines.specs.Lines.{said_in_value};
+ghost use Rattle.dump_lines.specs.Lines.{SaysEntry, ask, arrival, advance};
 ghost use Rattle.dump_lines.specs.Written.{entry_data, step_data, ask_data, advance_data, arrival_data, bare_advance, nested_advance};
-ghost use Rattle.dump_lines.specs.declared.lines.Said.TheVariants as said;
 
 use super::replies::reply_value;
 use super::requests::request_value;
@@ -18,7 +16,7 @@ use std::alloc::{AllocError, Global};
 /// An entry as JSON, if a history can hold it.
 pub(super) fn entry_value(alloc: Global, entry: &Entry) -> Result<Option<Value>, AllocError>
     ensures value { IfOk result (λ v. option_map view v ≡ entry_data entry.now) }
-    ensures reads_back { IfOk result (λ v. IfSome v (λ v. said_in_value (view v) ≡ Some (said.Entry entry.now))) }
+    ensures reads_back { IfOk result (λ v. IfSome v (λ v. SaysEntry (view v) entry.now)) }
 {
     if !entry.answer.is_entry() {
         return Ok(None);
@@ -34,8 +32,10 @@ pub(super) fn entry_value(alloc: Global, entry: &Entry) -> Result<Option<Value>,
 #[tactic(auto, using(crate::proofs::RoundTrip::read_ask))]
 fn ask_value(alloc: Global, request: &Request, reply: Reply) -> Result<Option<Value>, AllocError>
     requires { is_entry (Replied reply) ≡ true }
-    ensures value { IfOk result (λ v. option_map view v ≡ step_data (step.Ask request.now) (Replied reply)) }
-    ensures reads_back { IfOk result (λ v. IfSome v (λ v. said_in_value (view v) ≡ Some (said.Entry (record { step = step.Ask request.now; answer = Replied reply })))) }
+    ensures value { IfOk result (λ v. option_map view v
+        ≡ step_data (step.Ask request.now) (Replied reply)) }
+    ensures reads_back { IfOk result (λ v. IfSome v
+        (λ v. SaysEntry (view v) (ask request.now reply))) }
 {
     let Some(request) = request_value(alloc, request)? else {
         return Ok(None);
@@ -52,7 +52,7 @@ fn ask_data(alloc: Global, reply: Value, request: Value) -> Result<Value, AllocE
 
 fn arrival_value(alloc: Global, slot: u8, row: u64) -> Result<Option<Value>, AllocError>
     ensures value { IfOk result (λ v. option_map view v ≡ Some (arrival_data slot row)) }
-    ensures reads_back { IfOk result (λ v. IfSome v (λ v. said_in_value (view v) ≡ Some (said.Entry (record { step = step.Arrive slot; answer = arrived_answer (At row) })))) }
+    ensures reads_back { IfOk result (λ v. IfSome v (λ v. SaysEntry (view v) (arrival slot row))) }
 {
     let value = json!(in alloc; {"moved": "arrived", "row": row, "slot": slot, "step": "arrive"})?;
     Ok(Some(value))
@@ -60,7 +60,8 @@ fn arrival_value(alloc: Global, slot: u8, row: u64) -> Result<Option<Value>, All
 
 fn advance_value(alloc: Global, slot: u8, moved: Moved) -> Result<Option<Value>, AllocError>
     ensures value { IfOk result (λ v. option_map view v ≡ advance_data slot moved) }
-    ensures reads_back { IfOk result (λ v. IfSome v (λ v. said_in_value (view v) ≡ Some (said.Entry (record { step = step.Advance slot; answer = moved_answer moved })))) }
+    ensures reads_back { IfOk result (λ v. IfSome v
+        (λ v. SaysEntry (view v) (advance slot moved))) }
 {
     let value = match moved {
         Moved::Ran => bare_advance(alloc, "ran", slot),

@@ -17,7 +17,8 @@ use std::alloc::{AllocError, Global};
 /// A request as JSON; a hello has none here.
 pub(super) fn request_value(alloc: Global, request: &Request) -> Result<Option<Value>, AllocError>
     ensures value { IfOk result (λ v. option_map view v ≡ request_data request.now) }
-    ensures reads_back { IfOk result (λ v. IfSome v (λ v. recorded (request_in (view v)) ≡ Some request.now)) }
+    ensures reads_back { IfOk result (λ v. IfSome v
+        (λ v. recorded (request_in (view v)) ≡ Some request.now)) }
 {
     let value = match request {
         Request::Hello(_) => return Ok(None),
@@ -51,7 +52,8 @@ fn job_named(alloc: Global, op: &str, job: u64) -> Result<Value, AllocError>
 
 fn cells_request(alloc: Global, key: Key) -> Result<Value, AllocError>
     ensures value { IfOk result (λ v. Some (view v) ≡ request_data (request.Cells key)) }
-    ensures reads_back { IfOk result (λ v. recorded (request_in (view v)) ≡ Some (request.Cells key)) }
+    ensures reads_back { IfOk result (λ v. recorded (request_in (view v))
+        ≡ Some (request.Cells key)) }
 {
     json!(in alloc; {"key": key.index() as u64, "op": "cells"})
 }

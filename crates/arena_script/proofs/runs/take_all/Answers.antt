@@ -1,4 +1,4 @@
-use Rattle.std.proofs.Common.{◌≡◌, ◌≢◌, rules, List, ℕ, [], ◌∷◌, ◌++◌, ap, ◌∙◌, Ok, refl, Err}
+use Rattle.std.proofs.Common.{◌≡◌, rules, List, ℕ, [], ◌∷◌, ◌++◌, ap, ◌∙◌, Ok, refl, Err}
 use Rattle.world_script.specs.Takes.{told}
 use Rattle.arena_script.specs.RunAnswers.{TellsOutcome}
 use Rattle.arena_script.specs.declared.inputs.Input.{Input}
@@ -11,8 +11,8 @@ use Rattle.arena_script.specs.declared.ends.ScriptEnd.TheVariants.{Device}
 use Rattle.arena_script.proofs.Causes.{lost_with}
 use Rattle.arena_script.proofs.runs.take_all.Goals as goal
 
-pub returns-then-eq-clause-done : goal.returns-then-eq-clause-done
-returns-then-eq-clause-done g c names w knows known =
+pub returns-in_default-clause-done : goal.returns-in_default-clause-done
+returns-in_default-clause-done g c names w knows known =
     let so_far = c.steps.invariant.answered names w knows in
     let here = so_far.2 known in
     let ended : c.in_ok-input.input ≡ input.End = search rules in
@@ -21,8 +21,8 @@ returns-then-eq-clause-done g c names w knows known =
 pub returns-in_err-input-clause-part : goal.returns-in_err-input-clause-part
 returns-in_err-input-clause-part g c names w knows known = ((c.steps.invariant.answered names w knows).2 known).2 _ (answers_part_none _ (tells_all names) _ _ _)
 
-pub returns-then-eq-clause-part : goal.returns-then-eq-clause-part
-returns-then-eq-clause-part g c names w knows known = ((c.steps.invariant.answered names w knows).2 known).2 _ (answers_part_none _ (tells_all names) _ _ _)
+pub returns-in_default-clause-part : goal.returns-in_default-clause-part
+returns-in_default-clause-part g c names w knows known = ((c.steps.invariant.answered names w knows).2 known).2 _ (answers_part_none _ (tells_all names) _ _ _)
 
 pub returns-in_err-outcome-clause-part : goal.returns-in_err-outcome-clause-part
 returns-in_err-outcome-clause-part g c names w knows known = ((c.steps.invariant.answered names w knows).2 known).2 _ (answers_part_none _ (tells_all names) _ _ _)
@@ -31,12 +31,11 @@ pub returns-in_err-put-clause-part : goal.returns-in_err-put-clause-part
 returns-in_err-put-clause-part g c names w knows known =
     let so_far = c.steps.invariant.answered names w knows in
     let here = so_far.2 known in
-    let going : c.in_ok-input.input ≢ input.End = search rules in
     let after = c.in_ok-outcome.ensures names so_far.0 so_far.1 in
     let said : c.told.result ≡ told names c.in_ok-outcome.outcome = c.told.ensures ∙ ap (λ (ns : List (List ℕ)). told ns c.in_ok-outcome.outcome) after.1.1.names_are in
     here.2 _
-    (answers_part_cut (TellsOutcome names) (tells_all names) _ _ _ _ _ _ _ _ _ c.line.ensures going (c.in_ok-input.ensures.lines here.0) (c.in_ok-outcome.outcome, after.1.0, refl)
-    (c.line-in-steps.ensures.value ∙ ap (λ (t : List ℕ). t ++ 10 ∷ []) said) _ _ c.in_err-put.ensures.part)
+    (answers_part_cut (TellsOutcome names) (tells_all names) _ _ _ _ _ _ _ _ c.in-Some.ensures.line (c.in_ok-input.ensures.lines here.0) (c.in_ok-outcome.outcome, after.1.0, refl)
+    (c.line.ensures.value ∙ ap (λ (t : List ℕ). t ++ 10 ∷ []) said) _ _ c.in_err-put.ensures.part)
 
 pub steps-preserved : goal.steps-preserved
 steps-preserved g c = record {
@@ -44,18 +43,17 @@ steps-preserved g c = record {
   answered =
       λ names first knows.
       let so_far = c.steps.invariant.answered names first knows in
-      let going : c.in_ok-input.input ≢ input.End = search rules in
       let next = c.in_ok-outcome.ensures names so_far.0 so_far.1 in
       let said : c.told.result ≡ told names c.in_ok-outcome.outcome = c.told.ensures ∙ ap (λ (ns : List (List ℕ)). told ns c.in_ok-outcome.outcome) next.1.1.names_are in
-      let line = c.line-in-steps.ensures.value ∙ ap (λ (t : List ℕ). t ++ 10 ∷ []) said in (
+      let line = c.line.ensures.value ∙ ap (λ (t : List ℕ). t ++ 10 ∷ []) said in (
         next.0,
         next.1.1,
         λ known. let here = so_far.2 known in (
           c.in_ok-input.ensures.known here.0,
           λ after final others. here.1 after final
-              (answers_step (TellsOutcome names) _ _ _ _ _ _ _ _ _ _ _ _ _ c.line.ensures going (c.in_ok-input.ensures.lines here.0) (c.in_ok-outcome.outcome, next.1.0, refl) line c.in_ok-put.ensures.ok others),
+              (answers_step (TellsOutcome names) _ _ _ _ _ _ _ _ _ _ _ _ c.in-Some.ensures.line (c.in_ok-input.ensures.lines here.0) (c.in_ok-outcome.outcome, next.1.0, refl) line c.in_ok-put.ensures.ok others),
           λ after others. here.2 after
-              (answers_part_step (TellsOutcome names) (tells_all names) _ _ _ _ _ _ _ _ _ c.line.ensures going (c.in_ok-input.ensures.lines here.0) (c.in_ok-outcome.outcome, next.1.0, refl) line _ _ after c.in_ok-put.ensures.ok others),
+              (answers_part_step (TellsOutcome names) (tells_all names) _ _ _ _ _ _ _ _ c.in-Some.ensures.line (c.in_ok-input.ensures.lines here.0) (c.in_ok-outcome.outcome, next.1.0, refl) line _ _ after c.in_ok-put.ensures.ok others),
         ),
       );
 }

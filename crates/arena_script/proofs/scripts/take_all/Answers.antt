@@ -3,7 +3,7 @@ use Rattle.request_reader.specs.Lines.{Line}
 use Rattle.arena_core.specs.Stands.{StandsFor}
 use Rattle.dump_lines.proofs.Parts.{part_none}
 use Rattle.arena_script.specs.ScriptAnswers.{line_taken, own_answers, told}
-use Rattle.arena_script.specs.ScriptLines.{line_of}
+use Rattle.arena_script.specs.ScriptLines.{line_seen}
 use Rattle.arena_script.specs.declared.inputs.Input.{Input}
 use Rattle.arena_script.specs.declared.inputs.Input.TheVariants as input
 use Rattle.request_reader.proofs.Calling.{calls_then}
@@ -14,8 +14,8 @@ use Rattle.arena_script.specs.declared.ends.ScriptEnd.TheVariants.{Device}
 use Rattle.arena_script.proofs.Causes.{lost_with}
 use Rattle.arena_script.proofs.scripts.take_all.Goals as goal
 
-pub returns-then-eq-clause-done : goal.returns-then-eq-clause-done
-returns-then-eq-clause-done g c s stands known =
+pub returns-in_default-clause-done : goal.returns-in_default-clause-done
+returns-in_default-clause-done g c s stands known =
     let so_far = c.steps.invariant.answered s stands in
     let here = so_far.2 known in
     let ended : c.in_ok-input.input ≡ input.End = search rules in
@@ -24,8 +24,8 @@ returns-then-eq-clause-done g c s stands known =
 pub returns-in_err-input-clause-part : goal.returns-in_err-input-clause-part
 returns-in_err-input-clause-part g c s stands known = ((c.steps.invariant.answered s stands).2 known).2 _ (part_none _ _)
 
-pub returns-then-eq-clause-part : goal.returns-then-eq-clause-part
-returns-then-eq-clause-part g c s stands known = ((c.steps.invariant.answered s stands).2 known).2 _ (part_none _ _)
+pub returns-in_default-clause-part : goal.returns-in_default-clause-part
+returns-in_default-clause-part g c s stands known = ((c.steps.invariant.answered s stands).2 known).2 _ (part_none _ _)
 
 pub returns-in_err-answer-clause-part : goal.returns-in_err-answer-clause-part
 returns-in_err-answer-clause-part g c s stands known = ((c.steps.invariant.answered s stands).2 known).2 _ (part_none _ _)
@@ -34,11 +34,10 @@ pub returns-in_err-put-clause-part : goal.returns-in_err-put-clause-part
 returns-in_err-put-clause-part g c s stands known =
     let so_far = c.steps.invariant.answered s stands in
     let here = so_far.2 known in
-    let going : c.in_ok-input.input ≢ input.End = search rules in
-    let it = line_of c.in_ok-input.input c.line.result.now in
+    let it = line_seen c.in-Some.line in
     let taken = told_so so_far.0 (line_taken so_far.0 it) _ StandsFor _ (c.in_ok-answer.ensures.ok so_far.0 so_far.1) in
-    let line = c.line-in-steps.ensures.value ∙ ap (λ (t : List ℕ). t ++ 10 ∷ []) (c.told.ensures ∙ taken.0) in
-    let lines = next_is_line _ _ _ _ _ c.line.ensures going (c.in_ok-input.ensures.lines here.0) in
+    let line = c.line.ensures.value ∙ ap (λ (t : List ℕ). t ++ 10 ∷ []) (c.told.ensures ∙ taken.0) in
+    let lines = next_is_line _ _ _ _ c.in-Some.ensures.line (c.in_ok-input.ensures.lines here.0) in
     here.2 _ (text_part_cut _ _ _ _ _ _ (ap (λ (ls : List Line). own_answers so_far.0 ls) lines) line c.in_err-put.ensures.part)
 
 pub steps-preserved : goal.steps-preserved
@@ -47,15 +46,14 @@ steps-preserved g c = record {
   answered =
       λ first stands.
       let so_far = c.steps.invariant.answered first stands in
-      let going : c.in_ok-input.input ≢ input.End = search rules in
-      let it = line_of c.in_ok-input.input c.line.result.now in
+      let it = line_seen c.in-Some.line in
       let taken = told_so so_far.0 (line_taken so_far.0 it) _ StandsFor _ (c.in_ok-answer.ensures.ok so_far.0 so_far.1) in
-      let line = c.line-in-steps.ensures.value ∙ ap (λ (t : List ℕ). t ++ 10 ∷ []) (c.told.ensures ∙ taken.0) in (
+      let line = c.line.ensures.value ∙ ap (λ (t : List ℕ). t ++ 10 ∷ []) (c.told.ensures ∙ taken.0) in (
         (told so_far.0 (line_taken so_far.0 it)).1,
         taken.1,
         λ known.
             let here = so_far.2 known in
-            let lines = next_is_line _ _ _ _ _ c.line.ensures going (c.in_ok-input.ensures.lines here.0) in (
+            let lines = next_is_line _ _ _ _ c.in-Some.ensures.line (c.in_ok-input.ensures.lines here.0) in (
               c.in_ok-input.ensures.known here.0,
               λ after others. here.1 after (text_step _ _ after _ _ _ _ (ap (λ (ls : List Line). own_answers so_far.0 ls) lines) line c.in_ok-put.ensures.ok others),
               λ after others. here.2 after (text_part_step _ _ after _ _ _ _ (ap (λ (ls : List Line). own_answers so_far.0 ls) lines) line c.in_ok-put.ensures.ok others),

@@ -1,7 +1,7 @@
 // Lines of the greatest length.
 use crate::tests::assert_same;
 use job_language::{Error, Request};
-use request_reader::{Asked, read_request, value_of};
+use request_reader::{Asked, read_request, value_in};
 use std::alloc::Global;
 use std::test::Fail;
 
@@ -45,9 +45,9 @@ fn zeros(alloc: Global, count: u16) -> Result<Vec<u8>, Fail> {
 #[test]
 fn a_line_of_as_many_values_as_it_may_have_is_read(rt: HostRuntime) -> Result<(), Fail> {
     let line = zeros(rt.alloc(), 32_767)?;
-    let count = match value_of(rt.alloc(), line.as_slice()) {
-        Ok(value) => value.as_array().map(|items| items.len()),
-        Err(_) => None,
+    let count = match value_in(rt.alloc(), line.as_slice())? {
+        Some(value) => value.as_array().map(|items| items.len()),
+        None => None,
     };
     assert_same(&rt, &(line.len(), count), &(65_535, Some(32_767)));
     Ok(())

@@ -1,7 +1,6 @@
-use Rattle.std.proofs.Common.{◌≡◌, ap}
-use Rattle.request_reader.specs.LineAsks.{value_of}
-use Rattle.world_script.specs.Takes.{step_of_value}
 use Rattle.world_script.proofs.worlds.NamedWorld.take.Goals as goal
 
-pub returns-clause-taken : goal.returns-clause-taken
-returns-clause-taken g c = λ names w knows. rw c.in-Ok.ensures (c.take_value.ensures.taken names w knows)
+pub returns-in-Some-clause-taken : goal.returns-in-Some-clause-taken
+returns-in-Some-clause-taken g c =
+    let reads = rw c.in-Some.is at c.in_ok-value.ensures.ok in
+    λ names w knows. rw (← reads) (c.take_value.ensures.taken names w knows)

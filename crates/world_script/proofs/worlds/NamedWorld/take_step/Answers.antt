@@ -1,4 +1,4 @@
-use Rattle.std.proofs.Common.{◌≡◌, ◌∙◌, sym, ap, subst, Some, List, ℕ}
+use Rattle.std.proofs.Common.{◌≡◌, ◌∙◌, sym, ap, Some, List, ℕ}
 use Rattle.std.specs.Option.{option_map}
 use Rattle.world_core.specs.RawOf.{raw_of as stepped}
 use Rattle.world_script.specs.Knowing.{Knows}
