@@ -7,8 +7,7 @@ use Rattle.nested_wait.specs.Turns.{Turn}
 use Rattle.session_core.specs.Replies.{Replies}
 use Rattle.session_core.specs.Sessions.{Serves}
 use Rattle.session_core.specs.declared.serving.SessionEnd.{SessionEnd}
-use Rattle.session_law.specs.Tenants as tenants
-use Rattle.session_law.specs.Tenants.{Tenants, AttendsSlot}
+use Rattle.session_law.specs.Tenants.{Tenants, FindsTenant, BindsTenant, AsksTenant, WaitsForJob, AttendsSlot}
 use Rattle.session_law.specs.Doors.{AreAt, Sees, Commits, Advances, IsAsHigh, Pauses, Finds, Binds, Asks, Waits}
 use Rattle.session_law.specs.Sessions.{RepliesBy, ServesTenants}
 use Rattle.session_law.specs.declared.doors.ArenaDoors.{ArenaDoors}
@@ -20,7 +19,7 @@ RepliesAt text s r t = Replies Finds Binds Asks Waits (Attends (Turn Sees Commit
 
 pub served_at : (d e : ArenaDoors) (ts : Tenants) (bytes left written out : Option (List ℕ)) (how : SessionEnd) → AreAt d ts → Serves RepliesAt bytes left written out (false, d) e how → ServesTenants bytes left written out ts e how
 served_at d e ts bytes left written out how at is =
-    let one = replies AreAt Finds Binds Asks Waits (Attends (Turn Sees Commits Advances) IsAsHigh Pauses 1) tenants.Finds tenants.Binds tenants.Asks tenants.Waits AttendsSlot
+    let one = replies AreAt Finds Binds Asks Waits (Attends (Turn Sees Commits Advances) IsAsHigh Pauses 1) FindsTenant BindsTenant AsksTenant WaitsForJob AttendsSlot
     (λ d x name t at finds. finds x at)
     (λ d e x t at binds. binds x at)
     (λ d e x q a at asks. asks x at)

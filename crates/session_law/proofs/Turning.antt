@@ -24,7 +24,7 @@ use Rattle.arena_core.specs.Stands.{StandsFor, Takes}
 use Rattle.arena_core.specs.Views.{IsSeenOf, IsTopmost}
 use Rattle.arena_core.specs.Views.{Commits as CommitsIn}
 use Rattle.session_law.proofs.Counting.{is_counted}
-use Rattle.session_law.specs.SlotDoor.{IsSameDoor, Sees, IsAsHigh, Advances, Commits, Pauses}
+use Rattle.session_law.specs.SlotDoor.{IsSameDoor, SeesSlot, IsSlotAsHigh, AdvancesSlot, CommitsSlot, PausesSlot}
 use Rattle.session_law.specs.AttendedSlot.{advanced, Attends}
 use Rattle.session_law.specs.declared.slot_door.ArenaDoor.{ArenaDoor}
 
@@ -44,7 +44,7 @@ takes b m s t slot seen is commits stands = elim commits [
   | inr stale ↦ absurd (stale.0 is)
 ]
 
-moves : (d e : ArenaDoor) (seen : View) (m : Moved) (s : State) → Sees d seen → MovesBy Commits Advances seen d m e → StandsFor d.arena.now s → IsSameDoor d e × Takes e.arena.now m (advance s d.slot)
+moves : (d e : ArenaDoor) (seen : View) (m : Moved) (s : State) → SeesSlot d seen → MovesBy CommitsSlot AdvancesSlot seen d m e → StandsFor d.arena.now s → IsSameDoor d e × Takes e.arena.now m (advance s d.slot)
 moves d e (view.Top t) m s sees by stands =
     let commits = by.1 s stands in
     (by.0, takes e.arena.now m s commits.0 d.slot t (topmost s d.slot (top s.rows d.slot) t refl (sees s stands)) commits.1.0 commits.1.1)
@@ -52,7 +52,7 @@ moves d e view.Bare m s sees by stands = (by.0, by.1 s stands)
 moves d e view.Unshared m s sees by stands = (by.0, by.1 s stands)
 
 -- after Idle and Full no turn is counted
-goes_counted : (m : Moved) (f g : ArenaDoor) → GoesOn Pauses m f g → (m ≢ moved.Idle) × (m ≢ moved.Full)
+goes_counted : (m : Moved) (f g : ArenaDoor) → GoesOn PausesSlot m f g → (m ≢ moved.Idle) × (m ≢ moved.Full)
 goes_counted moved.Idle f g goes = absurd (grind (arith, goes.0))
 goes_counted moved.Full f g goes = absurd goes
 goes_counted moved.Ran f g goes = (λ e. absurd (grind (arith, e)), λ e. absurd (grind (arith, e)))
@@ -62,7 +62,7 @@ goes_counted moved.Left f g goes = (λ e. absurd (grind (arith, e)), λ e. absur
 goes_counted moved.Stale f g goes = (λ e. absurd (grind (arith, e)), λ e. absurd (grind (arith, e)))
 
 -- a pause never says to go on
-goes_same : (m : Moved) (f g : ArenaDoor) → GoesOn Pauses m f g → g ≡ f
+goes_same : (m : Moved) (f g : ArenaDoor) → GoesOn PausesSlot m f g → g ≡ f
 goes_same moved.Idle f g goes = absurd (grind (arith, goes.0))
 goes_same moved.Full f g goes = absurd goes
 goes_same moved.Ran f g goes = goes
@@ -74,7 +74,7 @@ goes_same moved.Stale f g goes = goes
 same_after : (base d e : ArenaDoor) → IsSameDoor base d → IsSameDoor d e → IsSameDoor base e
 same_after base d e first then_on = (then_on.0 ∙ first.0, then_on.1 ∙ first.1)
 
-same_moves : (d e : ArenaDoor) (seen : View) (m : Moved) → MovesBy Commits Advances seen d m e → IsSameDoor d e
+same_moves : (d e : ArenaDoor) (seen : View) (m : Moved) → MovesBy CommitsSlot AdvancesSlot seen d m e → IsSameDoor d e
 same_moves d e (view.Top t) m by = by.0
 same_moves d e view.Bare m by = by.0
 same_moves d e view.Unshared m by = by.0
@@ -87,19 +87,19 @@ unmoved a s slot m stands is none =
 
 module _ (floor : ℕ) (base : ArenaDoor) where
   abbrev turn : ArenaDoor → Moved → ArenaDoor → Type 0
-  turn = TurnFrom (Turn Sees Commits Advances) IsAsHigh floor
+  turn = TurnFrom (Turn SeesSlot CommitsSlot AdvancesSlot) IsSlotAsHigh floor
 
   same_turned : (d e : ArenaDoor) (m : Moved) → turn d m e → IsSameDoor base d → IsSameDoor base e
   same_turned d e m is same = same_after base d e same (same_moves d e is.1.2.0 m is.1.2.1.1)
 
-  same_led : (ms : List Moved) (d e : ArenaDoor) → Leads turn Pauses ms d e → IsSameDoor base d → IsSameDoor base e
+  same_led : (ms : List Moved) (d e : ArenaDoor) → Leads turn PausesSlot ms d e → IsSameDoor base d → IsSameDoor base e
   same_led [] d e leads same = subst (IsSameDoor base) (sym leads) same
   same_led (m ∷ ms) d e leads same =
       let one = same_turned d leads.0 m leads.2.0 same in
       same_led ms leads.1 e leads.2.2 (subst (IsSameDoor base) (sym (goes_same m leads.0 leads.1 leads.2.1)) one)
 
   -- Attending a door leaves it the same slot's.
-  pub ends_same : (how : Attended) (e : ArenaDoor) → Ends turn IsAsHigh Pauses floor how base e → IsSameDoor base e
+  pub ends_same : (how : Attended) (e : ArenaDoor) → Ends turn IsSlotAsHigh PausesSlot floor how base e → IsSameDoor base e
   ends_same Below e is = same_led is.0.answers base e is.0.leads (refl, refl)
   ends_same Full e is = same_turned is.0 e moved.Full is.1.1 (same_led is.1.0.answers base is.0 is.1.0.leads (refl, refl))
   ends_same Stopped e is = elim is [
@@ -115,7 +115,7 @@ module _ (floor : ℕ) (base : ArenaDoor) where
       let moved = moves d e step.0 m s step.1.0 step.1.1 stands in
       (same_after base d e same moved.0, subst (λ (slot : ℕ). Takes e.arena.now m (advance s slot)) same.1 moved.1)
 
-  led : (ms : List Moved) (d e : ArenaDoor) (s : State) → Leads turn Pauses ms d e → IsSameDoor base d → StandsFor d.arena.now s → IsSameDoor base e × StandsFor e.arena.now (advanced s base.slot (length ms))
+  led : (ms : List Moved) (d e : ArenaDoor) (s : State) → Leads turn PausesSlot ms d e → IsSameDoor base d → StandsFor d.arena.now s → IsSameDoor base e × StandsFor e.arena.now (advanced s base.slot (length ms))
   led [] d e s leads same stands = subst (λ (x : ArenaDoor). IsSameDoor base x × StandsFor x.arena.now s) (sym leads) (same, stands)
   led (m ∷ ms) d e s leads same stands =
       let one = turned d leads.0 m s leads.2.0 same stands in
@@ -124,7 +124,7 @@ module _ (floor : ℕ) (base : ArenaDoor) where
       led ms leads.1 e (advance s base.slot).1 leads.2.2 there.0 there.1
 
   -- a turn that changes nothing, after others
-  stops : (m : Moved) (ms : List Moved) (d e : ArenaDoor) (s : State) → StandsFor base.arena.now s → Leads turn Pauses ms base d → turn d m e → is_entry (answer.Moved m) ≡ false
+  stops : (m : Moved) (ms : List Moved) (d e : ArenaDoor) (s : State) → StandsFor base.arena.now s → Leads turn PausesSlot ms base d → turn d m e → is_entry (answer.Moved m) ≡ false
       → IsSameDoor base e × (StandsFor e.arena.now (advanced s base.slot (length ms)) × (advance (advanced s base.slot (length ms)) base.slot ≡ (m, advanced s base.slot (length ms))))
   stops m ms d e s stands leads is none =
       let t = advanced s base.slot (length ms) in
@@ -134,7 +134,7 @@ module _ (floor : ℕ) (base : ArenaDoor) where
       (last.0, (subst (StandsFor e.arena.now) (ap (λ (r : Moved × State). r.1) still) last.1.1, still))
 
   -- Turns that are counted are entries, so there are no more of them than the history has room for.
-  counts : (ms : List Moved) (d e : ArenaDoor) (s : State) → 1 ≤ floor → Leads turn Pauses ms d e → IsSameDoor base d → StandsFor d.arena.now s → (length ms ≡ 0) ⊎ (s.entries + length ms ≤ s.config.steps)
+  counts : (ms : List Moved) (d e : ArenaDoor) (s : State) → 1 ≤ floor → Leads turn PausesSlot ms d e → IsSameDoor base d → StandsFor d.arena.now s → (length ms ≡ 0) ⊎ (s.entries + length ms ≤ s.config.steps)
   counts [] d e s from leads same stands = inl refl
   counts (m ∷ ms) d e s from leads same stands =
       let t = (advance s base.slot).1 in
@@ -151,13 +151,13 @@ module _ (floor : ℕ) (base : ArenaDoor) where
         | inr more ↦ inr (omega (arith, more, first.entries, limit))
       ]
 
-  few : (ms : List Moved) (e : ArenaDoor) (s : State) → 1 ≤ floor → Leads turn Pauses ms base e → StandsFor base.arena.now s → s.config.steps ≤ MAX_STEPS → length ms ≤ MAX_STEPS
+  few : (ms : List Moved) (e : ArenaDoor) (s : State) → 1 ≤ floor → Leads turn PausesSlot ms base e → StandsFor base.arena.now s → s.config.steps ≤ MAX_STEPS → length ms ≤ MAX_STEPS
   few ms e s from leads stands limit = elim (counts ms base e s from leads (refl, refl) stands) [
     | inl none ↦ omega (arith, none)
     | inr more ↦ omega (arith, more, limit)
   ]
 
-  pub ends : (how : Attended) (e : ArenaDoor) (s : State) → 1 ≤ floor → s.config.steps ≤ MAX_STEPS → Ends turn IsAsHigh Pauses floor how base e → StandsFor base.arena.now s → Attends floor how base.slot s e.arena.now
+  pub ends : (how : Attended) (e : ArenaDoor) (s : State) → 1 ≤ floor → s.config.steps ≤ MAX_STEPS → Ends turn IsSlotAsHigh PausesSlot floor how base e → StandsFor base.arena.now s → Attends floor how base.slot s e.arena.now
   ends Below e s from limit is stands =
       let ms = is.0.answers in
       let there = led ms base e s is.0.leads (refl, refl) stands in

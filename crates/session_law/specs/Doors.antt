@@ -12,8 +12,7 @@ use Rattle.arena_core.specs.Stands.{StandsFor}
 use Rattle.arena_core.specs.Views.{IsSeen}
 use Rattle.arena_core.specs.Views.{Commits as CommitsIn}
 use Rattle.session_core.specs.declared.doors.Answered.{Answered}
-use Rattle.session_law.specs.Tenants as tenants
-use Rattle.session_law.specs.Tenants.{Tenants, bound_state, with_state, moved_by, height_in, IsLimited}
+use Rattle.session_law.specs.Tenants.{Tenants, bound_state, with_state, moved_by, height_in, IsLimited, FindsTenant, BindsTenant, AsksTenant}
 use Rattle.session_law.specs.declared.doors.ArenaDoors.{ArenaDoors}
 
 -- Each arena stands for the state of its tenant.
@@ -32,13 +31,13 @@ abbrev pub Does : (Tenants → Tenants → Type 0) → ArenaDoors → ArenaDoors
 Does happens d e = (ts : Tenants) → AreAt d ts → (us : Tenants) × (happens ts us × AreAt e us)
 
 abbrev pub Finds : ArenaDoors → (name : List ℕ) → Option ℕ → Type 0
-Finds d name tenant = (ts : Tenants) → AreAt d ts → tenants.Finds ts name tenant
+Finds d name tenant = (ts : Tenants) → AreAt d ts → FindsTenant ts name tenant
 
 abbrev pub Binds : ArenaDoors → (tenant : ℕ) → ArenaDoors → Type 0
-Binds d tenant e = Does (λ ts us. tenants.Binds ts tenant us) d e
+Binds d tenant e = Does (λ ts us. BindsTenant ts tenant us) d e
 
 abbrev pub Asks : ArenaDoors → Request → Answered → ArenaDoors → Type 0
-Asks d request a e = Does (λ ts us. tenants.Asks ts request a us) d e
+Asks d request a e = Does (λ ts us. AsksTenant ts request a us) d e
 
 abbrev pub Waits : ArenaDoors → (job : ℕ) → Bool → ArenaDoors → Type 0
 Waits d job stops e = (stops ≡ true) × (e ≡ d)

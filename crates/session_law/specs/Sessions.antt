@@ -6,13 +6,13 @@ use Rattle.request_reader.specs.Reading.{Reading}
 use Rattle.session_core.specs.Replies.{Replies}
 use Rattle.session_core.specs.Sessions.{ServesTo}
 use Rattle.session_core.specs.declared.serving.SessionEnd.{SessionEnd}
-use Rattle.session_law.specs.Tenants.{Tenants, Finds, Binds, Asks, Waits, AttendsSlot}
+use Rattle.session_law.specs.Tenants.{Tenants, FindsTenant, BindsTenant, AsksTenant, WaitsForJob, AttendsSlot}
 use Rattle.session_law.specs.Doors.{AreAt}
 use Rattle.session_law.specs.declared.doors.ArenaDoors.{ArenaDoors}
 
 -- the reply to a line by the definitions of the tenants' steps, and what it leads to; None if the session stops. A session is whether it is bound, and the tenants
 abbrev pub RepliesBy : (text : List ℕ) → Bool × Tenants → Option Reply → Bool × Tenants → Type 0
-RepliesBy text s r t = Replies Finds Binds Asks Waits AttendsSlot text s r t
+RepliesBy text s r t = Replies FindsTenant BindsTenant AsksTenant WaitsForJob AttendsSlot text s r t
 
 -- What is written is the text of a session that begins unbound at these tenants, and the doors are then at the tenants that it leads to.
 abbrev pub ServesTenants : (bytes left written out : Option (List ℕ)) → Tenants → ArenaDoors → SessionEnd → Type 0

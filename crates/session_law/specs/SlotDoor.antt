@@ -15,20 +15,20 @@ use Rattle.session_law.specs.declared.slot_door.ArenaDoor.{ArenaDoor}
 abbrev pub IsSameDoor : ArenaDoor → ArenaDoor → Type 0
 IsSameDoor d e = (e.arena.ghost_name ≡ d.arena.ghost_name) × (e.slot ≡ d.slot)
 
-abbrev pub Sees : ArenaDoor → View → Type 0
-Sees d seen = (s : State) → StandsFor d.arena.now s → IsSeen s d.slot seen
+abbrev pub SeesSlot : ArenaDoor → View → Type 0
+SeesSlot d seen = (s : State) → StandsFor d.arena.now s → IsSeen s d.slot seen
 
-abbrev pub IsAsHigh : ArenaDoor → ℕ → Type 0
-IsAsHigh d h = (s : State) → StandsFor d.arena.now s → h ≡ height s.rows d.slot
+abbrev pub IsSlotAsHigh : ArenaDoor → ℕ → Type 0
+IsSlotAsHigh d h = (s : State) → StandsFor d.arena.now s → h ≡ height s.rows d.slot
 
 -- An advance is the definitions' advance.
-abbrev pub Advances : ArenaDoor → Moved → ArenaDoor → Type 0
-Advances d m e = IsSameDoor d e × ((s : State) → StandsFor d.arena.now s → Takes e.arena.now m (advance s d.slot))
+abbrev pub AdvancesSlot : ArenaDoor → Moved → ArenaDoor → Type 0
+AdvancesSlot d m e = IsSameDoor d e × ((s : State) → StandsFor d.arena.now s → Takes e.arena.now m (advance s d.slot))
 
 -- A commit is an advance too, or stale.
-abbrev pub Commits : ArenaDoor → Top → Moved → ArenaDoor → Type 0
-Commits d seen m e = IsSameDoor d e × ((s : State) → StandsFor d.arena.now s → (t : State) × (CommitsIn true s d.slot seen m t × StandsFor e.arena.now t))
+abbrev pub CommitsSlot : ArenaDoor → Top → Moved → ArenaDoor → Type 0
+CommitsSlot d seen m e = IsSameDoor d e × ((s : State) → StandsFor d.arena.now s → (t : State) × (CommitsIn true s d.slot seen m t × StandsFor e.arena.now t))
 
 -- A pause says to stop, and changes nothing.
-abbrev pub Pauses : ArenaDoor → Bool → ArenaDoor → Type 0
-Pauses d stops e = (stops ≡ true) × (e ≡ d)
+abbrev pub PausesSlot : ArenaDoor → Bool → ArenaDoor → Type 0
+PausesSlot d stops e = (stops ≡ true) × (e ≡ d)

@@ -35,12 +35,12 @@ abbrev pub IsNoneBefore : List State → (name : List ℕ) → (number : ℕ) �
 IsNoneBefore states name number = (n : ℕ) (s : State) → n < number → slice_get states n ≡ Some s → s.config.name ≢ name
 
 -- the first tenant of a name
-abbrev pub Finds : Tenants → (name : List ℕ) → Option ℕ → Type 0
-Finds ts name None = IsNoneBefore ts.states name (length ts.states)
-Finds ts name (Some t) = ((s : State) × ((slice_get ts.states t ≡ Some s) × (s.config.name ≡ name))) × IsNoneBefore ts.states name t
+abbrev pub FindsTenant : Tenants → (name : List ℕ) → Option ℕ → Type 0
+FindsTenant ts name None = IsNoneBefore ts.states name (length ts.states)
+FindsTenant ts name (Some t) = ((s : State) × ((slice_get ts.states t ≡ Some s) × (s.config.name ≡ name))) × IsNoneBefore ts.states name t
 
-abbrev pub Binds : Tenants → (tenant : ℕ) → Tenants → Type 0
-Binds ts tenant us = us ≡ record ts { bound = tenant }
+abbrev pub BindsTenant : Tenants → (tenant : ℕ) → Tenants → Type 0
+BindsTenant ts tenant us = us ≡ record ts { bound = tenant }
 
 -- the answer with this reply
 abbrev pub answered : Reply → Answered
@@ -55,12 +55,12 @@ abbrev pub asked_of : Tenants → Request → Option State → Answered × Tenan
 asked_of ts request None = (answered (Refused NoTenant), ts)
 asked_of ts request (Some s) = asked_in ts (ask s request)
 
-abbrev pub Asks : Tenants → Request → Answered → Tenants → Type 0
-Asks ts request a us = (a ≡ (asked_of ts request (bound_state ts)).0) × (us ≡ (asked_of ts request (bound_state ts)).1)
+abbrev pub AsksTenant : Tenants → Request → Answered → Tenants → Type 0
+AsksTenant ts request a us = (a ≡ (asked_of ts request (bound_state ts)).0) × (us ≡ (asked_of ts request (bound_state ts)).1)
 
 -- A wait says to stop, since nothing changes while one waits.
-abbrev pub Waits : Tenants → (job : ℕ) → Bool → Tenants → Type 0
-Waits ts job stops us = (stops ≡ true) × (us ≡ ts)
+abbrev pub WaitsForJob : Tenants → (job : ℕ) → Bool → Tenants → Type 0
+WaitsForJob ts job stops us = (stops ≡ true) × (us ≡ ts)
 
 -- an advance of the slot that is attended
 abbrev pub moved_in : Tenants → Moved × State → Moved × Tenants

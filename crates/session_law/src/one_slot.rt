@@ -21,7 +21,8 @@ pub fn attend_slot(arena: &mut Arena, slot: u8, floor: usize) -> Attended
 fn attend_door(door: &mut ArenaDoor<'_>, floor: usize) -> Attended
     requires { 1 ≤ floor }
     ensures same { door.new.arena.ghost_name ≡ door.old.arena.ghost_name }
-    ensures attends { (s : State) → StandsFor door.old.arena.now s → Attends floor result door.old.slot s door.new.arena.now }
+    ensures attends { (s : State) → StandsFor door.old.arena.now s
+        → Attends floor result door.old.slot s door.new.arena.now }
 {
     // Proof hint: the tenant is valid.
     let _ = door.arena.config();

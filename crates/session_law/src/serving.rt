@@ -23,10 +23,13 @@ pub fn serve_arenas<R: Source, W: Sink>(
     doors: &mut ArenaDoors,
 ) -> Result<SessionEnd, AllocError>
     ensures serves { (ts : Tenants) → AreAt doors.old ts → IfOk result (λ end.
-        ServesTenants (R.remaining reader.old) (R.remaining reader.new) (W.contents writer.old) (W.contents writer.new) ts doors.new end) }
+        ServesTenants (R.remaining reader.old) (R.remaining reader.new)
+        (W.contents writer.old) (W.contents writer.new) ts doors.new end) }
     ensures cause { IfOk result (λ end.
-        HasCause (R.failed reader.new) (AreCalls R.called MAX_TURNS 0 reader.old reader.new) (W.failed writer.new) end) }
-    ensures refused { OnErr result ((reader.new ≡ reader.old) × (writer.new ≡ writer.old) × (doors.new ≡ doors.old)) }
+        HasCause (R.failed reader.new)
+        (AreCalls R.called MAX_TURNS 0 reader.old reader.new) (W.failed writer.new) end) }
+    ensures refused { OnErr result ((reader.new ≡ reader.old) × (writer.new ≡ writer.old)
+        × (doors.new ≡ doors.old)) }
 {
     serve(alloc, reader, writer, doors)
 }

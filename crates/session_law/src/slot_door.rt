@@ -14,17 +14,17 @@ pub struct ArenaDoor<'a> {
 }
 
 impl Door for ArenaDoor<'_> {
-    ghost use Rattle.session_law.specs.SlotDoor.{Sees, Commits, Advances, IsAsHigh, Pauses};
+    ghost use Rattle.session_law.specs.SlotDoor.{SeesSlot, CommitsSlot, AdvancesSlot, IsSlotAsHigh, PausesSlot};
 
-    ghost views = { Sees };
+    ghost views = { SeesSlot };
 
-    ghost commits = { Commits };
+    ghost commits = { CommitsSlot };
 
-    ghost advances = { Advances };
+    ghost advances = { AdvancesSlot };
 
-    ghost heights = { IsAsHigh };
+    ghost heights = { IsSlotAsHigh };
 
-    ghost pauses = { Pauses };
+    ghost pauses = { PausesSlot };
 
     fn view(&self) -> View {
         self.arena.view(self.slot)
