@@ -18,7 +18,7 @@ import sys
 import threading
 import time
 
-from hosts import MOST_ALIVE, Host, ask, dump_lines, dumps, hang_up
+from hosts import MOST_ALIVE, PROGRAM, SCRIPT, Host, ask, dump_lines, dumps, hang_up
 
 os.environ["MALLOC_MMAP_THRESHOLD_"] = "16384"  # as docs/HOST.md says, Memory
 sys.path.append(str(pathlib.Path(__file__).resolve().parents[1] / "server"))
@@ -126,16 +126,20 @@ class Soak:
         closed = host.told("closed")
         print(f"{len(closed)} generations closed, {sum(map(len, host.closed().values()))} tenants, "
               f"{sum(sum(it.values()) for it in host.closed().values())} entries")
-        print(f"closing and dumping took {max(it['ms'] for it in closed)} ms at most, opening "
-              f"{max(it['ms'] for it in host.told('opened'))} ms at most")
+        print(f"closing and dumping took {max((it['ms'] for it in closed), default=0)} ms at most, opening "
+              f"{max((it['ms'] for it in host.told('opened')), default=0)} ms at most")
         print(dict(sorted(self.seen.items())))
         print(dict(self.most), f"{len(host.told('waiting'))} rotations waited")
 
 
 def main():
+    for program in (PROGRAM, SCRIPT):
+        assert os.path.exists(program), f"{program} is not there: `rt ci` or `make build` builds it"
     soak = Soak(*map(float, sys.argv[1:3] or ["10"]))
-    status = soak.run()
-    soak.report()
+    try:
+        status = soak.run()
+    finally:
+        soak.report()
     host = soak.host
     opened = [it["generation"] for it in host.told("opened")]
     closed = host.closed()
