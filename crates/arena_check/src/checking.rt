@@ -22,7 +22,8 @@ pub fn check(alloc: Global, config: TenantConfig, entries: &[Entry]) -> Result<V
     ensures verdict { IfOk result (λ verdict. IsVerdict config entries.now verdict) }
 
     // The answers in a history that passes are those of its tenant to its steps.
-    ensures yes { result ≡ Ok Verdict.Yes → answers (empty config) (map (λ e. e.step) entries.now) ≡ map (λ e. e.answer) entries.now }
+    ensures yes { result ≡ Ok Verdict.Yes
+        → answers (empty config) (map (λ e. e.step) entries.now) ≡ map (λ e. e.answer) entries.now }
     ensures no { (k : ℕ) → result ≡ Ok (Verdict.No k) → (1 ≤ k) × (k ≤ length entries.now) }
 {
     let mut arena = Arena::new(alloc, config)?;
@@ -31,10 +32,13 @@ pub fn check(alloc: Global, config: TenantConfig, entries: &[Entry]) -> Result<V
 
 /// Takes the steps of a history in an arena, and compares the answers.
 fn check_all(arena: &mut Arena, entries: &[Entry]) -> Result<Verdict, AllocError>
-    ensures verdict { (s : State) → StandsFor arena.old s → IfOk result (λ verdict. IsVerdictFrom s 1 entries.now verdict) }
-    ensures yes { (s : State) → StandsFor arena.old s → result ≡ Ok Verdict.Yes → answers s (map (λ e. e.step) entries.now) ≡ map (λ e. e.answer) entries.now }
+    ensures verdict { (s : State) → StandsFor arena.old s
+        → IfOk result (λ verdict. IsVerdictFrom s 1 entries.now verdict) }
+    ensures yes { (s : State) → StandsFor arena.old s → result ≡ Ok Verdict.Yes
+        → answers s (map (λ e. e.step) entries.now) ≡ map (λ e. e.answer) entries.now }
     ensures no { (k : ℕ) → result ≡ Ok (Verdict.No k) → (1 ≤ k) × (k ≤ length entries.now) }
-    ensures brings { OnErr result ((k : ℕ) × (k < length entries.now) × ((d : Entry) → StepBrings (slice_index_or entries.now k d).step)) }
+    ensures brings { OnErr result ((k : ℕ) × (k < length entries.now)
+        × ((d : Entry) → StepBrings (slice_index_or entries.now k d).step)) }
 {
     for (index, entry) in entries.iter().enumerate() {
         let answer = take(arena, &entry.step)?;
@@ -55,7 +59,8 @@ fn is_recorded(given: &Answer, recorded: &Answer) -> bool
 /// Takes a step. It fails only if another handle on a job's program was refused, and then nothing
 /// has changed.
 fn take(arena: &mut Arena, next: &Step) -> Result<Answer, AllocError>
-    ensures ok { (s : State) → StandsFor arena.old s → IfOk result (λ answer. Takes arena.new answer (step s next.now)) }
+    ensures ok { (s : State) → StandsFor arena.old s
+        → IfOk result (λ answer. Takes arena.new answer (step s next.now)) }
     ensures err { OnErr result (arena.new ≡ arena.old) }
     ensures brings { OnErr result (StepBrings next.now) }
 {
@@ -68,7 +73,8 @@ fn take(arena: &mut Arena, next: &Step) -> Result<Answer, AllocError>
 
 /// Answers an ask, with another handle on the program of its job.
 fn ask(arena: &mut Arena, request: &Request) -> Result<Reply, AllocError>
-    ensures ok { (s : State) → StandsFor arena.old s → IfOk result (λ reply. Takes arena.new reply (ask s request.now)) }
+    ensures ok { (s : State) → StandsFor arena.old s
+        → IfOk result (λ reply. Takes arena.new reply (ask s request.now)) }
     ensures err { OnErr result (arena.new ≡ arena.old) }
     ensures brings { OnErr result (IsSome (job_of request.now)) }
 {

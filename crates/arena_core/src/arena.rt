@@ -82,8 +82,10 @@ impl Arena {
 
     /// Whether an advance of a slot would be idle.
     pub fn is_idle(&self, slot: u8) -> bool
-        ensures idle { (s : State) → StandsFor self.now s → result ≡ true → (advance s slot).0 ≡ moved.Idle }
-        ensures moves { (s : State) → StandsFor self.now s → result ≡ false → (advance s slot).0 ≢ moved.Idle }
+        ensures idle { (s : State) → StandsFor self.now s → result ≡ true
+            → (advance s slot).0 ≡ moved.Idle }
+        ensures moves { (s : State) → StandsFor self.now s → result ≡ false
+            → (advance s slot).0 ≢ moved.Idle }
     {
         arena_steps::is_idle(&self.parts, slot)
     }
@@ -104,7 +106,8 @@ impl Arena {
 
     /// How many rows wait to be started.
     pub fn waiting_rows(&self) -> usize
-        ensures { (s : State) → StandsFor self.now s → result ≡ count_by (λ r. is_unstarted r.phase) s.rows }
+        ensures { (s : State) → StandsFor self.now s
+            → result ≡ count_by (λ r. is_unstarted r.phase) s.rows }
     {
         self.parts.waiting_rows()
     }
@@ -118,7 +121,8 @@ impl Arena {
 
     /// How far a job is, if it was made and is not retired.
     pub fn status(&self, job: u64) -> Option<Status>
-        ensures { (s : State) → StandsFor self.now s → result ≡ option_map (status s.rows job) (known_job s job) }
+        ensures { (s : State) → StandsFor self.now s
+            → result ≡ option_map (status s.rows job) (known_job s job) }
     {
         self.parts.status(job)
     }
@@ -142,7 +146,8 @@ impl Arena {
     /// Lets a worker arrive at a slot, unless that is an entry and the caller has no room for one: then
     /// it is `Full`, and nothing has changed.
     pub fn arrive_within(&mut self, slot: u8, has_room: bool) -> Came
-        ensures { (s : State) → StandsFor self.old s → Takes self.new result (arrive_within has_room s slot) }
+        ensures { (s : State) → StandsFor self.old s
+            → Takes self.new result (arrive_within has_room s slot) }
     {
         arena_steps::arrive_within(&mut self.parts, slot, has_room)
     }
@@ -150,8 +155,10 @@ impl Arena {
     /// Advances a slot; one that the tenant lacks is idle. While a region is live on the slot, the row
     /// that moves is within it, and its touch alone changes the slot's cells (`this_task_arena::isolate`).
     pub fn advance(&mut self, slot: u8) -> Moved
-        ensures moved { (s : State) → StandsFor self.old s → Takes self.new result (advance s slot) }
-        ensures regions { (s : State) → StandsFor self.old s → KeepsRegions s (Step.Advance slot ∷ []) }
+        ensures moved { (s : State) → StandsFor self.old s
+            → Takes self.new result (advance s slot) }
+        ensures regions { (s : State) → StandsFor self.old s
+            → KeepsRegions s (Step.Advance slot ∷ []) }
     {
         arena_steps::advance(&mut self.parts, slot)
     }
@@ -159,7 +166,8 @@ impl Arena {
     /// Advances a slot, unless that is an entry and the caller has no room for one: then it is `Full`,
     /// and nothing has changed.
     pub fn advance_within(&mut self, slot: u8, has_room: bool) -> Moved
-        ensures { (s : State) → StandsFor self.old s → Takes self.new result (advance_within has_room s slot) }
+        ensures { (s : State) → StandsFor self.old s
+            → Takes self.new result (advance_within has_room s slot) }
     {
         arena_steps::advance_within(&mut self.parts, slot, has_room)
     }
@@ -167,8 +175,10 @@ impl Arena {
     /// Puts a private run in the place of an advance's own. It is `Stale`, and nothing has changed, if
     /// the run is not that of the slot's topmost frame.
     pub fn commit(&mut self, slot: u8, segment: &Segment) -> Moved
-        ensures moved { (s : State) → StandsFor self.old s → (t : State) × (Commits true s slot segment.now result t × StandsFor self.new t) }
-        ensures regions { (s : State) → StandsFor self.old s → KeepsRegions s (Step.Advance slot ∷ []) }
+        ensures moved { (s : State) → StandsFor self.old s
+            → (t : State) × (Commits true s slot segment.now result t × StandsFor self.new t) }
+        ensures regions { (s : State) → StandsFor self.old s
+            → KeepsRegions s (Step.Advance slot ∷ []) }
     {
         self.commit_within(slot, segment, true)
     }
@@ -177,7 +187,8 @@ impl Arena {
     /// no room for one: then it is `Full`, and nothing has changed. If the run is not that of the slot's
     /// topmost frame, it is `Stale`.
     pub fn commit_within(&mut self, slot: u8, segment: &Segment, has_room: bool) -> Moved
-        ensures { (s : State) → StandsFor self.old s → (t : State) × (Commits has_room s slot segment.now result t × StandsFor self.new t) }
+        ensures { (s : State) → StandsFor self.old s
+            → (t : State) × (Commits has_room s slot segment.now result t × StandsFor self.new t) }
     {
         if !is_topmost(&self.parts, slot, segment.top()) {
             return Moved::Stale;

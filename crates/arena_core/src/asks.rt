@@ -35,7 +35,8 @@ pub(crate) fn ask(parts: &mut Parts, request: Request) -> Reply
 /// Refuses what can't be, which is an entry too.
 fn refuse(parts: &mut Parts, error: Error) -> Reply
     requires room { parts.old.entries < parts.old.config.steps }
-    ensures { (s : State) → Rests parts.old s → Gives parts.new result (Reply.Refused error, entry s) }
+    ensures { (s : State) → Rests parts.old s
+        → Gives parts.new result (Reply.Refused error, entry s) }
 {
     parts.enter();
     Reply::Refused(error)
@@ -45,7 +46,8 @@ fn refuse(parts: &mut Parts, error: Error) -> Reply
 fn submit(parts: &mut Parts, job: Job) -> Reply
     requires some { IsOfSomeState parts.old }
     requires room { parts.old.entries < parts.old.config.steps }
-    ensures { (s : State) → Rests parts.old s → Gives parts.new result (unless_limit s (submit s job)) }
+    ensures { (s : State) → Rests parts.old s
+        → Gives parts.new result (unless_limit s (submit s job)) }
 {
     if let Some(error) = limit(parts) {
         return refuse(parts, error);
@@ -61,7 +63,8 @@ fn submit(parts: &mut Parts, job: Job) -> Reply
 fn submit_placed(parts: &mut Parts, job: Job) -> Reply
     requires some { IsOfSomeState parts.old }
     requires room { parts.old.entries < parts.old.config.steps }
-    ensures { (s : State) → Rests parts.old s → Gives parts.new result (unless_limit s (submit_placed s job (free_slot s))) }
+    ensures { (s : State) → Rests parts.old s
+        → Gives parts.new result (unless_limit s (submit_placed s job (free_slot s))) }
 {
     let Some(slot) = parts.free_slot() else {
         return submit(parts, job);
@@ -79,7 +82,8 @@ fn submit_placed(parts: &mut Parts, job: Job) -> Reply
 /// Why no job can be made.
 fn limit(parts: &Parts) -> Option<Error>
     ensures value { (s : State) (made : Reply × State) → Rests parts.now s
-        → unless_limit s made ≡ option_map_or (λ error. (Reply.Refused error, entry s)) result made }
+        → unless_limit s made ≡ option_map_or
+        (λ error. (Reply.Refused error, entry s)) result made }
     ensures jobs { result ≡ None → length parts.now.jobs < MAX_JOBS }
     ensures rows { result ≡ None → HasFreePlace parts.now }
 {
@@ -94,7 +98,8 @@ fn limit(parts: &Parts) -> Option<Error>
 
 fn poll(parts: &mut Parts, number: u64) -> Reply
     requires room { parts.old.entries < parts.old.config.steps }
-    ensures { (s : State) → Rests parts.old s → Gives parts.new result (reply_to s (Request.Poll number)) }
+    ensures { (s : State) → Rests parts.old s
+        → Gives parts.new result (reply_to s (Request.Poll number)) }
 {
     let Some(status) = parts.status(number) else {
         return refuse(parts, Error::UnknownJob);
@@ -105,7 +110,8 @@ fn poll(parts: &mut Parts, number: u64) -> Reply
 
 fn collect(parts: &mut Parts, number: u64) -> Reply
     requires room { parts.old.entries < parts.old.config.steps }
-    ensures { (s : State) → Rests parts.old s → Gives parts.new result (reply_to s (Request.Collect number)) }
+    ensures { (s : State) → Rests parts.old s
+        → Gives parts.new result (reply_to s (Request.Collect number)) }
 {
     let Some(status) = parts.status(number) else {
         return refuse(parts, Error::UnknownJob);
@@ -121,7 +127,8 @@ fn collect(parts: &mut Parts, number: u64) -> Reply
 fn cancel(parts: &mut Parts, number: u64) -> Reply
     requires some { IsOfSomeState parts.old }
     requires room { parts.old.entries < parts.old.config.steps }
-    ensures { (s : State) → Rests parts.old s → Gives parts.new result (reply_to s (Request.Cancel number)) }
+    ensures { (s : State) → Rests parts.old s
+        → Gives parts.new result (reply_to s (Request.Cancel number)) }
 {
     let Some(is_first) = parts.is_first_cancel(number) else {
         return refuse(parts, Error::UnknownJob);
@@ -137,7 +144,8 @@ fn cancel(parts: &mut Parts, number: u64) -> Reply
 
 fn cells_of(parts: &mut Parts, key: Key) -> Reply
     requires room { parts.old.entries < parts.old.config.steps }
-    ensures { (s : State) → Rests parts.old s → Gives parts.new result (reply_to s (Request.Cells key)) }
+    ensures { (s : State) → Rests parts.old s
+        → Gives parts.new result (reply_to s (Request.Cells key)) }
 {
     let count = parts.cell_count(key) as u64;
     let sum = parts.cell_sum(key);

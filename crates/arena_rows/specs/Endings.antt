@@ -49,7 +49,7 @@ abbrev pub below : List (Option ℕ) → ℕ → List ℕ
 below groups zero = []
 below groups (suc k) = with_some (slice_index_or groups k None) (below groups k)
 
--- The contexts of groups can be released: each is held, once, and what is bound to it is so only where it is cancelled.
+-- The contexts of groups can be released: each is held, once, and what is bound to it is so only if it is cancelled.
 pub record MayLeave (forest : Forest) (groups : List (Option ℕ)) : Type 0 where
   pub held : (g c : ℕ) → g < GROUPS → slice_index_or groups g None ≡ Some c → IsHeld forest c
   pub ends : (g c d : ℕ) → g < GROUPS → slice_index_or groups g None ≡ Some c → parent forest d ≡ Some c → is_cancelled forest c ≡ true
@@ -110,7 +110,7 @@ pub record HasEnded (a b : Held) (id : RowId) (e : OpenRow) (v : ℤ) : Type 0 w
   pub left : Left a.contexts b.contexts (contexts_of e)
   pub rest : b ≡ record (ended a id e v) { contexts = b.contexts }
 
--- The contexts of a row can be released: what is bound to those of its groups is so only where they are cancelled, and what is its own is no other row's.
+-- The contexts of a row can be released: what is bound to those of its groups is so only if they are cancelled, and what is its own is no other row's.
 pub record IsLoose (a : Held) (s : State) (at : Assigned) (n : ℕ) : Type 0 where
   pub ends : (g c d : ℕ) → g < GROUPS → at.of_group n g ≡ Some c → parent a.contexts d ≡ Some c → is_cancelled a.contexts c ≡ true
   pub alone : (m g x : ℕ) → (row s.rows n).kind ≡ kind.Spawned m g → is_open (row s.rows x).phase ≡ true → x ≢ n → at.of_row x ≢ at.of_row n

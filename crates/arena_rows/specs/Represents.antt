@@ -152,7 +152,7 @@ IsRowContext s forest at n (kind.Spawned m g) =
     (((is_open (row s.rows m).phase ≡ true) × ((c : ℕ) × (at.of_group m g ≡ Some c) × (binding forest (at.of_row n) ≡ Some (bound c false)))) ⊎
     ((is_open (row s.rows m).phase ≡ false) × (binding forest (at.of_row n) ≡ Some orphan)))
 
--- what is held for a group: a context where it is used or cancelled
+-- what is held for a group: a context if it is used or cancelled
 abbrev pub IsGroupContext : State → Forest → Assigned → (n g : ℕ) → Option ℕ → Type 0
 IsGroupContext s forest at n g None = (is_used s.rows n g ≡ false) × ((mark s.rows n g).cancelled ≡ false)
 IsGroupContext s forest at n g (Some c) = (at.owner c ≡ OfGroup n g) × (binding forest c ≡ Some (bound (at.of_row n) (mark s.rows n g).cancelled))

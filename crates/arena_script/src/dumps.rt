@@ -42,7 +42,11 @@ impl Model for Dump {
 
     ghost Value = { DumpHeld };
 
-    ghost view = { λ d. record { config = d.config; entries = d.entries.items; has_foreign = d.has_foreign } };
+    ghost view = { λ d. record {
+      config = d.config;
+      entries = d.entries.items;
+      has_foreign = d.has_foreign;
+    } };
 }
 
 /// What reading a dump came to.

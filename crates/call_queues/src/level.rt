@@ -35,7 +35,9 @@ impl Model for LevelPass {
       log = log_in p.seat.me.0.client;
     } };
 
-    ghost invariant = { λ p. (p.seat.me.1 ≡ []) × (p.seat.me.0.client ≡ view_of (made_in p.seat.me.0.client) p.number (log_in p.seat.me.0.client)) × (p.pushes ≡ length (log_in p.seat.me.0.client).pushed) };
+    ghost invariant = { λ p. (p.seat.me.1 ≡ [])
+        × (p.seat.me.0.client ≡ view_of (made_in p.seat.me.0.client) p.number
+        (log_in p.seat.me.0.client)) × (p.pushes ≡ length (log_in p.seat.me.0.client).pushed) };
 }
 
 /// The queue of one level.
@@ -52,7 +54,10 @@ impl Model for LevelQueue {
 
     ghost Value = { LevelQueueSeen };
 
-    ghost view = { λ l. record { queue = l.queue.table.shared.table_id; room = ruled_capacity l.queue } };
+    ghost view = { λ l. record {
+      queue = l.queue.table.shared.table_id;
+      room = ruled_capacity l.queue;
+    } };
 
     ghost invariant = { λ l. ruled_capacity l.queue ≤ MAX_CALLS };
 }
@@ -70,9 +75,15 @@ impl Model for LevelReturns {
 
     ghost Value = { LevelReturnsSeen };
 
-    ghost view = { λ r. record { queue = r.seat.table_id; made = made_in r.seat.me.0.client; back = back_in r.seat.me.0.client } };
+    ghost view = { λ r. record {
+      queue = r.seat.table_id;
+      made = made_in r.seat.me.0.client;
+      back = back_in r.seat.me.0.client;
+    } };
 
-    ghost invariant = { λ r. (r.seat.me.1 ≡ []) × (r.seat.me.0.client ≡ Keeper (made_in r.seat.me.0.client) (back_in r.seat.me.0.client) []) };
+    ghost invariant = { λ r. (r.seat.me.1 ≡ [])
+        × (r.seat.me.0.client ≡ Keeper (made_in r.seat.me.0.client)
+        (back_in r.seat.me.0.client) []) };
 }
 
 impl LevelQueue {
@@ -80,7 +91,8 @@ impl LevelQueue {
     pub fn new(alloc: Global, room: usize) -> Result<(LevelQueue, LevelPass), AllocError>
         requires some { 0 < room }
         requires few { room ≤ MAX_CALLS }
-        ensures { IfOk result (λ l. (l.0.room ≡ room) × (l.1 ≡ record { queue = l.0.queue; number = 0; made = 1; log = no_log })) }
+        ensures { IfOk result (λ l. (l.0.room ≡ room)
+            × (l.1 ≡ record { queue = l.0.queue; number = 0; made = 1; log = no_log })) }
     {
         let (queue, seat) = Queue::ruled(alloc, room)?;
         let pass = LevelPass {
@@ -96,7 +108,12 @@ impl LevelQueue {
         requires queue { first.old.queue ≡ self.now.queue }
         requires first { first.old.number ≡ 0 }
         requires next { (number ≡ first.old.made) × (0 < number) }
-        ensures pass { result ≡ record { queue = self.now.queue; number = number; made = 0; log = no_log } }
+        ensures pass { result ≡ record {
+          queue = self.now.queue;
+          number = number;
+          made = 0;
+          log = no_log;
+        } }
         ensures first { first.new ≡ record first.old { made = number + 1 } }
     {
         let seat = self.queue.another::<Numbering>(&mut first.seat);
@@ -110,10 +127,14 @@ impl LevelQueue {
     /// Adds a call at the end.
     pub fn push<R: Wait>(&self, rt: &R, pass: &mut LevelPass, call: Call) -> Result<(), Call>
         requires { pass.old.queue ≡ self.now.queue }
-        ensures pass { (pass.new.queue ≡ pass.old.queue) × (pass.new.number ≡ pass.old.number) × (pass.new.made ≡ pass.old.made) }
+        ensures pass { (pass.new.queue ≡ pass.old.queue) × (pass.new.number ≡ pass.old.number)
+            × (pass.new.made ≡ pass.old.made) }
         ensures pushed { MatchResult result
-            (λ _. pass.new.log ≡ with_pushed pass.old.log (record { by = pass.old.number; at = length pass.old.log.pushed; call = call }))
-            (λ back. (back ≡ call) × (pass.new.log ≡ pass.old.log) × ((length pass.old.log.pushed ≡ 2 ^ 64 - 1) ⊎ Held self.now.room (Sees pass.old.number pass.old.log))) }
+            (λ _. pass.new.log ≡ with_pushed pass.old.log
+            (record { by = pass.old.number; at = length pass.old.log.pushed; call = call }))
+            (λ back. (back ≡ call) × (pass.new.log ≡ pass.old.log)
+            × ((length pass.old.log.pushed ≡ 2 ^ 64 - 1)
+            ⊎ Held self.now.room (Sees pass.old.number pass.old.log))) }
     {
         if pass.pushes == u64::MAX {
             return Err(call);
@@ -135,10 +156,14 @@ impl LevelQueue {
     /// Takes the first call.
     pub fn pop<R: Wait>(&self, rt: &R, pass: &mut LevelPass) -> Option<Call>
         requires { pass.old.queue ≡ self.now.queue }
-        ensures pass { (pass.new.queue ≡ pass.old.queue) × (pass.new.number ≡ pass.old.number) × (pass.new.made ≡ pass.old.made) }
+        ensures pass { (pass.new.queue ≡ pass.old.queue) × (pass.new.number ≡ pass.old.number)
+            × (pass.new.made ≡ pass.old.made) }
         ensures popped { MatchOption result
             ((pass.new.log ≡ pass.old.log) × Held 0 (Sees pass.old.number pass.old.log))
-            (λ call. (marked : Marked) × (marked.call ≡ call) × (pass.new.log ≡ with_popped pass.old.log marked) × ((items : List Marked) × Sees pass.old.number (with_popped pass.old.log marked) items)) }
+            (λ call. (marked : Marked) × (marked.call ≡ call)
+            × (pass.new.log ≡ with_popped pass.old.log marked)
+            × ((items : List Marked)
+            × Sees pass.old.number (with_popped pass.old.log marked) items)) }
     {
         let marked = self.queue.pop_as::<Takes, R>(rt, &mut pass.seat)?;
         Some(marked.call)
@@ -169,7 +194,10 @@ impl LevelQueue {
         requires queue { returns.queue ≡ self.now.queue }
         requires all { length returns.back ≡ returns.made }
         requires room { length into.old.items + MAX_CALLS ≤ vec_capacity into.old }
-        ensures drained { (past : List Marked) × (rest : List Marked) × LevelOrder returns.back past rest × (into.new.items ≡ into.old.items ++ map (λ m. m.call) rest) × (length rest ≤ MAX_CALLS) }
+        ensures drained { (past : List Marked) × (rest : List Marked)
+            × LevelOrder returns.back past rest
+            × (into.new.items ≡ into.old.items ++ map (λ m. m.call) rest)
+            × (length rest ≤ MAX_CALLS) }
         ensures capacity { vec_capacity into.old ≤ vec_capacity into.new }
     {
         let LevelReturns { mut seat } = returns;

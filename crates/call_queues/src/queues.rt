@@ -32,9 +32,19 @@ impl Model for QueuePass {
 
     ghost Value = { PassSeen };
 
-    ghost view = { λ p. record { queues = record { levels = three p.high.queue p.normal.queue p.low.queue; passes = p.passes }; number = p.number; logs = three p.high.log p.normal.log p.low.log } };
+    ghost view = { λ p. record {
+      queues = record {
+        levels = three p.high.queue p.normal.queue p.low.queue;
+        passes = p.passes;
+      };
+      number = p.number;
+      logs = three p.high.log p.normal.log p.low.log;
+    } };
 
-    ghost invariant = { λ p. (p.high.number ≡ p.number) × (p.normal.number ≡ p.number) × (p.low.number ≡ p.number) × (p.number ≡ 0 → (p.high.made ≡ p.passes) × (p.normal.made ≡ p.passes) × (p.low.made ≡ p.passes)) };
+    ghost invariant = { λ p. (p.high.number ≡ p.number) × (p.normal.number ≡ p.number)
+        × (p.low.number ≡ p.number)
+        × (p.number ≡ 0 → (p.high.made ≡ p.passes) × (p.normal.made ≡ p.passes)
+        × (p.low.made ≡ p.passes)) };
 }
 
 impl QueuePass {
@@ -79,10 +89,18 @@ impl Model for CallQueues {
 
     ghost Value = { QueuesSeen };
 
-    ghost view = { λ q. record { queues = record { levels = three q.high.queue q.normal.queue q.low.queue; passes = q.passes }; config = q.config } };
+    ghost view = { λ q. record {
+      queues = record {
+        levels = three q.high.queue q.normal.queue q.low.queue;
+        passes = q.passes;
+      };
+      config = q.config;
+    } };
 
-    ghost invariant = { λ q. (0 < q.passes) × (q.high.room ≡ room_at q.config High) × (q.normal.room ≡ room_at q.config Normal)
-        × (q.low.room ≡ room_at q.config Low) × (q.room.items ≡ []) × (3072 ≤ vec_capacity q.room) };
+    ghost invariant = { λ q. (0 < q.passes) × (q.high.room ≡ room_at q.config High)
+        × (q.normal.room ≡ room_at q.config Normal)
+        × (q.low.room ≡ room_at q.config Low) × (q.room.items ≡ [])
+        × (3072 ≤ vec_capacity q.room) };
 }
 
 /// A call was pushed, and a worker is to hear of it. Only `CallQueues::push_call` makes one, and it can't
@@ -101,7 +119,7 @@ impl Pushed {
 }
 
 impl CallQueues {
-    /// Adds a call at the end of its tenant's level. It comes back only where that level was full
+    /// Adds a call at the end of its tenant's level. It comes back only if that level was full
     /// at one moment, or the pass had made `u64::MAX` pushes there.
     pub fn push_call<R: Wait>(
         &self,
@@ -112,9 +130,14 @@ impl CallQueues {
         requires pass { pass.old.queues ≡ self.now.queues }
         requires tenant { call.tenant < length self.now.config }
         ensures pass { (pass.new.number ≡ pass.old.number) × (pass.new.queues ≡ pass.old.queues) }
-        ensures pushed { let level = level_in self.now.config call.tenant in let log = at pass.old.logs level in MatchResult result
-            (λ _. pass.new.logs ≡ with_at pass.old.logs level (with_pushed log (marked pass.old.number log call)))
-            (λ back. (back ≡ call) × (pass.new.logs ≡ pass.old.logs) × ((length log.pushed ≡ 2 ^ 64 - 1) ⊎ HeldAt pass.old level (room_at self.now.config level))) }
+        ensures pushed { let level = level_in self.now.config call.tenant in
+            let log = at pass.old.logs level in
+            MatchResult result
+            (λ _. pass.new.logs ≡ with_at pass.old.logs level
+            (with_pushed log (marked pass.old.number log call)))
+            (λ back. (back ≡ call) × (pass.new.logs ≡ pass.old.logs)
+            × ((length log.pushed ≡ 2 ^ 64 - 1)
+            ⊎ HeldAt pass.old level (room_at self.now.config level))) }
     {
         match self.config.level(call.tenant) {
             Level::High => self.high.push(rt, &mut pass.high, call)?,
@@ -129,7 +152,8 @@ impl CallQueues {
     pub fn pop_call<R: Wait>(&self, rt: &R, pass: &mut QueuePass) -> Option<Call>
         requires { pass.old.queues ≡ self.now.queues }
         ensures pass { (pass.new.number ≡ pass.old.number) × (pass.new.queues ≡ pass.old.queues) }
-        ensures popped { MatchOption result (FoundNone pass.old pass.new.logs) (λ call. Found pass.old pass.new.logs call) }
+        ensures popped { MatchOption result (FoundNone pass.old pass.new.logs)
+            (λ call. Found pass.old pass.new.logs call) }
     {
         if let Some(call) = self.high.pop(rt, &mut pass.high) {
             return Some(call);
@@ -147,7 +171,8 @@ impl CallQueues {
         requires pass { pass.old.queues ≡ self.now.queues }
         requires tenant { tenant < length self.now.config }
         ensures pass { pass.new ≡ pass.old }
-        ensures none { result ≡ false → (level : Level) → rank level ≤ rank (level_in self.now.config tenant) → HeldAt pass.old level 0 }
+        ensures none { result ≡ false → (level : Level)
+            → rank level ≤ rank (level_in self.now.config tenant) → HeldAt pass.old level 0 }
     {
         let no_high = self.high.is_empty(&mut pass.high);
         match self.config.level(tenant) {
@@ -170,7 +195,9 @@ impl CallQueues {
     ) -> Result<(CallQueues, Vec<QueuePass>), AllocError>
         requires { 0 < passes }
         ensures queues { IfOk result (λ r. (r.0.config ≡ config) × (r.0.queues.passes ≡ passes)) }
-        ensures passes { IfOk result (λ r. (length r.1.items ≡ passes) × ((k : ℕ) (d : PassSeen) → k < passes → slice_index_or r.1.items k d ≡ fresh r.0.queues k)) }
+        ensures passes { IfOk result (λ r. (length r.1.items ≡ passes)
+            × ((k : ℕ) (d : PassSeen) → k < passes
+            → slice_index_or r.1.items k d ≡ fresh r.0.queues k)) }
     {
         let (high, mut first_high) = LevelQueue::new(alloc, config.room(Level::High))?;
         let (normal, mut first_normal) = LevelQueue::new(alloc, config.room(Level::Normal))?;
@@ -211,9 +238,11 @@ impl CallQueues {
     pub fn drain<R: Wait>(self, rt: &R, mut passes: Vec<QueuePass>) -> Vec<Call>
         requires count { length passes.items ≡ self.queues.passes }
         requires numbers { AreNumbered passes.items }
-        requires queues { (k : ℕ) (d : PassSeen) → k < length passes.items → (slice_index_or passes.items k d).queues ≡ self.queues }
+        requires queues { (k : ℕ) (d : PassSeen) → k < length passes.items
+            → (slice_index_or passes.items k d).queues ≡ self.queues }
         ensures { (high : List Marked) × (normal : List Marked) × (low : List Marked)
-            × IsLeft passes.items High high × IsLeft passes.items Normal normal × IsLeft passes.items Low low
+            × IsLeft passes.items High high × IsLeft passes.items Normal normal
+            × IsLeft passes.items Low low
             × (result.items ≡ map (λ m. m.call) (high ++ normal ++ low)) }
     {
         let CallQueues {

@@ -31,13 +31,22 @@ impl Model for Below {
 
     ghost Value = { Links };
 
-    ghost view = { λ b. record { first = b.first.items; next = b.next.items; previous = b.previous.items } };
+    ghost view = { λ b. record {
+      first = b.first.items;
+      next = b.next.items;
+      previous = b.previous.items;
+    } };
 }
 
 impl Below {
     /// Lists of `count` contexts, each empty.
     pub(crate) fn new(alloc: Global, count: usize) -> Result<Below, AllocError>
-        ensures { IfOk result (λ below. below ≡ record { first = replicate count None; next = replicate count None; previous = replicate count None }) }
+        ensures { IfOk result
+            (λ below. below ≡ record {
+              first = replicate count None;
+              next = replicate count None;
+              previous = replicate count None;
+            }) }
     {
         Ok(Below {
             first: vec![in alloc; None; count]?,
@@ -67,7 +76,8 @@ impl Below {
     pub(crate) fn join(&mut self, context: ContextId, parent: Option<ContextId>)
         requires place { HasPlace self.old context }
         requires parent { ForSome parent (HasPlace self.old) }
-        requires follower { ForSome parent (λ p. ForSome (next_of (emptied self.old context).first p) (HasPlace self.old)) }
+        requires follower { ForSome parent
+            (λ p. ForSome (next_of (emptied self.old context).first p) (HasPlace self.old)) }
         ensures { self.new ≡ joined self.old context parent }
     {
         self.first[context.index()] = None;
@@ -88,8 +98,10 @@ impl Below {
     pub(crate) fn leave(&mut self, context: ContextId, parent: Option<ContextId>)
         requires place { HasPlace self.old context }
         requires parent { ForSome parent (HasPlace self.old) }
-        requires before { ForSome parent (λ _. ForSome (next_of self.old.previous context) (HasPlace self.old)) }
-        requires after { ForSome parent (λ _. ForSome (next_of self.old.next context) (HasPlace self.old)) }
+        requires before { ForSome parent
+            (λ _. ForSome (next_of self.old.previous context) (HasPlace self.old)) }
+        requires after { ForSome parent
+            (λ _. ForSome (next_of self.old.next context) (HasPlace self.old)) }
         requires apart { ForSome parent (λ _. next_of self.old.previous context ≢ Some context) }
         ensures { self.new ≡ left self.old context parent }
     {

@@ -52,7 +52,15 @@ impl Model for Binding {
 
     ghost Value = { Binding };
 
-    ghost view = { λ b. record { parent = b.parent; is_asked = b.is_asked; is_orphan = b.is_orphan } };
+    ghost view = { λ b. record {
+      parent = b.parent;
+      is_asked = b.is_asked;
+      is_orphan = b.is_orphan;
+    } };
 
-    ghost inverse = { λ v. record { parent = v.parent; is_asked = v.is_asked; is_orphan = v.is_orphan } };
+    ghost inverse = { λ v. record {
+      parent = v.parent;
+      is_asked = v.is_asked;
+      is_orphan = v.is_orphan;
+    } };
 }

@@ -57,7 +57,8 @@ impl Contexts {
     /// No contexts, with room for those of `rows` rows and 256 more.
     pub fn new(alloc: Global, rows: usize) -> Result<Contexts, AllocError>
         requires { rows ≤ MAX_ROWS }
-        ensures empty { IfOk result (λ forest. forest ≡ replicate (BASE_CONTEXTS + CONTEXTS_PER_ROW * rows) None) }
+        ensures empty { IfOk result
+            (λ forest. forest ≡ replicate (BASE_CONTEXTS + CONTEXTS_PER_ROW * rows) None) }
         ensures forest { IfOk result IsForest }
     {
         let count = BASE_CONTEXTS + CONTEXTS_PER_ROW * rows;
@@ -77,7 +78,8 @@ impl Contexts {
         ensures held { IsHeld self.new result }
         ensures keeps { (c : ℕ) → IsHeld self.old c → IsHeld self.new c }
         ensures count { held_count self.new ≡ held_count self.old + 1 }
-        ensures from_above { is_cancelled self.new result ≡ option_map_or (is_cancelled self.old) parent false }
+        ensures from_above { is_cancelled self.new result
+            ≡ option_map_or (is_cancelled self.old) parent false }
         ensures others { (c : ℕ) → c ≢ result → is_cancelled self.new c ≡ is_cancelled self.old c }
         ensures forest { IsForest self.new }
     {
@@ -102,7 +104,8 @@ impl Contexts {
         ensures count { held_count self.new ≡ held_count self.old }
         ensures cancelled { IsTrue (is_cancelled self.new context) }
         // It reaches all that is bound below, and nothing else.
-        ensures reaches { (c : ℕ) → is_cancelled self.new c ≡ (is_cancelled self.old c || is_within self.old c context) }
+        ensures reaches { (c : ℕ)
+            → is_cancelled self.new c ≡ (is_cancelled self.old c || is_within self.old c context) }
         ensures forest { IsForest self.new }
     {
         let first = !self.flags.get(context);
@@ -121,9 +124,11 @@ impl Contexts {
         ensures keeps { (c : ℕ) → IsHeld self.old c → IsHeld self.new c }
         ensures count { held_count self.new ≡ held_count self.old }
         ensures cancelled { IsTrue (is_cancelled self.new context) }
-        ensures reaches { (c : ℕ) → is_cancelled self.new c ≡ (is_cancelled self.old c || is_within self.old c context) }
+        ensures reaches { (c : ℕ)
+            → is_cancelled self.new c ≡ (is_cancelled self.old c || is_within self.old c context) }
         ensures forest { IsForest self.new }
-        ensures noted { (c : ℕ) → is_cancelled self.new c ≡ true → is_cancelled self.old c ≡ false → Contains turned.new.items c }
+        ensures noted { (c : ℕ) → is_cancelled self.new c ≡ true → is_cancelled self.old c ≡ false
+            → Contains turned.new.items c }
         ensures capacity { vec_capacity turned.new ≡ vec_capacity turned.old }
     {
         request(&mut self.bindings, context, true);
@@ -158,8 +163,10 @@ impl Contexts {
         ensures taken_back { self.new ≡ with_request self.old context false }
         ensures keeps { (c : ℕ) → IsHeld self.old c → IsHeld self.new c }
         ensures count { held_count self.new ≡ held_count self.old }
-        ensures others { (c : ℕ) → is_within self.old c context ≡ false → is_cancelled self.new c ≡ is_cancelled self.old c }
-        ensures no_more { (c : ℕ) → is_cancelled self.new c ≡ true → is_cancelled self.old c ≡ true }
+        ensures others { (c : ℕ) → is_within self.old c context ≡ false
+            → is_cancelled self.new c ≡ is_cancelled self.old c }
+        ensures no_more { (c : ℕ) → is_cancelled self.new c ≡ true
+            → is_cancelled self.old c ≡ true }
         ensures forest { IsForest self.new }
     {
         self.set_request(context, false);
@@ -169,7 +176,8 @@ impl Contexts {
     pub fn release(&mut self, context: ContextId)
         requires held { IsHeld self.old context }
         // Something is bound to it only if it is cancelled.
-        requires ends { (c : ℕ) → parent self.old c ≡ Some context → IsTrue (is_cancelled self.old context) }
+        requires ends { (c : ℕ) → parent self.old c ≡ Some context
+            → IsTrue (is_cancelled self.old context) }
         ensures released { self.new ≡ without self.old context }
         ensures keeps { (c : ℕ) → c ≢ context → IsHeld self.old c → IsHeld self.new c }
         ensures count { held_count self.new + 1 ≡ held_count self.old }

@@ -43,7 +43,8 @@ impl Model for Flags {
 impl Flags {
     /// The flags of `count` contexts, none of them cancelled.
     pub(crate) fn new(alloc: Global, count: usize) -> Result<Flags, AllocError>
-        ensures { IfOk result (λ flags. flags ≡ record { flags = replicate count false; reached = [] }) }
+        ensures { IfOk result
+            (λ flags. flags ≡ record { flags = replicate count false; reached = [] }) }
     {
         Ok(Flags {
             is_cancelled: vec![in alloc; false; count]?,
@@ -73,7 +74,8 @@ impl Flags {
     /// Whether a context that is held so is cancelled, by its own or from above.
     pub(crate) fn follows(&self, slot: Option<&Binding>) -> bool
         requires { ForSome (parent_in (option_copied slot)) (λ p. p < length self.now.flags) }
-        ensures { result ≡ (asks_in (option_copied slot.entry) || option_map_or (flag self.now.flags) (parent_in (option_copied slot.entry)) false) }
+        ensures { result ≡ (asks_in (option_copied slot.entry)
+            || option_map_or (flag self.now.flags) (parent_in (option_copied slot.entry)) false) }
     {
         match slot {
             Some(binding) => asks(slot) || self.above(binding.parent),
@@ -85,7 +87,11 @@ impl Flags {
     pub(crate) fn start(&mut self, context: ContextId, parent: Option<ContextId>)
         requires place { context < length self.old.flags }
         requires parent { ForSome parent (λ p. p < length self.old.flags) }
-        ensures { self.new ≡ record { flags = slice_set self.old.flags context (option_map_or (flag self.old.flags) parent false); reached = self.old.reached } }
+        ensures { self.new ≡ record {
+          flags = slice_set self.old.flags context
+              (option_map_or (flag self.old.flags) parent false);
+          reached = self.old.reached;
+        } }
     {
         self.is_cancelled[context.index()] = self.above(parent);
     }
@@ -101,7 +107,8 @@ impl Flags {
         requires forest { HasBindingOrder bindings.now }
         requires linked { IsLinked bindings.now below.now }
         requires none { self.old.reached ≡ [] }
-        requires spreads { IsSpreading bindings.now (slice_set self.old.flags context is_cancelled) (context ∷ []) [] is_cancelled }
+        requires spreads { IsSpreading bindings.now (slice_set self.old.flags context is_cancelled)
+            (context ∷ []) [] is_cancelled }
         requires size { length self.old.flags ≡ length bindings.now }
         ensures flags { AreFlags bindings.now self.new.flags }
         ensures none { self.new.reached ≡ [] }
@@ -125,13 +132,15 @@ impl Flags {
         requires forest { HasBindingOrder bindings.now }
         requires linked { IsLinked bindings.now below.now }
         requires none { self.old.reached ≡ [] }
-        requires spreads { IsSpreading bindings.now (slice_set self.old.flags context true) (context ∷ []) [] true }
+        requires spreads { IsSpreading bindings.now (slice_set self.old.flags context true)
+            (context ∷ []) [] true }
         requires size { length self.old.flags ≡ length bindings.now }
         requires unnoted { length turned.old.items ≡ 0 }
         requires room { length self.old.flags ≤ vec_capacity turned.old }
         ensures flags { AreFlags bindings.now self.new.flags }
         ensures none { self.new.reached ≡ [] }
-        ensures noted { (c : ℕ) → (flag self.new.flags c ≡ flag self.old.flags c) ⊎ Contains turned.new.items c }
+        ensures noted { (c : ℕ) → (flag self.new.flags c ≡ flag self.old.flags c)
+            ⊎ Contains turned.new.items c }
         ensures capacity { vec_capacity turned.new ≡ vec_capacity turned.old }
     {
         self.is_cancelled[context.index()] = true;
@@ -151,10 +160,13 @@ impl Flags {
         is_cancelled: bool,
     )
         requires linked { IsLinked bindings.now below.now }
-        requires spreads { IsSpreading bindings.now self.old.flags (self.old.reached ++ parent ∷ []) [] is_cancelled }
+        requires spreads { IsSpreading bindings.now self.old.flags
+            (self.old.reached ++ parent ∷ []) [] is_cancelled }
         ensures spreads { IsSpreading bindings.now self.new.flags self.new.reached [] is_cancelled }
-        ensures fewer { length self.new.reached + count_by (differs is_cancelled) self.new.flags ≡ length self.old.reached + count_by (differs is_cancelled) self.old.flags }
-        ensures turned { (c : ℕ) → (flag self.new.flags c ≡ flag self.old.flags c) ⊎ IsIn self.new.reached c }
+        ensures fewer { length self.new.reached + count_by (differs is_cancelled) self.new.flags
+            ≡ length self.old.reached + count_by (differs is_cancelled) self.old.flags }
+        ensures turned { (c : ℕ)
+            → (flag self.new.flags c ≡ flag self.old.flags c) ⊎ IsIn self.new.reached c }
         ensures kept { (c : ℕ) → IsIn self.old.reached c → IsIn self.new.reached c }
     {
         let mut following = below.first(parent);
@@ -168,7 +180,8 @@ impl Flags {
     fn visit(&mut self, bindings: &PlaceTable<Binding>, context: ContextId, is_cancelled: bool)
         requires place { context < length self.old.flags }
         requires size { length self.old.flags ≡ length bindings.now }
-        requires room { length self.old.reached + count_by (differs is_cancelled) self.old.flags ≤ length self.old.flags }
+        requires room { length self.old.reached + count_by (differs is_cancelled) self.old.flags
+            ≤ length self.old.flags }
         ensures { self.new ≡ visited bindings.now self.old context is_cancelled }
     {
         let place = context.index();

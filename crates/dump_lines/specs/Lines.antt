@@ -58,7 +58,7 @@ arrival_in d = only 4 d (two (two arrival) (number (below 256) (codes "slot") d)
 abbrev pub advance_in : Data → Option (Option Entry)
 advance_in d = two (two advance) (number (below 256) (codes "slot") d) (moved_in d)
 
--- the entry that a value spells; none inside, where its slot or its answer is none of a tenant's
+-- the entry that a value spells; none inside, if its slot or its answer is none of a tenant's
 abbrev pub entry_in : Data → Option (Option Entry)
 entry_in d =
     if is_word (codes "step") (codes "ask") d then ask_in d
@@ -73,6 +73,6 @@ said_in_value d = option_map (λ entry. option_map_or (λ e. said.Entry e) entry
 abbrev pub SaysEntry : Data → Entry → Type 0
 SaysEntry d e = said_in_value d ≡ Some (said.Entry e)
 
--- what a line says, where it has the shape of an entry
+-- what a line says, if it has the shape of an entry
 abbrev pub said_by : List ℕ → Option Said
 said_by line = value_in line >>= said_in_value

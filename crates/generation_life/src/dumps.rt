@@ -34,9 +34,13 @@ impl Shelf {
     /// those that stay. If an allocation fails, nothing has changed.
     pub fn put(&mut self, number: u64, keep: u64) -> Result<Option<u64>, AllocError>
         ensures all { result ≡ Ok None → self.new ≡ self.old ++ (number ∷ []) }
-        ensures was_there { IfOk result (λ gone. IfSome gone (λ o. Contains (self.old ++ (number ∷ [])) o)) }
-        ensures gone { IfOk result (λ gone. IfSome gone (λ o. IsTooOld keep (self.old ++ (number ∷ [])) o × (self.new ≡ without o (self.old ++ (number ∷ []))))) }
-        ensures oldest { IfOk result (λ gone. IfSome gone (λ o. IsOldest (self.old ++ (number ∷ [])) o)) }
+        ensures was_there { IfOk result
+            (λ gone. IfSome gone (λ o. Contains (self.old ++ (number ∷ [])) o)) }
+        ensures gone { IfOk result
+            (λ gone. IfSome gone (λ o. IsTooOld keep (self.old ++ (number ∷ [])) o
+            × (self.new ≡ without o (self.old ++ (number ∷ []))))) }
+        ensures oldest { IfOk result
+            (λ gone. IfSome gone (λ o. IsOldest (self.old ++ (number ∷ [])) o)) }
         ensures newest { OnOk result (AreNewest keep self.old → AreNewest keep self.new) }
         ensures stay { result ≡ Ok None → AreNewest keep self.new }
         ensures refused { OnErr result (self.new ≡ self.old) }

@@ -53,7 +53,14 @@ pub(crate) struct Agenda {
 impl Model for Agenda {
     ghost Value = { State };
 
-    ghost view = { λ a. record { generations = a.generations; wish = a.wish; is_opening = a.is_opening; is_held = a.is_held; is_stopping = a.is_stopping; failed = a.failed } };
+    ghost view = { λ a. record {
+      generations = a.generations;
+      wish = a.wish;
+      is_opening = a.is_opening;
+      is_held = a.is_held;
+      is_stopping = a.is_stopping;
+      failed = a.failed;
+    } };
 
     ghost invariant = { λ a. AreFew a.is_opening a.generations };
 }

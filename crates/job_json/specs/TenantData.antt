@@ -6,7 +6,7 @@ use Rattle.job_language.specs.declared.tenants.Isolation.TheVariants.{Exact, Wit
 use Rattle.job_language.specs.declared.tenants.Tenant.{Tenant}
 use Rattle.job_language.specs.TenantWords.{level_word}
 
--- The mode is written only where it is not exact.
+-- The mode is written only if it is not exact.
 abbrev pub with_isolation : Isolation → Members → Members
 with_isolation Exact members = members
 with_isolation Within members = member (codes "isolation") (string (codes "within")) members

@@ -30,13 +30,16 @@ impl Model for Config {
 
     ghost view = { λ c. record { tenants = c.tenants.items; workers = c.workers } };
 
-    ghost invariant = { λ c. IsValidConfig (record { tenants = c.tenants.items; workers = c.workers }) };
+    ghost invariant = { λ c. IsValidConfig
+        (record { tenants = c.tenants.items; workers = c.workers }) };
 }
 
 impl Config {
     /// The configuration of these tenants and this number of worker threads, if they make one.
     pub fn new(tenants: Vec<TenantConfig>, workers: usize) -> Option<Config>
-        ensures { result ≡ (if is_valid_config (record { tenants = tenants.items; workers = workers }) then Some (record { tenants = tenants.items; workers = workers }) else None) }
+        ensures { result
+            ≡ (if is_valid_config (record { tenants = tenants.items; workers = workers })
+            then Some (record { tenants = tenants.items; workers = workers }) else None) }
     {
         if is_valid(tenants.as_slice(), workers) {
             Some(Config { tenants, workers })

@@ -27,7 +27,7 @@ impl Model for Register {
 }
 
 impl Register {
-    /// The register of a number, where there is one.
+    /// The register of a number, if there is one.
     pub fn new(number: u64) -> Option<Register>
         ensures { result ≡ (if nat_lt number REGISTERS then Some number else None) }
     {
@@ -62,7 +62,7 @@ impl Model for Group {
 }
 
 impl Group {
-    /// The group of a number, where there is one.
+    /// The group of a number, if there is one.
     pub fn new(number: u64) -> Option<Group>
         ensures { result ≡ (if nat_lt number GROUPS then Some number else None) }
     {
@@ -97,7 +97,7 @@ impl Model for Key {
 }
 
 impl Key {
-    /// The key of a number, where there is one.
+    /// The key of a number, if there is one.
     pub fn new(number: u64) -> Option<Key>
         ensures { result ≡ (if nat_lt number KEYS then Some number else None) }
     {
@@ -133,9 +133,9 @@ pub enum Instr {
     Mul(Register, Register, Register),
     /// `["div",d,a,b]`: d becomes a / b, rounded toward zero. A divisor of 0 is a fault.
     Div(Register, Register, Register),
-    /// `["lt",d,a,b]`: d becomes 1 where a < b, else 0.
+    /// `["lt",d,a,b]`: d becomes 1 if a < b, else 0.
     Lt(Register, Register, Register),
-    /// `["jz",a,t]`: goes on at instruction t where a is 0.
+    /// `["jz",a,t]`: goes on at instruction t if a is 0.
     Jz(Register, u8),
     /// `["jmp",t]`: goes on at instruction t.
     Jmp(u8),
@@ -151,11 +151,11 @@ pub enum Instr {
     Wait(Register, Register, Group),
     /// `["cancel",g]`: cancels the tasks of group g (`task_group::cancel`).
     Cancel(Group),
-    /// `["ask",d]`: d becomes 1 where the frame's own context is cancelled (`is_canceling`).
+    /// `["ask",d]`: d becomes 1 if the frame's own context is cancelled (`is_canceling`).
     Ask(Register),
     /// `["isolate",d,p,a,b]`: runs procedure p as a region; its value goes to d (`isolate`).
     Isolate(Register, u8, Register, Register),
-    /// `["load",d,k]`: d becomes this slot's cell of key k, made as 0 where it is absent (`local`).
+    /// `["load",d,k]`: d becomes this slot's cell of key k, made as 0 if it is absent (`local`).
     Load(Register, Key),
     /// `["store",k,a]`: this slot's cell of key k becomes a.
     Store(Key, Register),

@@ -26,9 +26,10 @@ impl Model for Fuel {
 }
 
 impl Fuel {
-    /// That much fuel, where a job may be given it.
+    /// That much fuel, if a job may be given it.
     pub fn new(instructions: u64) -> Option<Fuel>
-        ensures { result ≡ (if nat_le 1 instructions && nat_le instructions MAX_FUEL then Some instructions else None) }
+        ensures { result ≡ (if nat_le 1 instructions && nat_le instructions MAX_FUEL
+            then Some instructions else None) }
     {
         if 1 <= instructions && instructions <= MAX_FUEL {
             Some(Fuel(instructions as u32))
@@ -57,7 +58,7 @@ pub struct Job {
 }
 
 impl Job {
-    /// The same job, over the same program. It fails only where `Program::try_clone` does.
+    /// The same job, over the same program. It fails only if `Program::try_clone` does.
     pub fn try_clone(&self) -> Result<Job, AllocError>
         ensures { IfOk result (λ job. job ≡ self.now) }
     {

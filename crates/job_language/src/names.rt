@@ -32,7 +32,7 @@ impl Model for TenantName {
 }
 
 impl TenantName {
-    /// The name that a text is, where it may name a tenant.
+    /// The name that a text is, if it may name a tenant.
     pub fn new(text: &str) -> Option<TenantName>
         ensures { result ≡ (if is_name text.now then Some text.now else None) }
     {

@@ -91,7 +91,7 @@ impl Program {
         self.procs.as_slice()
     }
 
-    /// Another handle on the same program. It fails only where the handles can't be counted any more.
+    /// Another handle on the same program. It fails only if the handles can't be counted any more.
     pub fn try_clone(&self) -> Result<Program, AllocError>
         ensures { IfOk result (λ p. p ≡ self.now) }
     {

@@ -14,7 +14,7 @@ pub enum Request {
     Hello(Option<TenantName>),
     /// Makes a job, whose root any slot may take.
     Submit(Job),
-    /// Makes a job, whose root runs on a free reserved slot where there is one.
+    /// Makes a job, whose root runs on a free reserved slot if there is one.
     Execute(Job),
     /// The status of a job.
     Poll(u64),

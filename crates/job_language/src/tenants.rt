@@ -118,7 +118,7 @@ impl Model for TenantConfig {
 impl TenantConfig {
     ghost use Rattle.job_language.specs.Tenant.{is_valid_tenant, IsValidTenant};
 
-    /// The configuration, where each number is in its range.
+    /// The configuration, if each number is in its range.
     pub fn new(tenant: Tenant) -> Option<TenantConfig>
         ensures { result ≡ (if is_valid_tenant tenant then Some tenant else None) }
     {

@@ -49,7 +49,8 @@ pub(crate) enum Next {
 pub fn run_private(program: &Program, start: Frame, slot: u8, width: u8) -> Run
     ensures run { result ≡ run_of program.now slot width start }
     // Only a `ret` or a `jmp` ends a procedure, so another shared instruction has one after it.
-    ensures next { (i : Instr) → result.stop ≡ Stop.Shared i → is_last i ≡ false → result.end.place < LAST_PLACE }
+    ensures next { (i : Instr) → result.stop ≡ Stop.Shared i → is_last i ≡ false
+        → result.end.place < LAST_PLACE }
 {
     let mut end = start;
     let (count, stop) = run_frame(program, &mut end, slot, width);
@@ -65,8 +66,10 @@ pub fn run_private(program: &Program, start: Frame, slot: u8, width: u8) -> Run
 /// why it ends.
 #[inline(always)]
 fn run_frame(program: &Program, frame: &mut Frame, slot: u8, width: u8) -> (u32, Stop)
-    ensures run { record { start = frame.old; end = frame.new; count = result.0; stop = result.1 } ≡ run_of program.now slot width frame.old }
-    ensures next { (i : Instr) → result.1 ≡ Stop.Shared i → is_last i ≡ false → frame.new.place < LAST_PLACE }
+    ensures run { record { start = frame.old; end = frame.new; count = result.0; stop = result.1 }
+        ≡ run_of program.now slot width frame.old }
+    ensures next { (i : Instr) → result.1 ≡ Stop.Shared i → is_last i ≡ false
+        → frame.new.place < LAST_PLACE }
 {
     let procs = program.procs();
     let procedure = usize::from(frame.procedure);
@@ -85,9 +88,12 @@ fn run_frame(program: &Program, frame: &mut Frame, slot: u8, width: u8) -> (u32,
 fn run_in(instrs: &[Instr], frame: &mut Frame, slot: u8, width: u8) -> (u32, Stop)
     requires valid { IsValidProc instrs.now }
     requires place { frame.old.place < length instrs.now }
-    ensures run { (procs : List (List Instr)) → slice_index_or procs frame.old.procedure [] ≡ instrs.now
-        → record { start = frame.old; end = frame.new; count = result.0; stop = result.1 } ≡ run_of procs slot width frame.old }
-    ensures next { (i : Instr) → result.1 ≡ Stop.Shared i → is_last i ≡ false → frame.new.place < LAST_PLACE }
+    ensures run { (procs : List (List Instr))
+        → slice_index_or procs frame.old.procedure [] ≡ instrs.now
+        → record { start = frame.old; end = frame.new; count = result.0; stop = result.1 }
+        ≡ run_of procs slot width frame.old }
+    ensures next { (i : Instr) → result.1 ≡ Stop.Shared i → is_last i ≡ false
+        → frame.new.place < LAST_PLACE }
 {
     let procedure = frame.procedure;
     let mut place = usize::from(frame.place);
@@ -124,7 +130,8 @@ pub(crate) fn execute(
     ensures shared { result ≡ Next.IsShared → registers.new ≡ registers.old }
     ensures divides { result ≡ Next.DividesByZero → registers.new ≡ registers.old }
     ensures fits { (k : ℕ) → result ≡ Next.Place k → k ≤ LAST_PLACE }
-    ensures within { (instrs : ℕ) → IsInRange instrs instr.now → (is_last instr.now ≡ false → place + 1 < instrs)
+    ensures within { (instrs : ℕ) → IsInRange instrs instr.now
+        → (is_last instr.now ≡ false → place + 1 < instrs)
         → GoesWithin instrs result }
 {
     match *instr {

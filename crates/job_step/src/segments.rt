@@ -70,7 +70,8 @@ impl Segment {
     pub fn run(&self) -> Run
         ensures run { result ≡ run_of_top self.now }
         // Only a `ret` or a `jmp` ends a procedure, so another shared instruction has one after it.
-        ensures next { (i : Instr) → result.stop ≡ Stop.Shared i → is_last i ≡ false → result.end.place < LAST_PLACE }
+        ensures next { (i : Instr) → result.stop ≡ Stop.Shared i → is_last i ≡ false
+            → result.end.place < LAST_PLACE }
     {
         Run {
             start: self.top.frame,

@@ -53,7 +53,9 @@ impl Nests {
     pub fn push(&mut self, slot: usize, frame: Frame, row: RowId, is_region: bool)
         requires slot { slot < length self.old }
         requires height { length (stack self.old slot) < MAX_HEIGHT }
-        ensures { self.new ≡ with_stack self.old slot (stack self.old slot ++ (record { frame = frame; row = row; is_region = is_region }) ∷ []) }
+        ensures { self.new ≡ with_stack self.old slot
+            (stack self.old slot ++ (record { frame = frame; row = row; is_region = is_region })
+            ∷ []) }
     {
         let stack = self.stacks[slot];
         let nested = Nested {
@@ -106,7 +108,8 @@ impl Nests {
         requires slot { slot < length self.old }
         requires height { 0 < length (stack self.old slot) }
         ensures value { top (stack self.old slot) ≡ Some result }
-        ensures rest { self.new ≡ with_stack self.old slot (below (stack self.old slot) (length (stack self.old slot))) }
+        ensures rest { self.new ≡ with_stack self.old slot
+            (below (stack self.old slot) (length (stack self.old slot))) }
     {
         let stack = self.stacks[slot];
         let Some(top) = stack.top else {
@@ -133,7 +136,8 @@ impl Nests {
     /// Takes a slot's highest row that is not a region, and the regions above it.
     pub fn pop_task(&mut self, slot: usize)
         requires { slot < length self.old }
-        ensures { self.new ≡ with_stack self.old slot (below (stack self.old slot) (task_height (stack self.old slot))) }
+        ensures { self.new ≡ with_stack self.old slot
+            (below (stack self.old slot) (task_height (stack self.old slot))) }
     {
         let kept = self.task_height(slot).saturating_sub(1);
         while kept < self.height(slot) {

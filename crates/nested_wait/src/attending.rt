@@ -22,7 +22,8 @@ pub enum Attended {
 /// by a call of its own, until it has left. It takes no memory.
 pub fn attend<D: Door>(door: &mut D, floor: usize) -> Attended
     requires { 1 ≤ floor }
-    ensures { Attends (Turn D.views D.commits D.advances) D.heights D.pauses floor result door.old door.new }
+    ensures { Attends (Turn D.views D.commits D.advances) D.heights D.pauses floor result door.old
+        door.new }
 {
     for _turn in 0..u64::MAX {
         if door.height() < floor {

@@ -43,7 +43,8 @@ impl Filing {
     /// `lists` empty lists, and `places` places that are filed in none. It fails only if an allocation
     /// failed, or if there are more than 65,536 lists or places.
     pub fn new(alloc: Global, lists: usize, places: usize) -> Result<Filing, AllocError>
-        ensures { IfOk result (λ filing. filing ≡ record { lists = lists; by_place = replicate places None }) }
+        ensures { IfOk result
+            (λ filing. filing ≡ record { lists = lists; by_place = replicate places None }) }
     {
         if lists > MAX_LISTS {
             return Err(AllocError);
@@ -89,7 +90,8 @@ impl Filing {
     pub fn file_all(&mut self, from: usize, to: usize)
         requires { to < self.old.lists }
         ensures moved { (p : ℕ) → filed_in self.old p ≡ Some from → filed_in self.new p ≡ Some to }
-        ensures others { (p : ℕ) → filed_in self.old p ≢ Some from → filed_in self.new p ≡ filed_in self.old p }
+        ensures others { (p : ℕ) → filed_in self.old p ≢ Some from
+            → filed_in self.new p ≡ filed_in self.old p }
         ensures places { length self.new.by_place ≡ length self.old.by_place }
         ensures lists { self.new.lists ≡ self.old.lists }
     {

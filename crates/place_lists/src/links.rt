@@ -36,7 +36,12 @@ impl Model for Links {
 
     ghost Value = { Links };
 
-    ghost view = { λ b. record { heads = b.heads.items; tails = b.tails.items; next = b.next.items; previous = b.previous.items } };
+    ghost view = { λ b. record {
+      heads = b.heads.items;
+      tails = b.tails.items;
+      next = b.next.items;
+      previous = b.previous.items;
+    } };
 
     ghost invariant = { λ b. length b.next.items ≤ 2 ^ 16 };
 }
@@ -45,7 +50,13 @@ impl Links {
     /// `lists` empty lists over `places` places. It fails only if an allocation failed, or if there are
     /// more than `MAX_PLACES` places.
     pub(crate) fn new(alloc: Global, lists: usize, places: usize) -> Result<Links, AllocError>
-        ensures { IfOk result (λ links. links ≡ record { heads = replicate lists None; tails = replicate lists None; next = replicate places None; previous = replicate places None }) }
+        ensures { IfOk result
+            (λ links. links ≡ record {
+              heads = replicate lists None;
+              tails = replicate lists None;
+              next = replicate places None;
+              previous = replicate places None;
+            }) }
     {
         if places > MAX_PLACES {
             return Err(AllocError);
@@ -92,7 +103,8 @@ impl Links {
         requires tail { list < length self.old.tails }
         requires next { place < length self.old.next }
         requires previous { place < length self.old.previous }
-        requires last { ForSome (link_at self.old.tails list) (λ last. last < length self.old.next) }
+        requires last { ForSome (link_at self.old.tails list)
+            (λ last. last < length self.old.next) }
         ensures { self.new ≡ joined self.old list place }
     {
         let last = self.tails[list];
@@ -112,8 +124,10 @@ impl Links {
         requires tail { list < length self.old.tails }
         requires next { place < length self.old.next }
         requires previous { place < length self.old.previous }
-        requires before { ForSome (link_at self.old.previous place) (λ before. before < length self.old.next) }
-        requires after { ForSome (link_at self.old.next place) (λ after. after < length self.old.previous) }
+        requires before { ForSome (link_at self.old.previous place)
+            (λ before. before < length self.old.next) }
+        requires after { ForSome (link_at self.old.next place)
+            (λ after. after < length self.old.previous) }
         ensures { self.new ≡ left self.old list place }
     {
         let before = self.previous[place];

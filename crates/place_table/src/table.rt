@@ -101,7 +101,9 @@ impl<T: Drop> PlaceTable<T> {
     /// The value at a place, for writing.
     pub fn at_mut(&mut self, place: usize) -> &mut T
         requires { IsSome (slice_index_or self.old place None) }
-        ensures* writes_back { sem 𝓛 (Lends (the_row T.row) T.row self.entry result (λ value. slice_set self.old place (Some value))) }
+        ensures* writes_back { sem 𝓛
+            (Lends (the_row T.row) T.row self.entry result
+            (λ value. slice_set self.old place (Some value))) }
         ensures value { slice_index_or self.old place None ≡ Some result.now }
     {
         &mut self.values[place]

@@ -36,8 +36,10 @@ pub struct HostWords<'a> {
 /// [--rotate-at P] [--keep K] [--patience S] [--mode M] [--group G]`, in any order, also as `--config=F`. M is in
 /// octal digits, all other numbers are in decimal ones.
 pub fn read_host_words<'a>(alloc: Global, words: &'a [&'a str]) -> Result<HostWords<'a>, WordsFault>
-    ensures read { IfOk result (λ read. AreRead (options_in (map (λ word. word.now) words.entry.now)) read) }
-    ensures refused { result ≡ Err WordsFault.Words → AreRefused (map (λ word. word.now) words.entry.now) }
+    ensures read { IfOk result
+        (λ read. AreRead (options_in (map (λ word. word.now) words.entry.now)) read) }
+    ensures refused { result ≡ Err WordsFault.Words
+        → AreRefused (map (λ word. word.now) words.entry.now) }
 {
     let matches = matches_in(command(alloc)?, words)?;
     values_of(&matches).ok_or(WordsFault::Words)
@@ -45,7 +47,8 @@ pub fn read_host_words<'a>(alloc: Global, words: &'a [&'a str]) -> Result<HostWo
 
 /// The values that the options must have, and may.
 fn values_of<'a>(matches: &ArgMatches<'a>) -> Option<HostWords<'a>>
-    ensures { MatchOption result (LackValues (rows_of (found_of matches.now))) (AreRead (rows_of (found_of matches.now))) }
+    ensures { MatchOption result (LackValues (rows_of (found_of matches.now)))
+        (AreRead (rows_of (found_of matches.now))) }
 {
     let config = value_of(matches, "config")?;
     let run = value_of(matches, "run")?;
@@ -80,7 +83,9 @@ fn octal() -> Range
 
 /// The number of a group, if the option was given one. None if it was given a text that names no group.
 fn group_in(value: Option<&str>) -> Option<Option<u32>>
-    ensures { MatchOption result (IsMisgiven group_range (option_map (λ text. text.now) value.entry)) (IsGivenOption group_range (option_map (λ text. text.now) value.entry)) }
+    ensures { MatchOption result
+        (IsMisgiven group_range (option_map (λ text. text.now) value.entry))
+        (IsGivenOption group_range (option_map (λ text. text.now) value.entry)) }
 {
     let Some(text) = value else {
         return Some(None);

@@ -39,7 +39,8 @@ impl Range {
     pub(crate) fn given_or(self, value: Option<&str>, other: u32) -> Option<u32>
         requires least { 2 ≤ self.radix }
         requires most { self.radix ≤ 36 }
-        ensures { MatchOption result (IsMisgiven self (option_map (λ text. text.now) value.entry)) (IsGiven self other (option_map (λ text. text.now) value.entry)) }
+        ensures { MatchOption result (IsMisgiven self (option_map (λ text. text.now) value.entry))
+            (IsGiven self other (option_map (λ text. text.now) value.entry)) }
     {
         match value {
             Some(text) => self.number_in(text),

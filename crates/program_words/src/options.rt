@@ -14,8 +14,11 @@ pub(crate) fn matches_in<'a>(
     words: &'a [&'a str],
 ) -> Result<ArgMatches<'a>, WordsFault>
     requires { is_simple (app_of command) ≡ true }
-    ensures options { IfOk result (λ matches. rows_of (found_of matches) ≡ matches_of (app_of command.entry) (map (λ word. word.now) words.entry.now)) }
-    ensures refused { result ≡ Err WordsFault.Words → takes (app_of command.entry) (map (λ word. word.now) words.entry.now) ≡ false }
+    ensures options { IfOk result
+        (λ matches. rows_of (found_of matches)
+        ≡ matches_of (app_of command.entry) (map (λ word. word.now) words.entry.now)) }
+    ensures refused { result ≡ Err WordsFault.Words
+        → takes (app_of command.entry) (map (λ word. word.now) words.entry.now) ≡ false }
 {
     match command.try_get_matches_from(words) {
         Ok(matches) => Ok(matches),
@@ -25,7 +28,8 @@ pub(crate) fn matches_in<'a>(
 
 /// The value that an option was given.
 pub(crate) fn value_of<'a>(matches: &ArgMatches<'a>, name: &str) -> Option<&'a str>
-    ensures { option_map (λ value. value.now) result ≡ first_of name.now (rows_of (found_of matches.now)) }
+    ensures { option_map (λ value. value.now) result
+        ≡ first_of name.now (rows_of (found_of matches.now)) }
 {
     matches.get_str(name)
 }

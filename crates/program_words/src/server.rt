@@ -34,8 +34,10 @@ pub fn read_server_words<'a>(
     alloc: Global,
     words: &'a [&'a str],
 ) -> Result<ServerWords<'a>, WordsFault>
-    ensures read { IfOk result (λ read. AreRead (options_in (map (λ word. word.now) words.entry.now)) read) }
-    ensures refused { result ≡ Err WordsFault.Words → AreRefused (map (λ word. word.now) words.entry.now) }
+    ensures read { IfOk result
+        (λ read. AreRead (options_in (map (λ word. word.now) words.entry.now)) read) }
+    ensures refused { result ≡ Err WordsFault.Words
+        → AreRefused (map (λ word. word.now) words.entry.now) }
 {
     let matches = matches_in(command(alloc)?, words)?;
     values_of(&matches).ok_or(WordsFault::Words)
@@ -43,7 +45,8 @@ pub fn read_server_words<'a>(
 
 /// The values that the options must have, and may.
 fn values_of<'a>(matches: &ArgMatches<'a>) -> Option<ServerWords<'a>>
-    ensures { MatchOption result (LackValues (rows_of (found_of matches.now))) (AreRead (rows_of (found_of matches.now))) }
+    ensures { MatchOption result (LackValues (rows_of (found_of matches.now)))
+        (AreRead (rows_of (found_of matches.now))) }
 {
     let config = value_of(matches, "config")?;
     let socket = value_of(matches, "socket")?;

@@ -9,7 +9,7 @@ use Rattle.region_tag.specs.declared.row_id.RowId.{RowId}
 use Rattle.ready_pool.specs.declared.pool.Waiting.{Waiting}
 use Rattle.ready_pool.specs.Ready.{AreRising, is_made_on, is_of}
 
--- the rows by position, and the position by place, which says nothing where no row waits; and the positions of all rows, of those made on a slot, of those in the region of a place, and of those of both
+-- the rows by position, and the position by place, which says nothing if no row waits; and the positions of all rows, of those made on a slot, of those in the region of a place, and of those of both
 pub record PoolParts : Type 0 where
   pub slots : ℕ
   pub nodes : Slab Waiting

@@ -63,10 +63,23 @@ impl Model for Pool {
 
     ghost Value = { Ready };
 
-    ghost view = { λ p. record { isolation = p.isolation; limit = length p.positions.items; slots = p.slots; rows = rows_of p.rows.slots p.all } };
+    ghost view = { λ p. record {
+      isolation = p.isolation;
+      limit = length p.positions.items;
+      slots = p.slots;
+      rows = rows_of p.rows.slots p.all;
+    } };
 
     ghost invariant = { λ p. HoldsRows (length p.positions.items)
-        (record { slots = p.slots; nodes = p.rows; positions = p.positions.items; all = p.all; by_slot = p.by_slot; by_region = p.by_region; by_both = p.by_both })
+        (record {
+          slots = p.slots;
+          nodes = p.rows;
+          positions = p.positions.items;
+          all = p.all;
+          by_slot = p.by_slot;
+          by_region = p.by_region;
+          by_both = p.by_both;
+        })
         (rows_of p.rows.slots p.all) };
 }
 
@@ -121,7 +134,8 @@ impl Pool {
         requires places { length regions.now ≡ self.old.limit }
         requires region { IsRegionEntered regions.now region }
         requires regions { All (λ w. IsRegionEntered regions.now w.region) self.old.rows }
-        ensures { self.new ≡ with_row self.old (record { row = row; made_on = made_on; region = region }) }
+        ensures { self.new ≡ with_row self.old
+            (record { row = row; made_on = made_on; region = region }) }
     {
         let region_place = place_of(region);
         let both = number_of(self.slots, made_on, region_place);
@@ -203,7 +217,9 @@ impl Pool {
 
     /// The pick for a waiter outside all regions. The oldest row is looked at only if it is taken.
     fn pick_outside(&self, slot: usize) -> Option<RowId>
-        ensures { result ≡ option_or (last_or None (filter (λ w. is_made_on slot w.made_on) self.now.rows)) (first_of self.now.rows) }
+        ensures { result ≡ option_or
+            (last_or None (filter (λ w. is_made_on slot w.made_on) self.now.rows))
+            (first_of self.now.rows) }
     {
         if let Some(row) = self.newest_on(slot) {
             return Some(row);
@@ -214,7 +230,8 @@ impl Pool {
     /// The pick for a waiter in a region in mode exact.
     fn pick_in(&self, slot: usize, region: RowId) -> Option<RowId>
         requires { slot < self.now.slots }
-        ensures { (regions : Table) → self.now.isolation ≡ Isolation.Exact → result ≡ pick self.now regions slot (Some region) }
+        ensures { (regions : Table) → self.now.isolation ≡ Isolation.Exact
+            → result ≡ pick self.now regions slot (Some region) }
     {
         let first = self.by_region.first(region.place)?;
         let oldest = row_at(&self.rows, first)?;
@@ -228,7 +245,8 @@ impl Pool {
 
     /// The pick for a waiter in a region in mode within.
     fn pick_within(&self, slot: usize, region: RowId, regions: &Regions) -> Option<RowId>
-        ensures { self.now.isolation ≡ Isolation.Within → result ≡ pick self.now regions.now slot (Some region) }
+        ensures { self.now.isolation ≡ Isolation.Within
+            → result ≡ pick self.now regions.now slot (Some region) }
     {
         let mut oldest = None;
         let mut newest = None;

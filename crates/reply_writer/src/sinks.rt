@@ -7,7 +7,7 @@ use std::io;
 use std::io::Write;
 
 /// A writer that says when it has failed. Every `Write` is one, so this is a bound alone: what is proved of
-/// any `Sink` can call it failed only where a call of it was answered with an error, or took nothing.
+/// any `Sink` can call it failed only if a call of it was answered with an error, or took nothing.
 pub trait Sink: Write {
     /// The last call was answered with an error, or took none of the bytes that it was given.
     ghost failed: { Self → Type 0 };
@@ -15,7 +15,8 @@ pub trait Sink: Write {
     /// Calls `write`, once.
     fn write_once(&mut self, bytes: &[u8]) -> io::Result<usize>
         ensures bound { WritesAtMost result bytes.now }
-        ensures bytes { WriteAppends (Self.contents self.old) (Self.contents self.new) result bytes.now }
+        ensures bytes { WriteAppends (Self.contents self.old)
+            (Self.contents self.new) result bytes.now }
         ensures failed { OnErr result (failed self.new) }
         ensures none { IfOk result (λ n. n ≡ 0 → 0 < length bytes.now → failed self.new) };
 }

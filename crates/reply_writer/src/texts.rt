@@ -25,7 +25,8 @@ impl Model for ReplyBuf {
 
     ghost view = { λ b. take (length b.line.bytes - 1) b.line.bytes };
 
-    ghost invariant = { λ b. take (length b.line.bytes - 1) b.line.bytes ++ 10 ∷ [] ≡ b.line.bytes };
+    ghost invariant = { λ b. take (length b.line.bytes - 1) b.line.bytes ++ 10 ∷ []
+        ≡ b.line.bytes };
 }
 
 impl ReplyBuf {
@@ -66,7 +67,7 @@ pub(crate) fn push_number(text: &mut ArrayString<MAX_LINE>, number: u64)
     text.push_str(Buffer::new().format(number));
 }
 
-/// Appends a number in decimal, with its sign where it is below 0.
+/// Appends a number in decimal, with its sign if it is below 0.
 pub(crate) fn push_signed(text: &mut ArrayString<MAX_LINE>, number: i64)
     requires { array_string_len text.old + 20 ≤ MAX_LINE }
     ensures bytes { text.new.bytes ≡ text.old.bytes ++ signed_decimal number }

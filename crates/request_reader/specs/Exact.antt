@@ -7,7 +7,7 @@ abbrev pub Refuses : {B : Type 0} → (takes_memory : Type 0) → Error → Resu
 Refuses takes_memory NoMemory want = takes_memory
 Refuses takes_memory error want = want ≡ Err error
 
--- The answer is exact, or it is error 9, and that only where memory is taken.
+-- The answer is exact, or it is error 9, and that only if memory is taken.
 abbrev pub ExactOrNoMemory : {A B : Type 0} → (view : A → B) → (takes_memory : Type 0) → Result A Error → Result B Error → Type 0
 ExactOrNoMemory view takes_memory (Ok x) want = want ≡ Ok (view x)
 ExactOrNoMemory view takes_memory (Err error) want = Refuses takes_memory error want

@@ -32,7 +32,7 @@ abbrev pub Finds : Option LineRead → Reading → Reading → Type 0
 Finds None old new = Tells old new [] [] × IsPending new × (new.turns ≡ old.turns)
 Finds (Some read) old new = Tells old new [] (told_by read new) × ComesTo read old new × (new.turns ≡ old.turns)
 
--- the last line of the bytes that are held, where no more come
+-- the last line of the bytes that are held, if no more come
 pub record FindsLast (read : LineRead) (old new : Reading) : Type 0 where
   pub finds : Finds (Some read) old new
   pub ended : new.is_ended ≡ true

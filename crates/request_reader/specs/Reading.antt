@@ -28,7 +28,7 @@ abbrev pub lines_from : (limit : ℕ) → (is_within_long : Bool) → List ℕ �
 lines_from limit false bytes = lines_of limit bytes
 lines_from limit true bytes = too_long ∷ lines_of limit (drop_through newline bytes)
 
--- the lines that are not told yet, where these bytes are still to come
+-- the lines that are not told yet, if these bytes are still to come
 abbrev pub lines_left : Reading → List ℕ → List Line
 lines_left r bytes = lines_from r.limit r.is_within_long (r.held ++ (if r.is_ended then [] else bytes))
 

@@ -16,7 +16,8 @@ use std::alloc::Global;
 /// job takes memory.
 #[tactic(auto, using(crate::proofs::Exactness::refuses_with_job))]
 pub fn ready(alloc: Global, asked: Asked) -> Result<Request, Error>
-    ensures { ExactOrNoMemory (λ request. request) (HasJob (Some (asked_data asked))) result (ready_of (asked_data asked)) }
+    ensures { ExactOrNoMemory (λ request. request) (HasJob (Some (asked_data asked))) result
+        (ready_of (asked_data asked)) }
 {
     match asked {
         Asked::Plain(request) => Ok(request),

@@ -61,7 +61,15 @@ impl LineReader {
     /// A reader of lines of at most `limit` bytes, not counting the newline.
     pub fn new(alloc: Global, limit: usize) -> Result<LineReader, AllocError>
         requires { limit + BLOCK < 2 ^ 64 }
-        ensures { IfOk result (λ r. r ≡ record { limit = limit; line = []; held = []; is_within_long = false; is_ended = false; turns = MAX_TURNS }) }
+        ensures { IfOk result
+            (λ r. r ≡ record {
+              limit = limit;
+              line = [];
+              held = [];
+              is_within_long = false;
+              is_ended = false;
+              turns = MAX_TURNS;
+            }) }
     {
         Ok(LineReader {
             window: Window::new(alloc, limit + BLOCK)?,
@@ -72,7 +80,7 @@ impl LineReader {
         })
     }
 
-    /// The line that was read last, without its newline; empty where `read_line` answered anything
+    /// The line that was read last, without its newline; empty if `read_line` answered anything
     /// but `Line`.
     pub fn line(&self) -> &[u8]
         ensures { result.now ≡ self.now.line }
@@ -85,12 +93,15 @@ impl LineReader {
     pub fn read_line<R: Source>(&mut self, reader: &mut R) -> LineRead
         // Where the bytes are known, the lines that were left are those reported now, followed by
         // those that are left.
-        ensures lines { IsSome (R.remaining reader.old) → lines_left self.old (unwrap_or (R.remaining reader.old) [])
-            ≡ told_by result self.new ++ lines_left self.new (unwrap_or (R.remaining reader.new) []) }
+        ensures lines { IsSome (R.remaining reader.old)
+            → lines_left self.old (unwrap_or (R.remaining reader.old) [])
+            ≡ told_by result self.new
+            ++ lines_left self.new (unwrap_or (R.remaining reader.new) []) }
         ensures known { IsSome (R.remaining reader.old) → IsSome (R.remaining reader.new) }
 
         // At any reader, the lines reported are those of the bytes that came.
-        ensures reads { Reads self.old self.new (R.remaining reader.old) (R.remaining reader.new) (told_by result self.new) }
+        ensures reads { Reads self.old self.new (R.remaining reader.old) (R.remaining reader.new)
+            (told_by result self.new) }
         ensures comes_to { ComesTo result self.old self.new }
         ensures unread { self.new.turns ≡ self.old.turns → reader.new ≡ reader.old }
 
@@ -106,7 +117,8 @@ impl LineReader {
     }
 
     fn read_on<R: Source>(&mut self, reader: &mut R) -> LineRead
-        ensures reads { Reads self.old self.new (R.remaining reader.old) (R.remaining reader.new) (told_by result self.new) }
+        ensures reads { Reads self.old self.new (R.remaining reader.old) (R.remaining reader.new)
+            (told_by result self.new) }
         ensures comes_to { ComesTo result self.old self.new }
         ensures unread { self.new.turns ≡ self.old.turns → reader.new ≡ reader.old }
         ensures at_once { NeedsBytes self.old ⊎ (self.new.turns ≡ self.old.turns) }
@@ -133,7 +145,8 @@ impl LineReader {
     fn turn<R: Source>(&mut self, reader: &mut R) -> Option<LineRead>
         requires pending { IsPending self.old }
         requires turns { 0 < self.old.turns }
-        ensures turns_to { TurnsTo result self.old self.new (R.remaining reader.old) (R.remaining reader.new) }
+        ensures turns_to { TurnsTo result self.old self.new (R.remaining reader.old)
+            (R.remaining reader.new) }
         ensures turns { self.new.turns + 1 ≡ self.old.turns }
         ensures room { length self.new.held ≤ self.new.limit + BLOCK }
         ensures called { R.called reader.old reader.new }
@@ -148,7 +161,7 @@ impl LineReader {
         }
     }
 
-    /// Tells what is held as the last line, where no more bytes come.
+    /// Tells what is held as the last line, once no more bytes come.
     fn tell_last(&mut self) -> LineRead
         requires { IsPending self.old }
         ensures finds { FindsLast result self.old self.new }

@@ -5,7 +5,7 @@ ghost use Rattle.request_reader.specs.Newlines.{IsFirstNewline};
 
 use memchr::memchr;
 
-/// The place of the first newline, where none stands before `start`.
+/// The place of the first newline, if none stands before `start`.
 pub(crate) fn newline_from(bytes: &[u8], start: usize) -> Option<usize>
     requires within { start ≤ length bytes.now }
     requires before { HasNoNewline (take start bytes.now) }

@@ -118,7 +118,7 @@ fn alone(value: &Value, request: Request) -> Option<Request>
     }
 }
 
-/// What the member of that name is, where it is the only one beside the request's name.
+/// What the member of that name is, if it is the only one beside the request's name.
 fn operand<'v>(name: &str, value: &'v Value) -> Option<&'v Value>
     ensures { option_map (λ v. view v.now) result ≡ operand name.now (view value.now) }
 {

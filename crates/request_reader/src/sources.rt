@@ -7,8 +7,8 @@ use std::io;
 use std::io::Read;
 
 /// A reader that says when it was called, and when it has failed. Every `Read` is one, so this is a bound
-/// alone: what is proved of any `Source` can say that it was called only where it was, and that it has failed
-/// only where a call of it was answered with an error.
+/// alone: what is proved of any `Source` can say that it was called only if it was, and that it has failed
+/// only if a call of it was answered with an error.
 pub trait Source: Read {
     /// One call leads from the first reader to the second.
     ghost called: { Self → Self → Type 0 };
@@ -19,7 +19,8 @@ pub trait Source: Read {
     /// Calls `read`, once.
     fn read_once(&mut self, room: &mut [u8]) -> io::Result<usize>
         ensures bound { ReadsAtMost result room.new }
-        ensures bytes { ReadConsumes (Self.remaining self.old) (Self.remaining self.new) result room.new }
+        ensures bytes { ReadConsumes (Self.remaining self.old)
+            (Self.remaining self.new) result room.new }
         ensures called { called self.old self.new }
         ensures failed { OnErr result (failed self.new) };
 }

@@ -46,7 +46,8 @@ impl Turns {
         requires { 0 < self.old }
         ensures turns { self.new + 1 ≡ self.old }
         ensures bound { ReadsAtMost result room.new }
-        ensures bytes { ReadConsumes (R.remaining reader.old) (R.remaining reader.new) result room.new }
+        ensures bytes { ReadConsumes (R.remaining reader.old)
+            (R.remaining reader.new) result room.new }
         ensures called { R.called reader.old reader.new }
         ensures failed { OnErr result (R.failed reader.new) }
     {

@@ -65,7 +65,11 @@ impl Window {
     pub(crate) fn cut(&mut self, len: usize, end: usize)
         requires len { len ≤ end }
         requires end { end ≤ length self.old.held }
-        ensures { self.new ≡ record { size = self.old.size; line = take len self.old.held; held = drop end self.old.held } }
+        ensures { self.new ≡ record {
+          size = self.old.size;
+          line = take len self.old.held;
+          held = drop end self.old.held;
+        } }
     {
         self.line_start = self.start;
         self.line_end = self.start + len;
@@ -80,10 +84,12 @@ impl Window {
         ensures size { self.new.size ≡ self.old.size }
         ensures fits { length self.new.held ≤ self.new.size }
         ensures line { self.new.line ≡ [] }
-        ensures ok { IfOk result (λ n. (came : List ℕ) × (length came ≡ n) × (self.new.held ≡ self.old.held ++ came)
+        ensures ok { IfOk result (λ n. (came : List ℕ) × (length came ≡ n)
+            × (self.new.held ≡ self.old.held ++ came)
             × Consumes (R.remaining reader.old) (R.remaining reader.new) came) }
         ensures end { IfOk result (λ n. n ≡ 0 → IsAtEnd (R.remaining reader.new)) }
-        ensures err { OnErr result ((self.new.held ≡ self.old.held) × Keeps (R.remaining reader.old) (R.remaining reader.new)) }
+        ensures err { OnErr result ((self.new.held ≡ self.old.held)
+            × Keeps (R.remaining reader.old) (R.remaining reader.new)) }
         ensures called { R.called reader.old reader.new }
         ensures failed { OnErr result (R.failed reader.new) }
     {
@@ -124,7 +130,9 @@ fn read_from<R: Source>(
     ensures len { vec_len bytes.new ≡ vec_len bytes.old }
     ensures before { take start bytes.new.items ≡ take start bytes.old.items }
     ensures bound { IfOk result (λ n. start + n ≤ vec_len bytes.new) }
-    ensures ok { IfOk result (λ n. Consumes (R.remaining reader.old) (R.remaining reader.new) (take n (drop start bytes.new.items))) }
+    ensures ok { IfOk result
+        (λ n. Consumes (R.remaining reader.old) (R.remaining reader.new)
+        (take n (drop start bytes.new.items))) }
     ensures end { IfOk result (λ n. n ≡ 0 → IsAtEnd (R.remaining reader.new)) }
     ensures err { OnErr result (Keeps (R.remaining reader.old) (R.remaining reader.new)) }
     ensures called { R.called reader.old reader.new }

@@ -12,7 +12,8 @@ ghost use Rattle.serial_law.specs.SerialValues.{KeepsSerialValues};
 /// For every sequence of steps of a tenant, a serial job that is complete has its serial value. It
 /// does nothing: its contract is the law.
 pub fn serial_values()
-    ensures keeps { (c : Tenant) (xs : List Step) → c.slots ≤ MAX_SLOTS → KeepsSerialValues (empty c) xs }
+    ensures keeps { (c : Tenant) (xs : List Step) → c.slots ≤ MAX_SLOTS
+        → KeepsSerialValues (empty c) xs }
 {}
 
 /// The sixth Fibonacci number meets what the law asks for: its job is valid and serial, an ask of one

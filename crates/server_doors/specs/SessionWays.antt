@@ -1,4 +1,4 @@
--- What a session may see and do at the doors of tenants, where others act on them too.
+-- What a session may see and do at the doors of tenants while others act on them too.
 use Rattle.std.specs.Prelude.{ℕ, ◌≡◌, ◌<◌, Bool, List, length, Option, position, slice_index_or, slice_set, is_some, ◌≤◌}
 use Rattle.std.specs.Str.{bytes_eq}
 use Rattle.job_language.specs.declared.answers.Moved.{Moved}
@@ -18,7 +18,7 @@ use Rattle.worker_main.specs.Slots.{SlotSeen}
 use Rattle.session_core.specs.declared.doors.Answered.{Answered}
 use Rattle.server_doors.specs.Sessions.{SessionSeen}
 
--- the session where its thread is elsewhere
+-- the session if its thread is elsewhere
 abbrev pub with_thread : SessionSeen → SlotSeen SlotsSeen → SessionSeen
 with_thread s at = record s { at = at }
 

@@ -31,9 +31,20 @@ impl<'d, 'q, R: Wait, S: Signal> Model for LockedDoors<'d, 'q, R, S> {
 
     ghost Value = { SessionSeen };
 
-    ghost view = { λ s. record { at = record { ringer = s.ringer; doors = s.slots }; names = s.names.now; seats = s.seats.items; bound = s.bound } };
+    ghost view = { λ s. record {
+      at = record { ringer = s.ringer; doors = s.slots };
+      names = s.names.now;
+      seats = s.seats.items;
+      bound = s.bound;
+    } };
 
-    ghost invariant = { λ s. IsSession (record { at = record { ringer = s.ringer; doors = s.slots }; names = s.names.now; seats = s.seats.items; bound = s.bound }) };
+    ghost invariant = { λ s. IsSession
+        (record {
+          at = record { ringer = s.ringer; doors = s.slots };
+          names = s.names.now;
+          seats = s.seats.items;
+          bound = s.bound;
+        }) };
 }
 
 impl<'d, 'q, R: Wait, S: Signal> LockedDoors<'d, 'q, R, S> {
@@ -48,7 +59,12 @@ impl<'d, 'q, R: Wait, S: Signal> LockedDoors<'d, 'q, R, S> {
         requires own { AreOwn seats.items }
         requires names { names.now ≡ map (λ d. d.config.name) slots.doors }
         requires level { length slots.doors ≤ length ringer.queues.config }
-        ensures { result ≡ record { at = record { ringer = ringer.entry; doors = slots.entry }; names = names.now; seats = seats.items; bound = 0 } }
+        ensures { result ≡ record {
+          at = record { ringer = ringer.entry; doors = slots.entry };
+          names = names.now;
+          seats = seats.items;
+          bound = 0;
+        } }
     {
         LockedDoors {
             slots,
@@ -61,7 +77,8 @@ impl<'d, 'q, R: Wait, S: Signal> LockedDoors<'d, 'q, R, S> {
 
     /// Gives the slot home that it is at. The doors can then serve another session, by the same seats.
     pub fn leave(&mut self)
-        ensures { self.new ≡ with_thread self.old (record self.old.at { doors = left self.old.at.doors }) }
+        ensures { self.new ≡ with_thread self.old
+            (record self.old.at { doors = left self.old.at.doors }) }
     {
         self.slots.give_home();
     }
@@ -86,7 +103,8 @@ impl<'d, 'q, R: Wait, S: Signal> LockedDoors<'d, 'q, R, S> {
     fn ask_bound(&mut self, request: Request) -> Answered
         requires { self.old.bound < length self.old.seats }
         ensures asks { AsksBound self.old request result self.new }
-        ensures pending { result.reply ≡ Reply.Pending → (job : ℕ) × (request ≡ Request.Collect job) }
+        ensures pending { result.reply ≡ Reply.Pending
+            → (job : ℕ) × (request ≡ Request.Collect job) }
     {
         let (reply, due) = self.slots.ask(&mut self.seats[self.bound], request);
         self.ringer.call_due(due);

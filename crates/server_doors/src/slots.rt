@@ -46,7 +46,8 @@ impl<'d, R: Wait> Model for TenantSlots<'d, R> {
     ghost use Rattle.std.specs.Prelude.{◌≤◌, IfSome};
     ghost use Rattle.tenant_model.specs.declared.rows.TheConstants.{MAX_HEIGHT};
 
-    ghost invariant = { λ s. IsAtDoors (record { doors = s.doors.now; pass = s.pass }) × IfSome s.height (λ height. height ≤ MAX_HEIGHT) };
+    ghost invariant = { λ s. IsAtDoors (record { doors = s.doors.now; pass = s.pass })
+        × IfSome s.height (λ height. height ≤ MAX_HEIGHT) };
 }
 
 impl<'d, R: Wait> TenantSlots<'d, R> {

@@ -43,7 +43,8 @@ pub trait Doors: Door {
     fn ask(&mut self, request: Request) -> Answered
         ensures answered { asks self.old request result self.new }
         // A collect alone waits for an outcome.
-        ensures pending { result.reply ≡ Reply.Pending → (job : ℕ) × (request ≡ Request.Collect job) };
+        ensures pending { result.reply ≡ Reply.Pending
+            → (job : ℕ) × (request ≡ Request.Collect job) };
 
     /// Waits while a job of the bound tenant has no outcome, and says whether to stop.
     fn pause_for(&mut self, job: u64) -> bool

@@ -30,7 +30,9 @@ pub(crate) fn collect<D: Doors>(doors: &mut D, job: u64) -> Option<Reply>
 /// Makes a job and waits for its outcome. If it was placed on a slot, this session attends the slot
 /// until it is free.
 pub(crate) fn execute<D: Doors>(doors: &mut D, job: Job) -> Option<Reply>
-    ensures executes { Executes D.asks D.waits (Attends (Turn D.views D.commits D.advances) D.heights D.pauses 1) job result doors.old doors.new }
+    ensures executes { Executes D.asks D.waits
+        (Attends (Turn D.views D.commits D.advances) D.heights D.pauses 1) job result doors.old
+        doors.new }
     ensures told { IfSome result (λ reply. reply ≢ Reply.Pending) }
 {
     let answered = doors.ask(Request::Execute(job));
@@ -42,7 +44,9 @@ pub(crate) fn execute<D: Doors>(doors: &mut D, job: Job) -> Option<Reply>
 
 /// Waits for the outcome of a job that was made.
 fn follow<D: Doors>(doors: &mut D, job: u64, placed: bool) -> Option<Reply>
-    ensures follows { Follows D.asks D.waits (Attends (Turn D.views D.commits D.advances) D.heights D.pauses 1) job placed result doors.old doors.new }
+    ensures follows { Follows D.asks D.waits
+        (Attends (Turn D.views D.commits D.advances) D.heights D.pauses 1) job placed result
+        doors.old doors.new }
     ensures told { IfSome result (λ reply. reply ≢ Reply.Pending) }
 {
     if placed {

@@ -19,7 +19,8 @@ pub(crate) fn reply_to<D: Doors>(
     is_bound: &mut bool,
     line: &[u8],
 ) -> Option<Reply>
-    ensures replies { Replies D.finds D.binds D.asks D.waits (Attends (Turn D.views D.commits D.advances) D.heights D.pauses 1)
+    ensures replies { Replies D.finds D.binds D.asks D.waits
+        (Attends (Turn D.views D.commits D.advances) D.heights D.pauses 1)
         line.now (is_bound.old, doors.old) result (is_bound.new, doors.new) }
     ensures told { IfSome result (λ reply. reply ≢ Reply.Pending) }
 {
@@ -51,7 +52,8 @@ fn hello_in(asked: &Asked) -> Option<Option<TenantName>>
 
 /// Binds the session to the tenant of a name. A session is bound once.
 fn greet<D: Doors>(doors: &mut D, is_bound: &mut bool, name: Option<TenantName>) -> Reply
-    ensures greets { Greets D.finds D.binds name (is_bound.old, doors.old) result (is_bound.new, doors.new) }
+    ensures greets { Greets D.finds D.binds name (is_bound.old, doors.old) result
+        (is_bound.new, doors.new) }
     ensures told { result ≢ Reply.Pending }
 {
     if *is_bound {
@@ -70,9 +72,11 @@ fn greet<D: Doors>(doors: &mut D, is_bound: &mut bool, name: Option<TenantName>)
     }
 }
 
-/// Asks the tenant that is bound, and waits for the outcome where the request does.
+/// Asks the tenant that is bound, and waits for the outcome if the request does.
 fn reply_to_request<D: Doors>(doors: &mut D, request: Request) -> Option<Reply>
-    ensures replies { RepliesTo D.asks D.waits (Attends (Turn D.views D.commits D.advances) D.heights D.pauses 1) request result doors.old doors.new }
+    ensures replies { RepliesTo D.asks D.waits
+        (Attends (Turn D.views D.commits D.advances) D.heights D.pauses 1) request result doors.old
+        doors.new }
     ensures told { IfSome result (λ reply. reply ≢ Reply.Pending) }
 {
     match request {

@@ -47,12 +47,16 @@ pub fn serve<R: Source, W: Sink, D: Doors>(
     doors: &mut D,
 ) -> Result<SessionEnd, AllocError>
     ensures serves { IfOk result (λ end.
-        Serves (Replies D.finds D.binds D.asks D.waits (Attends (Turn D.views D.commits D.advances) D.heights D.pauses 1))
-        (R.remaining reader.old) (R.remaining reader.new) (W.contents writer.old) (W.contents writer.new)
+        Serves (Replies D.finds D.binds D.asks D.waits
+        (Attends (Turn D.views D.commits D.advances) D.heights D.pauses 1))
+        (R.remaining reader.old) (R.remaining reader.new) (W.contents writer.old)
+        (W.contents writer.new)
         (false, doors.old) doors.new end) }
     ensures cause { IfOk result (λ end.
-        HasCause (R.failed reader.new) (AreCalls R.called MAX_TURNS 0 reader.old reader.new) (W.failed writer.new) end) }
-    ensures refused { OnErr result ((reader.new ≡ reader.old) × (writer.new ≡ writer.old) × (doors.new ≡ doors.old)) }
+        HasCause (R.failed reader.new) (AreCalls R.called MAX_TURNS 0 reader.old reader.new)
+        (W.failed writer.new) end) }
+    ensures refused { OnErr result ((reader.new ≡ reader.old) × (writer.new ≡ writer.old)
+        × (doors.new ≡ doors.old)) }
 {
     let mut lines = LineReader::new(alloc, MAX_REQUEST)?;
     let mut is_bound = false;
@@ -88,8 +92,11 @@ fn answer<W: Sink, D: Doors>(
     doors: &mut D,
     is_bound: &mut bool,
 ) -> Result<(), SessionEnd>
-    ensures answers { Answers (Replies D.finds D.binds D.asks D.waits (Attends (Turn D.views D.commits D.advances) D.heights D.pauses 1))
-        line.now (is_bound.old, doors.old) (is_bound.new, doors.new) (W.contents writer.old) (W.contents writer.new) result }
+    ensures answers { Answers
+        (Replies D.finds D.binds D.asks D.waits
+        (Attends (Turn D.views D.commits D.advances) D.heights D.pauses 1))
+        line.now (is_bound.old, doors.old) (is_bound.new, doors.new) (W.contents writer.old)
+        (W.contents writer.new) result }
     ensures cause { IfErr result (λ end. HasCause ⊥ ⊥ (W.failed writer.new) end) }
 {
     if is_blank(line) {

@@ -1,4 +1,4 @@
--- What a session does to the tenants by the definitions, where nobody else acts on them.
+-- What a session does to the tenants by the definitions, if nobody else acts on them.
 use Rattle.std.specs.Prelude.{ℕ, zero, suc, ◌≡◌, ◌≢◌, ◌<◌, ◌≤◌, Bool, true, List, length, Option, Some, None, is_some, unwrap_or, slice_get, slice_set}
 use Rattle.job_language.specs.declared.answers.Moved.{Moved}
 use Rattle.job_language.specs.declared.answers.Moved.TheVariants as moved

@@ -63,7 +63,8 @@ struct Parted {
 impl Parted {
     fn new(alloc: Global, seats: Vec<Seat>, tenant: usize) -> Result<Parted, AllocError>
         ensures own { IfOk result (λ parted. parted.own.items ≡ filter (is_of tenant) seats.items) }
-        ensures others { IfOk result (λ parted. parted.others.items ≡ filter (λ s. not (is_of tenant s)) seats.items) }
+        ensures others { IfOk result
+            (λ parted. parted.others.items ≡ filter (λ s. not (is_of tenant s)) seats.items) }
     {
         let mut own = Vec::new(alloc);
         let mut others = Vec::new(alloc);

@@ -17,7 +17,8 @@ const _: () = prove!(MAX_CONFIG == 1_048_576);
 pub fn config_of(alloc: Global, bytes: &[u8]) -> Result<Config, ServerEnd>
     ensures config { IfOk result (λ config. config_in bytes.now ≡ Some config) }
     ensures short { IfOk result (λ config. length bytes.now ≤ MAX_CONFIG) }
-    ensures none { result ≡ Err end.Config → (MAX_CONFIG < length bytes.now) ⊎ (config_in bytes.now ≡ None) }
+    ensures none { result ≡ Err end.Config
+        → (MAX_CONFIG < length bytes.now) ⊎ (config_in bytes.now ≡ None) }
 {
     if bytes.len() > MAX_CONFIG {
         return Err(ServerEnd::Config);

@@ -48,7 +48,8 @@ impl FreshSeats {
         tenants: usize,
     ) -> Result<Option<Vec<Seat>>, AllocError>
         ensures own { IfOk result (λ taken. IfSome taken (λ seats. AreOwn seats.items)) }
-        ensures count { IfOk result (λ taken. IfSome taken (λ seats. length seats.items ≡ tenants)) }
+        ensures count { IfOk result
+            (λ taken. IfSome taken (λ seats. length seats.items ≡ tenants)) }
         ensures fresh { IfOk result (λ taken. IfSome taken (λ seats. All IsFresh seats.items)) }
     {
         let mut own = Vec::with_capacity(alloc, tenants)?;

@@ -44,9 +44,14 @@ impl Model for House {
 
     ghost Value = { SharedSeen };
 
-    ghost view = { λ h. record { doors = h.doors.items; names = h.names.items; queues = h.queues } };
+    ghost view = { λ h. record {
+      doors = h.doors.items;
+      names = h.names.items;
+      queues = h.queues;
+    } };
 
-    ghost invariant = { λ h. IsShared (record { doors = h.doors.items; names = h.names.items; queues = h.queues }) };
+    ghost invariant = { λ h. IsShared
+        (record { doors = h.doors.items; names = h.names.items; queues = h.queues }) };
 }
 
 /// A house with all passes of its queues, one for each worker and each connection, and all seats.
@@ -61,11 +66,15 @@ impl House {
     /// The house of a configuration's tenants, which have done nothing yet, for `connections` connections.
     pub fn open(alloc: Global, config: &Config, connections: u8) -> Result<Opened, AllocError>
         requires { 1 ≤ connections }
-        ensures passes { IfOk result (λ opened. ArePassesOf opened.house.queues.queues opened.passes.items) }
-        ensures count { IfOk result (λ opened. length opened.passes.items ≡ config.now.workers + connections) }
-        ensures doors { IfOk result (λ opened. opened.house.doors ≡ doors_of connections config.now.tenants) }
+        ensures passes { IfOk result
+            (λ opened. ArePassesOf opened.house.queues.queues opened.passes.items) }
+        ensures count { IfOk result
+            (λ opened. length opened.passes.items ≡ config.now.workers + connections) }
+        ensures doors { IfOk result
+            (λ opened. opened.house.doors ≡ doors_of connections config.now.tenants) }
         ensures names { IfOk result (λ opened. opened.house.names ≡ names_of config.now.tenants) }
-        ensures seats { IfOk result (λ opened. opened.seats ≡ seats_of connections config.now.tenants) }
+        ensures seats { IfOk result
+            (λ opened. opened.seats ≡ seats_of connections config.now.tenants) }
     {
         let tenants = config.tenants();
         let names = names_of(alloc, tenants)?;

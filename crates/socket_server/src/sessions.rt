@@ -14,7 +14,7 @@ use tenant_record::Seat;
 use worker_main::{Gate, Signal, Visiting, worker};
 
 /// Serves one client, and gives the seats back, however its session ended: with what its asks were answered, or as they
-/// were where there was no memory for a session. It waits for nothing once the flag is raised.
+/// were if there was no memory for a session. It waits for nothing once the flag is raised.
 pub fn serve_client<R: Wait, I: Read, O: Write>(
     rt: &R,
     alloc: Global,
@@ -23,8 +23,10 @@ pub fn serve_client<R: Wait, I: Read, O: Write>(
     reader: &mut I,
     writer: &mut O,
 ) -> Vec<Seat>
-    ensures served { ServesClient client.entry (I.remaining reader.old) (I.remaining reader.new) (O.contents writer.old) (O.contents writer.new) result.items
-        ⊎ ((reader.new ≡ reader.old) × (writer.new ≡ writer.old) × (result.items ≡ client.entry.seats)) }
+    ensures served { ServesClient client.entry (I.remaining reader.old) (I.remaining reader.new)
+        (O.contents writer.old) (O.contents writer.new) result.items
+        ⊎ ((reader.new ≡ reader.old) × (writer.new ≡ writer.old)
+        × (result.items ≡ client.entry.seats)) }
     ensures given_back { All IsGivenBack result.items }
 {
     let mut doors = client.into_doors(rt, is_gone);

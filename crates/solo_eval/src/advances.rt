@@ -57,7 +57,8 @@ impl TenantState {
         requires slot { slot < MAX_SLOTS }
         requires next { (i : Instr) → run.now.stop ≡ Stop.Shared i → is_last i ≡ false
             → run.now.end.place < LAST_PLACE }
-        ensures ok { IfOk result (λ moved. after_run self.old slot number run.now.count run.now.end run.now.stop
+        ensures ok { IfOk result
+            (λ moved. after_run self.old slot number run.now.count run.now.end run.now.stop
             ≡ (moved, self.new)) }
         ensures err { OnErr result (self.new ≡ self.old) }
         ensures makes { OnErr result (StopsToMake run.now.stop) }
@@ -108,7 +109,8 @@ impl TenantState {
     /// Takes the pick onto a slot whose topmost row waits.
     fn nest_pick(&mut self, slot: u8, number: u64) -> Moved
         requires row { IsNumberIn self.old.rows number }
-        ensures { unless_full self.old (nest_pick self.old slot number (pick self.old slot)) ≡ (result, self.new) }
+        ensures { unless_full self.old (nest_pick self.old slot number (pick self.old slot))
+            ≡ (result, self.new) }
     {
         let Some(picked) = self.pick(slot) else {
             return Moved::Idle;
@@ -127,7 +129,8 @@ impl TenantState {
 
     /// Takes the pick onto an empty slot, unless it is reserved.
     fn begin(&mut self, slot: u8) -> Moved
-        ensures { unless_full self.old (begin self.old slot (pick self.old slot)) ≡ (result, self.new) }
+        ensures { unless_full self.old (begin self.old slot (pick self.old slot))
+            ≡ (result, self.new) }
     {
         let is_reserved = slot < self.config().reserved;
         let Some(picked) = self.pick(slot) else {

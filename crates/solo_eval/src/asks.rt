@@ -35,7 +35,8 @@ impl TenantState {
 
     fn submit(&mut self, job: Job) -> Result<Reply, AllocError>
         requires { HasRoom self.old }
-        ensures ok { IfOk result (λ reply. unless_limit self.old (submit self.old job) ≡ (reply, self.new)) }
+        ensures ok { IfOk result
+            (λ reply. unless_limit self.old (submit self.old job) ≡ (reply, self.new)) }
         ensures err { OnErr result (self.new ≡ self.old) }
     {
         if let Some(error) = self.limit() {
@@ -51,7 +52,8 @@ impl TenantState {
     /// Makes a job, and places its root on a free reserved slot if there is one.
     fn submit_placed(&mut self, job: Job) -> Result<Reply, AllocError>
         requires { HasRoom self.old }
-        ensures ok { IfOk result (λ reply. unless_limit self.old (submit_placed self.old job (free_slot self.old))
+        ensures ok { IfOk result
+            (λ reply. unless_limit self.old (submit_placed self.old job (free_slot self.old))
             ≡ (reply, self.new)) }
         ensures err { OnErr result (self.new ≡ self.old) }
     {

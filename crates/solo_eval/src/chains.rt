@@ -82,7 +82,8 @@ pub(crate) fn has_cancelled_group(rows: &[Row], number: u64) -> bool
     requires precede { MakersPrecede rows.now }
     requires row { IsNumberIn rows.now number }
     ensures { result
-        ≡ list_any (λ m. is_group_cancelled rows.now (row rows.now m).kind) (chain rows.now number) }
+        ≡ list_any (λ m. is_group_cancelled rows.now (row rows.now m).kind)
+        (chain rows.now number) }
 {
     let mut at = number;
     loop {

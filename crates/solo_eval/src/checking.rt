@@ -26,7 +26,8 @@ pub fn check(alloc: Global, config: TenantConfig, entries: &[Entry]) -> Result<V
     ensures verdict { IfOk result (λ verdict. IsVerdict config entries.now verdict) }
 
     // The answers in a history that passes are those of its tenant to its steps.
-    ensures yes { result ≡ Ok Verdict.Yes → answers (empty config) (map (λ e. e.step) entries.now) ≡ map (λ e. e.answer) entries.now }
+    ensures yes { result ≡ Ok Verdict.Yes
+        → answers (empty config) (map (λ e. e.step) entries.now) ≡ map (λ e. e.answer) entries.now }
     ensures takes { OnErr result (SomeTakesMemory (empty config) entries.now) }
     ensures no { (k : ℕ) → result ≡ Ok (Verdict.No k) → (1 ≤ k) × (k ≤ length entries.now) }
 {

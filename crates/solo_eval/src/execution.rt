@@ -41,8 +41,10 @@ impl TenantState {
         requires row { IsNumberIn self.old.rows number }
         requires maker { IfSome (maker_of made.kind) (IsNumberIn self.old.rows) }
         requires fuel { is_poor self.old number cost ≡ false }
-        ensures ok { IfOk result (λ moved. make (with_fuel_paid self.old number cost) slot number frame
-            (new_row made.kind (row self.old.rows number).job made.made_on made.frame made.phase) ≡ (moved, self.new)) }
+        ensures ok { IfOk result
+            (λ moved. make (with_fuel_paid self.old number cost) slot number frame
+            (new_row made.kind (row self.old.rows number).job made.made_on made.frame made.phase)
+            ≡ (moved, self.new)) }
         ensures err { OnErr result (self.new ≡ self.old) }
     {
         let job = self.row(number).job;
@@ -70,7 +72,9 @@ impl TenantState {
         requires slot { slot < MAX_SLOTS }
         requires place { is_last instr.now ≡ false → frame.place < LAST_PLACE }
         requires fuel { is_poor self.old number cost ≡ false }
-        ensures ok { IfOk result (λ moved. execute (with_fuel_paid self.old number cost) slot number frame instr.now ≡ (moved, self.new)) }
+        ensures ok { IfOk result
+            (λ moved. execute (with_fuel_paid self.old number cost) slot number frame instr.now
+            ≡ (moved, self.new)) }
         ensures err { OnErr result (self.new ≡ self.old) }
         ensures makes { OnErr result (makes_row instr.now ≡ true) }
     {
@@ -116,7 +120,9 @@ impl TenantState {
         requires room { HasRoom self.old }
         requires row { IsNumberIn self.old.rows number }
         requires fuel { is_poor self.old number cost ≡ false }
-        ensures ok { IfOk result (λ moved. isolate_at (with_fuel_paid self.old number cost) slot number frame called_frame ≡ (moved, self.new)) }
+        ensures ok { IfOk result
+            (λ moved. isolate_at (with_fuel_paid self.old number cost) slot number frame
+            called_frame ≡ (moved, self.new)) }
         ensures err { OnErr result (self.new ≡ self.old) }
     {
         let height = height(self.rows(), slot);

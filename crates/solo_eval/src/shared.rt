@@ -42,7 +42,8 @@ impl TenantState {
     pub(crate) fn fault_out_of_fuel(&mut self, slot: u8, number: u64) -> Moved
         requires room { HasRoom self.old }
         requires row { IsNumberIn self.old.rows number }
-        ensures { faults slot (row self.old.rows number).job JobFault.Fuel (with_fuel self.old number 0) ≡ (result, self.new) }
+        ensures { faults slot (row self.old.rows number).job JobFault.Fuel
+            (with_fuel self.old number 0) ≡ (result, self.new) }
     {
         let job = self.row(number).job;
         self.set_fuel(job, 0);
@@ -71,7 +72,8 @@ impl TenantState {
         group: Group,
     ) -> Moved
         requires moves { CanMove self.old number frame }
-        ensures { shared.wait self.old slot number frame total_to status_to group ≡ (result, self.new) }
+        ensures { shared.wait self.old slot number frame total_to status_to group
+            ≡ (result, self.new) }
     {
         let mut waited = frame;
         waited.registers[total_to.index()] = total(self.rows(), number, group.index());

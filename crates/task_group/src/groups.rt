@@ -65,7 +65,8 @@ impl Groups {
         requires number { number < GROUPS }
         requires room { (group self.old number).pending < u32.MAX }
         ensures { let joined = group self.old number
-            in self.new ≡ slice_set self.old number (record joined { pending = joined.pending + 1; is_used = true }) }
+            in self.new ≡ slice_set self.old number
+            (record joined { pending = joined.pending + 1; is_used = true }) }
     {
         let group = &mut self.groups[number];
         group.pending += 1;
@@ -77,7 +78,11 @@ impl Groups {
         requires number { number < GROUPS }
         requires pending { 0 < (group self.old number).pending }
         ensures { let left = group self.old number
-            in self.new ≡ slice_set self.old number (record left { pending = left.pending - 1; total = int_wrapping_add w64 left.total value }) }
+            in self.new ≡ slice_set self.old number
+            (record left {
+              pending = left.pending - 1;
+              total = int_wrapping_add w64 left.total value;
+            }) }
     {
         let group = &mut self.groups[number];
         group.pending -= 1;

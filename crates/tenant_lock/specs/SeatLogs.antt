@@ -4,7 +4,7 @@ use Rattle.job_language.specs.declared.steps.Entry.{Entry}
 use Rattle.tenant_record.specs.Cell.{CellData, is_ask}
 use Rattle.tenant_record.specs.SeatData.{SeatData}
 
--- the asks of a history that belong to a seat, in order, where the seat of each ask is named
+-- the asks of a history that belong to a seat, in order, if the seat of each ask is named
 abbrev pub asks_on : (number : ℕ) → (askers : List ℕ) → List Entry → List Entry
 asks_on number [] history = []
 asks_on number (asker ∷ askers) [] = []

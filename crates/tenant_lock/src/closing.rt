@@ -11,7 +11,7 @@ use tenant_record::{
     Seat, SlotFault, TenantCell, are_all_told, are_seats, first_slot_fault, is_one_full,
 };
 
-/// What is wrong with a cell, where these seats came back to a door of that tenant with that limit of
+/// What is wrong with a cell, if these seats came back to a door of that tenant with that limit of
 /// seats, if anything is.
 pub fn fault_of(
     cell: &TenantCell,

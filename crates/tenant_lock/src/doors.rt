@@ -164,7 +164,7 @@ impl TenantDoor {
     }
 
     /// Advances the slot of a pass as `advance`, and under the same lock looks at the slot: the view is
-    /// that after it, or `Unshared` where no other pass of the tenant is out.
+    /// that after it, or `Unshared` if no other pass of the tenant is out.
     pub fn advance_and_look<R: Wait>(&self, rt: &R, pass: Pass, view: &mut View) -> Turned
         requires { pass.tenant ≡ self.now.tenant }
         ensures back { ComesBack pass result.advanced.moved result.advanced.pass }

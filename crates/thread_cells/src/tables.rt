@@ -90,7 +90,8 @@ impl Cells {
 
 /// The wrapping sum of the cells that are there.
 fn sum_of(cells: &[Option<i64>]) -> i64
-    ensures { result ≡ fold (λ sum c. int_wrapping_add w64 sum (unwrap_or c (pos 0))) (pos 0) cells.now }
+    ensures { result ≡ fold (λ sum c. int_wrapping_add w64 sum (unwrap_or c (pos 0)))
+        (pos 0) cells.now }
 {
     let mut sum = 0i64;
     for cell in cells {

@@ -83,7 +83,7 @@ pub const POSTED: JobText = JobText {
     procs: r#"[[["set",2,5],["store",0,2],["isolate",3,1,0,1],["load",5,0],["ret",5]],[["spawn",0,2,0,1],["post",3,0,1],["wait",2,3,0],["ret",2]],[["ret",0]],[["set",2,9],["store",0,2],["ret",2]]]"#,
 };
 
-/// As ISOLATED, where the task of the region itself stores 9.
+/// As ISOLATED, but the task of the region itself stores 9.
 pub const STOLEN: JobText = JobText {
     args: [0, 0],
     fuel: 1_000,

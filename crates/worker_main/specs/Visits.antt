@@ -44,7 +44,7 @@ abbrev pub GoesAgain : {D : Type 0} → Ways D → Visiting → (rounds : ℕ) �
 GoesAgain {D = D} w v zero s t = t ≡ s
 GoesAgain {D = D} w v (suc n) s t = (f : SlotSeen D) × (GoesAgain w v n s f × TakesRound w v Again f t)
 
--- The visit ends where the slot is left. Where it cannot go on, or after 2^64 - 1 rounds, the slot is given home.
+-- The visit ends once the slot is left. If it cannot go on, or after 2^64 - 1 rounds, the slot is given home.
 abbrev pub EndsVisit : {D : Type 0} → Ways D → Visiting → (rounds : ℕ) → SlotSeen D → SlotSeen D → Type 0
 EndsVisit {D = D} w v n s t =
     TakesRound w v Left s t

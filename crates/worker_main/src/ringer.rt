@@ -42,7 +42,7 @@ impl<'q, R: Wait, S: Signal> Ringer<'q, R, S> {
         }
     }
 
-    /// Pushes a call and rings. The call is lost only where its level was full at one moment, or the
+    /// Pushes a call and rings. The call is lost only if its level was full at one moment, or the
     /// pass had made `u64::MAX` pushes there.
     pub fn call(&mut self, call: Call)
         requires { call.tenant < length self.old.queues.config }

@@ -35,7 +35,8 @@ where
     S: Signal,
     G: Gate,
     D: CallDoors,
-    ensures { Comes (ways D.views D.commits D.advances D.heights D.pauses D.homes D.hands D.arrives) visiting call door.old door.new }
+    ensures { Comes (ways D.views D.commits D.advances D.heights D.pauses D.homes D.hands D.arrives)
+        visiting call door.old door.new }
 {
     match door.arrive(call) {
         Came::At(_) => visit(door, visiting),
@@ -50,7 +51,8 @@ where
     S: Signal,
     G: Gate,
     D: CallDoors,
-    ensures { Visits (ways D.views D.commits D.advances D.heights D.pauses D.homes D.hands D.arrives) visiting door.old door.new }
+    ensures { Visits (ways D.views D.commits D.advances D.heights D.pauses D.homes D.hands
+        D.arrives) visiting door.old door.new }
 {
     for _round in 0..u64::MAX {
         match take_round(door, visiting) {
@@ -69,7 +71,8 @@ where
     S: Signal,
     G: Gate,
     D: CallDoors,
-    ensures { TakesRound (ways D.views D.commits D.advances D.heights D.pauses D.homes D.hands D.arrives) visiting result door.old door.new }
+    ensures { TakesRound (ways D.views D.commits D.advances D.heights D.pauses D.homes D.hands
+        D.arrives) visiting result door.old door.new }
 {
     match attend(door, 1) {
         Attended::Below => end_round(door, visiting),
@@ -85,7 +88,8 @@ where
     S: Signal,
     G: Gate,
     D: CallDoors,
-    ensures { AfterBelow (ways D.views D.commits D.advances D.heights D.pauses D.homes D.hands D.arrives) visiting result door.old door.new }
+    ensures { AfterBelow (ways D.views D.commits D.advances D.heights D.pauses D.homes D.hands
+        D.arrives) visiting result door.old door.new }
 {
     if visiting == Visiting::Sharing && door.is_awaited() {
         door.hand_over();

@@ -14,7 +14,7 @@ use call_queues::{CallQueues, QueuePass};
 use std::sync::Wait;
 
 /// Serves calls until the signal says to stop: it pops a call, arrives at its slot and attends it
-/// until the slot is left, or handed over by a worker that shares. It waits where there is no call. The
+/// until the slot is left, or handed over by a worker that shares. It waits if there is no call. The
 /// queue pass and the doors come back. A worker makes at most 2^64 - 1 turns.
 pub fn worker<R, S, G, D>(
     rt: &R,
@@ -33,7 +33,8 @@ where
     requires pass { pass.queues ≡ queues.now.queues }
     requires tenants { D.tenants doors ≤ length queues.now.config }
     ensures pass { (result.0.queues ≡ pass.queues) × (result.0.number ≡ pass.number) }
-    ensures works { Works (ways D.views D.commits D.advances D.heights D.pauses D.homes D.hands D.arrives) visiting (S.stops signal.now)
+    ensures works { Works (ways D.views D.commits D.advances D.heights D.pauses D.homes D.hands
+        D.arrives) visiting (S.stops signal.now)
         (record { ringer = record { queues = queues.now; pass = pass }; doors = doors })
         (record { ringer = record { queues = queues.now; pass = result.0 }; doors = result.1 }) }
 {
@@ -49,7 +50,8 @@ where
     S: Signal,
     G: Gate,
     D: CallDoors,
-    ensures { Works (ways D.views D.commits D.advances D.heights D.pauses D.homes D.hands D.arrives) visiting (S.stops signal.now) door.old door.new }
+    ensures { Works (ways D.views D.commits D.advances D.heights D.pauses D.homes D.hands D.arrives)
+        visiting (S.stops signal.now) door.old door.new }
 {
     for _turn in 0..u64::MAX {
         let Some(heard) = signal.listen(rt) else {
@@ -73,7 +75,8 @@ where
     G: Gate,
     D: CallDoors,
     requires { S.hears signal.now heard }
-    ensures { TakesTurn (ways D.views D.commits D.advances D.heights D.pauses D.homes D.hands D.arrives) visiting door.old door.new }
+    ensures { TakesTurn (ways D.views D.commits D.advances D.heights D.pauses D.homes D.hands
+        D.arrives) visiting door.old door.new }
 {
     match door.pop() {
         Some(call) => answer_call(door, call, visiting),

@@ -41,7 +41,7 @@ outcome_text names (outcome.Held call) = held_text names call
 outcome_text names outcome.NoCall = market_text market.NoCall
 outcome_text names outcome.NotNow = market_text market.NotNow
 
--- the text of an outcome, or that of a bad step where there is none
+-- the text of an outcome, or that of a bad step if there is none
 abbrev pub told : List (List ℕ) → Option Outcome → List ℕ
 told names (Some o) = outcome_text names o
 told names None = codes "{\"moved\":\"bad_step\"}"

@@ -93,7 +93,8 @@ fn reset(contexts: &mut Contexts, context: ContextId)
 #[inline(never)]
 fn release(contexts: &mut Contexts, context: ContextId)
     requires held { IsHeld contexts.old context }
-    requires ends { (c : ℕ) → parent contexts.old c ≡ Some context → IsTrue (is_cancelled contexts.old context) }
+    requires ends { (c : ℕ) → parent contexts.old c ≡ Some context
+        → IsTrue (is_cancelled contexts.old context) }
     ensures { contexts.new ≡ without contexts.old context }
 {
     contexts.release(context);

@@ -58,7 +58,8 @@ fn add(groups: &mut Groups, number: usize)
     requires number { number < GROUPS }
     requires room { (group groups.old number).pending < u32.MAX }
     ensures { let joined = group groups.old number
-        in groups.new ≡ slice_set groups.old number (record joined { pending = joined.pending + 1; is_used = true }) }
+        in groups.new ≡ slice_set groups.old number
+        (record joined { pending = joined.pending + 1; is_used = true }) }
 {
     groups.add(number);
 }
@@ -82,7 +83,11 @@ fn finish(groups: &mut Groups, number: usize, value: i64)
     requires number { number < GROUPS }
     requires pending { 0 < (group groups.old number).pending }
     ensures { let left = group groups.old number
-        in groups.new ≡ slice_set groups.old number (record left { pending = left.pending - 1; total = int_wrapping_add w64 left.total value }) }
+        in groups.new ≡ slice_set groups.old number
+        (record left {
+          pending = left.pending - 1;
+          total = int_wrapping_add w64 left.total value;
+        }) }
 {
     groups.finish(number, value);
 }

@@ -81,7 +81,8 @@ impl Rounds for NestedRows {
 fn push(nests: &mut Nests, slot: usize, frame: Frame, row: RowId)
     requires slot { slot < length nests.old }
     requires height { length (stack nests.old slot) < MAX_HEIGHT }
-    ensures { nests.new ≡ with_stack nests.old slot (stack nests.old slot ++ (record { frame = frame; row = row; is_region = false }) ∷ []) }
+    ensures { nests.new ≡ with_stack nests.old slot
+        (stack nests.old slot ++ (record { frame = frame; row = row; is_region = false }) ∷ []) }
 {
     nests.push(slot, frame, row, false);
 }
@@ -106,7 +107,8 @@ fn set_top(nests: &mut Nests, slot: usize, frame: Frame)
 fn pop(nests: &mut Nests, slot: usize) -> Nested
     requires slot { slot < length nests.old }
     requires height { 0 < length (stack nests.old slot) }
-    ensures { nests.new ≡ with_stack nests.old slot (below (stack nests.old slot) (length (stack nests.old slot))) }
+    ensures { nests.new ≡ with_stack nests.old slot
+        (below (stack nests.old slot) (length (stack nests.old slot))) }
 {
     nests.pop(slot)
 }

@@ -29,9 +29,15 @@ impl Model for WaitingRows {
 
     ghost Value = { WaitingSeen };
 
-    ghost view = { λ w. record { pool = w.pool; regions = w.regions; region = w.region; free = w.free } };
+    ghost view = { λ w. record {
+      pool = w.pool;
+      regions = w.regions;
+      region = w.region;
+      free = w.free;
+    } };
 
-    ghost invariant = { λ w. AreWaiting (record { pool = w.pool; regions = w.regions; region = w.region; free = w.free }) };
+    ghost invariant = { λ w. AreWaiting
+        (record { pool = w.pool; regions = w.regions; region = w.region; free = w.free }) };
 }
 
 impl WaitingRows {
@@ -108,7 +114,8 @@ fn put(pool: &mut Pool, row: RowId, region: Option<RowId>, regions: &Regions)
     requires places { length regions.now ≡ pool.old.limit }
     requires region { IsRegionEntered regions.now region }
     requires regions { All (λ w. IsRegionEntered regions.now w.region) pool.old.rows }
-    ensures { pool.new ≡ with_row pool.old (record { row = row; made_on = Some SLOT; region = region }) }
+    ensures { pool.new ≡ with_row pool.old
+        (record { row = row; made_on = Some SLOT; region = region }) }
 {
     pool.put(row, Some(SLOT), region, regions);
 }

@@ -24,7 +24,8 @@ impl Model for EnteredRows {
 
     ghost view = { λ e. record { regions = e.regions; region = e.region; free = e.free } };
 
-    ghost invariant = { λ e. AreEntered (record { regions = e.regions; region = e.region; free = e.free }) };
+    ghost invariant = { λ e. AreEntered
+        (record { regions = e.regions; region = e.region; free = e.free }) };
 }
 
 impl EnteredRows {
@@ -67,7 +68,8 @@ fn enter(regions: &mut Regions, row: RowId, region: RowId)
     requires place { row.place < length regions.old }
     requires free { IsNone (slice_index_or regions.old row.place None) }
     requires earlier { region.number < row.number }
-    ensures { regions.new ≡ slice_set regions.old row.place (Some (tagged row (Some region) false)) }
+    ensures { regions.new ≡ slice_set regions.old row.place
+        (Some (tagged row (Some region) false)) }
 {
     regions.enter(row, Some(region), false);
 }

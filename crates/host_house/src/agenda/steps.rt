@@ -64,7 +64,8 @@ impl Agenda {
     /// The next generation has to wait.
     fn hold(&mut self, left: Option<(u64, Why)>) -> Step
         ensures said { self.old.is_held ≡ true → (result ≡ Wait) × (self.new ≡ self.old) }
-        ensures says { self.old.is_held ≡ false → (result ≡ Hold left) × (self.new ≡ record self.old { is_held = true }) }
+        ensures says { self.old.is_held ≡ false
+            → (result ≡ Hold left) × (self.new ≡ record self.old { is_held = true }) }
     {
         if self.is_held {
             return Step::Wait;
@@ -111,7 +112,8 @@ impl Agenda {
 
     /// Asks for the generation that serves to be left. It says whether nobody had asked before.
     pub(crate) fn ask(&mut self, why: Why) -> bool
-        ensures new { IsTrue result ↔ (self.old.wish ≡ None) × (IsSome self.old.generations.serving) }
+        ensures new { IsTrue result ↔ (self.old.wish ≡ None)
+            × (IsSome self.old.generations.serving) }
         ensures asked { IsTrue result → self.new ≡ record self.old { wish = Some why } }
         ensures not { result ≡ false → self.new ≡ self.old }
     {
@@ -124,7 +126,8 @@ impl Agenda {
 
     /// Takes back what a file asked for, if it was not begun.
     pub(crate) fn take_back(&mut self)
-        ensures back { self.old.is_opening ≡ false → self.old.wish ≡ Some File → self.new ≡ record self.old { wish = None; is_held = false } }
+        ensures back { self.old.is_opening ≡ false → self.old.wish ≡ Some File
+            → self.new ≡ record self.old { wish = None; is_held = false } }
         ensures begun { self.old.is_opening ≡ true → self.new ≡ self.old }
         ensures other { self.old.wish ≢ Some File → self.new ≡ self.old }
     {
@@ -139,7 +142,11 @@ impl Agenda {
 
     /// What a generation's thread finds of its generation.
     pub(crate) fn look(&self, number: u64) -> Look
-        ensures { result ≡ record { stage = stage_of self.now.generations number; why = why_of self.now.generations number; is_stopping = self.now.is_stopping } }
+        ensures { result ≡ record {
+          stage = stage_of self.now.generations number;
+          why = why_of self.now.generations number;
+          is_stopping = self.now.is_stopping;
+        } }
     {
         Look {
             stage: self.generations.stage(number),

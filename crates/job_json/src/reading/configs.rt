@@ -12,7 +12,7 @@ use job_language::{Config, MAX_WORKERS, TenantConfig};
 use serde_json::Value;
 use std::alloc::Global;
 
-/// Reads a configuration. `Refused::Memory` comes only where an allocation failed.
+/// Reads a configuration. `Refused::Memory` comes only if an allocation failed.
 pub fn read_config(alloc: Global, value: &Value) -> Result<Config, Refused>
     ensures { Reads (λ config. config) result (ok_or (config_of (view value.now)) Place.Head) }
 {

@@ -179,8 +179,10 @@ fn key_and_register(operands: &[Value]) -> Option<(Key, Register)>
 
 #[tactic(auto, unfolding(crate::specs::Instruction::one, crate::specs::Instruction::two, crate::specs::Instruction::three))]
 fn three_registers(operands: &[Value]) -> Option<(Register, Register, Register)>
-    ensures value { result ≡ three register register register (λ x y z. (x, y, z)) (map view operands.now) }
-    ensures in_range { IfSome result (λ x. (x.0 < REGISTERS) × (x.1 < REGISTERS) × (x.2 < REGISTERS)) }
+    ensures value { result ≡ three register register register (λ x y z. (x, y, z))
+        (map view operands.now) }
+    ensures in_range { IfSome result (λ x. (x.0 < REGISTERS) × (x.1 < REGISTERS)
+        × (x.2 < REGISTERS)) }
 {
     let [d, a, b] = operands else { return None };
     Some((register(d)?, register(a)?, register(b)?))
@@ -188,7 +190,8 @@ fn three_registers(operands: &[Value]) -> Option<(Register, Register, Register)>
 
 #[tactic(auto, unfolding(crate::specs::Instruction::one, crate::specs::Instruction::two, crate::specs::Instruction::three))]
 fn two_registers_and_group(operands: &[Value]) -> Option<(Register, Register, Group)>
-    ensures value { result ≡ three register register group (λ x y z. (x, y, z)) (map view operands.now) }
+    ensures value { result ≡ three register register group (λ x y z. (x, y, z))
+        (map view operands.now) }
     ensures in_range { IfSome result (λ x. (x.0 < REGISTERS) × (x.1 < REGISTERS) × (x.2 < GROUPS)) }
 {
     let [d, e, g] = operands else { return None };
@@ -198,7 +201,8 @@ fn two_registers_and_group(operands: &[Value]) -> Option<(Register, Register, Gr
 #[tactic(auto, unfolding(crate::specs::Instruction::one, crate::specs::Instruction::two, crate::specs::Instruction::three))]
 fn call(procs: usize, operands: &[Value]) -> Option<(u8, Register, Register)>
     requires { procs ≤ MAX_PROCS }
-    ensures value { result ≡ three (below procs) register register (λ x y z. (x, y, z)) (map view operands.now) }
+    ensures value { result ≡ three (below procs) register register (λ x y z. (x, y, z))
+        (map view operands.now) }
     ensures in_range { IfSome result (λ x. (x.0 < procs) × (x.1 < REGISTERS) × (x.2 < REGISTERS)) }
 {
     let [p, a, b] = operands else { return None };
@@ -208,8 +212,10 @@ fn call(procs: usize, operands: &[Value]) -> Option<(u8, Register, Register)>
 #[tactic(auto, unfolding(crate::specs::Instruction::one, crate::specs::Instruction::two, crate::specs::Instruction::three, crate::specs::Instruction::four))]
 fn group_and_call(procs: usize, operands: &[Value]) -> Option<(Group, u8, Register, Register)>
     requires { procs ≤ MAX_PROCS }
-    ensures value { result ≡ four group (below procs) register register (λ x y z w. (x, y, z, w)) (map view operands.now) }
-    ensures in_range { IfSome result (λ x. (x.0 < GROUPS) × (x.1 < procs) × (x.2 < REGISTERS) × (x.3 < REGISTERS)) }
+    ensures value { result ≡ four group (below procs) register register (λ x y z w. (x, y, z, w))
+        (map view operands.now) }
+    ensures in_range { IfSome result (λ x. (x.0 < GROUPS) × (x.1 < procs) × (x.2 < REGISTERS)
+        × (x.3 < REGISTERS)) }
 {
     let [g, p, a, b] = operands else { return None };
     Some((group(g)?, below(procs, p)?, register(a)?, register(b)?))
@@ -218,8 +224,10 @@ fn group_and_call(procs: usize, operands: &[Value]) -> Option<(Group, u8, Regist
 #[tactic(auto, unfolding(crate::specs::Instruction::one, crate::specs::Instruction::two, crate::specs::Instruction::three, crate::specs::Instruction::four))]
 fn register_and_call(procs: usize, operands: &[Value]) -> Option<(Register, u8, Register, Register)>
     requires { procs ≤ MAX_PROCS }
-    ensures value { result ≡ four register (below procs) register register (λ x y z w. (x, y, z, w)) (map view operands.now) }
-    ensures in_range { IfSome result (λ x. (x.0 < REGISTERS) × (x.1 < procs) × (x.2 < REGISTERS) × (x.3 < REGISTERS)) }
+    ensures value { result ≡ four register (below procs) register register (λ x y z w. (x, y, z, w))
+        (map view operands.now) }
+    ensures in_range { IfSome result (λ x. (x.0 < REGISTERS) × (x.1 < procs) × (x.2 < REGISTERS)
+        × (x.3 < REGISTERS)) }
 {
     let [d, p, a, b] = operands else { return None };
     Some((register(d)?, below(procs, p)?, register(a)?, register(b)?))

@@ -25,7 +25,7 @@ struct Outline<'v> {
     procs: &'v [Value],
 }
 
-/// Reads a job. `Refused::Memory` comes only where an allocation failed; otherwise a value that
+/// Reads a job. `Refused::Memory` comes only if an allocation failed; otherwise a value that
 /// is no job is refused with the first place where it breaks the rules. What is no outline of a job is
 /// refused before any memory is asked for.
 pub fn read_job(alloc: Global, value: &Value) -> Result<Job, Refused>
@@ -174,7 +174,8 @@ fn read_proc(alloc: Global, procs: usize, number: usize, value: &Value) -> Resul
 
 fn read_procs(alloc: Global, values: &[Value]) -> Result<Vec<Proc>, Refused>
     requires { are_procs (map view values.now) ≡ true }
-    ensures read { Reads (λ v. v.items) result (procs_from (length values.now) 0 (map view values.now)) }
+    ensures read { Reads (λ v. v.items) result
+        (procs_from (length values.now) 0 (map view values.now)) }
     ensures valid { IfOk result (λ v. IsValidProgram v.items) }
 {
     let mut procs = Vec::with_capacity(alloc, values.len())?;

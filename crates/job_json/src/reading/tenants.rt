@@ -73,7 +73,8 @@ fn isolation_of(value: &Value) -> Option<Isolation>
 }
 
 fn isolation_or_exact(value: Option<&Value>) -> Option<Isolation>
-    ensures { result ≡ option_map_or isolation_of (option_map (λ v. view v.now) value.entry) (Some Exact) }
+    ensures { result ≡ option_map_or isolation_of (option_map (λ v. view v.now) value.entry)
+        (Some Exact) }
 {
     match value {
         Some(value) => isolation_of(value),

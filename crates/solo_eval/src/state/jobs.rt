@@ -109,7 +109,8 @@ impl TenantState {
     /// Gives a job a fault, unless it has one.
     pub(crate) fn set_fault(&mut self, job: u64, fault: JobFault)
         requires job { IsNumberIn self.old.jobs job }
-        ensures { self.new ≡ on_job self.old job (λ w. record w { fault = first_fault w.fault fault }) }
+        ensures { self.new ≡ on_job self.old job
+            (λ w. record w { fault = first_fault w.fault fault }) }
     {
         let work = &mut self.jobs[job as usize - 1];
         if work.fault.is_none() {
@@ -129,7 +130,12 @@ impl TenantState {
     pub(crate) fn retire_all(&mut self) -> u64
         requires { HasRoom self.old }
         ensures epoch { result ≡ self.old.epoch + 1 }
-        ensures state { self.new ≡ entry (record self.old { jobs = map retired_work self.old.jobs; cells = no_cells; epoch = self.old.epoch + 1 }) }
+        ensures state { self.new
+            ≡ entry (record self.old {
+              jobs = map retired_work self.old.jobs;
+              cells = no_cells;
+              epoch = self.old.epoch + 1;
+            }) }
     {
         retire_jobs(self.jobs.as_mut_slice());
         self.cells.clear();

@@ -41,7 +41,10 @@ impl TenantState {
         requires row { IsNumberIn self.old.rows number }
         requires kind { changed.kind ≡ (row self.old.rows number).kind }
         requires job { changed.job ≡ (row self.old.rows number).job }
-        ensures { self.new ≡ record self.old { rows = with_at_number self.old.rows number changed } }
+        ensures { self.new ≡ record self.old {
+          rows = with_at_number self.old.rows number
+              changed;
+        } }
     {
         self.rows[number as usize - 1] = changed;
     }
@@ -57,7 +60,8 @@ impl TenantState {
     ) -> Result<(), AllocError>
         requires maker { IfSome (maker_of kind) (IsNumberIn self.old.rows) }
         requires job { IsNumberIn self.old.jobs job }
-        ensures ok { OnOk result (self.new ≡ add_row self.old (new_row kind job made_on frame phase)) }
+        ensures ok { OnOk result
+            (self.new ≡ add_row self.old (new_row kind job made_on frame phase)) }
         ensures err { OnErr result (self.new ≡ self.old) }
     {
         let marks = [Mark {

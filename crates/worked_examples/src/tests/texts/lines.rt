@@ -60,7 +60,7 @@ fn faults_in(told: &[u8], want: &str) -> (usize, bool) {
     (faults, others.eq(want.bytes()))
 }
 
-/// The same of the last text, where that call of the reader fails.
+/// The same of the last text, if that call of the reader fails.
 fn faults_at(alloc: Global, call: u64) -> Result<(usize, bool), AllocError> {
     let (text, want) = LAST;
     let mut reader = Few::new(text.as_bytes(), 1).failing(ErrorKind::TimedOut, call, call);

@@ -28,7 +28,7 @@ impl Few<'_> {
         }
     }
 
-    /// The same reader, where the calls from the first to the last of these fail.
+    /// The same reader, but the calls from the first to the last of these fail.
     pub(super) fn failing(self, failure: ErrorKind, first: u64, last: u64) -> Self {
         Few {
             failure,

@@ -10,7 +10,7 @@ fn job_text(alloc: Global, fuel: u64, procs: &str) -> Result<String, Fail> {
     Ok(format!(in alloc; "{{\"args\":[0,0],\"fuel\":{fuel},\"procs\":{procs}}}")?)
 }
 
-/// Where such a job breaks the rules; `None` where it does not.
+/// Where such a job breaks the rules; `None` if it does not.
 fn place_of(alloc: Global, fuel: u64, procs: &str) -> Result<Option<Place>, Fail> {
     let text = job_text(alloc, fuel, procs)?;
     match read_job(alloc, &Value::from_str(alloc, text.as_str())?) {
