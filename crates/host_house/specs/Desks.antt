@@ -1,29 +1,10 @@
 -- The clients of a desk, one after another, and the seats with which they were served.
-use Rattle.std.specs.Prelude.{ℕ, zero, suc, ◌≡◌, ◌⊎◌, false, List, Option, Contains}
+use Rattle.std.specs.Prelude.{ℕ, zero, suc, ◌≡◌, ◌⊎◌, Contains}
 use Rattle.server_doors.specs.Sessions.{SessionSeen}
-use Rattle.server_doors.specs.SessionWays.{with_thread}
-use Rattle.server_doors.specs.SlotWays.{left}
-use Rattle.session_core.specs.Sessions.{Serves}
-use Rattle.session_core.specs.declared.serving.SessionEnd.{SessionEnd}
 use Rattle.socket_server.specs.Posts.{ClientSeen, IsClient, IsFresh}
-use Rattle.socket_server.specs.Sessions.{first_session, RepliesThere}
+use Rattle.socket_server.specs.Sessions.{first_session}
+use Rattle.socket_server.specs.Visits.{IsVisit}
 use Rattle.tenant_record.specs.SeatData.{SeatData}
-
--- A client was served: what was written is what answers the lines that were read, in order.
-pub record IsServed (old new : SessionSeen) : Type 0 where
-  pub bytes : Option (List ℕ)
-  pub unread : Option (List ℕ)
-  pub written : Option (List ℕ)
-  pub out : Option (List ℕ)
-  pub end : SessionEnd
-  pub serves : Serves RepliesThere bytes unread written out (false, old) new end
-
--- A client came and went: it was served, or there was no memory for that and nothing happened. Then the session is at no
--- slot.
-pub record IsVisit (old new : SessionSeen) : Type 0 where
-  pub session : SessionSeen
-  pub served : IsServed old session ⊎ (session ≡ old)
-  pub leaves : new ≡ with_thread session (record (session.at) { doors = left session.at.doors })
 
 -- so many clients, one after another
 abbrev pub AreVisits : ℕ → SessionSeen → SessionSeen → Type 0

@@ -1,3 +1,1 @@
-pub mod Agendas
 pub mod Desks
-pub mod States

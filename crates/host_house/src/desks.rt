@@ -1,13 +1,9 @@
 // The places of a generation's sessions, each of which serves one client after another.
-ghost use Rattle.host_house.specs.Desks.{IsVisit};
 
 use crate::seats::SeatsBack;
 use mio::Waker;
-use server_doors::LockedDoors;
-use session_core::serve;
-use socket_server::{Client, Watch};
+use socket_server::{Client, Watch, serve_next};
 use std::alloc::Global;
-use std::io::{Read, Write};
 use std::net::Shutdown;
 use std::os::unix::net::UnixStream;
 use std::sync::{Arc, Condvar, Mutex, Wait};
@@ -147,7 +143,7 @@ fn serve_guests<R: Wait>(
             break;
         };
         let guest = &*stream;
-        serve_guest(alloc, &mut &*guest, &mut &*guest, &mut doors);
+        serve_next(alloc, &mut &*guest, &mut &*guest, &mut doors);
         // The client may have gone before.
         let _ = guest.shutdown(Shutdown::Both);
         desk.free(rt);
@@ -156,17 +152,4 @@ fn serve_guests<R: Wait>(
     }
     let (seats, _ringer) = doors.into_parts();
     SeatsBack::new(seats)
-}
-
-/// Serves one guest, however its session ends. Then the doors can serve the next one.
-fn serve_guest<R: Wait, I: Read, O: Write>(
-    alloc: Global,
-    reader: &mut I,
-    writer: &mut O,
-    doors: &mut LockedDoors<'_, '_, R, Bell>,
-)
-    ensures { IsVisit doors.old doors.new }
-{
-    let _end = serve(alloc, reader, writer, doors);
-    doors.leave();
 }

@@ -1,7 +1,7 @@
 // What the generations of a host share.
 
-use crate::agenda::{Agenda, Look, Step};
 use generation_life::{Stage, Why};
+use host_agenda::{Agenda, Look, Step};
 use host_status::{ClosedGeneration, Generation, Status, status_line};
 use socket_server::ServerEnd;
 use std::alloc::{AllocError, Global};

@@ -1,7 +1,6 @@
 //! The generations of a host: houses whose sessions serve one client after another, until the next house takes over.
 #![tactic(auto)]
 
-mod agenda;
 mod desks;
 mod events;
 mod hosts;
@@ -12,7 +11,6 @@ mod reception;
 mod reports;
 mod seats;
 
-pub use agenda::Step;
 pub use events::say;
 pub use hosts::Host;
 pub use lives::{Lived, millis, seconds};

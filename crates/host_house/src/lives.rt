@@ -1,12 +1,12 @@
 // The life of a generation, as the thread sees it that accepts its connections.
 
-use crate::agenda::Look;
 use crate::events::say;
 use crate::living::Setting;
 use crate::places::Place;
 use crate::reception::Reception;
 use crate::reports::{Facts, is_one_used, report};
 use generation_life::{Stage, Why};
+use host_agenda::Look;
 use host_status::{Event, Fault};
 use socket_server::ServerEnd;
 use std::alloc::Global;

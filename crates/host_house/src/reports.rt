@@ -1,8 +1,8 @@
 // What a generation reports of itself.
-ghost use Rattle.std.specs.Prelude.{◌≤◌, ◌*◌, ◌↔◌, IsTrue};
 
 use crate::places::Place;
 use generation_life::{Stage, Why};
+use host_agenda::is_used;
 use host_status::{Generation, Jobs, Rows, Tenant, Worker};
 use job_language::Config;
 use socket_server::House;
@@ -116,11 +116,4 @@ pub(crate) fn is_one_used<R: Wait>(rt: &R, house: &House, config: &Config, perce
         tenant.tenant().steps,
         percent,
     ))
-}
-
-/// Whether `entries` are at least that many per cent of `steps`.
-fn is_used(entries: usize, steps: usize, percent: u32) -> bool
-    ensures { IsTrue result ↔ (steps * percent ≤ entries * 100) }
-{
-    entries as u128 * 100 >= steps as u128 * u128::from(percent)
 }

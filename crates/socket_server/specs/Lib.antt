@@ -1,6 +1,7 @@
 pub mod Shared
 pub mod Posts
 pub mod Sessions
+pub mod Visits
 pub mod Returned
 pub mod Ends
 pub mod Houses

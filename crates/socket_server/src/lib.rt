@@ -25,5 +25,5 @@ pub use house::{House, Opened};
 pub use posts::{Client, Post, Posts};
 pub use returned::Returned;
 pub use serving::{Served, serve_connections};
-pub use sessions::{serve_calls, serve_client};
+pub use sessions::{serve_calls, serve_client, serve_next};
 pub use watching::Watch;

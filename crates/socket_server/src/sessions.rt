@@ -2,16 +2,17 @@
 ghost use Rattle.std.specs.Prelude.{◌≡◌, ◌⊎◌, All};
 ghost use Rattle.socket_server.specs.Returned.{IsGivenBack};
 ghost use Rattle.socket_server.specs.Sessions.{ServesClient};
+ghost use Rattle.socket_server.specs.Visits.{IsVisit};
 
 use crate::posts::{Client, Post};
-use server_doors::TenantSlots;
+use server_doors::{LockedDoors, TenantSlots};
 use session_core::serve;
 use std::alloc::Global;
 use std::io::{Read, Write};
 use std::sync::Wait;
 use tenant_lock::StopFlag;
 use tenant_record::Seat;
-use worker_main::{Gate, Signal, Visiting, worker};
+use worker_main::{Bell, Gate, Signal, Visiting, worker};
 
 /// Serves one client, and gives the seats back, however its session ended: with what its asks were answered, or as they
 /// were if there was no memory for a session. It waits for nothing once the flag is raised.
@@ -33,6 +34,20 @@ pub fn serve_client<R: Wait, I: Read, O: Write>(
     let _end = serve(alloc, reader, writer, &mut doors);
     let (seats, _ringer) = doors.into_parts();
     seats
+}
+
+/// Serves one client after another by doors that stay: the next one, however its session ends. Then the doors are at no
+/// slot, and can serve the one after it.
+pub fn serve_next<R: Wait, I: Read, O: Write>(
+    alloc: Global,
+    reader: &mut I,
+    writer: &mut O,
+    doors: &mut LockedDoors<'_, '_, R, Bell>,
+)
+    ensures { IsVisit doors.old doors.new }
+{
+    let _end = serve(alloc, reader, writer, doors);
+    doors.leave();
 }
 
 /// Serves calls until the signal tells to stop, as a worker of the post's house that visits slots in that way. The gate

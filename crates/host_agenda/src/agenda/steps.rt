@@ -2,8 +2,8 @@
 ghost use Rattle.std.specs.Prelude.{◌≡◌, ◌≢◌, ◌↔◌, IfOk, IfSome, IsSome, IsTrue, OnErr, OnOk, None, Ok, Some, true, false, is_some};
 ghost use Rattle.generation_life.specs.declared.generations.Why.TheVariants.{File};
 ghost use Rattle.generation_life.specs.Lines.{closing, ended, stage_of, why_of};
-ghost use Rattle.host_house.specs.Agendas.{Begins, OpensNone, Takes, new_agenda, stopped};
-ghost use Rattle.host_house.specs.declared.agenda.Step.TheVariants.{Hold, Wait};
+ghost use Rattle.host_agenda.specs.Agendas.{Begins, OpensNone, Takes, new_agenda, stopped};
+ghost use Rattle.host_agenda.specs.declared.agenda.Step.TheVariants.{Hold, Wait};
 
 use super::{Agenda, Look, MOST_ALIVE, Step};
 use generation_life::{Generations, Why};
@@ -12,7 +12,7 @@ use std::alloc::{AllocError, Global};
 
 impl Agenda {
     /// No generation yet. The first will have that number.
-    pub(crate) fn new(alloc: Global, first: u64) -> Agenda
+    pub fn new(alloc: Global, first: u64) -> Agenda
         ensures { result ≡ new_agenda first }
     {
         Agenda {
@@ -27,7 +27,7 @@ impl Agenda {
 
     /// What is to be done next. `Open`, `Hold` and `Failed` come once each: then a generation is being opened, or it is
     /// known that the next one waits, or that one failed.
-    pub(crate) fn step(&mut self) -> Step
+    pub fn step(&mut self) -> Step
         ensures { Takes self.old result self.new }
     {
         if self.is_opening {
@@ -77,7 +77,7 @@ impl Agenda {
     /// Notes that the generation that was to be opened serves from now on, and gives its number. The one that served
     /// drains. None if the host stops, or no number is left, or none was to be opened. If an allocation fails, nothing has
     /// changed.
-    pub(crate) fn begin(&mut self) -> Result<Option<u64>, AllocError>
+    pub fn begin(&mut self) -> Result<Option<u64>, AllocError>
         ensures begun { IfOk result (λ number. IfSome number (λ n. Begins self.old n self.new)) }
         ensures none { result ≡ Ok None → OpensNone self.old × (self.new ≡ self.old) }
         ensures refused { OnErr result (self.new ≡ self.old) }
@@ -93,7 +93,7 @@ impl Agenda {
     }
 
     /// Notes that the generation that was to be opened can't be.
-    pub(crate) fn give_up(&mut self, end: ServerEnd)
+    pub fn give_up(&mut self, end: ServerEnd)
         ensures { self.new ≡ record self.old { is_opening = false; failed = Some end } }
     {
         self.is_opening = false;
@@ -101,7 +101,7 @@ impl Agenda {
     }
 
     /// Lets all generations end, and opens no more. If an allocation fails, nothing has changed.
-    pub(crate) fn stop(&mut self) -> Result<(), AllocError>
+    pub fn stop(&mut self) -> Result<(), AllocError>
         ensures stopped { OnOk result (self.new ≡ stopped self.old) }
         ensures refused { OnErr result (self.new ≡ self.old) }
     {
@@ -111,7 +111,7 @@ impl Agenda {
     }
 
     /// Asks for the generation that serves to be left. It says whether nobody had asked before.
-    pub(crate) fn ask(&mut self, why: Why) -> bool
+    pub fn ask(&mut self, why: Why) -> bool
         ensures new { IsTrue result ↔ (self.old.wish ≡ None)
             × (IsSome self.old.generations.serving) }
         ensures asked { IsTrue result → self.new ≡ record self.old { wish = Some why } }
@@ -125,7 +125,7 @@ impl Agenda {
     }
 
     /// Takes back what a file asked for, if it was not begun.
-    pub(crate) fn take_back(&mut self)
+    pub fn take_back(&mut self)
         ensures back { self.old.is_opening ≡ false → self.old.wish ≡ Some File
             → self.new ≡ record self.old { wish = None; is_held = false } }
         ensures begun { self.old.is_opening ≡ true → self.new ≡ self.old }
@@ -141,7 +141,7 @@ impl Agenda {
     }
 
     /// What a generation's thread finds of its generation.
-    pub(crate) fn look(&self, number: u64) -> Look
+    pub fn look(&self, number: u64) -> Look
         ensures { result ≡ record {
           stage = stage_of self.now.generations number;
           why = why_of self.now.generations number;
@@ -156,21 +156,21 @@ impl Agenda {
     }
 
     /// Whether a generation serves.
-    pub(crate) fn is_serving(&self) -> bool
+    pub fn is_serving(&self) -> bool
         ensures { result ≡ is_some self.now.generations.serving }
     {
         self.generations.serving().is_some()
     }
 
     /// Notes that the generation of that number is being closed.
-    pub(crate) fn close(&mut self, number: u64)
+    pub fn close(&mut self, number: u64)
         ensures { self.new ≡ record self.old { generations = closing number self.old.generations } }
     {
         self.generations.close(number);
     }
 
     /// Notes that the generation of that number is closed.
-    pub(crate) fn end(&mut self, number: u64)
+    pub fn end(&mut self, number: u64)
         ensures { self.new ≡ record self.old { generations = ended number self.old.generations } }
     {
         self.generations.end(number);

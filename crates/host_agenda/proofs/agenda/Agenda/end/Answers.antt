@@ -2,8 +2,8 @@ use Rattle.std.proofs.Common.{ℕ, ◌≡◌, ◌≤◌, List, Bool, length, not
 use Rattle.std.proofs.lemmas.List.Sums.{length-filter, count_by-le-length}
 use Rattle.generation_life.specs.declared.generations.Leaving.{Leaving}
 use Rattle.generation_life.specs.Lines.{Line, alive, ended, has_number}
-use Rattle.host_house.specs.States.{AreFew}
-use Rattle.host_house.proofs.agenda.Agenda.end.Goals as goal
+use Rattle.host_agenda.specs.States.{AreFew}
+use Rattle.host_agenda.proofs.agenda.Agenda.end.Goals as goal
 
 no_more : (p : Leaving → Bool) (gs : List Leaving) → length (filter p gs) ≤ length gs
 no_more p gs = rw (length-filter p gs) (count_by-le-length p gs)

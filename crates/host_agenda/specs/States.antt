@@ -3,7 +3,7 @@ use Rattle.std.specs.Prelude.{ℕ, ◌+◌, ◌≤◌, Bool, true, false, Option
 use Rattle.generation_life.specs.Lines.{Line, alive}
 use Rattle.generation_life.specs.declared.generations.Why.{Why}
 use Rattle.socket_server.specs.declared.ends.ServerEnd.{ServerEnd}
-use Rattle.host_house.specs.declared.agenda.TheConstants.{MOST_ALIVE}
+use Rattle.host_agenda.specs.declared.agenda.TheConstants.{MOST_ALIVE}
 
 -- the generations that are not closed, why the one that serves is to be left, whether one is being opened, whether it was
 -- said that the next one has to wait, whether the host stops, and why the last one that was to be opened could not be

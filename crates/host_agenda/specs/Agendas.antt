@@ -3,10 +3,10 @@ use Rattle.std.specs.Prelude.{◌≡◌, ◌≤◌, ◌<◌, ◌⊎◌, ℕ, IsS
 use Rattle.generation_life.specs.Lines.{alive, drained, is_over, opened}
 use Rattle.generation_life.specs.declared.generations.Why.{Why}
 use Rattle.generation_life.specs.declared.generations.Why.TheVariants.{File, History, Stop}
-use Rattle.host_house.specs.declared.agenda.Step.{Step}
-use Rattle.host_house.specs.declared.agenda.Step.TheVariants.{Wait, Open, Hold, Failed, End}
-use Rattle.host_house.specs.declared.agenda.TheConstants.{MOST_ALIVE}
-use Rattle.host_house.specs.States.{State}
+use Rattle.host_agenda.specs.declared.agenda.Step.{Step}
+use Rattle.host_agenda.specs.declared.agenda.Step.TheVariants.{Wait, Open, Hold, Failed, End}
+use Rattle.host_agenda.specs.declared.agenda.TheConstants.{MOST_ALIVE}
+use Rattle.host_agenda.specs.States.{State}
 
 -- The generation to leave is the one that serves, for the reason that was asked for; if none serves, there is none.
 abbrev pub Leaves : Option ℕ → Option Why → Option (ℕ × Why) → Type 0

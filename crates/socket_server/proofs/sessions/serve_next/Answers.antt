@@ -1,6 +1,6 @@
 use Rattle.std.proofs.Common.{inl, inr}
 use Rattle.socket_server.proofs.ServedOrNot.{either_way}
-use Rattle.host_house.proofs.desks.serve_guest.Goals as goal
+use Rattle.socket_server.proofs.sessions.serve_next.Goals as goal
 
 pub returns : goal.returns
 returns g c = record {

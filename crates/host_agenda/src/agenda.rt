@@ -1,5 +1,5 @@
 // What a host has before it: its generations, and what is asked for.
-ghost use Rattle.host_house.specs.States.{AreFew, State};
+ghost use Rattle.host_agenda.specs.States.{AreFew, State};
 
 mod steps;
 
@@ -24,20 +24,20 @@ pub enum Step {
 
 /// What a generation's thread finds of its generation.
 #[derive(Clone, Copy, Debug, PartialEq, Eq)]
-pub(crate) struct Look {
-    pub(crate) stage: Option<Stage>,
-    pub(crate) why: Option<Why>,
-    pub(crate) is_stopping: bool,
+pub struct Look {
+    pub stage: Option<Stage>,
+    pub why: Option<Why>,
+    pub is_stopping: bool,
 }
 
 /// How many generations may be there at once, whether they serve, drain, are closed or wait to be written. Each has its
 /// histories in memory. That many are there if each drains for the 30 seconds that a host has by default, and a rotation
 /// comes every two.
-const MOST_ALIVE: usize = 16;
+pub const MOST_ALIVE: usize = 16;
 
 /// The generations of a host that are not closed, and what is to be done about them.
 #[derive(Drop)]
-pub(crate) struct Agenda {
+pub struct Agenda {
     generations: Generations,
     /// Why the generation that serves is to be left, if it is.
     wish: Option<Why>,
