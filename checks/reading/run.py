@@ -38,8 +38,8 @@ PROMISES = [
     ("queues that threads share", ["call_queues::CallQueues"]),
     ("the market's lists", ["market::MarketState"]),
     ("the words of the server", ["program_words::read_server_words"]),
-    ("a server's tenants, from its start to its end", ["socket_server::House"]),
-    ("a session of a server", ["socket_server::serve_client"]),
+    ("a server's tenants, from its start to its end", ["server_house::House"]),
+    ("a session of a server", ["server_house::serve_client"]),
 ]
 # A definition begins in the first column with one of these words, or with the name alone.
 HEAD = re.compile(r"^((?:(?:abbrev|unfoldable|pub|private|record|data) )*)([^\s:(]+)")

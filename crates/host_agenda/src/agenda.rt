@@ -4,7 +4,7 @@ ghost use Rattle.host_agenda.specs.States.{AreFew, State};
 mod steps;
 
 use generation_life::{Generations, Stage, Why};
-use socket_server::ServerEnd;
+use server_house::ServerEnd;
 use std::marker::Model;
 
 /// What the thread that opens generations is to do next.
@@ -25,8 +25,11 @@ pub enum Step {
 /// What a generation's thread finds of its generation.
 #[derive(Clone, Copy, Debug, PartialEq, Eq)]
 pub struct Look {
+    /// How far its life is. None if it is closed.
     pub stage: Option<Stage>,
+    /// Why it was left, if it was.
     pub why: Option<Why>,
+    /// Whether the host stops.
     pub is_stopping: bool,
 }
 

@@ -4,8 +4,8 @@ use Rattle.std.specs.Prelude.{All}
 use Rattle.std.proofs.lemmas.List.Elements.{All-weaker, Contains-get_or}
 use Rattle.host_house.specs.Desks.{AreVisits, IsGivenBackByDesk}
 use Rattle.server_doors.specs.Sessions.{SessionSeen}
-use Rattle.socket_server.specs.Posts.{ClientSeen, IsClient, IsFresh}
-use Rattle.socket_server.specs.Sessions.{first_session}
+use Rattle.server_house.specs.Posts.{ClientSeen, IsClient, IsFresh}
+use Rattle.server_house.specs.Sessions.{first_session}
 use Rattle.tenant_record.specs.SeatData.{SeatData}
 
 pub unused_given_back : (seats : List SeatData) → All IsFresh seats → All IsGivenBackByDesk seats

@@ -1,9 +1,9 @@
 -- The clients of a desk, one after another, and the seats with which they were served.
 use Rattle.std.specs.Prelude.{ℕ, zero, suc, ◌≡◌, ◌⊎◌, Contains}
 use Rattle.server_doors.specs.Sessions.{SessionSeen}
-use Rattle.socket_server.specs.Posts.{ClientSeen, IsClient, IsFresh}
-use Rattle.socket_server.specs.Sessions.{first_session}
-use Rattle.socket_server.specs.Visits.{IsVisit}
+use Rattle.server_house.specs.Posts.{ClientSeen, IsClient, IsFresh}
+use Rattle.server_house.specs.Sessions.{first_session}
+use Rattle.server_house.specs.Visits.{IsVisit}
 use Rattle.tenant_record.specs.SeatData.{SeatData}
 
 -- so many clients, one after another

@@ -2,7 +2,8 @@
 
 use crate::seats::SeatsBack;
 use mio::Waker;
-use socket_server::{Client, Watch, serve_next};
+use server_house::{Client, serve_next};
+use socket_server::Watch;
 use std::alloc::Global;
 use std::net::Shutdown;
 use std::os::unix::net::UnixStream;

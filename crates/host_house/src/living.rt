@@ -1,6 +1,6 @@
 // The threads of a generation.
 ghost use Rattle.std.specs.Prelude.{◌≡◌, IfOk, IfSome, length};
-ghost use Rattle.socket_server.specs.Shared.{ArePassesOf};
+ghost use Rattle.server_house.specs.Shared.{ArePassesOf};
 
 use crate::desks::{Desk, attend_desk};
 use crate::hosts::Host;
@@ -11,9 +11,8 @@ use crate::seats::SeatsBack;
 use call_queues::QueuePass;
 use job_language::Config;
 use mio::Waker;
-use socket_server::{
-    Client, Endpoint, FreshSeats, House, Post, Posts, ServerEnd, Watch, serve_calls,
-};
+use server_house::{Client, FreshSeats, House, Post, Posts, ServerEnd, serve_calls};
+use socket_server::{Endpoint, Watch};
 use std::alloc::{AllocError, Global};
 use std::io::ErrorKind;
 use std::net::Net;

@@ -1,7 +1,8 @@
 // The thread that accepts a generation's connections, and looks after them.
 
 use crate::desks::Desk;
-use socket_server::{Endpoint, House, Watch};
+use server_house::House;
+use socket_server::{Endpoint, Watch};
 use std::alloc::Global;
 use std::io;
 use std::net::Shutdown;

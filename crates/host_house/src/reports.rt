@@ -5,7 +5,7 @@ use generation_life::{Stage, Why};
 use host_agenda::is_used;
 use host_status::{Generation, Jobs, Rows, Tenant, Worker};
 use job_language::Config;
-use socket_server::House;
+use server_house::House;
 use std::alloc::{AllocError, Global};
 use std::sync::Wait;
 use tenant_lock::JobTally;

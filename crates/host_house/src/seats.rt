@@ -1,10 +1,10 @@
 // The seats of a generation that came back.
 ghost use Rattle.std.specs.Prelude.{◌≡◌, ◌++◌, All, IfOk, OnOk};
 ghost use Rattle.host_house.specs.Desks.{IsGivenBackByDesk};
-ghost use Rattle.socket_server.specs.Houses.{AreEnds};
-ghost use Rattle.socket_server.specs.Returned.{AreAskedBy};
+ghost use Rattle.server_house.specs.Houses.{AreEnds};
+ghost use Rattle.server_house.specs.Returned.{AreAskedBy};
 
-use socket_server::{FreshSeats, House};
+use server_house::{FreshSeats, House};
 use std::alloc::{AllocError, Global};
 use std::marker::Model;
 use tenant_lock::{CloseFault, Closed};

@@ -3,7 +3,7 @@
 use dump_lines::DumpFault;
 use host_status::Fault;
 use program_words::WordsFault;
-use socket_server::ServerEnd;
+use server_house::ServerEnd;
 
 /// What the process writes to standard error.
 pub(crate) fn fault_text(end: ServerEnd) -> Option<&'static str> {

@@ -5,7 +5,7 @@ use generation_life::Why;
 use host_house::{Host, seconds};
 use host_status::Status;
 use program_words::HostWords;
-use socket_server::ServerEnd;
+use server_house::ServerEnd;
 use std::alloc::Global;
 use std::fs::{Files, OpenFile, OpenOptions};
 use std::io::{ErrorKind, Write};

@@ -7,9 +7,8 @@ use dump_files::{can_dump, dump_history};
 use dump_lines::DumpFault;
 use job_language::TenantConfig;
 use program_words::{ServerWords, WordsFault, read_server_words};
-use socket_server::{
-    Access, Endpoint, House, MAX_CONFIG, Opened, Returned, ServerEnd, config_of, serve_connections,
-};
+use server_house::{House, Opened, Returned, ServerEnd};
+use socket_server::{Access, Endpoint, MAX_CONFIG, config_of, serve_connections};
 use std::alloc::Global;
 use std::env::Env;
 use std::fs::{File, Files};

@@ -2,11 +2,8 @@
 
 use crate::connections::Connection;
 use crate::endpoint::Endpoint;
-use crate::ends::ServerEnd;
-use crate::fresh::FreshSeats;
-use crate::house::House;
-use crate::posts::{Client, Posts};
 use crate::watching::Watch;
+use server_house::{Client, FreshSeats, House, Posts, ServerEnd};
 use std::alloc::{AllocError, Global};
 use std::fs::Files;
 use std::os::unix::net::UnixStream;

@@ -1,21 +1,18 @@
 // All threads of a server.
 ghost use Rattle.std.specs.Prelude.{◌≡◌, ◌⊎◌, true, All, IfErr, IfOk, IsSome};
-ghost use Rattle.socket_server.specs.declared.ends.ServerEnd.TheVariants.{Device, Memory};
-ghost use Rattle.socket_server.specs.Returned.{IsGivenBack};
-ghost use Rattle.socket_server.specs.Shared.{ArePassesOf};
+ghost use Rattle.server_house.specs.declared.ends.ServerEnd.TheVariants.{Device, Memory};
+ghost use Rattle.server_house.specs.Returned.{IsGivenBack};
+ghost use Rattle.server_house.specs.Shared.{ArePassesOf};
 
 use crate::connections::Connection;
 use crate::endpoint::Endpoint;
-use crate::ends::ServerEnd;
-use crate::fresh::FreshSeats;
-use crate::house::House;
-use crate::posts::{Client, Posts};
 use crate::reception::{Admitted, Reception};
-use crate::returned::Returned;
-use crate::sessions::{serve_calls, serve_client};
 use crate::watching::Watch;
 use call_queues::QueuePass;
 use mio::Waker;
+use server_house::{
+    Client, FreshSeats, House, Posts, Returned, ServerEnd, serve_calls, serve_client,
+};
 use std::alloc::Global;
 use std::fs::Files;
 use std::io::ErrorKind;
@@ -86,7 +83,7 @@ pub fn serve_connections<R: Threads + Wait + Files + Net + Sync + Print>(
                 break;
             };
             if scope
-                .spawn(move || serve_calls(rt, post, &house.bell, &NoGate, Visiting::Staying))
+                .spawn(move || serve_calls(rt, post, house.bell(), &NoGate, Visiting::Staying))
                 .is_err()
             {
                 house.stop(rt);
@@ -159,12 +156,23 @@ fn let_wait<'h, R: Wait>(
     back: &Mutex<Returned>,
     client: Client<'h>,
 ) -> Result<(), ServerEnd> {
-    let waits = desk.lock(rt).push(client);
-    if let Err(refused) = waits {
-        back.lock(rt).keep_fresh(refused.value.into_seats());
-        return Err(ServerEnd::Memory);
+    match put(rt, desk, client) {
+        None => Ok(()),
+        Some(refused) => {
+            back.lock(rt).keep_fresh(refused.into_seats());
+            Err(ServerEnd::Memory)
+        }
     }
-    Ok(())
+}
+
+/// Puts a client with those that wait. It comes back if there is no room for it.
+fn put<'h, R: Wait>(
+    rt: &R,
+    desk: &Mutex<Vec<Client<'h>>>,
+    client: Client<'h>,
+) -> Option<Client<'h>> {
+    let refused = desk.lock(rt).push(client).err()?;
+    Some(refused.value)
 }
 
 /// Serves a client that waits, and keeps its seats.

@@ -1,7 +1,7 @@
 // The end of a tenant.
 use crate::stops::Stop;
 use job_language::{Entry, TenantConfig};
-use socket_server::House;
+use server_house::House;
 use solo_eval::{Verdict, check};
 use std::alloc::Global;
 use tenant_record::Seat;

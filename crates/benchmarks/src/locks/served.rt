@@ -1,11 +1,11 @@
 // A session of a server beside two workers.
-ghost use Rattle.socket_server.specs.Shared.{ArePassesOf};
+ghost use Rattle.server_house.specs.Shared.{ArePassesOf};
 
 use crate::locks::closing::close_checked;
 use crate::stops::Stop;
 use call_queues::QueuePass;
 use job_language::{Config, TenantConfig};
-use socket_server::{Client, FreshSeats, House, Opened, Post, Posts, serve_calls, serve_client};
+use server_house::{Client, FreshSeats, House, Opened, Post, Posts, serve_calls, serve_client};
 use std::alloc::Global;
 use std::sync::Wait;
 use std::thread;

@@ -1,6 +1,6 @@
 use Rattle.std.proofs.Common.{ℕ}
 use Rattle.host_house.specs.Desks.{AreVisits}
-use Rattle.socket_server.specs.Sessions.{first_session}
+use Rattle.server_house.specs.Sessions.{first_session}
 use Rattle.host_house.proofs.desks.serve_guests.Given as goal
 
 abbrev pub invariant-loop-guest : goal.invariant-loop-guest

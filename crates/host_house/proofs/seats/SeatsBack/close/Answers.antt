@@ -1,5 +1,5 @@
 use Rattle.host_house.specs.Desks.{IsGivenBackByDesk}
-use Rattle.socket_server.proofs.Seats.{asked_by, if_ok}
+use Rattle.server_house.proofs.Seats.{asked_by, if_ok}
 use Rattle.host_house.proofs.seats.SeatsBack.close.Goals as goal
 
 pub returns-clause-desks : goal.returns-clause-desks

@@ -1,0 +1,20 @@
+-- The status and the fault line of each end of a server.
+use Rattle.std.specs.Prelude.{ℕ, List, Option, Some, None, codes}
+use Rattle.server_house.specs.declared.ends.ServerEnd.{ServerEnd}
+use Rattle.server_house.specs.declared.ends.ServerEnd.TheVariants.{Done, Words, Config, Device, Memory, Close}
+
+abbrev pub status_of : ServerEnd → ℕ
+status_of Done = 0
+status_of Words = 2
+status_of Config = 2
+status_of Device = 3
+status_of Memory = 3
+status_of Close = 4
+
+abbrev pub fault_of : ServerEnd → Option (List ℕ)
+fault_of Done = None
+fault_of Words = Some (codes "arena-server: words")
+fault_of Config = Some (codes "arena-server: config")
+fault_of Device = Some (codes "arena-server: device")
+fault_of Memory = Some (codes "arena-server: memory")
+fault_of Close = None

@@ -1,0 +1,38 @@
+-- The places of threads in a server.
+use Rattle.std.specs.Prelude.{◌≡◌, false, List, [], length, All}
+use Rattle.call_queues.specs.Queues.{PassSeen}
+use Rattle.server_doors.specs.Sessions.{AreOwn}
+use Rattle.server_house.specs.Shared.{SharedSeen, ArePassesOf}
+use Rattle.tenant_record.specs.SeatData.{SeatData}
+
+-- the house, and the passes that no thread has yet
+pub record PostsSeen : Type 0 where
+  pub house : SharedSeen
+  pub passes : List PassSeen
+
+-- one thread's pass of the house's queues
+pub record PostSeen : Type 0 where
+  pub house : SharedSeen
+  pub pass : PassSeen
+
+-- one session's pass, and its seat of each tenant
+pub record ClientSeen : Type 0 where
+  pub post : PostSeen
+  pub seats : List SeatData
+
+abbrev pub IsPosts : PostsSeen → Type 0
+IsPosts p = ArePassesOf p.house.queues.queues p.passes
+
+abbrev pub IsPost : PostSeen → Type 0
+IsPost p = p.pass.queues ≡ p.house.queues.queues
+
+-- Nothing was asked by the seat.
+pub record IsFresh (s : SeatData) : Type 0 where
+  pub log : s.log ≡ []
+  pub full : s.full ≡ false
+
+-- There is a seat of each tenant of the house, by which nothing was asked yet.
+pub record IsClient (c : ClientSeen) : Type 0 where
+  pub seats : length c.seats ≡ length c.post.house.doors
+  pub own : AreOwn c.seats
+  pub fresh : All IsFresh c.seats

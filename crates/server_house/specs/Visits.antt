@@ -1,0 +1,32 @@
+-- Clients whom the same doors serve, one after another.
+use Rattle.std.specs.Prelude.{ℕ, ◌≡◌, ◌⊎◌, false, List, Option}
+use Rattle.server_doors.specs.Sessions.{SessionSeen}
+use Rattle.server_doors.specs.SessionWays.{with_thread}
+use Rattle.server_doors.specs.SlotWays.{left}
+use Rattle.session_core.specs.Sessions.{Serves}
+use Rattle.session_core.specs.declared.serving.SessionEnd.{SessionEnd}
+use Rattle.server_house.specs.Sessions.{RepliesThere}
+
+-- The session once it has left its slot, if it was at one.
+abbrev pub at_no_slot : SessionSeen → SessionSeen
+at_no_slot s = with_thread s (record (s.at) { doors = left s.at.doors })
+
+-- The next client was served: what was written is what answers the lines that were read, in order. Then the session is
+-- at no slot.
+pub record ServesNext (bytes unread written out : Option (List ℕ)) (old new : SessionSeen) : Type 0 where
+  pub end : SessionEnd
+  pub session : SessionSeen
+  pub serves : Serves RepliesThere bytes unread written out (false, old) session end
+  pub leaves : new ≡ at_no_slot session
+
+-- The next client was served, whatever it sent and was answered.
+pub record ServesSome (old new : SessionSeen) : Type 0 where
+  pub bytes : Option (List ℕ)
+  pub unread : Option (List ℕ)
+  pub written : Option (List ℕ)
+  pub out : Option (List ℕ)
+  pub serves : ServesNext bytes unread written out old new
+
+-- A client came and went: it was served, or there was no memory for that and the session only left its slot.
+abbrev pub IsVisit : SessionSeen → SessionSeen → Type 0
+IsVisit old new = ServesSome old new ⊎ (new ≡ at_no_slot old)

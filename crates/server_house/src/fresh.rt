@@ -1,0 +1,88 @@
+// Seats that nobody used yet.
+ghost use Rattle.std.specs.Prelude.{◌≡◌, All, IfOk, IfSome, length};
+ghost use Rattle.server_doors.specs.Sessions.{AreOwn};
+ghost use Rattle.server_house.specs.Posts.{IsFresh};
+
+use std::alloc::{AllocError, Global};
+use std::marker::Model;
+use tenant_record::Seat;
+
+/// Seats by which nothing was asked yet.
+pub struct FreshSeats {
+    seats: Vec<Seat>,
+}
+
+impl Drop for FreshSeats {
+    // An owner drops it in one call, not part by part at each of its ways out.
+    fn drop(self) {
+        let FreshSeats { seats: _seats } = self;
+    }
+}
+
+impl Model for FreshSeats {
+    ghost use Rattle.std.specs.Prelude.{List, All};
+    ghost use Rattle.tenant_record.specs.SeatData.{SeatData};
+    ghost use Rattle.server_house.specs.Posts.{IsFresh};
+
+    ghost Value = { List SeatData };
+
+    ghost view = { λ f. f.seats.items };
+
+    ghost invariant = { λ f. All IsFresh f.seats.items };
+}
+
+impl FreshSeats {
+    /// Seats by which nothing was asked.
+    pub(crate) fn new(seats: Vec<Seat>) -> FreshSeats
+        requires { All IsFresh seats.items }
+        ensures { result ≡ seats.items }
+    {
+        FreshSeats { seats }
+    }
+
+    /// How many they are.
+    pub fn len(&self) -> usize
+        ensures { result ≡ length self.now }
+    {
+        self.seats.len()
+    }
+
+    /// A seat of each tenant, tenant 0 first. None if one is missing.
+    pub(crate) fn take_each(
+        &mut self,
+        alloc: Global,
+        tenants: usize,
+    ) -> Result<Option<Vec<Seat>>, AllocError>
+        ensures own { IfOk result (λ taken. IfSome taken (λ seats. AreOwn seats.items)) }
+        ensures count { IfOk result
+            (λ taken. IfSome taken (λ seats. length seats.items ≡ tenants)) }
+        ensures fresh { IfOk result (λ taken. IfSome taken (λ seats. All IsFresh seats.items)) }
+    {
+        let mut own = Vec::with_capacity(alloc, tenants)?;
+        for tenant in 0..tenants {
+            let Some(seat) = self.take_seat(tenant) else {
+                return Ok(None);
+            };
+            own.push(seat)?;
+        }
+        Ok(Some(own))
+    }
+
+    /// A seat of a tenant, if one is left.
+    fn take_seat(&mut self, tenant: usize) -> Option<Seat>
+        ensures tenant { IfSome result (λ seat. seat.tenant ≡ tenant) }
+        ensures fresh { IfSome result IsFresh }
+    {
+        let place = self.seats.iter().position(|seat| seat.tenant() == tenant)?;
+        Some(self.seats.swap_remove(place))
+    }
+
+    /// The seats.
+    pub fn into_seats(self) -> Vec<Seat>
+        ensures value { result.items ≡ self }
+        ensures fresh { All IsFresh result.items }
+    {
+        let FreshSeats { seats } = self;
+        seats
+    }
+}

@@ -1,0 +1,137 @@
+// What all threads of a server share.
+ghost use Rattle.std.specs.Prelude.{◌≡◌, ◌≤◌, ◌+◌, All, IfOk, length};
+ghost use Rattle.job_language.specs.Configuration.{names_of};
+ghost use Rattle.job_language.specs.Tenant.{IsValidTenant};
+ghost use Rattle.server_house.specs.Houses.{doors_of, seats_of};
+ghost use Rattle.server_house.specs.Shared.{ArePassesOf};
+ghost use Rattle.tenant_lock.specs.Doors.{DoorData};
+ghost use Rattle.server_doors.specs.Slots.{AreNumbered};
+
+use crate::fresh::FreshSeats;
+use crate::starting::open_doors;
+use call_queues::{CallQueues, QueuePass};
+use job_language::{Config, TenantName};
+use market_config::{market_config, names_of};
+use std::alloc::{AllocError, Global};
+use std::marker::Model;
+use std::sync::Wait;
+use tenant_lock::TenantDoor;
+use worker_main::Bell;
+
+/// What all threads of a server share: the doors of all tenants with their names, the queues of
+/// calls for workers, and the bell that is rung after each push.
+pub struct House {
+    pub(crate) doors: Vec<TenantDoor>,
+    pub(crate) names: Vec<TenantName>,
+    pub(crate) queues: CallQueues,
+    pub(crate) bell: Bell,
+}
+
+impl Drop for House {
+    // An owner drops it in one call, not part by part at each of its ways out.
+    fn drop(self) {
+        let House {
+            doors: _doors,
+            names: _names,
+            queues: _queues,
+            bell: _bell,
+        } = self;
+    }
+}
+
+impl Model for House {
+    ghost use Rattle.server_house.specs.Shared.{SharedSeen, IsShared};
+
+    ghost Value = { SharedSeen };
+
+    ghost view = { λ h. record {
+      doors = h.doors.items;
+      names = h.names.items;
+      queues = h.queues;
+    } };
+
+    ghost invariant = { λ h. IsShared
+        (record { doors = h.doors.items; names = h.names.items; queues = h.queues }) };
+}
+
+/// A house with all passes of its queues, one for each worker and each connection, and all seats.
+#[derive(Drop)]
+pub struct Opened {
+    pub house: House,
+    pub passes: Vec<QueuePass>,
+    pub seats: FreshSeats,
+}
+
+impl House {
+    /// The house of a configuration's tenants, which have done nothing yet, for `connections` connections.
+    pub fn open(alloc: Global, config: &Config, connections: u8) -> Result<Opened, AllocError>
+        requires { 1 ≤ connections }
+        ensures passes { IfOk result
+            (λ opened. ArePassesOf opened.house.queues.queues opened.passes.items) }
+        ensures count { IfOk result
+            (λ opened. length opened.passes.items ≡ config.now.workers + connections) }
+        ensures doors { IfOk result
+            (λ opened. opened.house.doors ≡ doors_of connections config.now.tenants) }
+        ensures names { IfOk result (λ opened. opened.house.names ≡ names_of config.now.tenants) }
+        ensures seats { IfOk result
+            (λ opened. opened.seats ≡ seats_of connections config.now.tenants) }
+    {
+        let tenants = config.tenants();
+        let names = names_of(alloc, tenants)?;
+        let (doors, seats) = open_doors(alloc, tenants, usize::from(connections))?;
+        let market = market_config(alloc, config)?;
+        let count = config.workers() + usize::from(connections);
+        let (queues, passes) = CallQueues::new(alloc, market, count)?;
+        let house = House {
+            doors,
+            names,
+            queues,
+            bell: Bell::new(),
+        };
+        Ok(Opened {
+            house,
+            passes,
+            seats: FreshSeats::new(seats),
+        })
+    }
+
+    /// The tenants' doors, when nothing else of the house is needed.
+    pub(crate) fn into_doors(self) -> Vec<TenantDoor>
+        ensures value { result.items ≡ self.doors }
+        ensures numbers { AreNumbered result.items }
+        ensures tenants { All (λ (d : DoorData). IsValidTenant d.config) result.items }
+    {
+        let House {
+            doors,
+            names: _names,
+            queues: _queues,
+            bell: _bell,
+        } = self;
+        doors
+    }
+
+    /// Wakes all that wait for a tenant, each to look whether to go on.
+    pub fn wake<R: Wait>(&self, rt: &R) {
+        for door in &self.doors {
+            door.wake(rt);
+        }
+    }
+
+    /// The bell that is rung after each call for a worker.
+    pub fn bell(&self) -> &Bell {
+        &self.bell
+    }
+
+    /// The doors of the tenants, in the order of the configuration.
+    pub fn doors(&self) -> &[TenantDoor] {
+        self.doors.as_slice()
+    }
+
+    /// Tells all that wait, for a tenant or for a call, to stop.
+    pub fn stop<R: Wait>(&self, rt: &R) {
+        for door in &self.doors {
+            door.stop(rt);
+        }
+        self.bell.stop(rt);
+    }
+}

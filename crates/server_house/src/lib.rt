@@ -1,0 +1,19 @@
+//! The house of a server: the tenants that all its threads share, what each thread takes of it, the
+//! session of a client, and the close.
+#![tactic(auto)]
+
+mod closing;
+mod ends;
+mod fresh;
+mod house;
+mod posts;
+mod returned;
+mod sessions;
+mod starting;
+
+pub use ends::ServerEnd;
+pub use fresh::FreshSeats;
+pub use house::{House, Opened};
+pub use posts::{Client, Post, Posts};
+pub use returned::Returned;
+pub use sessions::{serve_calls, serve_client, serve_next};

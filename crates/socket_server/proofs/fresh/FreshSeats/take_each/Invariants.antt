@@ -1,8 +1,0 @@
-use Rattle.std.proofs.Common.{◌≡◌, length}
-use Rattle.std.specs.Prelude.{All}
-use Rattle.server_doors.specs.Sessions.{AreOwn}
-use Rattle.socket_server.specs.Posts.{IsFresh}
-use Rattle.socket_server.proofs.fresh.FreshSeats.take_each.Given as goal
-
-abbrev pub invariant-loop-tenant : goal.invariant-loop-tenant
-invariant-loop-tenant l = (length l.own.items ≡ l.tenant) × AreOwn l.own.items × All IsFresh l.own.items
