@@ -58,9 +58,10 @@ deb: ## builds a Debian package of what stands in out/ (docs/OPERATIONS.md, Inst
 dist: ## packs the proved programs with the gate's last line and their checksums
 	@packaging/dist.py --programs "$(PROGRAMS)"
 
-test: ## passes everything: examples, each proof, edit, test and program, stored runs, scripts, a second evaluator, ranges, the server, the host, failed allocations, drawn steps, the Python package, counts of instructions, the pages, the crates' groups, installations, HAProxy before servers
+test: ## passes everything: examples, each proof, edit, test and program, the wrong bodies of calls, stored runs, scripts, a second evaluator, ranges, the server, the host, failed allocations, drawn steps, the Python package, counts of instructions, the pages, the crates' groups, installations, HAProxy before servers
 	checks/examples/run.sh
 	checks/gate/run.py
+	checks/edits/run.py
 	checks/stored_runs/run.sh
 	checks/scripts/run.py
 	checks/evaluator/run.py

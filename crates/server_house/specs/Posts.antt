@@ -1,5 +1,5 @@
 -- The places of threads in a server.
-use Rattle.std.specs.Prelude.{◌≡◌, false, List, [], length, All}
+use Rattle.std.specs.Prelude.{ℕ, ◌<◌, ◌≡◌, ◌≢◌, false, List, [], length, All}
 use Rattle.call_queues.specs.Queues.{PassSeen}
 use Rattle.server_doors.specs.Sessions.{AreOwn}
 use Rattle.server_house.specs.Shared.{SharedSeen, ArePassesOf}
@@ -30,6 +30,12 @@ IsPost p = p.pass.queues ≡ p.house.queues.queues
 pub record IsFresh (s : SeatData) : Type 0 where
   pub log : s.log ≡ []
   pub full : s.full ≡ false
+
+-- One of the first so many tenants has none of the seats.
+pub record LacksOne (tenants : ℕ) (seats : List SeatData) : Type 0 where
+  pub tenant : ℕ
+  pub is_one : tenant < tenants
+  pub lacks : All (λ (s : SeatData). s.tenant ≢ tenant) seats
 
 -- There is a seat of each tenant of the house, by which nothing was asked yet.
 pub record IsClient (c : ClientSeen) : Type 0 where

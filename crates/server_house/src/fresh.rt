@@ -1,7 +1,8 @@
 // Seats that nobody used yet.
-ghost use Rattle.std.specs.Prelude.{◌≡◌, All, IfOk, IfSome, length};
+ghost use Rattle.std.specs.Prelude.{◌≡◌, ◌≢◌, ◌+◌, All, IfOk, IfNone, IfSome, length};
 ghost use Rattle.server_doors.specs.Sessions.{AreOwn};
-ghost use Rattle.server_house.specs.Posts.{IsFresh};
+ghost use Rattle.server_house.specs.Posts.{IsFresh, LacksOne};
+ghost use Rattle.tenant_record.specs.SeatData.{SeatData};
 
 use std::alloc::{AllocError, Global};
 use std::marker::Model;
@@ -57,6 +58,9 @@ impl FreshSeats {
         ensures count { IfOk result
             (λ taken. IfSome taken (λ seats. length seats.items ≡ tenants)) }
         ensures fresh { IfOk result (λ taken. IfSome taken (λ seats. All IsFresh seats.items)) }
+        ensures left { IfOk result
+            (λ taken. IfSome taken (λ seats. length self.new + tenants ≡ length self.old)) }
+        ensures lacks { IfOk result (λ taken. IfNone taken (LacksOne tenants self.new)) }
     {
         let mut own = Vec::with_capacity(alloc, tenants)?;
         for tenant in 0..tenants {
@@ -72,6 +76,8 @@ impl FreshSeats {
     fn take_seat(&mut self, tenant: usize) -> Option<Seat>
         ensures tenant { IfSome result (λ seat. seat.tenant ≡ tenant) }
         ensures fresh { IfSome result IsFresh }
+        ensures left { IfSome result (λ seat. length self.new + 1 ≡ length self.old) }
+        ensures lacks { IfNone result (All (λ (s : SeatData). s.tenant ≢ tenant) self.new) }
     {
         let place = self.seats.iter().position(|seat| seat.tenant() == tenant)?;
         Some(self.seats.swap_remove(place))

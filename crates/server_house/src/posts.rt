@@ -1,6 +1,6 @@
 // The places of threads in a server.
-ghost use Rattle.std.specs.Prelude.{◌≡◌};
-ghost use Rattle.server_house.specs.Posts.{IsClient};
+ghost use Rattle.std.specs.Prelude.{◌≡◌, ◌⊎◌, ◌+◌, ◌++◌, [], ◌∷◌, IfNone, IfOk, IfSome, length};
+ghost use Rattle.server_house.specs.Posts.{IsClient, LacksOne};
 ghost use Rattle.server_house.specs.Sessions.{first_session};
 ghost use Rattle.server_house.specs.Shared.{ArePassesOf};
 
@@ -88,12 +88,18 @@ impl<'h> Posts<'h> {
     /// The posts of a house for whose queues the passes are.
     pub fn new(house: &'h House, passes: Vec<QueuePass>) -> Self
         requires { ArePassesOf house.now.queues.queues passes.items }
+        ensures { result ≡ record { house = house.now; passes = passes.items } }
     {
         Posts { house, passes }
     }
 
-    /// A post, if a pass is left.
-    pub fn next(&mut self) -> Option<Post<'h>> {
+    /// A post of the house with its last pass, if one is left.
+    pub fn next(&mut self) -> Option<Post<'h>>
+        ensures house { self.new.house ≡ self.old.house }
+        ensures none { IfNone result (self.old.passes ≡ []) }
+        ensures post { IfSome result (λ post. post.house ≡ self.old.house) }
+        ensures pass { IfSome result (λ post. self.old.passes ≡ self.new.passes ++ post.pass ∷ []) }
+    {
         let pass = self.passes.pop()?;
         Some(Post {
             house: self.house,
@@ -106,7 +112,16 @@ impl<'h> Posts<'h> {
         &mut self,
         alloc: Global,
         seats: &mut FreshSeats,
-    ) -> Result<Option<Client<'h>>, AllocError> {
+    ) -> Result<Option<Client<'h>>, AllocError>
+        ensures house { self.new.house ≡ self.old.house }
+        ensures post { IfOk result (λ made. IfSome made (λ client. client.post.house ≡ self.old.house)) }
+        ensures pass { IfOk result (λ made. IfSome made
+            (λ client. self.old.passes ≡ self.new.passes ++ client.post.pass ∷ [])) }
+        ensures left { IfOk result (λ made. IfSome made
+            (λ client. length seats.new + length client.seats ≡ length seats.old)) }
+        ensures none { IfOk result (λ made. IfNone made
+            ((self.old.passes ≡ []) ⊎ LacksOne (length self.old.house.doors) seats.new)) }
+    {
         let Some(post) = self.next() else {
             return Ok(None);
         };

@@ -153,7 +153,7 @@ pub const NESTED: JobText = JobText {
     procs: r#"[[["isolate",2,1,0,1],["ret",2]],[["spawn",0,2,0,1],["wait",2,3,0],["ret",2]],[["isolate",2,3,0,1],["ret",2]],[["spawn",0,4,0,1],["wait",2,3,0],["ret",2]],[["set",2,9],["ret",2]]]"#,
 };
 
-/// Jumps to where no instruction stands.
+/// Jumps to a place that has no instruction.
 pub const NOT_VALID: JobText = JobText {
     args: [0, 0],
     fuel: 1_000,

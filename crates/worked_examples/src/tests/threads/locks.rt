@@ -462,7 +462,7 @@ fn nothing_is_found_while_the_pass_is_out(rt: HostRuntime) -> Result<(), Fail> {
     Ok(())
 }
 
-/// Waits for job 1 by a seat, if that is one of the door's, and says whether the wait was told to stop.
+/// Waits for job 1 by a seat, if that is one of the door's, and says whether the answer was to stop.
 fn is_stopped<R: Wait>(rt: &R, door: &TenantDoor, seat: &Seat, stop: &StopFlag) -> bool {
     seat.tenant() == door.tenant() && door.pause_for_until(rt, seat, 1, stop)
 }

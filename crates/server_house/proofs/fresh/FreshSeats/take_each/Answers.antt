@@ -13,4 +13,4 @@ loop-tenant-preserved c =
     let seat = c.in-Some.seat in
     let last : seat.tenant ≡ length own = c.in-Some.ensures.tenant ∙ sym so_far.0 in
     let long = length-append own (seat ∷ []) in
-    rw c.in_ok-push.ensures.items (omega (arith, long, so_far.0), numbered_more (λ (s : SeatData). s.tenant) own seat so_far.1 last, All-push IsFresh own seat so_far.2 c.in-Some.ensures.fresh)
+    rw c.in_ok-push.ensures.items (omega (arith, long, so_far.0), numbered_more (λ (s : SeatData). s.tenant) own seat so_far.1 last, All-push IsFresh own seat so_far.2 c.in-Some.ensures.fresh, omega (arith, so_far.3, c.in-Some.ensures.left))

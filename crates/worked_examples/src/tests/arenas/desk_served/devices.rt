@@ -2,7 +2,7 @@
 use std::io;
 use std::io::{ErrorKind, Read, Write};
 
-/// A reader that gives some bytes at a call, and fails where they end.
+/// A reader that gives some bytes at a call, and fails at their end.
 #[derive(Drop)]
 pub(super) struct Few<'b> {
     pub bytes: &'b [u8],

@@ -1,0 +1,107 @@
+#!/usr/bin/env python3
+"""Plants the wrong bodies of each crate's page must-fail/calls.md, all of a crate at once, and has the prover check the
+functions that they are in: it must refuse each of them, for a goal of its own. A function that calls one that is refused
+is tried again without that one.
+
+`rt ci` tries the edits beside such a page one by one, for half a minute each; here one more costs a second or two.
+
+usage: checks/edits/run.py [--read] [CRATE..], at the top of the repository, after `rt ci`. It exits with a status other
+than 0 if a wrong body is not refused. With --read it only looks whether each stands where its page says, in a second.
+"""
+import argparse
+import concurrent.futures
+import os
+import pathlib
+import subprocess
+import sys
+import tempfile
+import time
+
+from bodies import PageError, WrongBody, read_bodies
+from prover import ask, build_libraries, read_crates
+from recorded import wrong_readings
+
+PAGE = "must-fail/calls.md"
+
+
+def planted(bodies: list[WrongBody], crate: pathlib.Path) -> tuple[dict[str, str], list[WrongBody]]:
+    """Returns the texts with as many of these bodies as can stand side by side, at most one in each function, and these."""
+    texts, inside = {}, {}
+    for body in bodies:
+        if body.function not in inside:
+            body.plant(texts, crate)
+            inside[body.function] = body
+    return texts, [*inside.values()]
+
+
+def faults_of(crates: dict[str, list[str]], name: str, bodies: list[WrongBody], kept: str) -> list[str]:
+    """Returns what is wrong with a crate's wrong bodies; of those that are refused nothing is said."""
+    left, faults = bodies, []
+    while left:
+        texts, inside = planted(left, pathlib.Path("crates", name))
+        said = ask(crates, name, texts, [body.function for body in inside], kept)
+        if not said.has_judged:
+            return [*faults, f"{name}: BAD EDIT: the prover can't read the texts:\n{said.first_lines()}"]
+        hidden = [body for body in inside if said.is_hidden(body.function)]
+        for body in inside:
+            if body not in hidden and not said.is_refused(body.file, body.function):
+                faults.append(f"{name}/{body.name}: NOT REFUSED: {body.function}: {said.verdict(body.function)}")
+        after = [body for body in left if body in hidden or body not in inside]
+        if len(after) == len(left):
+            return [*faults, *(f"{name}/{body.name}: NOT REFUSED: only what it calls is" for body in after)]
+        left = after
+    return faults
+
+
+def try_crate(crates: dict[str, list[str]], name: str, bodies: list[WrongBody]) -> list[str]:
+    """Tries a crate's wrong bodies, says how that went, and returns what is wrong."""
+    start = time.monotonic()
+    try:
+        with tempfile.TemporaryDirectory(prefix=f"kept-{name}-") as kept:
+            faults = faults_of(crates, name, bodies, kept)
+    except (PageError, subprocess.TimeoutExpired) as error:
+        faults = [f"{name}: BAD EDIT: {error}"]
+    print(f"{name}: {len(bodies)} planted, {time.monotonic() - start:.0f} s", *faults, sep="\n", flush=True)
+    return faults
+
+
+def lines_of(name: str) -> int:
+    """Returns how many lines a crate's sources have, by which the largest are tried first."""
+    return sum(file.read_text().count("\n") for file in pathlib.Path("crates", name, "src").rglob("*.rt"))
+
+
+def try_all(crates: dict[str, list[str]], bodies: dict[str, list[WrongBody]]) -> list[str]:
+    """Tries the wrong bodies of some crates, one crate a processor, and returns what is wrong."""
+    build_libraries(crates, list(bodies))
+    with concurrent.futures.ThreadPoolExecutor(len(os.sched_getaffinity(0))) as pool:
+        order = sorted(bodies, key=lines_of, reverse=True)
+        return sum(pool.map(lambda name: try_crate(crates, name, bodies[name]), order), [])
+
+
+def main() -> int:
+    parser = argparse.ArgumentParser(description="Plants the wrong bodies of must-fail/calls.md, which must be refused.")
+    parser.add_argument("--read", action="store_true", help="only look whether each stands where its page says")
+    parser.add_argument("crates", nargs="*", metavar="CRATE", help="a crate that has such a page; all, if none is named")
+    asked, crates = parser.parse_args(), read_crates()
+    if wrong := wrong_readings():
+        sys.exit("\n".join(wrong))
+    pages = {name: pathlib.Path("crates", name, PAGE) for name in asked.crates or crates}
+    try:
+        bodies = {name: read_bodies(page) for name, page in pages.items() if page.exists() or asked.crates}
+        for name, own in bodies.items():
+            for body in own:
+                body.plant({}, pathlib.Path("crates", name))
+            planted(own, pathlib.Path("crates", name))
+    except (PageError, OSError) as error:
+        sys.exit(f"BAD EDIT: {error}")
+    count = sum(map(len, bodies.values()))
+    if asked.read:
+        print(f"{count} wrong bodies of {len(bodies)} crates can be planted")
+        return 0
+    faults = try_all(crates, bodies)
+    print(f"{count} wrong bodies of {len(bodies)} crates planted: {len(faults)} not refused")
+    return 1 if faults else 0
+
+
+if __name__ == "__main__":
+    sys.exit(main())
