@@ -59,6 +59,7 @@ dist: ## packs the proved programs with the gate's last line and their checksums
 	@packaging/dist.py --programs "$(PROGRAMS)"
 
 test: ## passes everything: examples, each proof, edit, test and program, the wrong bodies of calls, stored runs, scripts, a second evaluator, ranges, the server, the host, failed allocations, drawn steps, the Python package, counts of instructions, the pages, the crates' groups, installations, HAProxy before servers
+	@mkdir -p out && date +%s > out/test-began
 	checks/examples/run.sh
 	checks/gate/run.py
 	checks/edits/run.py
@@ -77,6 +78,7 @@ test: ## passes everything: examples, each proof, edit, test and program, the wr
 	checks/edges/run.py
 	checks/install/run.py
 	checks/haproxy/run.py
+	@echo "make test took $$((($$(date +%s) - $$(cat out/test-began)) / 60)) minutes on $$(nproc) processors"
 	@tail -n 1 out/gate.md
 
 bench: ## measures everything beside its twin, and writes the table of benches/README.md

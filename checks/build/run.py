@@ -11,25 +11,11 @@ import subprocess
 import sys
 import time
 
+from crates import below, read_crates
 from kit import functions_in, is_proved
 
 PROGRAMS = {"script_program": "arena-script", "server_program": "arena-server", "host_program": "arena-host"}
 START = time.monotonic()
-
-
-def below(crates, name):
-    """Yields the crates of the repository that a crate stands on, each after those below it, and then itself."""
-    for dependency in crates[name]:
-        if dependency in crates:
-            yield from below(crates, dependency)
-    yield name
-
-
-def read_crates():
-    """Returns the crates of crates.txt, each with the crates that it names."""
-    lines = [line.split("#")[0] for line in open("crates.txt")]
-    pairs = [line.split(":") for line in lines if ":" in line]
-    return {name.split()[0]: words.split() for name, words in pairs}
 
 
 def say(text):
@@ -53,7 +39,7 @@ def prove(name, command):
 def main():
     os.makedirs("out", exist_ok=True)
     crates = read_crates()
-    order = list(dict.fromkeys(name for program in PROGRAMS for name in below(crates, program)))
+    order = list(dict.fromkeys(name for program in PROGRAMS for name in [*below(crates, program), program]))
     say(f"proving {len(order)} crates; from scratch this takes a quarter of an hour or more")
     for name in order:
         prove(name, ["rt", "run" if name in PROGRAMS else "lib"])

@@ -7,27 +7,16 @@ import subprocess
 import sys
 import tempfile
 
+sys.path.append(str(pathlib.Path(__file__).resolve().parents[1] / "build"))
+
+from crates import below, read_crates
+
 KIT = pathlib.Path(shutil.which("rt") or "rt").resolve().parents[1]
+# what one check may take
 SECONDS = 1200
 # the first line of a function; a proof file that names what a wrong body took away: that says nothing of the contract
 HEAD = re.compile(r"\s*(?:pub(?:\([a-z]+\))? )?fn (\w+)")
 NAMES = re.compile(r"has no field|is not in scope|has no `|was not admitted")
-
-
-def read_crates() -> dict[str, list[str]]:
-    """Returns the crates of crates.txt, lowest first, each with what it stands on."""
-    lines = [line.split("#")[0] for line in pathlib.Path("crates.txt").read_text().splitlines()]
-    pairs = [line.split(":") for line in lines if ":" in line]
-    return {name.split()[0]: words.split() for name, words in pairs}
-
-
-def below(crates: dict[str, list[str]], name: str) -> list[str]:
-    """Returns the crates of the repository that a crate stands on, each after those that it stands on itself."""
-    found = {}
-    for other in crates[name]:
-        if other in crates:
-            found.update(dict.fromkeys([*below(crates, other), other]))
-    return list(found)
 
 
 def library(name: str) -> pathlib.Path:

@@ -98,8 +98,10 @@ def main() -> int:
     if asked.read:
         print(f"{count} wrong bodies of {len(bodies)} crates can be planted")
         return 0
+    start = time.monotonic()
     faults = try_all(crates, bodies)
-    print(f"{count} wrong bodies of {len(bodies)} crates planted: {len(faults)} not refused")
+    minutes = (time.monotonic() - start) / 60
+    print(f"{minutes:.1f} minutes; {count} wrong bodies of {len(bodies)} crates planted: {len(faults)} not refused")
     return 1 if faults else 0
 
 
