@@ -1,8 +1,8 @@
 -- What locked calls keep right.
-use Rattle.std.proofs.Common.{◌≡◌, ◌≢◌, ◌⊎◌, inl, inr, ℕ, ◌+◌, ◌==◌, ◌<◌, ◌≤◌, ◌&&◌, ◌||◌, Bool, true, false, List, [], ◌∷◌, ◌++◌, length, refl, sym, ap, ◌∙◌, arith, length-append, length-set, subst, Option, Some, None, get_or, nat_lt}
-use Rattle.std.specs.Prelude.{if◌then◌else◌, count_by, slice_set, slice_index_or, unwrap_or, not, replicate}
+use Rattle.std.proofs.Common.{◌≡◌, ◌≢◌, inl, inr, ℕ, ◌==◌, ◌<◌, ◌≤◌, ◌&&◌, Bool, true, false, List, [], ◌∷◌, ◌++◌, length, refl, sym, ap, ◌∙◌, arith, length-append, length-set, subst, Option, Some, None, get_or, nat_lt}
+use Rattle.std.specs.Prelude.{if◌then◌else◌, count_by, slice_set, slice_index_or, unwrap_or, replicate}
 use Rattle.std.specs.Option.{option_map, option_map_or}
-use Rattle.std.proofs.lemmas.Bool.{cond_both, cases_eq, and_right}
+use Rattle.std.proofs.lemmas.Bool.{cond_both, and_right}
 use Rattle.std.proofs.lemmas.Bool.Decides.{nat_tests}
 use Rattle.std.proofs.lemmas.List.{append-nil, set-get_or, get_or-replicate, get_or_past}
 use Rattle.std.proofs.lemmas.List.FromFn.{get_or-map-range_with_len, length-map-range_with_len}
@@ -22,18 +22,17 @@ use Rattle.job_language.specs.declared.steps.Entry.{Entry}
 use Rattle.job_language.specs.declared.steps.Step.{Step}
 use Rattle.job_language.specs.declared.steps.Step.TheVariants as steps
 use Rattle.job_language.specs.declared.tenants.Tenant.{Tenant}
-use Rattle.tenant_model.specs.State.{State}
 use Rattle.tenant_model.specs.Advance.{advance}
-use Rattle.tenant_model.specs.Told.{placed_on, slot_of, is_freed}
+use Rattle.tenant_model.specs.Told.{placed_on, is_freed}
 use Rattle.tenant_model.proofs.Within.{either_way}
 use Rattle.tenant_record.specs.History.{state_after, entries_of, IsHistory, Takes}
-use Rattle.tenant_record.specs.Locked.{IsMoved, IsArrived, IsAsked, home_after, home_arrived}
-use Rattle.tenant_record.specs.PassData.{PassData, IsPassOf, has_room, first_pass, advanced, still_after, goes_home}
+use Rattle.tenant_record.specs.Locked.{IsMoved, IsArrived, IsAsked, home_arrived}
+use Rattle.tenant_record.specs.PassData.{PassData, has_room, first_pass, advanced, still_after, goes_home}
 use Rattle.tenant_record.specs.Places.{place, is_in, pass_in, first_places, home_place, woken, returned, taken, arrived_place, IsPlaceOf}
 use Rattle.tenant_record.specs.SeatData.{SeatData}
 use Rattle.tenant_record.specs.declared.places.Place.{Place}
 use Rattle.tenant_record.specs.declared.places.Place.TheVariants.{Home, Due, Out}
-use Rattle.tenant_record.specs.Cell.{CellData, state_of, is_step_on, is_ask, places_on, touches, AreStill, AreHome, ArePlaced, AreCounted, IsRight, first_cell, askers_of, touched, entered}
+use Rattle.tenant_record.specs.Cell.{CellData, state_of, is_ask, places_on, touches, AreStill, AreHome, ArePlaced, AreCounted, IsRight, first_cell, askers_of, touched, entered}
 use Rattle.tenant_record.proofs.Histories.{entry_recorded, none_recorded, first_is}
 use Rattle.tenant_record.proofs.Rightness.{place_same, place_by, IsIn, woken_in, woken_placed, woken_long, set_placed, home_kept, stills_more, stills_now, forgotten, asks_by}
 

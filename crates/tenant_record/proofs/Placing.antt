@@ -1,5 +1,5 @@
 -- Which pass is handed out.
-use Rattle.std.proofs.Common.{◌≡◌, ◌⊎◌, inl, inr, ℕ, ◌+◌, ◌<◌, ◌≤◌, ◌==◌, ◌&&◌, ◌||◌, Bool, true, false, List, Option, Some, None, refl, sym, ap, ◌∙◌, subst, arith}
+use Rattle.std.proofs.Common.{◌≡◌, ℕ, ◌<◌, ◌&&◌, ◌||◌, Bool, true, List, Option, Some, None, refl, sym, ap, ◌∙◌, subst, arith}
 use Rattle.std.specs.Prelude.{if◌then◌else◌, not, nat_le, unwrap_or}
 use Rattle.std.specs.List.{list_any}
 use Rattle.std.specs.Option.{option_map, option_map_or}
@@ -9,10 +9,8 @@ use Rattle.job_language.specs.declared.answers.Answer.TheVariants as answer
 use Rattle.job_language.specs.declared.answers.Came.{Came}
 use Rattle.job_language.specs.declared.answers.Came.TheVariants as came
 use Rattle.job_language.specs.declared.answers.Reply.{Reply}
-use Rattle.job_language.specs.declared.answers.Reply.TheVariants as reply
 use Rattle.job_language.specs.declared.answers.Status.{Status}
 use Rattle.job_language.specs.declared.answers.Status.TheVariants.{Running, Cancelled, Complete, Fault}
-use Rattle.job_language.specs.declared.errors.Error.TheVariants.{HistoryFull}
 use Rattle.job_language.specs.declared.jobs.Job.{Job}
 use Rattle.job_language.specs.declared.requests.Request.{Request}
 use Rattle.job_language.specs.declared.tenants.Tenant.{Tenant}
@@ -23,11 +21,11 @@ use Rattle.tenant_model.specs.declared.works.TheConstants.{MAX_JOBS}
 use Rattle.tenant_model.specs.State.{State}
 use Rattle.tenant_model.specs.Walks.{height, is_open, is_job_cancelled}
 use Rattle.tenant_model.specs.Changes.{is_full, is_row_limit_met}
-use Rattle.tenant_model.specs.Asks.{ask, reply_to, is_hello, unless_limit, submit_placed, free_slot, of_job, known_job, collect, cancel_by_request, has_outcome, current_jobs, status, submit}
+use Rattle.tenant_model.specs.Asks.{reply_to, is_hello, unless_limit, submit_placed, free_slot, known_job, collect, has_outcome, current_jobs, status, submit}
 use Rattle.tenant_model.specs.Told.{placed_on}
 use Rattle.tenant_model.proofs.Invariance.{free_slot_is}
 use Rattle.tenant_record.specs.Cell.{AreHome, ArePlaced, entered}
-use Rattle.tenant_record.specs.PassData.{PassData, IsPassOf, has_room, GoesWith}
+use Rattle.tenant_record.specs.PassData.{has_room, GoesWith}
 use Rattle.tenant_record.specs.Places.{place, is_in, pass_in, option_placed, IsPlaceOf, placed_pass, arrived_pass}
 use Rattle.tenant_record.specs.Replayed.{ask_within}
 use Rattle.tenant_record.specs.declared.places.Place.{Place}

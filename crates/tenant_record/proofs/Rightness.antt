@@ -1,27 +1,24 @@
 -- Cells stay right.
-use Rattle.std.proofs.Common.{◌≡◌, ◌≢◌, ◌⊎◌, inl, inr, ℕ, ◌+◌, ◌==◌, ◌<◌, ◌≤◌, ◌&&◌, ◌||◌, zero, suc, Bool, true, false, List, [], ◌∷◌, ◌++◌, length, take, drop, map, refl, sym, ap, ◌∙◌, arith, length-append, length-set, get_or, subst, Option, Some, None, nat_lt}
-use Rattle.std.specs.Prelude.{if◌then◌else◌, not, All, count_by, slice_get, slice_set, slice_index_or, unwrap_or}
+use Rattle.std.proofs.Common.{◌≡◌, ◌≢◌, ◌⊎◌, inl, inr, ℕ, ◌+◌, ◌==◌, ◌<◌, ◌≤◌, ◌&&◌, zero, suc, Bool, true, false, List, [], ◌∷◌, ◌++◌, length, drop, refl, sym, ap, ◌∙◌, arith, length-append, length-set, get_or, subst, Option, Some, None, nat_lt}
+use Rattle.std.specs.Prelude.{if◌then◌else◌, All, count_by, slice_set, slice_index_or, unwrap_or}
 use Rattle.std.proofs.Math.Seq.{take-length, drop-length}
-use Rattle.std.proofs.lemmas.Bool.{cond_both, cases_eq}
+use Rattle.std.proofs.lemmas.Bool.{cases_eq}
 use Rattle.std.proofs.lemmas.Bool.Decides.{nat_tests}
 use Rattle.std.proofs.lemmas.Option.{unwrap_or-slice_get}
-use Rattle.std.proofs.lemmas.List.{append-nil, take-append-le, drop-append-le, get_or-set_same, get_or-set_other, set-get_or, set_past}
+use Rattle.std.proofs.lemmas.List.{append-nil, take-append-le, drop-append-le, get_or-set_same, get_or-set_other, set_past}
 use Rattle.std.proofs.lemmas.List.Elements.{All-append}
 use Rattle.std.proofs.lemmas.List.Sums.{sum_by-append}
 use Rattle.job_language.specs.Recorded.{is_entry}
 use Rattle.job_language.specs.Tenant.{IsValidTenant}
 use Rattle.job_language.specs.declared.answers.Answer.{Answer}
-use Rattle.job_language.specs.declared.answers.Answer.TheVariants as answer
-use Rattle.job_language.specs.declared.answers.Moved.{Moved}
 use Rattle.job_language.specs.declared.answers.Moved.TheVariants as moved
 use Rattle.job_language.specs.declared.steps.Entry.{Entry}
 use Rattle.job_language.specs.declared.steps.Step.{Step}
-use Rattle.job_language.specs.declared.steps.Step.TheVariants as steps
 use Rattle.job_language.specs.declared.tenants.Tenant.{Tenant}
 use Rattle.tenant_model.specs.State.{State}
 use Rattle.tenant_model.specs.Advance.{advance}
 use Rattle.tenant_model.specs.Solo.{step}
-use Rattle.tenant_model.specs.Told.{slot_of, is_freed, TellsOfSlots}
+use Rattle.tenant_model.specs.Told.{slot_of, is_freed}
 use Rattle.tenant_model.specs.Walks.{height}
 use Rattle.tenant_model.specs.WellFormed.{IsWellFormed}
 use Rattle.tenant_model.proofs.Advancing.{told_of_slots}
@@ -30,7 +27,7 @@ use Rattle.tenant_record.specs.History.{state_after, entries_of, IsHistory, Take
 use Rattle.tenant_record.specs.Places.{place, is_in, due_place, woken, IsPlaceOf}
 use Rattle.tenant_record.specs.declared.places.Place.{Place}
 use Rattle.tenant_record.specs.declared.places.Place.TheVariants.{Home, Due, Out}
-use Rattle.tenant_record.specs.Cell.{is_step_on, is_on, is_ask, touches, IsStill, IsStillSince, AreStill, AreCounted, AreHome, ArePlaced, counted}
+use Rattle.tenant_record.specs.Cell.{is_step_on, is_on, is_ask, touches, IsStill, AreStill, AreCounted, AreHome, ArePlaced, counted}
 use Rattle.tenant_record.proofs.Histories.{well_formed, entry_recorded, none_recorded}
 
 -- Places, one changed.

@@ -1,6 +1,6 @@
 -- What a step takes: an entry for which the history has room, or nothing.
-use Rattle.std.proofs.Common.{◌≡◌, ◌⊎◌, inl, inr, ℕ, ◌+◌, ◌<◌, ◌≤◌, ◌&&◌, Bool, true, false, Option, Some, None, refl, sym, ap, ◌∙◌, subst, nat_lt, arith}
-use Rattle.std.specs.Prelude.{if◌then◌else◌, not, IfSome}
+use Rattle.std.proofs.Common.{◌≡◌, inl, inr, ℕ, ◌<◌, ◌≤◌, ◌&&◌, Bool, true, false, Option, Some, None, refl, sym, ap, ◌∙◌, nat_lt, arith}
+use Rattle.std.specs.Prelude.{not, IfSome}
 use Rattle.std.proofs.lemmas.Bool.{cond_both}
 use Rattle.job_language.specs.Recorded.{is_entry}
 use Rattle.job_language.specs.declared.answers.Answer.{Answer}

@@ -1,5 +1,5 @@
 -- What a tenant's lock keeps, and when it is right.
-use Rattle.std.specs.Prelude.{ℕ, ◌≡◌, ◌≤◌, ◌<◌, ◌+◌, ◌==◌, ◌⊎◌, Bool, true, false, ◌||◌, not, ◌&&◌, List, [], ◌∷◌, length, take, drop, replicate, Option, Some, None, IsSome, All, count_by, nat_lt, slice_set, slice_index_or, if◌then◌else◌}
+use Rattle.std.specs.Prelude.{ℕ, ◌≡◌, ◌≤◌, ◌<◌, ◌+◌, ◌==◌, ◌⊎◌, Bool, true, false, ◌||◌, ◌&&◌, List, [], ◌∷◌, length, take, drop, replicate, Option, Some, None, IsSome, All, count_by, nat_lt, slice_set, slice_index_or, if◌then◌else◌}
 use Rattle.job_language.specs.Brought.{job_of}
 use Rattle.job_language.specs.Recorded.{is_entry, is_recorded_reply}
 use Rattle.job_language.specs.declared.answers.Answer.{Answer}
@@ -20,7 +20,6 @@ use Rattle.job_language.specs.declared.tenants.Tenant.{Tenant}
 use Rattle.job_language.specs.declared.tenants.TheConstants.{MAX_SLOTS}
 use Rattle.tenant_model.specs.Advance.{advance}
 use Rattle.tenant_model.specs.State.{State}
-use Rattle.tenant_model.specs.Told.{placed_on}
 use Rattle.tenant_model.specs.Walks.{height}
 use Rattle.tenant_record.specs.History.{state_after, IsHistory}
 use Rattle.tenant_record.specs.PassData.{PassData, has_room, still_after}

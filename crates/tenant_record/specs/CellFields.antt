@@ -1,5 +1,5 @@
 -- What the fields of a tenant's cell say.
-use Rattle.std.specs.Prelude.{◌≡◌, ◌≤◌, vec_capacity}
+use Rattle.std.specs.Prelude.{◌≤◌, vec_capacity}
 use Rattle.job_language.specs.Tenant.{IsValidTenant}
 use Rattle.tenant_record.specs.Cell.{CellData, IsRight, AreCounted}
 use Rattle.tenant_record.specs.declared.cells.TenantCell.TheInside.{Inside}

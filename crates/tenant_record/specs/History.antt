@@ -1,5 +1,5 @@
 -- Histories: the entries that were recorded of a tenant's steps.
-use Rattle.std.specs.Prelude.{ℕ, ◌≡◌, ◌≤◌, ◌⊎◌, true, false, List, [], ◌∷◌, length, map, All, if◌then◌else◌}
+use Rattle.std.specs.Prelude.{◌≡◌, ◌≤◌, ◌⊎◌, true, false, List, [], ◌∷◌, length, map, All, if◌then◌else◌}
 use Rattle.job_language.specs.Recorded.{is_entry}
 use Rattle.job_language.specs.declared.answers.Answer.{Answer}
 use Rattle.job_language.specs.declared.steps.Entry.{Entry}

@@ -8,7 +8,7 @@ use Rattle.job_language.specs.declared.answers.Moved.{Moved}
 use Rattle.job_language.specs.declared.answers.Moved.TheVariants as moved
 use Rattle.job_language.specs.declared.steps.Entry.{Entry}
 use Rattle.job_language.specs.declared.steps.Step.{Step}
-use Rattle.job_language.specs.declared.steps.Step.TheVariants.{Ask, Arrive, Advance}
+use Rattle.job_language.specs.declared.steps.Step.TheVariants.{Arrive, Advance}
 use Rattle.tenant_record.specs.Cell.{is_on}
 use Rattle.tenant_record.specs.PassData.{log_of}
 use Rattle.tenant_record.specs.declared.notes.Told.{Told}

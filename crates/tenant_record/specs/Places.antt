@@ -1,5 +1,5 @@
 -- Where the passes of a tenant's slots are.
-use Rattle.std.specs.Prelude.{ℕ, ◌≡◌, IfSome, nat_lt, ◌==◌, not, Bool, true, false, List, Option, Some, None, if◌then◌else◌, slice_get, unwrap_or, slice_set, find, length, map}
+use Rattle.std.specs.Prelude.{ℕ, ◌≡◌, IfSome, nat_lt, ◌==◌, not, Bool, true, false, List, Option, Some, None, if◌then◌else◌, slice_get, unwrap_or, slice_set, find, map}
 use Rattle.std.specs.List.{range_with_len}
 use Rattle.std.specs.Option.{is_some}
 use Rattle.job_language.specs.Recorded.{is_entry}

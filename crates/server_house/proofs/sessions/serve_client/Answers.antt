@@ -1,4 +1,4 @@
-use Rattle.std.proofs.Common.{Bool, false, ap, subst, sym, ◌∙◌, inl, inr}
+use Rattle.std.proofs.Common.{false, ap, subst, sym, ◌∙◌, inl, inr}
 use Rattle.std.specs.Prelude.{All}
 use Rattle.server_doors.specs.Sessions.{SessionSeen}
 use Rattle.session_core.specs.Sessions.{Serves}

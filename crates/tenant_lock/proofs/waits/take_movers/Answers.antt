@@ -1,6 +1,6 @@
-use Rattle.std.proofs.Common.{rules, ◌≡◌, ◌<◌, length, sym, ◌∙◌, arith}
+use Rattle.std.proofs.Common.{rules, ◌≡◌, length, sym, ◌∙◌, arith}
 use Rattle.std.proofs.lemmas.Bool.{both_ways}
-use Rattle.tenant_lock.proofs.Telling.{told_from, told_all, named_more, left_more}
+use Rattle.tenant_lock.proofs.Telling.{told_from, named_more, left_more}
 use Rattle.tenant_lock.proofs.waits.take_movers.Goals.{then-has+then-can_move, else-has, else-has-via-then-has+else-can_move, else-has-via-else-has}
 use Rattle.tenant_lock.proofs.waits.take_movers.Goals as goal
 

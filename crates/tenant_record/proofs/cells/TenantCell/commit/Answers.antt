@@ -1,14 +1,11 @@
-use Rattle.std.proofs.Common.{rules, arith, ap, sym, ◌∙◌, ◌≡◌, ◌<◌, ◌≤◌, ◌==◌, ℕ, refl, length, subst}
+use Rattle.std.proofs.Common.{rules, arith, ap, sym, ◌∙◌, ◌≡◌, ◌<◌, ◌≤◌, refl, length}
 use Rattle.job_language.specs.Recorded.{is_entry}
 use Rattle.job_language.specs.declared.answers.Answer.TheVariants as answer
-use Rattle.job_language.specs.declared.answers.Moved.{Moved}
 use Rattle.job_language.specs.declared.steps.Step.TheVariants as steps
 use Rattle.job_language.specs.declared.tenants.TheConstants.{MAX_SLOTS}
 use Rattle.tenant_record.specs.Cell.{CellData, state_of}
 use Rattle.tenant_record.specs.CellFields.{cell_data}
-use Rattle.tenant_record.specs.History.{Takes}
-use Rattle.tenant_record.specs.Locked.{IsMoved, IsArrived, IsAsked}
-use Rattle.arena_steps.specs.Within.{advance_within, arrive_within}
+use Rattle.tenant_record.specs.Locked.{IsMoved}
 use Rattle.arena_core.specs.Views.{Commits}
 use Rattle.tenant_record.proofs.Histories.{well_formed}
 use Rattle.tenant_record.proofs.Taking.{commit_takes, commit_idle}
