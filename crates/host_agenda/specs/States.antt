@@ -2,7 +2,7 @@
 use Rattle.std.specs.Prelude.{ℕ, ◌+◌, ◌≤◌, Bool, true, false, Option}
 use Rattle.generation_life.specs.Lines.{Line, alive}
 use Rattle.generation_life.specs.declared.generations.Why.{Why}
-use Rattle.server_house.specs.declared.ends.ServerEnd.{ServerEnd}
+use Rattle.server_io.specs.declared.ends.ServerEnd.{ServerEnd}
 use Rattle.host_agenda.specs.declared.agenda.TheConstants.{MOST_ALIVE}
 
 -- the generations that are not closed, why the one that serves is to be left, whether one is being opened, whether it was

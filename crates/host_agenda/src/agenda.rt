@@ -4,7 +4,7 @@ ghost use Rattle.host_agenda.specs.States.{AreFew, State};
 mod steps;
 
 use generation_life::{Generations, Stage, Why};
-use server_house::ServerEnd;
+use server_io::ServerEnd;
 use std::marker::Model;
 
 /// What the thread that opens generations is to do next.

@@ -3,7 +3,7 @@
 use crate::seats::SeatsBack;
 use mio::Waker;
 use server_house::{Client, serve_next};
-use socket_server::Watch;
+use server_io::Watch;
 use std::alloc::Global;
 use std::net::Shutdown;
 use std::os::unix::net::UnixStream;

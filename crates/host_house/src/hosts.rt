@@ -3,7 +3,7 @@
 use generation_life::{Stage, Why};
 use host_agenda::{Agenda, Look, Step};
 use host_status::{ClosedGeneration, Generation, Status, status_line};
-use server_house::ServerEnd;
+use server_io::ServerEnd;
 use std::alloc::{AllocError, Global};
 use std::sync::{Condvar, CondvarTimeouts, Mutex, Wait};
 use std::time::{Clock, Duration};

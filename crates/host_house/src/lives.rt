@@ -8,7 +8,7 @@ use crate::reports::{Facts, is_one_used, report};
 use generation_life::{Stage, Why};
 use host_agenda::Look;
 use host_status::{Event, Fault};
-use server_house::ServerEnd;
+use server_io::ServerEnd;
 use std::alloc::Global;
 use std::net::Shutdown;
 use std::sync::Wait;

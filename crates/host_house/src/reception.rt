@@ -2,7 +2,7 @@
 
 use crate::desks::Desk;
 use server_house::House;
-use socket_server::{Endpoint, Watch};
+use server_io::{Endpoint, Watch};
 use std::alloc::Global;
 use std::io;
 use std::net::Shutdown;

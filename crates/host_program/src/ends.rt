@@ -3,7 +3,7 @@
 use dump_lines::DumpFault;
 use host_status::Fault;
 use program_words::WordsFault;
-use server_house::ServerEnd;
+use server_io::ServerEnd;
 
 /// What the process writes to standard error.
 pub(crate) fn fault_text(end: ServerEnd) -> Option<&'static str> {

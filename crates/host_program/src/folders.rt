@@ -1,7 +1,7 @@
 // The folder in which a host works.
 
 use crate::shelves::Shelves;
-use server_house::ServerEnd;
+use server_io::ServerEnd;
 use std::alloc::{AllocError, Global};
 use std::fs::{DirBuilder, Files};
 use std::os::unix::fs::DirBuilderExt;

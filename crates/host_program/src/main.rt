@@ -18,7 +18,7 @@ use crate::folders::Folder;
 use crate::hosting::host_tenants;
 use crate::system::System;
 use program_words::{HostWords, read_host_words};
-use server_house::ServerEnd;
+use server_io::ServerEnd;
 use std::alloc::Global;
 use std::env::Env;
 use std::fs::{File, OpenOptions};

@@ -5,7 +5,7 @@ use generation_life::Why;
 use host_house::{Host, seconds};
 use host_status::Status;
 use program_words::HostWords;
-use server_house::ServerEnd;
+use server_io::ServerEnd;
 use std::alloc::Global;
 use std::fs::{Files, OpenFile, OpenOptions};
 use std::io::{ErrorKind, Write};

@@ -3,5 +3,4 @@ pub mod Posts
 pub mod Sessions
 pub mod Visits
 pub mod Returned
-pub mod Ends
 pub mod Houses

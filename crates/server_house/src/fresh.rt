@@ -1,5 +1,5 @@
 // Seats that nobody used yet.
-ghost use Rattle.std.specs.Prelude.{◌≡◌, ◌≢◌, ◌+◌, All, IfOk, IfNone, IfSome, length};
+ghost use Rattle.std.specs.Prelude.{◌≡◌, ◌≢◌, ◌∷◌, ◌++◌, All, IfErr, IfOk, IfNone, IfSome, IsPermutation, length};
 ghost use Rattle.server_doors.specs.Sessions.{AreOwn};
 ghost use Rattle.server_house.specs.Posts.{IsFresh, LacksOne};
 ghost use Rattle.tenant_record.specs.SeatData.{SeatData};
@@ -48,7 +48,8 @@ impl FreshSeats {
         self.seats.len()
     }
 
-    /// A seat of each tenant, tenant 0 first. None if one is missing.
+    /// A seat of each tenant, tenant 0 first. None if one is missing, and those before it are lost; an error
+    /// takes none.
     pub(crate) fn take_each(
         &mut self,
         alloc: Global,
@@ -59,15 +60,16 @@ impl FreshSeats {
             (λ taken. IfSome taken (λ seats. length seats.items ≡ tenants)) }
         ensures fresh { IfOk result (λ taken. IfSome taken (λ seats. All IsFresh seats.items)) }
         ensures left { IfOk result
-            (λ taken. IfSome taken (λ seats. length self.new + tenants ≡ length self.old)) }
-        ensures lacks { IfOk result (λ taken. IfNone taken (LacksOne tenants self.new)) }
+            (λ taken. IfSome taken (λ seats. IsPermutation self.old (seats.items ++ self.new))) }
+        ensures lacks { IfOk result (λ taken. IfNone taken (LacksOne tenants self.old)) }
+        ensures kept { IfErr result (λ _. self.new ≡ self.old) }
     {
         let mut own = Vec::with_capacity(alloc, tenants)?;
         for tenant in 0..tenants {
             let Some(seat) = self.take_seat(tenant) else {
                 return Ok(None);
             };
-            own.push(seat)?;
+            own.push_reserved(seat);
         }
         Ok(Some(own))
     }
@@ -76,8 +78,9 @@ impl FreshSeats {
     fn take_seat(&mut self, tenant: usize) -> Option<Seat>
         ensures tenant { IfSome result (λ seat. seat.tenant ≡ tenant) }
         ensures fresh { IfSome result IsFresh }
-        ensures left { IfSome result (λ seat. length self.new + 1 ≡ length self.old) }
-        ensures lacks { IfNone result (All (λ (s : SeatData). s.tenant ≢ tenant) self.new) }
+        ensures left { IfSome result (λ seat. IsPermutation self.old (seat ∷ self.new)) }
+        ensures stay { IfNone result (self.new ≡ self.old) }
+        ensures lacks { IfNone result (All (λ (s : SeatData). s.tenant ≢ tenant) self.old) }
     {
         let place = self.seats.iter().position(|seat| seat.tenant() == tenant)?;
         Some(self.seats.swap_remove(place))

@@ -3,7 +3,6 @@
 #![tactic(auto)]
 
 mod closing;
-mod ends;
 mod fresh;
 mod house;
 mod posts;
@@ -11,7 +10,6 @@ mod returned;
 mod sessions;
 mod starting;
 
-pub use ends::ServerEnd;
 pub use fresh::FreshSeats;
 pub use house::{House, Opened};
 pub use posts::{Client, Post, Posts};

@@ -1,5 +1,5 @@
 // The places of threads in a server.
-ghost use Rattle.std.specs.Prelude.{◌≡◌, ◌⊎◌, ◌+◌, ◌++◌, [], ◌∷◌, IfNone, IfOk, IfSome, length};
+ghost use Rattle.std.specs.Prelude.{◌≡◌, ◌⊎◌, ◌++◌, [], ◌∷◌, IfErr, IfNone, IfOk, IfSome, IsPermutation, length};
 ghost use Rattle.server_house.specs.Posts.{IsClient, LacksOne};
 ghost use Rattle.server_house.specs.Sessions.{first_session};
 ghost use Rattle.server_house.specs.Shared.{ArePassesOf};
@@ -97,6 +97,7 @@ impl<'h> Posts<'h> {
     pub fn next(&mut self) -> Option<Post<'h>>
         ensures house { self.new.house ≡ self.old.house }
         ensures none { IfNone result (self.old.passes ≡ []) }
+        ensures stay { IfNone result (self.new ≡ self.old) }
         ensures post { IfSome result (λ post. post.house ≡ self.old.house) }
         ensures pass { IfSome result (λ post. self.old.passes ≡ self.new.passes ++ post.pass ∷ []) }
     {
@@ -107,7 +108,8 @@ impl<'h> Posts<'h> {
         })
     }
 
-    /// A post for a session, with a seat of each tenant. None if a pass or a seat is missing.
+    /// A post for a session, with a seat of each tenant. None if a pass or a seat is missing: no pass is taken then, and
+    /// the seats of the tenants before the one that has none are lost. An error takes nothing.
     pub fn next_client(
         &mut self,
         alloc: Global,
@@ -118,15 +120,20 @@ impl<'h> Posts<'h> {
         ensures pass { IfOk result (λ made. IfSome made
             (λ client. self.old.passes ≡ self.new.passes ++ client.post.pass ∷ [])) }
         ensures left { IfOk result (λ made. IfSome made
-            (λ client. length seats.new + length client.seats ≡ length seats.old)) }
+            (λ client. IsPermutation seats.old (client.seats ++ seats.new))) }
         ensures none { IfOk result (λ made. IfNone made
-            ((self.old.passes ≡ []) ⊎ LacksOne (length self.old.house.doors) seats.new)) }
+            ((self.old.passes ≡ []) ⊎ LacksOne (length self.old.house.doors) seats.old)) }
+        ensures stay { IfOk result (λ made. IfNone made (self.new ≡ self.old)) }
+        ensures kept { IfErr result (λ _. (self.new ≡ self.old) × (seats.new ≡ seats.old)) }
     {
-        let Some(post) = self.next() else {
+        if self.passes.is_empty() {
+            return Ok(None);
+        }
+        let house = self.house;
+        let Some(seats) = seats.take_each(alloc, house.doors.len())? else {
             return Ok(None);
         };
-        let house = post.house;
-        let Some(seats) = seats.take_each(alloc, house.doors.len())? else {
+        let Some(post) = self.next() else {
             return Ok(None);
         };
         Ok(Some(Client { post, seats }))

@@ -1,9 +1,8 @@
 // The thread that accepts connections, and looks after them until their sessions have ended.
 
 use crate::connections::Connection;
-use crate::endpoint::Endpoint;
-use crate::watching::Watch;
-use server_house::{Client, FreshSeats, House, Posts, ServerEnd};
+use server_house::{Client, FreshSeats, House, Posts};
+use server_io::{Endpoint, ServerEnd, Watch};
 use std::alloc::{AllocError, Global};
 use std::fs::Files;
 use std::os::unix::net::UnixStream;

@@ -1,18 +1,15 @@
 // All threads of a server.
 ghost use Rattle.std.specs.Prelude.{◌≡◌, ◌⊎◌, true, All, IfErr, IfOk, IsSome};
-ghost use Rattle.server_house.specs.declared.ends.ServerEnd.TheVariants.{Device, Memory};
+ghost use Rattle.server_io.specs.declared.ends.ServerEnd.TheVariants.{Device, Memory};
 ghost use Rattle.server_house.specs.Returned.{IsGivenBack};
 ghost use Rattle.server_house.specs.Shared.{ArePassesOf};
 
 use crate::connections::Connection;
-use crate::endpoint::Endpoint;
 use crate::reception::{Admitted, Reception};
-use crate::watching::Watch;
 use call_queues::QueuePass;
 use mio::Waker;
-use server_house::{
-    Client, FreshSeats, House, Posts, Returned, ServerEnd, serve_calls, serve_client,
-};
+use server_house::{Client, FreshSeats, House, Posts, Returned, serve_calls, serve_client};
+use server_io::{Endpoint, ServerEnd, Watch};
 use std::alloc::Global;
 use std::fs::Files;
 use std::io::ErrorKind;

@@ -19,6 +19,5 @@ pub use doors::{Closed, TenantDoor};
 pub use faults::CloseFault;
 pub use held::Turned;
 pub use looks::MOST_COMPARED;
-pub use seat_logs::is_seat_log;
 pub use stop_flag::StopFlag;
 pub use waits::Waits;

@@ -8,7 +8,7 @@ use same_values::{is_same_answer, is_same_request};
 use tenant_record::{Seat, TenantCell};
 
 /// Whether the log of a seat is exactly the asks that a cell has of the seat, in order.
-pub fn is_seat_log(cell: &TenantCell, seat: &Seat) -> bool
+pub(crate) fn is_seat_log(cell: &TenantCell, seat: &Seat) -> bool
     ensures { IsTrue result ↔ HasAsks cell.now seat.now }
 {
     is_log(seat.number(), cell.askers(), cell.history(), seat.log())

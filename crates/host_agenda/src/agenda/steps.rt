@@ -7,7 +7,7 @@ ghost use Rattle.host_agenda.specs.declared.agenda.Step.TheVariants.{Hold, Wait}
 
 use super::{Agenda, Look, MOST_ALIVE, Step};
 use generation_life::{Generations, Why};
-use server_house::ServerEnd;
+use server_io::ServerEnd;
 use std::alloc::{AllocError, Global};
 
 impl Agenda {

@@ -1,6 +1,6 @@
 // The socket of a server, and its file.
 
-use server_house::ServerEnd;
+use crate::ends::ServerEnd;
 use std::alloc::Global;
 use std::fs::{DirBuilder, Files, Permissions};
 use std::io::ErrorKind;

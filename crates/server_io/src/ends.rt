@@ -1,7 +1,7 @@
 // How a server ends.
 ghost use Rattle.std.specs.Prelude.{◌≡◌, option_map};
-ghost use Rattle.server_house.specs.Ends.{status_of, fault_of};
-ghost use Rattle.server_house.specs.declared.ends.ServerEnd.TheVariants.{Memory};
+ghost use Rattle.server_io.specs.Ends.{status_of, fault_of};
+ghost use Rattle.server_io.specs.declared.ends.ServerEnd.TheVariants.{Memory};
 
 use std::alloc::{AllocError, AllocFailed};
 

@@ -1,7 +1,7 @@
 -- The status and the fault line of each end of a server.
 use Rattle.std.specs.Prelude.{ℕ, List, Option, Some, None, codes}
-use Rattle.server_house.specs.declared.ends.ServerEnd.{ServerEnd}
-use Rattle.server_house.specs.declared.ends.ServerEnd.TheVariants.{Done, Words, Config, Device, Memory, Close}
+use Rattle.server_io.specs.declared.ends.ServerEnd.{ServerEnd}
+use Rattle.server_io.specs.declared.ends.ServerEnd.TheVariants.{Done, Words, Config, Device, Memory, Close}
 
 abbrev pub status_of : ServerEnd → ℕ
 status_of Done = 0

@@ -1,11 +1,11 @@
 // The configuration of a server, from the bytes of its file.
 ghost use Rattle.std.specs.Prelude.{◌≡◌, ◌≤◌, ◌⊎◌, ◌<◌, Some, None, Err, IfOk, length};
-ghost use Rattle.server_house.specs.declared.ends.ServerEnd.TheVariants as end;
+ghost use Rattle.server_io.specs.declared.ends.ServerEnd.TheVariants as end;
 ghost use Rattle.market_config.specs.Lines.{config_in};
 
+use crate::ends::ServerEnd;
 use job_language::Config;
 use market_config::config_in;
-use server_house::ServerEnd;
 use std::alloc::Global;
 
 /// How many bytes the file of a configuration may have.

@@ -1,0 +1,13 @@
+//! What a server takes from the system and gives back: its configuration, its socket, what is reported of its
+//! connections, and how it ends.
+#![tactic(auto)]
+
+mod configs;
+mod endpoint;
+mod ends;
+mod watching;
+
+pub use configs::{MAX_CONFIG, config_of};
+pub use endpoint::{Access, Endpoint};
+pub use ends::ServerEnd;
+pub use watching::Watch;
