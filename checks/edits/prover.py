@@ -10,6 +10,7 @@ import tempfile
 sys.path.append(str(pathlib.Path(__file__).resolve().parents[1] / "build"))
 
 from crates import below, read_crates
+from stubs import stub_out
 
 KIT = pathlib.Path(shutil.which("rt") or "rt").resolve().parents[1]
 # what one check may take
@@ -42,7 +43,7 @@ def build_libraries(crates: dict[str, list[str]], names: list[str]) -> None:
 
 
 def words_for(crates: dict[str, list[str]], name: str, functions: list[str]) -> list[str]:
-    """Returns the command that checks these functions of a crate, and those that they call."""
+    """Returns the command that checks these functions of a crate, and takes by its statement what has a hole for a proof."""
     own = [other for other in crates[name] if other in crates]
     words = [str(KIT / "bin/rattle"), "check", "--crate-name", name, "src/lib.rt", "-L", f"dependency={KIT}/rlibs"]
     for other in ["std", *(other for other in crates[name] if other not in crates)]:
@@ -52,7 +53,8 @@ def words_for(crates: dict[str, list[str]], name: str, functions: list[str]) -> 
     for other in below(crates, name):
         words += ["-L", f"dependency={library(other).parent}"]
     words += ["--antt-project", f"{KIT}/rattle/logic/antt-project.json", "--logic-built", f"{KIT}/logic_built"]
-    return [*words, "--links", f"{name}=", "--jobs", "1", *(word for it in functions for word in ("--only", it))]
+    words += ["--links", f"{name}=", "--jobs", "1", "--allow-holes"]
+    return [*words, *(word for it in functions for word in ("--only", it))]
 
 
 def name_at(lines: list[str]) -> str:
@@ -72,16 +74,17 @@ class Said:
     @property
     def has_judged(self) -> bool:
         """Whether the texts could be read, so that the prover came to an end with each function."""
-        return re.search(r"^only=\d+ proved=\d+$", self.text, re.M) is not None
+        return re.search(r"^only=\d+ holes=\d+$", self.text, re.M) is not None
 
     def verdict(self, function: str) -> str:
         """Returns what stands behind a function's name, or nothing if it has no line."""
         found = re.search(rf"^fn {re.escape(f'{self.crate}::{function}')}: (.*)$", self.text, re.M)
         return found[1] if found else ""
 
-    def is_hidden(self, function: str) -> bool:
-        """Whether a function calls another one that is not proved, so that the verdict may be for that alone."""
-        return "it calls `" in self.verdict(function)
+    def is_hidden(self, function: str, others: list[str]) -> bool:
+        """Whether a function calls one of these others, which is not proved, so that its verdict may be for that alone."""
+        _, _, called = self.verdict(function).partition("it calls `")
+        return any(f"{self.crate}::{other}`" in called for other in others) or " more" in called
 
     def open_goals(self, file: str, function: str) -> list[str]:
         """Returns the goals of a function that are not proved: what its proof can't say, and what nothing answers."""
@@ -97,7 +100,7 @@ class Said:
         verdict = self.verdict(function)
         is_proved = not verdict.startswith(("not proved", "no proof: "))
         has_goals = "did not prove" in verdict or self.open_goals(file, function)
-        return not is_proved and not self.is_hidden(function) and bool(has_goals)
+        return not is_proved and bool(has_goals)
 
     def first_lines(self) -> str:
         """Returns the lines in which the check begins to complain."""
@@ -106,14 +109,15 @@ class Said:
 
 
 def ask(crates: dict[str, list[str]], name: str, texts: dict[str, str], functions: list[str], kept: str) -> Said:
-    """Returns what the prover says of these functions of a crate, with these texts in place of its own files. What it has
-    proved stays in the folder `kept`, and is taken from there by the next call."""
+    """Returns what the prover says of these functions of a crate, with these texts in place of its own files, and by the
+    contracts of what they call. What it has checked stays in the folder `kept`, and is taken from there by the next call."""
     with tempfile.TemporaryDirectory(prefix=f"wrong-{name}-") as folder:
         for part in ("src", "specs", "proofs"):
             if pathlib.Path("crates", name, part).is_dir():
                 shutil.copytree(pathlib.Path("crates", name, part), pathlib.Path(folder, part))
         for file, text in texts.items():
             pathlib.Path(folder, file).write_text(text)
+        stub_out(name, pathlib.Path(folder), set(functions))
         pipes = {"stdin": subprocess.DEVNULL, "stdout": subprocess.PIPE, "stderr": subprocess.STDOUT}
         command = [*words_for(crates, name, functions), "--incremental", kept]
         ran = subprocess.run(command, cwd=folder, text=True, errors="replace", timeout=SECONDS, **pipes)

@@ -1,12 +1,14 @@
 #!/usr/bin/env python3
 """Plants the wrong bodies of each crate's page must-fail/calls.md, all of a crate at once, and has the prover check the
-functions that they are in: it must refuse each of them, for a goal of its own. A function that calls one that is refused
-is tried again without that one.
+functions that they are in: it must refuse each of them, for a goal of its own. What they call is not proved once more: it
+loses its body, and is taken by its contract. One that calls another of them, and of which only
+that is said, is tried again without the other.
 
 `rt ci` tries the edits beside such a page one by one, for half a minute each; here one more costs a second or two.
 
-usage: checks/edits/run.py [--read] [CRATE..], at the top of the repository, after `rt ci`. It exits with a status other
-than 0 if a wrong body is not refused. With --read it only looks whether each stands where its page says, in a second.
+usage: checks/edits/run.py [--read | --right] [CRATE..], at the top of the repository, after `rt ci`. It exits with a status
+other than 0 if a wrong body is not refused. With --read it only looks whether each stands where its page says, in a second.
+With --right it plants none, and no function may be refused: so none of them is refused for what was taken from it.
 """
 import argparse
 import concurrent.futures
@@ -16,12 +18,15 @@ import subprocess
 import sys
 import tempfile
 import time
+from collections.abc import Callable
 
 from bodies import PageError, WrongBody, read_bodies
 from prover import ask, build_libraries, read_crates
 from recorded import wrong_readings
 
 PAGE = "must-fail/calls.md"
+# what is wrong with a crate's wrong bodies, by what the prover says of them
+Judge = Callable[[dict[str, list[str]], str, list[WrongBody], str], list[str]]
 
 
 def planted(bodies: list[WrongBody], crate: pathlib.Path) -> tuple[dict[str, str], list[WrongBody]]:
@@ -39,13 +44,14 @@ def faults_of(crates: dict[str, list[str]], name: str, bodies: list[WrongBody], 
     left, faults = bodies, []
     while left:
         texts, inside = planted(left, pathlib.Path("crates", name))
-        said = ask(crates, name, texts, [body.function for body in inside], kept)
+        functions = [body.function for body in inside]
+        said = ask(crates, name, texts, functions, kept)
         if not said.has_judged:
             return [*faults, f"{name}: BAD EDIT: the prover can't read the texts:\n{said.first_lines()}"]
-        hidden = [body for body in inside if said.is_hidden(body.function)]
-        for body in inside:
-            if body not in hidden and not said.is_refused(body.file, body.function):
-                faults.append(f"{name}/{body.name}: NOT REFUSED: {body.function}: {said.verdict(body.function)}")
+        accepted = [body for body in inside if not said.is_refused(body.file, body.function)]
+        hidden = [body for body in accepted if said.is_hidden(body.function, functions)]
+        faults += [f"{name}/{body.name}: NOT REFUSED: {body.function}: {said.verdict(body.function)}"
+                   for body in accepted if body not in hidden]
         after = [body for body in left if body in hidden or body not in inside]
         if len(after) == len(left):
             return [*faults, *(f"{name}/{body.name}: NOT REFUSED: only what it calls is" for body in after)]
@@ -53,12 +59,21 @@ def faults_of(crates: dict[str, list[str]], name: str, bodies: list[WrongBody], 
     return faults
 
 
-def try_crate(crates: dict[str, list[str]], name: str, bodies: list[WrongBody]) -> list[str]:
+def refused_as_they_are(crates: dict[str, list[str]], name: str, bodies: list[WrongBody], kept: str) -> list[str]:
+    """Returns which of the functions that a crate's wrong bodies are in are refused with their own bodies."""
+    own = {body.function: body.file for body in bodies}
+    texts = {file: pathlib.Path("crates", name, file).read_text() for file in own.values()}
+    said = ask(crates, name, texts, [*own], kept)
+    wrong = [function for function in own if not said.verdict(function).startswith(("no holes", "depends on a hole"))]
+    return [f"{name}: REFUSED AS IT IS: {function}: {said.verdict(function) or said.first_lines()}" for function in wrong]
+
+
+def try_crate(judge: Judge, crates: dict[str, list[str]], name: str, bodies: list[WrongBody]) -> list[str]:
     """Tries a crate's wrong bodies, says how that went, and returns what is wrong."""
     start = time.monotonic()
     try:
         with tempfile.TemporaryDirectory(prefix=f"kept-{name}-") as kept:
-            faults = faults_of(crates, name, bodies, kept)
+            faults = judge(crates, name, bodies, kept)
     except (PageError, subprocess.TimeoutExpired) as error:
         faults = [f"{name}: BAD EDIT: {error}"]
     print(f"{name}: {len(bodies)} planted, {time.monotonic() - start:.0f} s", *faults, sep="\n", flush=True)
@@ -70,17 +85,18 @@ def lines_of(name: str) -> int:
     return sum(file.read_text().count("\n") for file in pathlib.Path("crates", name, "src").rglob("*.rt"))
 
 
-def try_all(crates: dict[str, list[str]], bodies: dict[str, list[WrongBody]]) -> list[str]:
+def try_all(judge: Judge, crates: dict[str, list[str]], bodies: dict[str, list[WrongBody]]) -> list[str]:
     """Tries the wrong bodies of some crates, one crate a processor, and returns what is wrong."""
     build_libraries(crates, list(bodies))
     with concurrent.futures.ThreadPoolExecutor(len(os.sched_getaffinity(0))) as pool:
         order = sorted(bodies, key=lines_of, reverse=True)
-        return sum(pool.map(lambda name: try_crate(crates, name, bodies[name]), order), [])
+        return sum(pool.map(lambda name: try_crate(judge, crates, name, bodies[name]), order), [])
 
 
 def main() -> int:
     parser = argparse.ArgumentParser(description="Plants the wrong bodies of must-fail/calls.md, which must be refused.")
     parser.add_argument("--read", action="store_true", help="only look whether each stands where its page says")
+    parser.add_argument("--right", action="store_true", help="plant none: no function may be refused")
     parser.add_argument("crates", nargs="*", metavar="CRATE", help="a crate that has such a page; all, if none is named")
     asked, crates = parser.parse_args(), read_crates()
     if wrong := wrong_readings():
@@ -99,9 +115,12 @@ def main() -> int:
         print(f"{count} wrong bodies of {len(bodies)} crates can be planted")
         return 0
     start = time.monotonic()
-    faults = try_all(crates, bodies)
+    faults = try_all(refused_as_they_are if asked.right else faults_of, crates, bodies)
     minutes = (time.monotonic() - start) / 60
-    print(f"{minutes:.1f} minutes; {count} wrong bodies of {len(bodies)} crates planted: {len(faults)} not refused")
+    if asked.right:
+        print(f"{minutes:.1f} minutes; the functions of {len(bodies)} crates as they are: {len(faults)} refused")
+    else:
+        print(f"{minutes:.1f} minutes; {count} wrong bodies of {len(bodies)} crates planted: {len(faults)} not refused")
     return 1 if faults else 0
 
 
