@@ -35,7 +35,6 @@ RECORDED = (
 HIDING = ((f"no proof: {CALLS}", True), (f"no proof: {STUB}", False), (HOLE, False))
 
 
-
 def wrong_readings() -> list[str]:
     """Returns the recorded functions that are read otherwise than they were meant."""
     wrong = []
