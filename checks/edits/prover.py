@@ -82,7 +82,8 @@ class Said:
         return found[1] if found else ""
 
     def is_hidden(self, function: str, others: list[str]) -> bool:
-        """Whether a function calls one of these others, which is not proved, so that its verdict may be for that alone."""
+        """Whether a function calls one of these others, which is not proved, so that its verdict may be for that alone. It
+        may also be one that a long verdict leaves out."""
         _, _, called = self.verdict(function).partition("it calls `")
         return any(f"{self.crate}::{other}`" in called for other in others) or " more" in called
 

@@ -1,8 +1,8 @@
 #!/usr/bin/env python3
 """Plants the wrong bodies of each crate's page must-fail/calls.md, all of a crate at once, and has the prover check the
 functions that they are in: it must refuse each of them, for a goal of its own. What they call is not proved once more: it
-loses its body, and is taken by its contract. One that calls another of them, and of which only
-that is said, is tried again without the other.
+loses its body, and is taken by its contract. One that calls another of them, and of which only that is said, is tried again
+without the other.
 
 `rt ci` tries the edits beside such a page one by one, for half a minute each; here one more costs a second or two.
 

@@ -60,8 +60,8 @@ def bodies_of(module: str, homes: dict[str, str], lines: list[str]) -> list[Body
 
 
 def stub_out(crate: str, folder: pathlib.Path, kept: set[str]) -> None:
-    """Takes away the bodies of all functions of a crate's copy but some, with their proofs, and lets each of them be taken
-    by its contract."""
+    """Takes away the bodies and the proofs of a crate's copy, of all its free functions and own methods but those that are
+    kept, and lets each of them be taken by its contract. Methods of traits stay as they are."""
     sources = {source: source.read_text() for source in folder.glob("src/**/*.rt")}
     modules = {source: module_of(str(source.relative_to(folder))) for source in sources}
     homes = {name: modules[source] for source, text in sources.items() for name in TYPE.findall(text)}
