@@ -3,46 +3,47 @@ import collections
 import json
 import random
 import socket
-import threading
 import time
+from collections.abc import Iterator
+from functools import partial
 
-from hosts import Host, ask, by_deadline, execute, fib, hang_up, tenant
+from hosts import Host, ask, execute, fib, hang_up, tenant
+from servers import Bound, by_deadline, side_by_side
+from waits import used_while_it_waits
 
 # How long a session may outlive its client, in seconds.
 SOON = 10
-ENDLESS = {"args": [0, 0], "fuel": 1_000_000, "procs": [[["jmp", 0]]]}
+# Makes an entry of the history 100,000 times, and gives 7. It takes a tenth of a second or more.
+LONG = {"args": [100_000, 7], "fuel": 1_000_000, "procs": [[
+    ["set", 2, 1], ["count", 3, 0], ["sub", 0, 0, 2], ["jz", 0, 5], ["jmp", 1], ["ret", 1]]]}
 WAITS = {"args": [0, 0], "fuel": 10, "procs": [[["ret", 0]]]}
 
 
-def a_thousand_short_clients():
+def values_of_clients(host: Host, left: Iterator[int]) -> collections.Counter:
+    """Lets clients come one after another as long as some are left, and returns how often each value came, or what came
+    in its stead."""
+    got = collections.Counter()
+    while next(left, None) is not None:
+        connection = host.connect()
+        reply = execute(connection, 4)
+        hang_up(connection)
+        got[reply["value"] if reply and "value" in reply else str(reply)] += 1
+    return got
+
+
+def a_thousand_short_clients() -> None:
     """Over eight connections at a time come 1,000 clients from sixteen threads, and each gets its answer. Every seat
     comes back: the tenant closes."""
     host = Host([tenant("acme", steps=1_000_000, slots=8, reserved=4)], "--connections", 8, workers=4)
-    got, lock, left = collections.Counter(), threading.Lock(), iter(range(1000))
-
-    def visit():
-        while True:
-            with lock:
-                if next(left, None) is None:
-                    return
-            connection = host.connect()
-            reply = execute(connection, 4)
-            hang_up(connection)
-            with lock:
-                got[reply.get("value", str(reply))] += 1
-
-    threads = [threading.Thread(target=visit, daemon=True) for _ in range(16)]
-    for thread in threads:
-        thread.start()
-    for thread in threads:
-        thread.join()
+    left = iter(range(1000))  # a range's next number is taken by one thread
+    got = sum(side_by_side(*[partial(values_of_clients, host, left)] * 16), collections.Counter())
     assert got == {3: 1000}, got
     assert host.stop() == 0
     assert host.told("closed")[0]["served"] == 1000
     assert sum(map(len, host.closed().values())) == 1
 
 
-def one_waits_for_a_place():
+def one_waits_for_a_place() -> None:
     """With all places taken the next client waits, and is served when one ends."""
     host = Host([tenant("acme")], "--connections", 1)
     first = host.connect()
@@ -65,25 +66,61 @@ def one_waits_for_a_place():
     assert host.stop() == 0
 
 
-def clients_that_go_while_they_wait():
-    """Whatever a session waits for, its place is free soon after its client has gone, and the next client is served."""
-    host = Host([tenant("acme", slots=1, reserved=1)], "--connections", 1)
-    for requests in ([{"op": "submit", "job": WAITS}, {"op": "collect", "job": 1}],
-                     [{"op": "execute", "job": ENDLESS}],
-                     [{"op": "arena"}],
-                     []):
-        client, replies = host.connect()
-        client.sendall("".join(json.dumps(it) + "\n" for it in requests).encode())
-        time.sleep(0.2)
-        began = time.monotonic()
-        hang_up((client, replies))
-        connection = host.connect()
-        assert time.monotonic() - began < SOON
-        hang_up(connection)
+def goes(host: Host, connection: Bound, requests: list[dict], answers: list[dict]) -> None:
+    """A client that sends requests, reads as many replies as are named, and goes. Another client is served soon."""
+    connection.client.sendall("".join(json.dumps(it) + "\n" for it in requests).encode())
+    assert [json.loads(connection.replies.readline()) for _ in answers] == answers
+    began = time.monotonic()
+    hang_up(connection)
+    hang_up(host.connect())
+    assert time.monotonic() - began < SOON
+
+
+def goes_while_it_executes(host: Host, holder: Bound) -> None:
+    """A client goes whose executed job, number 3, waits for a slot: the only one is reserved, and the holder's job, number
+    2, is on it. Nothing ever runs that job."""
+    holds, waits = {"op": "poll", "job": 2}, {"op": "poll", "job": 3}
+    running = {"job": 2, "status": "running"}
+    connection = host.connect()
+    holder.client.sendall((json.dumps({"op": "execute", "job": LONG}) + "\n").encode())
+    assert by_deadline(lambda: known(ask(connection, holds))) == running
+    goes(host, connection, [holds, {"op": "execute", "job": WAITS}], [running])
+    assert json.loads(holder.replies.readline()) == {"job": 2, "status": "complete", "value": 7}
+    assert ask(holder, waits) == {"job": 3, "status": "running"}
+
+
+def known(reply: dict) -> dict | None:
+    """The reply to a poll, none as long as there is no such job."""
+    return None if reply == {"code": 6, "error": "unknown_job"} else reply
+
+
+def clients_that_go_while_they_wait() -> None:
+    """Whatever a session waits for, its place is free soon after its client has gone, and the next client is served. The
+    only slot is reserved, so nothing runs what is submitted. One of the two places is the holder's all the time."""
+    host = Host([tenant("acme", steps=1_000_000, slots=1, reserved=1)], "--connections", 2)
+    holder = host.connect()
+    goes(host, host.connect(), [{"op": "submit", "job": WAITS}, {"op": "collect", "job": 1}], [{"job": 1}])
+    goes_while_it_executes(host, holder)
+    goes(host, host.connect(), [{"op": "arena"}], [{"priority": "normal", "reserved": 1, "slots": 1}])
+    goes(host, host.connect(), [], [])
+    hang_up(holder)
     assert host.stop() == 0
 
 
-def half_closed_clients():
+def threads_that_wait_use_no_processor() -> None:
+    """The only slot is reserved, so that a submitted job waits for ever, with a session that collects it, and the worker
+    waits for a call. In a second all threads together use less than a fifth of one."""
+    host = Host([tenant("acme", slots=1, reserved=1)], "--connections", 2, workers=1)
+    connection = host.connect()
+    assert ask(connection, {"op": "submit", "job": WAITS}) == {"job": 1}
+    connection.client.sendall(b'{"op":"collect","job":1}\n')
+    used = used_while_it_waits(host.process.pid, connection)
+    assert used < 0.2, f"{used:.2f} s of a processor in a second"
+    hang_up(connection)
+    assert host.stop() == 0
+
+
+def half_closed_clients() -> None:
     """A client that only ends its sending side gets all that it is owed."""
     host = Host([tenant("acme")], "--connections", 2)
     client, replies = host.connect()
@@ -94,7 +131,7 @@ def half_closed_clients():
     assert host.stop() == 0
 
 
-def clients_cut_at_each_byte():
+def clients_cut_at_each_byte() -> None:
     """Clients go after any number of bytes of a request, and their seats serve others."""
     host = Host([tenant("acme")], "--connections", 2)
     text = (json.dumps({"op": "hello", "tenant": "acme"}) + "\n" + json.dumps(fib(5)) + "\n").encode()
@@ -111,5 +148,5 @@ def clients_cut_at_each_byte():
     assert host.stop() == 0
 
 
-CHECKS = [a_thousand_short_clients, one_waits_for_a_place, clients_that_go_while_they_wait, half_closed_clients,
-          clients_cut_at_each_byte]
+CHECKS = [a_thousand_short_clients, one_waits_for_a_place, clients_that_go_while_they_wait,
+          threads_that_wait_use_no_processor, half_closed_clients, clients_cut_at_each_byte]

@@ -3,24 +3,29 @@ import os
 import random
 import time
 
-from hosts import MOST_ALIVE, Host, Load, ask, by_deadline, dump_lines, dumps, fib, hang_up, is_at_end, rotate, tenant
+from hosts import MOST_ALIVE, Host, Load, ask, dump_lines, dumps, fib, hang_up, is_at_end, rotate, tenant
+from servers import by_deadline
+
+# What a client may get from a host that ends: a reply that is right, none, or the end of its connection.
+ENDED = {"right", "None", "FileNotFoundError", "ConnectionResetError", "BrokenPipeError", "ConnectionRefusedError"}
+# From one whose history may become full meanwhile.
+ENDED_OR_FULL = {*ENDED, "full"}
 
 
-def stop_under_load():
+def stop_under_load() -> None:
     """Each client gets its answer or the end of its connection, and every tenant closes."""
     host = Host([tenant("acme", steps=1_000_000), tenant("beta", steps=1_000_000)], "--connections", 16)
     load = Load(host, 16, ("acme", "beta"))
-    time.sleep(1)
+    by_deadline(lambda: load.replies["right"] > 20)
     began = time.monotonic()
     assert host.stop() == 0
     assert time.monotonic() - began < 20, "it waited for its patience"
     replies = load.end()
-    assert set(replies) <= {"right", "None", "FileNotFoundError", "AssertionError", "ConnectionResetError",
-                            "BrokenPipeError", "ConnectionRefusedError", "JSONDecodeError"}, replies
-    assert replies["right"] > 20 and set(host.closed()) == {"acme", "beta"}
+    assert set(replies) <= ENDED, replies
+    assert set(host.closed()) == {"acme", "beta"}
 
 
-def stop_while_two_generations_live():
+def stop_while_two_generations_live() -> None:
     host = Host([tenant("acme")], "--patience", 600)
     old = host.connect()
     assert ask(old, fib(6))["value"] == 8
@@ -33,7 +38,7 @@ def stop_while_two_generations_live():
     assert host.told("stop") and all(map(is_at_end, (old, new)))
 
 
-def kills_at_drawn_moments():
+def kills_at_drawn_moments() -> None:
     """A host that is killed leaves whole dumps alone, and the next one in its folder goes on."""
     draw = random.Random(2)
     host = Host([tenant("acme", steps=600)], "--connections", 4, "--patience", 0, "--keep", 100)
@@ -41,7 +46,8 @@ def kills_at_drawn_moments():
         load = Load(host, 4)
         time.sleep(draw.uniform(0.1, 0.8))
         host.kill()
-        load.end()
+        replies = load.end()
+        assert set(replies) <= ENDED_OR_FULL, replies
         for number in dumps(host, "acme"):
             dump_lines(host.path("dumps", f"acme.{number:06}.jsonl"))
         host = Host([tenant("acme", steps=600)], "--connections", 4, "--patience", 0, "--keep", 100, after=host)
@@ -52,7 +58,7 @@ def kills_at_drawn_moments():
     assert all(not it.endswith("part") for it in os.listdir(host.path("dumps")))
 
 
-def a_folder_that_takes_no_dumps():
+def a_folder_that_takes_no_dumps() -> None:
     """The host says so, tries again as long as it has patience, and goes on."""
     host = Host([tenant("acme")], "--patience", 2)
     os.rename(host.path("dumps"), host.path("gone"))
@@ -64,7 +70,7 @@ def a_folder_that_takes_no_dumps():
     assert dumps(host, "acme")[-1] == 1
 
 
-def held():
+def held() -> tuple[Host, Load]:
     """A host that can't write its dumps, once as many generations are there as may be, and a load that fills the last one's
     history."""
     host = Host([tenant("acme", steps=400)], "--connections", 4, "--patience", 600, "--keep", 3)
@@ -76,7 +82,7 @@ def held():
     return host, load
 
 
-def as_many_generations_as_may_be():
+def as_many_generations_as_may_be() -> None:
     """While no dump can be written, the next generation waits, for which the host gives one line, and the one that serves
     goes on until its history is full. Then the host catches up, and rotates again. A session whose own slot can run nothing
     when the history becomes full ends without a reply."""
@@ -98,12 +104,13 @@ def as_many_generations_as_may_be():
     assert sorted(host.closed()["acme"]) == numbers and dumps(host, "acme") == numbers[-3:]
 
 
-def stop_while_the_next_one_waits():
+def stop_while_the_next_one_waits() -> None:
     """The order to stop does not wait, and all generations are closed."""
     host, load = held()
     os.unlink(host.path("socket"))
     by_deadline(lambda: host.told("stop"))
-    load.end()
+    replies = load.end()
+    assert set(replies) <= ENDED_OR_FULL, replies
     os.rename(host.path("gone"), host.path("dumps"))
     assert host.ended() == 0
     assert sorted(host.closed()["acme"]) == [it["generation"] for it in host.told("opened")] == list(range(MOST_ALIVE))

@@ -1,16 +1,21 @@
 """Generations that follow one another."""
 import os
 import time
+from collections.abc import Callable
 
-from hosts import Host, Load, ask, by_deadline, dumps, fib, hang_up, is_at_end, rotate, tenant
+from hosts import Host, Load, ask, dumps, fib, hang_up, is_at_end, rotate, tenant
+from servers import Bound, by_deadline
+from waits import leave_a_job, used_while_it_waits
+
+DIVIDES = {"args": [0, 0], "fuel": 10, "procs": [[["set", 2, 1], ["div", 2, 2, 3], ["ret", 2]]]}
 
 
-def serving(host):
+def serving(host: Host) -> list[int]:
     """The number of the generation that serves, by the status."""
     return [it["generation"] for it in host.status()["generations"] if it["state"] == "serving"]
 
 
-def three_by_history():
+def three_by_history() -> None:
     """Under load the host rotates by history, and no client of a generation that serves finds a full one."""
     tenants = [tenant("acme", steps=40_000), tenant("beta", steps=60_000)]
     host = Host(tenants, "--connections", 8, "--patience", 5, workers=2)
@@ -29,7 +34,7 @@ def three_by_history():
     assert all(sorted(closed) == numbers for closed in host.closed().values())
 
 
-def one_by_file():
+def one_by_file() -> None:
     """A tenant comes and another one goes with a rotation that a file asks for."""
     host = Host([tenant("acme"), tenant("beta")], "--patience", 0)
     old = host.connect("beta")
@@ -46,7 +51,7 @@ def one_by_file():
     assert {name: sorted(closed) for name, closed in host.closed().items()} == {"acme": [0, 1], "beta": [0], "gamma": [1]}
 
 
-def the_old_one_goes_on():
+def the_old_one_goes_on() -> None:
     """A connection belongs to its generation, whose jobs are known there alone, until its patience ends."""
     host = Host([tenant("acme")], "--patience", 60)
     old = host.connect()
@@ -65,7 +70,7 @@ def the_old_one_goes_on():
     assert host.stop() == 0
 
 
-def a_configuration_that_cannot_be_read():
+def a_configuration_that_cannot_be_read() -> None:
     """The generation in force goes on, and the host says so."""
     host = Host([tenant("acme")])
     with open(host.config, "w") as it:
@@ -83,7 +88,7 @@ def a_configuration_that_cannot_be_read():
     assert host.stop() == 0
 
 
-def the_newest_dumps_are_kept():
+def the_newest_dumps_are_kept() -> None:
     host = Host([tenant("acme")], "--keep", 2, "--patience", 0)
     for number in range(1, 5):
         open(host.path("rotate"), "w").close()
@@ -92,7 +97,7 @@ def the_newest_dumps_are_kept():
     assert dumps(host, "acme") == [3, 4]
 
 
-def the_newest_dumps_are_kept_in_any_order():
+def the_newest_dumps_are_kept_in_any_order() -> None:
     """Generations that are closed out of order leave the newest dumps as well: one that is written late goes at once. So
     does the oldest one of a tenant that was away, and what is too many at a start."""
     host = Host([tenant("acme"), tenant("beta")], "--keep", 2, "--patience", 600)
@@ -124,38 +129,72 @@ def the_newest_dumps_are_kept_in_any_order():
     assert (dumps(host, "acme"), dumps(host, "beta")) == ([7], [6])
 
 
-def shown(host, jobs):
-    """The status, once its first tenant has made so many jobs."""
+def shown(host: Host, is_so: Callable[[dict, dict], bool]) -> dict | None:
+    """The status, once something is so of both tenants of its only generation, and both workers wait for a call."""
     status = host.status()
-    made = [generation["tenants"][0]["jobs"] for generation in status["generations"]]
-    return status if made == [jobs] else None
+    if not status["generations"]:
+        return None
+    [generation] = status["generations"]
+    is_idle = all(it["tenant"] is None and it["slot"] is None for it in generation["workers"])
+    return status if is_idle and is_so(*generation["tenants"]) else None
 
 
-def what_it_shows():
+def asks_both(host: Host) -> list[Bound]:
+    """Clients that have asked acme for a job that is complete and one with fault 1, and beta, whose only slot is reserved,
+    for two that wait, one of which they cancelled."""
+    acme, beta = host.connect("acme"), host.connect("beta")
+    assert ask(acme, fib(6)) == {"job": 1, "status": "complete", "value": 8}
+    assert ask(acme, {"op": "execute", "job": DIVIDES}) == {"job": 2, "status": "fault", "fault": 1}
+    assert ask(beta, {"op": "submit", "job": DIVIDES}) == {"job": 1}
+    assert ask(beta, {"op": "submit", "job": DIVIDES}) == {"job": 2}
+    assert ask(beta, {"op": "cancel", "job": 1}) == {"first": True, "job": 1}
+    return [acme, beta]
+
+
+def what_it_shows() -> None:
     """The members of the status are those of its page, with what clients have done."""
-    host = Host([tenant("acme"), tenant("beta", steps=500)], "--connections", 3, "--keep", 5, "--patience", 7)
-    connection = host.connect()
-    assert ask(connection, fib(6))["value"] == 8
-    status = by_deadline(lambda: shown(host, jobs=1))
+    host = Host([tenant("acme"), tenant("beta", steps=500, slots=1, reserved=1)], "--connections", 3, "--keep", 5,
+                "--patience", 7)
+    connections = asks_both(host)
+    status = by_deadline(lambda: shown(host, lambda acme, beta: acme["asks"] == 4 and beta["asks"] == 3))
     assert set(status) == {"time", "began", "connections", "rotate_at", "keep", "patience", "memory", "generations", "closed"}
     assert (status["connections"], status["rotate_at"], status["keep"], status["patience"]) == (3, 50, 5, 7)
     assert abs(status["time"] - time.time()) < 5 and status["memory"] > 1 << 20 and status["closed"] == []
     [generation] = status["generations"]
     assert set(generation) == {"generation", "state", "began", "why", "connections", "served", "workers", "tenants"}
     acme, beta = generation["tenants"]
-    assert acme["asks"] == 2 and 80 < acme["entries"] < 120 and (acme["tenant"], acme["steps"]) == ("acme", 10_000), acme
-    assert acme["jobs_now"] == {"running": 0, "complete": 1, "canceled": 0, "fault": 0}, acme
-    assert acme["rows"] == {"open": 0, "waiting": 0}, acme
-    assert beta == {"tenant": "beta", "steps": 500, "entries": 0, "asks": 0, "jobs": 0, "rows": {"open": 0, "waiting": 0},
-                    "jobs_now": {"running": 0, "complete": 0, "canceled": 0, "fault": 0}}
-    assert [it["worker"] for it in generation["workers"]] == [0, 1]
-    assert (generation["connections"], generation["served"], generation["why"]) == (1, 1, None)
-    hang_up(connection)
+    # Each execute is itself and its collect; the division is one advance besides.
+    assert 83 < acme.pop("entries") < 123, acme
+    assert acme == {"tenant": "acme", "steps": 10_000, "asks": 4, "jobs": 2, "rows": {"open": 0, "waiting": 0},
+                    "jobs_now": {"running": 0, "complete": 1, "canceled": 0, "fault": 1}}
+    # The cancelled job's root is dropped, the other one's waits.
+    assert beta == {"tenant": "beta", "steps": 500, "entries": 3, "asks": 3, "jobs": 2, "rows": {"open": 1, "waiting": 1},
+                    "jobs_now": {"running": 1, "complete": 0, "canceled": 1, "fault": 0}}
+    assert generation["workers"] == [{"worker": number, "tenant": None, "slot": None} for number in (0, 1)]
+    assert (generation["connections"], generation["served"], generation["why"]) == (2, 2, None)
+    hang_up(*connections)
     assert host.stop() == 0
     [closed] = host.status()["closed"]
-    assert closed["tenants"][1] == {"tenant": "beta", "entries": 0, "fault": None, "dumped": True}
-    assert closed["why"] == "stop" and closed["served"] == 1 and host.status()["generations"] == []
+    assert closed["tenants"][1] == {"tenant": "beta", "entries": 3, "fault": None, "dumped": True}
+    assert closed["why"] == "stop" and closed["served"] == 2 and host.status()["generations"] == []
+
+
+def what_it_shows_of_rows_that_wait() -> None:
+    """A job that its client has left has three rows on slots, none of which waits to be started; the worker is at its
+    slot, and waits there without using a processor."""
+    host = Host([tenant("acme", steps=1_000_000, slots=2)], "--connections", 3, workers=1)
+    stays = host.connect()
+    leave_a_job(host.connect, stays)
+    used = used_while_it_waits(host.process.pid, stays)
+    assert used < 0.2, f"{used:.2f} s of a processor in a second"
+    [generation] = by_deadline(lambda: host.status()["generations"])
+    assert generation["workers"] == [{"worker": 0, "tenant": "acme", "slot": 1}]
+    [acme] = generation["tenants"]
+    assert acme["rows"] == {"open": 3, "waiting": 0} and acme["jobs_now"]["running"] == 1, acme
+    hang_up(stays)
+    assert host.stop() == 0
 
 
 CHECKS = [three_by_history, one_by_file, the_old_one_goes_on, a_configuration_that_cannot_be_read,
-          the_newest_dumps_are_kept, the_newest_dumps_are_kept_in_any_order, what_it_shows]
+          the_newest_dumps_are_kept, the_newest_dumps_are_kept_in_any_order, what_it_shows,
+          what_it_shows_of_rows_that_wait]

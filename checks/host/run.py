@@ -15,17 +15,17 @@ import starts
 CHECKS = [check for module in (starts, clients, rotations, ends) for check in module.CHECKS]
 
 
-def main():
-    wanted = sys.argv[1:]
-    count = 0
-    for check in CHECKS:
-        if wanted and check.__name__ not in wanted:
-            continue
+def main() -> None:
+    """Runs all checks, or those that are named. The first that finds a fault ends the run."""
+    named = {check.__name__: check for check in CHECKS}
+    wanted = sys.argv[1:] or list(named)
+    if unknown := [name for name in wanted if name not in named]:
+        sys.exit(f"no check is called {', '.join(unknown)}")
+    for name in wanted:
         began = time.monotonic()
-        check()
-        count += 1
-        print(f"{check.__name__}: {time.monotonic() - began:.1f} s", flush=True)
-    print(f"{count} checks of the host passed")
+        named[name]()
+        print(f"{name}: {time.monotonic() - began:.1f} s", flush=True)
+    print(f"{len(wanted)} checks of the host passed")
 
 
 main()

@@ -32,7 +32,8 @@ KEEP = 2
 class Soak:
     """A host, its clients, and what was seen of both."""
 
-    def __init__(self, minutes, asks=None):
+    def __init__(self, minutes: float, asks: float | None = None) -> None:
+        """Starts the host. Clients ask for so many minutes, `asks` times a second together, or as fast as they can."""
         self.end = time.monotonic() + 60 * minutes
         self.pause = CLIENTS / asks if asks else 0.0  # the mean time between two asks of a client, in seconds
         dice = random.Random(3)
@@ -44,20 +45,25 @@ class Soak:
         self.wrong = []
         self.lock = threading.Lock()
 
-    def is_over(self):
+    def is_over(self) -> bool:
+        """Whether the time is over, or something was wrong."""
         return time.monotonic() > self.end or bool(self.wrong)
 
-    def client(self, number):
+    def client(self, number: int) -> None:
+        """What a thread does: one client after another."""
         dice = random.Random(number)
         while not self.is_over():
             try:
                 what = self.visit(dice)
-            except (OSError, AssertionError) as fault:
+            except OSError as fault:
                 what = collections.Counter({f"connection ended: {type(fault).__name__}": 1})
+            except Exception as fault:
+                self.wrong.append(repr(fault))
+                break
             with self.lock:
                 self.seen.update(what)
 
-    def visit(self, dice):
+    def visit(self, dice: random.Random) -> collections.Counter:
         """What a client met that asks a few times, and goes, perhaps in the midst of a wait."""
         met = collections.Counter({"connections": 1})
         connection = self.host.connect(dice.choice(self.names))
@@ -81,7 +87,7 @@ class Soak:
             hang_up(connection)
         return met
 
-    def judged(self, reply, outcome):
+    def judged(self, reply: dict, outcome: dict) -> dict[str, int]:
         """What a reply counts as. One that is neither the outcome nor a refusal that may be is wrong."""
         if "code" in reply and reply["code"] in MAY_FAIL:
             return {f"error {reply['code']}": 1}
@@ -89,7 +95,7 @@ class Soak:
             self.wrong.append((reply, outcome))
         return {"right": 1}
 
-    def watch(self):
+    def watch(self) -> None:
         """Looks at the status as long as clients ask, and asks for a rotation now and then."""
         dice = random.Random(4)
         while not self.is_over():
@@ -107,21 +113,22 @@ class Soak:
             if dice.random() < 0.02:
                 open(self.host.path("rotate"), "w").close()
 
-    def waits(self, number):
+    def waits(self, number: int) -> bool:
         """Whether the host said that the generation of that number serves until there is room for the next one."""
         return bool(self.host.told("waiting", generation=number))
 
-    def run(self):
+    def run(self) -> int:
+        """Lets the clients ask until the time is over, stops the host, and returns its status."""
         threads = [threading.Thread(target=self.client, args=(number,), daemon=True) for number in range(CLIENTS)]
         for thread in threads:
             thread.start()
         self.watch()
         for thread in threads:
             thread.join()
-        status = self.host.stop()
-        return status
+        return self.host.stop()
 
-    def report(self):
+    def report(self) -> None:
+        """Prints what was seen."""
         host = self.host
         closed = host.told("closed")
         print(f"{len(closed)} generations closed, {sum(map(len, host.closed().values()))} tenants, "
@@ -132,7 +139,8 @@ class Soak:
         print(dict(self.most), f"{len(host.told('waiting'))} rotations waited")
 
 
-def main():
+def main() -> None:
+    """Soaks a host, and compares what was seen at its end."""
     for program in (PROGRAM, SCRIPT):
         assert os.path.exists(program), f"{program} is not there: `rt ci` or `make build` builds it"
     soak = Soak(*map(float, sys.argv[1:3] or ["10"]))

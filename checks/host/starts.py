@@ -4,15 +4,17 @@ import stat
 import subprocess
 import tempfile
 
-from hosts import PROGRAM, Host, ask, by_deadline, dump_lines, dumps, fib, hang_up, tenant
+from hosts import PROGRAM, Host, ask, dump_lines, dumps, fib, hang_up, tenant
+from servers import by_deadline
 
 
-def run(*words):
+def run(*words: str) -> tuple[str, str, int]:
+    """What a host prints that does not start, what it says of a fault, and its status."""
     done = subprocess.run([PROGRAM, *words], capture_output=True, text=True, timeout=20)
     return done.stdout, done.stderr, done.returncode
 
 
-def words_that_are_refused():
+def words_that_are_refused() -> None:
     with tempfile.TemporaryDirectory() as folder:
         config = os.path.join(folder, "config.json")
         with open(config, "w") as it:
@@ -32,7 +34,7 @@ def words_that_are_refused():
         assert run("--config", config, "--run", folder + "/none") == ("", "arena-host: device\n", 3)
 
 
-def only_one_host_in_a_folder():
+def only_one_host_in_a_folder() -> None:
     host = Host([tenant("acme")])
     words = ["--config", host.config, "--run", host.run]
     assert run(*words) == ("", "arena-host: device\n", 3)
@@ -43,7 +45,7 @@ def only_one_host_in_a_folder():
     assert dumps(host, "acme") == [0]
 
 
-def modes():
+def modes() -> None:
     """The socket has its mode and group; those may read the status who may connect; dumps are the owner's alone."""
     group = os.getgid()
     for mode, shown in (("660", 0o640), ("600", 0o600), ("606", 0o604)):
@@ -55,7 +57,7 @@ def modes():
         assert stat.S_IMODE(os.stat(host.path("dumps", "acme.000000.jsonl")).st_mode) == 0o600
 
 
-def starts_again_after_a_kill():
+def starts_again_after_a_kill() -> None:
     """What a killed host leaves is cleared, and numbers go on."""
     host = Host([tenant("acme")])
     connection = host.connect()

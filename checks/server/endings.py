@@ -1,44 +1,61 @@
 """How a server lives with its clients and ends: clients that go while they wait, a stop, and dumps that are whole."""
+import contextlib
 import json
 import os
 import random
+import select
 import socket
+import subprocess
 import threading
 import time
+from collections.abc import Sequence
+from functools import partial
 
-from servers import FIB, HELLO, SEVEN, Server, dump_lines, tenant
+from servers import FIB, HELLO, PATIENCE, SEVEN, Bound, Server, by_deadline, dump_lines, side_by_side, tenant
+from waits import ask, is_answered, leave_a_job, used_while_it_waits
 
 # How long a session may outlive its client, and a server its stop, in seconds.
 SOON = 2
+# How often a check is tried in which this program must not be kept from the processor for a second.
+TRIES = 5
 # 12,192 entries or more, so that the history of `tenant` is full.
 LONG = {**FIB, "args": [16, 0], "fuel": 1_000_000}
 
 
-def send(client, *requests):
+def send(client: socket.socket, *requests: dict) -> None:
+    """Sends requests, a line each."""
     client.sendall("".join(json.dumps(it) + "\n" for it in requests).encode())
 
 
-def greeted(server):
-    """A client that has said hello, with its replies to come."""
+def greeted(server: Server) -> Bound:
+    """A client that has said hello to acme, with its replies to come."""
     client = server.connect()
     replies = client.makefile()
     send(client, HELLO)
     assert json.loads(replies.readline()) == {"tenant": "acme"}
-    return client, replies
+    return Bound(client, replies)
 
 
-def hang_up(*clients):
+def hang_up(*clients: Bound) -> None:
     """Closes connections whole: a socket stays open as long as its file of replies does."""
     for client, replies in clients:
         replies.close()
         client.close()
 
 
-def is_closed(lines, names=("acme",)):
+def is_cut(client: socket.socket) -> bool:
+    """Whether the server sends nothing more to a client. It is still so where it only takes no more lines from it."""
+    ends = select.poll()
+    ends.register(client, select.POLLRDHUP)
+    return bool(ends.poll(0))
+
+
+def is_closed(lines: Sequence[str], names: Sequence[str] = ("acme",)) -> bool:
+    """Whether what a server printed is a line for each of these tenants, in their order."""
     return [line.split(":")[0] for line in lines] == list(names)
 
 
-def client_that_collects_and_goes():
+def client_that_collects_and_goes() -> None:
     """No slot may ever start the job: the only one is reserved for executes."""
     server = Server([tenant("acme", 1, 1)], 1, 1)
     client, replies = greeted(server)
@@ -50,7 +67,7 @@ def client_that_collects_and_goes():
     assert time.monotonic() - began < SOON
 
 
-def clients_that_execute_at_one_slot_and_go():
+def clients_that_execute_at_one_slot_and_go() -> None:
     """The second job waits for a slot that stays reserved."""
     server = Server([tenant("acme", 1, 1)], 1, 2)
     clients = [greeted(server), greeted(server)]
@@ -63,7 +80,7 @@ def clients_that_execute_at_one_slot_and_go():
     assert time.monotonic() - began < SOON
 
 
-def client_that_goes_leaves_others_waiting():
+def client_that_goes_leaves_others_waiting() -> None:
     """One of two clients that wait for a job goes, and the other one still gets its reply when a worker comes."""
     server = Server([tenant("acme", 2, 1), {**tenant("beta", 1, 0), "priority": "high"}], 1, 3)
     first, second = greeted(server), greeted(server)
@@ -79,7 +96,7 @@ def client_that_goes_leaves_others_waiting():
     assert is_closed(lines, ("acme", "beta")) and (err, status) == ("", 0)
 
 
-def session_ends_without_a_reply_at_a_full_history():
+def session_ends_without_a_reply_at_a_full_history() -> None:
     """A region waits for a task that another slot may have taken. If the history fills while the executing slot has
     nothing that it may run, the session ends without a reply; if it runs the task itself, the reply is the error."""
     spinning = {"args": [0, 0], "fuel": 1_000_000, "procs": [
@@ -93,72 +110,117 @@ def session_ends_without_a_reply_at_a_full_history():
     assert server.end() == (["acme: closed, 300 entries"], "", 0)
 
 
-def removal_ends_sessions_that_wait():
-    """One client waits for a job, one says nothing, one does not take its replies, and 61 never come."""
-    server = Server([tenant("acme", 1, 1)], 1, 64)
-    waiting, silent, deaf = greeted(server), greeted(server), greeted(server)
-    send(waiting[0], {"op": "submit", "job": SEVEN}, {"op": "collect", "job": 1})
-    assert json.loads(waiting[1].readline()) == {"job": 1}
-    deaf[0].setblocking(False)
+def fill(client: socket.socket) -> None:
+    """Sends requests until the server takes no more, since their replies are not taken either."""
+    client.setblocking(False)
     try:
         while True:
-            deaf[0].send(b'{"op":"info"}\n' * 1000)
+            client.send(b'{"op":"info"}\n' * 1000)
     except BlockingIOError:
         pass
+
+
+def removal_ends_one_that_waits_first() -> bool:
+    """One client does not take its replies, one waits for a job, one says nothing, and 61 never come. The first is cut off
+    before the others would be. Returns whether these were seen to end before it was: the order to stop ended them."""
+    server = Server([tenant("acme", 1, 1)], 1, 64)
+    deaf, waiting, silent = greeted(server), greeted(server), greeted(server)
+    send(waiting.client, {"op": "submit", "job": SEVEN}, {"op": "collect", "job": 1})
+    assert json.loads(waiting.replies.readline()) == {"job": 1}
+    fill(deaf.client)
     began = time.monotonic()
     server.stop()
-    assert waiting[1].readline() == silent[1].readline() == ""
+    assert waiting.replies.readline() == silent.replies.readline() == ""
+    is_first = not is_cut(deaf.client)
     lines, err, status = server.end()
     assert is_closed(lines) and (err, status) == ("", 0)
     assert time.monotonic() - began < 2 * SOON
     hang_up(waiting, silent, deaf)
+    return is_first
 
 
-def removal_ends_a_server_that_is_busy():
+def removal_ends_sessions_that_wait() -> None:
+    """They end when the server is told to stop, and not only when it loses its patience a second later and cuts off all
+    that are left. What this program sees a second late proves nothing, so it looks again at another server."""
+    assert any(removal_ends_one_that_waits_first() for _ in range(TRIES)), "sessions that wait end when they are cut off"
+
+
+def threads_that_wait_use_no_processor() -> None:
+    """The only slot is reserved, so that a submitted job waits for ever, with a session that collects it, and the worker
+    waits for a call. In a second all threads together use less than a fifth of one."""
+    server = Server([tenant("acme", 1, 1)], 1, 1)
+    waiting = greeted(server)
+    send(waiting.client, {"op": "submit", "job": SEVEN}, {"op": "collect", "job": 1})
+    assert json.loads(waiting.replies.readline()) == {"job": 1}
+    used = used_while_it_waits(server.process.pid, waiting)
+    assert used < 0.2, f"{used:.2f} s of a processor in a second"
+    hang_up(waiting)
+    assert server.end() == (["acme: closed, 1 entries"], "", 0)
+
+
+def job_of_a_client_that_has_gone_waits_for_ever() -> None:
+    """What a client executed whose slot has to wait when it has gone stays `running`, even after a cancel, and so nothing
+    is retired. The worker whose slot waits for it, and a session that collects it, use no processor meanwhile."""
+    server = Server([{**tenant("acme", 2, 1), "steps": 1_000_000}], 1, 64)
+    waiting, other = greeted(server), greeted(server)
+    number = leave_a_job(lambda: greeted(server), waiting)
+    used = used_while_it_waits(server.process.pid, waiting)
+    assert used < 0.2, f"{used:.2f} s of a processor in a second"
+    assert ask(other, {"op": "cancel", "job": number}) == {"first": True, "job": number}
+    assert not is_answered(waiting)
+    assert ask(other, {"op": "poll", "job": number}) == {"job": number, "status": "running"}
+    assert ask(other, {"op": "retire"}) == {"code": 12, "error": "busy"}
+    server.stop()
+    assert waiting.replies.readline() == other.replies.readline() == ""
+    lines, err, status = server.end()
+    assert is_closed(lines) and (err, status) == ("", 0)
+    hang_up(waiting, other)
+
+
+def execute_until_stopped(server: Server, name: str, served: threading.Barrier) -> None:
+    """Executes jobs at a tenant until the server ends the session. All clients wait for one another after the hello."""
+    with server.connect() as client, client.makefile() as replies:
+        try:
+            send(client, {"op": "hello", "tenant": name})
+            replies.readline()
+            served.wait()
+            while True:
+                send(client, {"op": "execute", "job": FIB})
+                line = replies.readline()
+                if not line:
+                    return
+                reply = json.loads(line)
+                assert reply.get("value") == 8 or reply.get("code") in (7, 8, 10), reply
+        except (BrokenPipeError, ConnectionResetError):
+            pass
+
+
+def removal_ends_a_server_that_is_busy() -> None:
     """64 clients execute jobs at four tenants, and each has had a reply when the server is stopped."""
     names = ["acme", "beta", "gamma", "delta"]
     server = Server([tenant(name, 4, 1) for name in names], 8, 64)
-    served = threading.Barrier(65)
-    wrong = []
+    served = threading.Barrier(65, timeout=PATIENCE)
 
-    def ask(name):
-        with server.connect() as client, client.makefile() as replies:
-            try:
-                send(client, {"op": "hello", "tenant": name})
-                replies.readline()
-                served.wait()
-                while replies:
-                    send(client, {"op": "execute", "job": FIB})
-                    line = replies.readline()
-                    if not line:
-                        return
-                    reply = json.loads(line)
-                    if reply.get("value") != 8 and reply.get("code") not in (7, 8, 10):
-                        wrong.append(reply)
-            except (BrokenPipeError, ConnectionResetError):
-                pass
+    def stop():
+        served.wait()
+        began = time.monotonic()
+        server.stop()
+        return began
 
-    clients = [threading.Thread(target=ask, args=(names[number % 4],)) for number in range(64)]
-    for client in clients:
-        client.start()
-    served.wait()
-    began = time.monotonic()
-    server.stop()
-    for client in clients:
-        client.join()
+    clients = [partial(execute_until_stopped, server, names[number % 4], served) for number in range(64)]
+    began = side_by_side(stop, *clients)[0]
     lines, err, status = server.end()
-    assert not wrong, wrong
     assert is_closed(lines, names) and (err, status) == ("", 0)
     assert time.monotonic() - began < 5 * SOON
 
 
-def server_leaves_the_socket_of_the_next():
+def server_leaves_the_socket_of_the_next() -> None:
     """A second server comes to the path of one that is stopping, and is still found there when that has ended."""
     first = Server([tenant("acme", 1, 1)], 1, 2)
     waiting = greeted(first)
     first.stop()
     second = Server([tenant("acme", 1, 1)], 1, 1, beside=first)
-    out, err = first.process.communicate(timeout=60)
+    out, err = first.process.communicate(timeout=PATIENCE)
     assert (out, err, first.process.returncode) == ("acme: closed, 0 entries\n", "", 0)
     hang_up(waiting)
     assert second.ask(HELLO, {"op": "execute", "job": SEVEN})[1]["value"] == 7
@@ -166,17 +228,17 @@ def server_leaves_the_socket_of_the_next():
     assert is_closed(lines) and (err, status) == ("", 0)
 
 
-def server_leaves_a_file_that_is_not_its_own():
+def server_leaves_a_file_that_is_not_its_own() -> None:
     server = Server([tenant("acme", 1, 1)], 1, 1)
     server.stop()
     with open(server.path, "w"):
         pass
-    out, err = server.process.communicate(timeout=60)
+    out, err = server.process.communicate(timeout=PATIENCE)
     assert (out, err, server.process.returncode) == ("acme: closed, 0 entries\n", "", 0)
     assert os.path.isfile(server.path)
 
 
-def server_starts_after_one_that_was_killed():
+def server_starts_after_one_that_was_killed() -> None:
     """A start that was cut off leaves the folder in which its socket was made."""
     first = Server([tenant("acme", 1, 1)], 1, 1)
     first.process.kill()
@@ -191,32 +253,64 @@ def server_starts_after_one_that_was_killed():
     assert sorted(os.listdir(first.folder.name)) == ["config", "dumps"]
 
 
-def killed_server_leaves_a_whole_dump():
-    """Killed at twenty moments around its dump, a server leaves the dump before it or its own, whole, and parts."""
-    server = Server([tenant("acme", 1, 1)], 1, 1)
-    server.ask(HELLO, {"op": "execute", "job": SEVEN})
-    server.end()
-    old = dump_lines(server.dumps, "acme")
-    dice, lengths = random.Random(20), set()
-    for _ in range(20):
-        server = Server([tenant("acme", 1, 1)], 1, 1, beside=server)
-        assert server.ask(HELLO, {"op": "execute", "job": LONG})[1] == {"code": 8, "error": "history_full"}
-        try:
-            server.process.wait(timeout=dice.uniform(0, 0.03))
-        except TimeoutError:
-            pass
-        except Exception as fault:
-            assert type(fault).__name__ == "TimeoutExpired", fault
-        server.process.kill()
-        server.process.communicate()
-        if os.path.exists(server.path):
-            server.stop()
-        lengths.add(dump_lines(server.dumps, "acme"))
-    assert lengths <= {old, 10_001}, lengths
-    assert os.stat(os.path.join(server.dumps, "acme.jsonl")).st_mode & 0o777 == 0o600
+def steps_of(number: int) -> int:
+    """How many entries the history of the server of that number has room for, so that each dump has its own length."""
+    return 10_000 + number
 
 
-def server_starts_while_another_one_dumps():
+def fills_its_history(number: int, beside: Server | None) -> tuple[Server, Bound]:
+    """The server of that number, whose history has become full, with its only client, who is still there."""
+    server = Server([{**tenant("acme", 1, 1), "steps": steps_of(number)}], 1, 1, beside=beside)
+    client = greeted(server)
+    send(client.client, {"op": "execute", "job": LONG})
+    assert json.loads(client.replies.readline()) == {"code": 8, "error": "history_full"}
+    return server, client
+
+
+def length_after_kill(server: Server) -> int:
+    """Kills a server, removes its socket, and returns how many entries the dump has that is there then."""
+    server.process.kill()
+    server.process.communicate()
+    if os.path.exists(server.path):
+        server.stop()
+    return dump_lines(server.dumps, "acme") - 1
+
+
+def whole_dump_seconds() -> tuple[Server, float]:
+    """A server that has ended by itself and left its dump, and how long that took it after its client had gone."""
+    server, client = fills_its_history(0, None)
+    hang_up(client)
+    began = time.monotonic()
+    server.process.wait(PATIENCE)
+    took = time.monotonic() - began
+    assert server.end() == ([f"acme: closed, {steps_of(0)} entries"], "", 0)
+    return server, took
+
+
+def killed_server_leaves_a_whole_dump() -> None:
+    """Before its client has gone, a server that is killed leaves the dump before it, and once its own dump has replaced
+    that, its own one. At eighteen drawn moments between it leaves one of both, whole, and parts."""
+    server, took = whole_dump_seconds()
+    path, dice, kept = os.path.join(server.dumps, "acme.jsonl"), random.Random(20), steps_of(0)
+    server, client = fills_its_history(1, server)
+    assert length_after_kill(server) == kept
+    hang_up(client)
+    for number in range(2, 20):
+        server, client = fills_its_history(number, server)
+        hang_up(client)
+        with contextlib.suppress(subprocess.TimeoutExpired):
+            server.process.wait(timeout=dice.uniform(0, took))
+        before, kept = kept, length_after_kill(server)
+        assert kept in (before, steps_of(number)), (number, before, kept)
+    server, client = fills_its_history(20, server)
+    before = os.stat(path).st_ino
+    hang_up(client)
+    by_deadline(lambda: os.stat(path).st_ino != before)
+    assert length_after_kill(server) == steps_of(20)
+    assert os.stat(path).st_mode & 0o777 == 0o600
+
+
+def server_starts_while_another_one_dumps() -> None:
     """A server that starts into the folder to which another one is dumping leaves that one's dump alone."""
     dice = random.Random(21)
     server = Server([tenant("acme", 1, 1)], 1, 2)
@@ -225,7 +319,7 @@ def server_starts_while_another_one_dumps():
         server.stop()
         time.sleep(dice.uniform(0, 0.05))
         following = Server([tenant("acme", 1, 1)], 1, 2, beside=server)
-        out, err = server.process.communicate(timeout=60)
+        out, err = server.process.communicate(timeout=PATIENCE)
         assert server.ended(out, err) == (["acme: closed, 10000 entries"], "", 0)
         server = following
     server.stop()
@@ -233,8 +327,9 @@ def server_starts_while_another_one_dumps():
     assert os.listdir(server.dumps) == ["acme.jsonl"]
 
 
-ENDINGS = [client_that_collects_and_goes, clients_that_execute_at_one_slot_and_go, client_that_goes_leaves_others_waiting,
-           session_ends_without_a_reply_at_a_full_history, removal_ends_sessions_that_wait,
-           removal_ends_a_server_that_is_busy, server_leaves_the_socket_of_the_next,
-           server_leaves_a_file_that_is_not_its_own, server_starts_after_one_that_was_killed,
-           killed_server_leaves_a_whole_dump, server_starts_while_another_one_dumps]
+CHECKS = [client_that_collects_and_goes, clients_that_execute_at_one_slot_and_go, client_that_goes_leaves_others_waiting,
+          session_ends_without_a_reply_at_a_full_history, removal_ends_sessions_that_wait,
+          threads_that_wait_use_no_processor, job_of_a_client_that_has_gone_waits_for_ever,
+          removal_ends_a_server_that_is_busy, server_leaves_the_socket_of_the_next,
+          server_leaves_a_file_that_is_not_its_own, server_starts_after_one_that_was_killed,
+          killed_server_leaves_a_whole_dump, server_starts_while_another_one_dumps]

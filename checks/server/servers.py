@@ -1,15 +1,25 @@
 """Servers that are run as they were built, and their clients."""
+import atexit
 import json
 import os
 import re
 import resource
+import select
 import socket
 import stat
 import subprocess
 import tempfile
+import time
+from collections.abc import Callable
+from concurrent.futures import FIRST_EXCEPTION, ThreadPoolExecutor, wait
+from typing import IO, NamedTuple, TypeVar
 
 PROGRAM = os.path.abspath("crates/server_program/out/server_program")
 SCRIPT = os.path.abspath("crates/script_program/out/script_program")
+
+# How long a reply, or the end of a server, may take at most, in seconds: what comes later does not come.
+PATIENCE = 60
+T = TypeVar("T")
 
 # The sixth Fibonacci number, by tasks.
 FIB = {"args": [6, 0], "fuel": 1000, "procs": [[
@@ -22,19 +32,57 @@ FEW_STACKS = 48 << 20
 HELLO = {"op": "hello", "tenant": "acme"}
 
 
-def tenant(name, slots, reserved):
+class End(NamedTuple):
+    """How a server ended: the lines that it printed after its first, what it said of a fault, and its status."""
+
+    lines: list[str]
+    fault: str
+    status: int
+
+
+class Bound(NamedTuple):
+    """A client that is bound to a tenant, with its replies to come."""
+
+    client: socket.socket
+    replies: IO[str]
+
+
+def tenant(name: str, slots: int, reserved: int) -> dict:
+    """A tenant of a configuration, with room for 200 open rows and 10,000 entries."""
     return {"name": name, "priority": "normal", "reserved": reserved, "rows": 200, "slots": slots, "steps": 10000}
 
 
-def limited(memory):
-    """Limits the memory that a process may map, its threads' stacks among it."""
+def limited(memory: int) -> Callable[[], None]:
+    """Limits the memory that a process may map, in bytes, its threads' stacks among it."""
     return lambda: resource.setrlimit(resource.RLIMIT_AS, (memory, memory))
+
+
+def side_by_side(*calls: Callable[[], object]) -> list:
+    """Makes calls at the same time, each on a thread of its own, and returns what each gave, in their order, once all
+    have ended. Where a call raises, the first exception is raised here, so nothing that a client meets is lost."""
+    with ThreadPoolExecutor(len(calls)) as pool:
+        made = [pool.submit(call) for call in calls]
+        ended, _ = wait(made, return_when=FIRST_EXCEPTION)
+    for it in ended:
+        it.result()
+    return [it.result() for it in made]
+
+
+def by_deadline(what: Callable[[], T], seconds: float = 20) -> T:
+    """Waits until something is so of which nothing tells, and returns what it is."""
+    end = time.monotonic() + seconds
+    while not (found := what()):
+        assert time.monotonic() < end, f"{what} is not so after {seconds} seconds"
+        time.sleep(0.02)
+    return found
 
 
 class Server:
     """A server on a socket in a folder of its own, which goes when it ends, or in the folder of another server."""
 
-    def __init__(self, tenants, workers, connections, memory=resource.RLIM_INFINITY, beside=None):
+    def __init__(self, tenants: list[dict], workers: int, connections: int, memory: int = resource.RLIM_INFINITY,
+                 beside: "Server | None" = None) -> None:
+        """Starts it, and waits until it listens. `memory` is what it may map at most, in bytes."""
         self.folder = beside.folder if beside else tempfile.TemporaryDirectory()
         self.path = os.path.join(self.folder.name, "socket")
         self.dumps = os.path.join(self.folder.name, "dumps")
@@ -45,15 +93,19 @@ class Server:
         words = ["--config", config, "--socket", self.path, "--connections", str(connections), "--dump", self.dumps]
         self.process = subprocess.Popen([PROGRAM, *words], stdout=subprocess.PIPE, stderr=subprocess.PIPE, text=True,
                                         preexec_fn=limited(memory))
+        atexit.register(self.process.kill)  # where a check fails, its server goes too
+        assert select.select([self.process.stdout], [], [], PATIENCE)[0], "it neither listens nor ends"
         assert self.process.stdout.readline() == "listening\n"
         assert stat.S_IMODE(os.stat(self.path).st_mode) == 0o600
 
-    def connect(self):
+    def connect(self) -> socket.socket:
+        """A connection. What it waits for raises TimeoutError after a minute."""
         client = socket.socket(socket.AF_UNIX)
+        client.settimeout(PATIENCE)
         client.connect(self.path)
         return client
 
-    def ask(self, *requests):
+    def ask(self, *requests: dict) -> list[dict]:
         """Sends requests on a connection of their own, and returns the replies."""
         with self.connect() as client:
             lines = "".join(json.dumps(request) + "\n" for request in requests)
@@ -62,29 +114,28 @@ class Server:
             with client.makefile() as replies:
                 return [json.loads(line) for line in replies]
 
-    def stop(self):
+    def stop(self) -> None:
         """Removes the socket's file, by which the server is told to stop."""
         os.unlink(self.path)
 
-    def end(self):
-        """Returns what the server printed after its first line, what it said of a fault, and its status. It leaves no
-        file of its own, and each dump is whole."""
-        out, err = self.process.communicate(timeout=60)
+    def end(self) -> End:
+        """Waits until the server has ended, for a minute at most. It leaves no file of its own, and each dump is whole."""
+        out, err = self.process.communicate(timeout=PATIENCE)
         assert not os.path.exists(self.path)
         return self.ended(out, err)
 
-    def ended(self, out, err):
-        """Returns what a server printed that has ended, with the dumps looked at."""
+    def ended(self, out: str, err: str) -> End:
+        """The end of a server that printed this, with the dumps looked at."""
         for line in out.splitlines():
             name, entries = re.fullmatch("(.*): closed, ([0-9]+) entries", line).groups()
             assert dump_lines(self.dumps, name) == int(entries) + 1
-        return out.splitlines(), err, self.process.returncode
+        return End(out.splitlines(), err, self.process.returncode)
 
 
-def dump_lines(folder, name):
+def dump_lines(folder: str, name: str) -> int:
     """How many lines the dump of a tenant has, which `check` says yes to."""
     with open(os.path.join(folder, name + ".jsonl")) as dump:
-        done = subprocess.run([SCRIPT, "check"], stdin=dump, capture_output=True, text=True, timeout=60)
+        done = subprocess.run([SCRIPT, "check"], stdin=dump, capture_output=True, text=True, timeout=PATIENCE)
         assert (done.stdout, done.stderr, done.returncode) == ("yes\n", "", 0), done
         dump.seek(0)
         return sum(1 for _ in dump)
