@@ -31,6 +31,8 @@ FINDS = ["ran", "freed", "nested", "arrived", "idle", "left", "none", "full", "p
          # Of a job with a serial value, after moves in a drawn order.
          "order: complete"]
 
+# How long a script may take at most, in seconds.
+PATIENCE = 60
 # In how many drawn orders a job with a serial value is run.
 ORDERS = 10
 
@@ -41,7 +43,8 @@ def text(value):
 
 def printed(words, lines):
     script = "\n".join(map(text, lines))
-    return subprocess.run([PROGRAM, *words], input=script, capture_output=True, text=True, check=True).stdout.splitlines()
+    done = subprocess.run([PROGRAM, *words], input=script, capture_output=True, text=True, check=True, timeout=PATIENCE)
+    return done.stdout.splitlines()
 
 
 def answer(tenant, step):

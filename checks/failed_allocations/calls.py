@@ -1,6 +1,7 @@
 """The program of the calls that take memory: it makes each again that failed, so it prints the same whatever fails."""
 import subprocess
 
+from outcomes import Outcome
 from scripts import ROOT, SECONDS
 
 CRATE = ROOT / "crates/failed_allocations"
@@ -11,13 +12,13 @@ class Calls:
 
     name, effects = "failed_allocations", []
 
-    def run(self, room):
-        """Returns whether an allocation failed, `nothing` or None, if that had an effect, and what was seen."""
+    def run(self, room: dict[str, str]) -> Outcome:
+        """Runs it. A failed allocation may do nothing."""
         pipes = {"capture_output": True, "text": True}
         try:
             done = subprocess.run([CRATE / "out/failed_allocations"], **pipes, env=room, timeout=SECONDS)
         except subprocess.TimeoutExpired as hung:
-            return True, None, hung
+            return Outcome(True, None, hung)
         said = done.stderr.removeprefix("failed\n")
         is_same = (done.stdout, said, done.returncode) == ((CRATE / "stdout").read_text(), "", 0)
-        return said != done.stderr, "nothing" if is_same else None, done
+        return Outcome(said != done.stderr, "nothing" if is_same else None, done)

@@ -2,39 +2,41 @@
 import json
 
 
-def line_of(value):
+def line_of(value: object) -> str:
+    """A value as one line of JSON, without its newline."""
     return json.dumps(value, separators=(",", ":"), sort_keys=True)
 
 
-def tenant(name, slots, reserved, priority="normal"):
+def tenant(name: str, slots: int, reserved: int, priority: str = "normal") -> dict:
+    """A tenant of a configuration, with room for 8 open rows and 200 entries."""
     return {"name": name, "priority": priority, "reserved": reserved, "rows": 8, "slots": slots, "steps": 200}
 
 
-def hello(name):
+def hello(name: str) -> dict:
     return {"op": "hello", "tenant": name}
 
 
-def submit(job):
+def submit(job: dict) -> dict:
     return {"job": job, "op": "submit"}
 
 
-def execute(job):
+def execute(job: dict) -> dict:
     return {"job": job, "op": "execute"}
 
 
-def poll(job):
+def poll(job: int) -> dict:
     return {"job": job, "op": "poll"}
 
 
-def collect(job):
+def collect(job: int) -> dict:
     return {"job": job, "op": "collect"}
 
 
-def cancel(job):
+def cancel(job: int) -> dict:
     return {"job": job, "op": "cancel"}
 
 
-def cells(key):
+def cells(key: int) -> dict:
     return {"key": key, "op": "cells"}
 
 

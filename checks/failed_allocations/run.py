@@ -18,6 +18,7 @@ import sys
 import tempfile
 
 from calls import Calls
+from outcomes import Program
 from scripts import scripts
 from sessions import Server
 
@@ -25,22 +26,23 @@ from sessions import Server
 WHOLE_RUNS, WRONG_RUNS = 3, 10
 
 
-def sweep(program, failing):
+def sweep(program: Program, failing: pathlib.Path) -> tuple[int, list[str]]:
     """Fails each allocation of a program in turn. Returns how many failed, and a line for each fault that was found."""
     effects, wrong, number, whole = collections.Counter(), [], 0, 0
     while whole < WHOLE_RUNS and len(wrong) < WRONG_RUNS:
         number += 1
         room = {**os.environ, "LD_PRELOAD": str(failing), "FAIL": str(number)}
-        has_failed, effect, seen = program.run(room)
-        whole = 0 if has_failed else whole + 1
-        effects[effect] += has_failed
-        if effect is None or not has_failed and effect != "nothing":
-            wrong.append(f"{program.name}, where allocation {number} was to fail: {seen}")
+        outcome = program.run(room)
+        whole = 0 if outcome.has_failed else whole + 1
+        effects[outcome.effect] += outcome.has_failed
+        if outcome.effect is None or not outcome.has_failed and outcome.effect != "nothing":
+            wrong.append(f"{program.name}, where allocation {number} was to fail: {outcome.seen}")
     missing = [f"{program.name}, whichever allocation failed, never: {it}" for it in program.effects if not effects[it]]
     return effects.total(), wrong or missing
 
 
-def main():
+def main() -> None:
+    """Sweeps each program, and says what was otherwise."""
     count, wrong = 0, []
     with tempfile.TemporaryDirectory() as folder:
         failing = pathlib.Path(folder) / "fail.so"

@@ -2,9 +2,11 @@
 import pathlib
 import subprocess
 import sys
+from collections.abc import Iterator, Sequence
 
 from jobs import (ARENA, MIXED, NO_MEMORY, RETIRE, SEVEN, cancel, cells, collect, execute, hello, line_of, poll,
                   submit, tenant)
+from outcomes import Outcome
 
 ROOT = pathlib.Path(__file__).resolve().parents[2]
 PROGRAM = ROOT / "crates/script_program/out/script_program"
@@ -19,31 +21,31 @@ TENANT = tenant("acme", 2, 1)
 WORLD = {"tenants": [TENANT, tenant("beta", 1, 0, "high")], "workers": 2}
 
 
-def ask(request):
+def ask(request: dict) -> dict:
     return {"request": request, "step": "ask"}
 
 
-def arrive(slot):
+def arrive(slot: int) -> dict:
     return {"slot": slot, "step": "arrive"}
 
 
-def advance(slot):
+def advance(slot: int) -> dict:
     return {"slot": slot, "step": "advance"}
 
 
-def line(name, request):
+def line(name: str, request: dict) -> dict:
     return {"step": "line", "tenant": name, "text": line_of(request)}
 
 
-def master(slot):
+def master(slot: int) -> dict:
     return {"slot": slot, "step": "master", "tenant": "acme"}
 
 
-def push(name, slot):
+def push(name: str, slot: int) -> dict:
     return {"slot": slot, "step": "push", "tenant": name}
 
 
-def worker(step, number):
+def worker(step: str, number: int) -> dict:
     return {"step": step, "worker": number}
 
 
@@ -63,14 +65,14 @@ JOBS = [SEVEN, {"args": [8, 0], "fuel": 1000, "procs": [[
     ["wait", 5, 4, 1], ["add", 3, 3, 5], ["ret", 3], ["ret", 1]], [["ret", 0]]]}, MIXED, {**SEVEN, "fuel": 2}, {}]
 
 
-def tenant_answer(tenant, step):
+def tenant_answer(tenant: Tenant, step: dict) -> dict:
     """What the second evaluator answers to a step of a tenant."""
     if step["step"] == "ask":
         return tenant.ask(step["request"]) or moved("pending")
     return tenant.arrive(step["slot"]) if step["step"] == "arrive" else tenant.advance(step["slot"])
 
 
-def dump():
+def dump() -> Iterator[dict]:
     """The entries among the steps of `own`, as lines of a dump."""
     tenant, entries = Tenant(TENANT), 0
     for step in OWN:
@@ -80,13 +82,13 @@ def dump():
         entries = tenant.entries
 
 
-def world_answers(refused=None):
+def world_answers(refused: int | None = None) -> list[dict]:
     """The answers to the steps of the world, of which a line may be refused for memory."""
     world = World(WORLD)
-    return [NO_MEMORY if number == refused else world.answer(step)[1] for number, step in enumerate(RUN)]
+    return [NO_MEMORY if number == refused else world.answer(step).answer for number, step in enumerate(RUN)]
 
 
-def serial_answer(job):
+def serial_answer(job: dict) -> dict:
     return {"serial": serial_value(job)} if job else error(4)
 
 
@@ -95,23 +97,24 @@ class Script:
     fails ends the script after a first part of its answers.
     """
 
-    def __init__(self, word, lines, answers, refusals=()):
+    def __init__(self, word: str, lines: Sequence[object], answers: Sequence[object],
+                 refusals: Sequence[list[dict]] = ()) -> None:
         self.name, self.words = f"arena-script {word}", [PROGRAM, word]
         self.text, self.answers = text_of(lines), text_of(answers)
         self.refusals = {text_of(others): f"a refusal of step {others.index(NO_MEMORY) + 1}" for others in refusals}
         self.effects = [*(f"the end after {count} answers" for count in range(len(answers))), *self.refusals.values()]
 
-    def run(self, room):
-        """Returns whether an allocation failed, what that did, or None if it may not do that, and what was seen."""
+    def run(self, room: dict[str, str]) -> Outcome:
+        """Runs it, for half a minute at most."""
         devices = {"input": self.text, "capture_output": True, "text": True}
         try:
             done = subprocess.run(self.words, **devices, env=room, timeout=SECONDS)
         except subprocess.TimeoutExpired as hung:
-            return True, None, hung
+            return Outcome(True, None, hung)
         said = done.stderr.removeprefix("failed\n")
-        return said != done.stderr, self.effect(done.stdout, said, done.returncode), done
+        return Outcome(said != done.stderr, self.effect(done.stdout, said, done.returncode), done)
 
-    def effect(self, printed, said, status):
+    def effect(self, printed: str, said: str, status: int) -> str | None:
         """What a failed allocation did, or None if it may not do that."""
         if (said, status) == ("", 0):
             return "nothing" if printed == self.answers else self.refusals.get(printed)
@@ -120,12 +123,13 @@ class Script:
         return f"the end after {len(printed.splitlines())} answers" if is_part and is_end else None
 
 
-def text_of(lines):
+def text_of(lines: Sequence[object]) -> str:
     """The text of lines, each of which is a text itself or a value."""
     return "".join((line if isinstance(line, str) else line_of(line)) + "\n" for line in lines)
 
 
-def scripts():
+def scripts() -> list[Script]:
+    """A script for each word."""
     tenant = Tenant(TENANT)
     refusals = [world_answers(number) for number, step in enumerate(RUN) if step["step"] == "line"]
     return [Script("own", [{"tenant": TENANT}, *OWN], [tenant_answer(tenant, step) for step in OWN]),

@@ -6,9 +6,11 @@ import socket
 import subprocess
 import tempfile
 import threading
+from collections.abc import Callable, Sequence
 
 from jobs import (ARENA, MIXED, NO_MEMORY, RETIRE, SEVEN, cancel, cells, collect, execute, hello, line_of, poll,
                   submit, tenant)
+from outcomes import Outcome
 from scripts import PROGRAM as ARENA_SCRIPT
 from scripts import ROOT, SECONDS
 
@@ -19,7 +21,7 @@ NAMES = ["acme", "beta"]
 CONFIG = {"tenants": [tenant("acme", 3, 1), tenant("beta", 1, 1, "high")], "workers": 2}
 
 
-def complete(job, value):
+def complete(job: int, value: int) -> dict:
     return {"job": job, "status": "complete", "value": value}
 
 
@@ -35,7 +37,8 @@ SESSIONS = [[(line_of(request), line_of(reply)) for request, reply in pairs] for
      (cells(0), {"count": 0, "key": 0, "sum": 0})]]]
 
 
-def refusal(number, at):
+def refusal(number: int, at: int) -> str:
+    """The effect that a line of a session is refused, by their numbers from 0."""
     return f"line {at + 1} of session {number + 1} is refused, and answered when it is sent again"
 
 
@@ -54,21 +57,22 @@ EFFECTS = [NO_START, NO_DEVICE, NO_LINE, NO_MORE, NO_CLOSE, NO_DUMP,
 class Session:
     """A connection with the lines that came on it. An empty one stands for a reply that did not come."""
 
-    def __init__(self, path):
+    def __init__(self, path: str) -> None:
+        """Connects to a server, which may be gone."""
         self.came = []
         self.client = socket.socket(socket.AF_UNIX)
         self.replies = self.client.makefile()
         self.is_there = True
         self.attempt(lambda: self.client.connect(path))
 
-    def attempt(self, act):
+    def attempt(self, act: Callable[[], object]) -> object:
         """What an act at the socket gives, or None if the server has closed the connection or is gone."""
         try:
             return act() if self.is_there else None
         except (ConnectionError, FileNotFoundError):
             self.is_there = False
 
-    def ask(self, line):
+    def ask(self, line: str) -> None:
         """Sends a line, and once more if it is refused for memory."""
         for _ in range(2):
             self.attempt(lambda: self.client.sendall((line + "\n").encode()))
@@ -76,7 +80,7 @@ class Session:
             if self.came[-1] != line_of(NO_MEMORY):
                 break
 
-    def end(self):
+    def end(self) -> list[str]:
         """Ends the session, and returns all that came."""
         self.attempt(lambda: self.client.shutdown(socket.SHUT_WR))
         self.came += self.attempt(self.replies.readlines) or []
@@ -85,7 +89,7 @@ class Session:
         return self.came
 
 
-def came_to_sessions(path):
+def came_to_sessions(path: str) -> list[list[str]]:
     """The lines that came to each session. The first two go on side by side, and one line is answered before the next
     one is sent, so that allocations keep their order from run to run.
     """
@@ -103,7 +107,7 @@ def came_to_sessions(path):
     return [*came, third.end()]
 
 
-def end_of_session(number, came):
+def end_of_session(number: int, came: Sequence[str]) -> str:
     """Whether a session was `served`, `ended` before its first reply, or had a line refused and then answered."""
     wanted = [reply for _, reply in SESSIONS[number]]
     if came == wanted:
@@ -115,7 +119,7 @@ def end_of_session(number, came):
     return refusal(number, *refused) if len(refused) == 1 and others == wanted else f"wrong: {came}"
 
 
-def end_of_tenant(name, line, dumps):
+def end_of_tenant(name: str, line: str, dumps: str) -> str:
     """Whether a tenant was `closed`, or was so and has `no dump`."""
     path = os.path.join(dumps, name + ".jsonl")
     closed = re.fullmatch(f"{name}: closed, ([0-9]+) entries", line)
@@ -132,7 +136,7 @@ def end_of_tenant(name, line, dumps):
     return "closed"
 
 
-def ends_of_tenants(printed, dumps):
+def ends_of_tenants(printed: str, dumps: str) -> list[str]:
     """The end of each tenant. There is none if no tenant was closed."""
     lines = printed.splitlines()
     if len(lines) == len(NAMES):
@@ -140,7 +144,7 @@ def ends_of_tenants(printed, dumps):
     return [f"wrong: {printed}"] if lines or os.listdir(dumps) else []
 
 
-def effect_of(sessions, tenants, said, status):
+def effect_of(sessions: Sequence[str], tenants: Sequence[str], said: str, status: int) -> str | None:
     """What a failed allocation did to a server that listened, or None if it may not do that."""
     others = [it for it in sessions if it != "served"]
     match others, sorted(tenants), said, status:
@@ -160,7 +164,7 @@ def effect_of(sessions, tenants, said, status):
     return None
 
 
-def are_last(others, sessions):
+def are_last(others: Sequence[str], sessions: Sequence[str]) -> bool:
     """Whether the sessions that were not served ended without a reply, and none came after them."""
     return {*others} == {"ended"} and sessions[-len(others) :] == others
 
@@ -170,8 +174,8 @@ class Server:
 
     name, effects = "arena-server", EFFECTS
 
-    def run(self, room):
-        """Returns whether an allocation failed, what that did, or None if it may not do that, and what was seen."""
+    def run(self, room: dict[str, str]) -> Outcome:
+        """Runs it with its sessions, for half a minute at most."""
         with tempfile.TemporaryDirectory() as folder:
             config, path, dumps = (os.path.join(folder, name) for name in ("config", "socket", "dumps"))
             os.mkdir(dumps)
@@ -189,11 +193,12 @@ class Server:
             tenants = ends_of_tenants(printed, dumps) if not os.path.exists(path) else ["wrong: the socket is there"]
             return self.judged(came, tenants, said, process.returncode)
 
-    def judged(self, came, tenants, said, status):
-        """Returns the same of what came to the sessions, if there were any, and of the server's end."""
+    def judged(self, came: list[list[str]] | None, tenants: list[str], said: str, status: int) -> Outcome:
+        """The outcome, by what came to the sessions, if there were any, and by the server's end."""
         has_failed, said = said.startswith("failed\n"), said.removeprefix("failed\n")
         if came is None:
             starts = {"arena-server: memory\n": NO_START, "arena-server: device\n": NO_DEVICE}
-            return has_failed, starts.get(said) if (tenants, status) == ([], 3) else None, (tenants, said, status)
+            effect = starts.get(said) if (tenants, status) == ([], 3) else None
+            return Outcome(has_failed, effect, (tenants, said, status))
         sessions = [end_of_session(number, lines) for number, lines in enumerate(came)]
-        return has_failed, effect_of(sessions, tenants, said, status), (sessions, tenants, said, status)
+        return Outcome(has_failed, effect_of(sessions, tenants, said, status), (sessions, tenants, said, status))
