@@ -1,7 +1,8 @@
 #!/usr/bin/env python3
 """Looks for what the pages name in the tree: each path, command, option, and name between back quotes must be there.
 
-usage: checks/pages/run.py [PAGE..]. It prints each span that names something which is not there, and its status is then 1.
+usage: checks/pages/run.py [PAGE..]. It prints each span that names something which is not there, and, where no page is
+named, each word of allowed.txt that no page has; its status is then 1.
 
 The rules; what is in allowed.txt, with its reason, is let through:
 1. A path is a file or folder of the tree, or the end of such a path, perhaps without its ending. On a crate's page one that
@@ -33,10 +34,23 @@ MOST_LINES = 60
 MEMBER = re.compile(r"\b\w+(?:::\w+)+")
 
 
-def allowed():
-    """Returns the words and paths that are allowed, from lines of `words -- reason`."""
-    lines = (pathlib.Path(__file__).parent / "allowed.txt").read_text().splitlines()
-    return {word for line in lines for word in line.partition(" -- ")[0].split()}
+class Allowed:
+    """The words and paths that are let through, and which of them a page has had."""
+
+    def __init__(self, lines: list[str]) -> None:
+        """From lines of `words -- reason`."""
+        self.words = {word for line in lines for word in line.partition(" -- ")[0].split()}
+        self.had: set[str] = set()
+
+    def __contains__(self, word: str) -> bool:
+        if word in self.words:
+            self.had.add(word)
+        return word in self.words
+
+
+def allowed() -> Allowed:
+    """What allowed.txt lets through."""
+    return Allowed((pathlib.Path(__file__).parent / "allowed.txt").read_text().splitlines())
 
 
 def is_path(word):
@@ -130,10 +144,11 @@ def main():
         for span in spans_of(page):
             count += not span.is_code
             found += [f"{span.page}:{span.line}: {fault}, in: {span.text}" for fault in faults(tree, let_through, span)]
-    shapes = [] if sys.argv[1:] else list(shape_faults(tree))
-    print(*found, *shapes, sep="\n", end="\n" if found or shapes else "")
+    others = [] if sys.argv[1:] else [*shape_faults(tree), *(
+        f"checks/pages/allowed.txt: no page has {word}" for word in sorted(let_through.words - let_through.had))]
+    print(*found, *others, sep="\n", end="\n" if found or others else "")
     print(f"{count} names on {len(sys.argv[1:] or pages())} pages: {len(found)} are not there")
-    sys.exit(bool(found or shapes))
+    sys.exit(bool(found or others))
 
 
 main()
