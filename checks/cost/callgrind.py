@@ -11,6 +11,10 @@ from dataclasses import dataclass
 from fnmatch import fnmatchcase
 
 
+# How long a run may take at most under callgrind, in seconds.
+PATIENCE = 300
+
+
 class Failed(Exception):
     """A run that could not be counted, and why."""
 
@@ -90,8 +94,11 @@ def count_in(out: pathlib.Path, run: Run, printed: str) -> Count:
 def count(run: Run) -> Count:
     """Runs a program to its end, which must be a success, and counts its instructions."""
     with counts_file() as out:
-        how = {"input": run.stdin, "capture_output": True, "text": True, "env": environment()}
-        done = subprocess.run(command(run, out), **how)
+        how = {"input": run.stdin, "capture_output": True, "text": True, "env": environment(), "timeout": PATIENCE}
+        try:
+            done = subprocess.run(command(run, out), **how)
+        except subprocess.TimeoutExpired:
+            raise Failed(f"{run.program} {' '.join(run.words)}: not over after {PATIENCE} seconds") from None
         if done.returncode:
             raise Failed(f"{run.program} {' '.join(run.words)}: status {done.returncode}\n{done.stderr[-2000:]}")
         return count_in(out, run, done.stdout)

@@ -24,6 +24,8 @@ PROGRAM = CRATE / "out/arena_fuzz"
 JOBS = ROOT / "out/fuzz_jobs"
 
 SEED, ROUNDS = 1, 400
+# How long the rounds may take at most, in seconds: some minutes, and as long again for each round beyond those of the gate.
+PATIENCE = 300
 MOST_JOBS = 10_000
 
 KINDS = [
@@ -67,7 +69,8 @@ def main():
     JOBS.write_text("".join(json.dumps(job) + "\n" for job in jobs(seed, min(rounds, MOST_JOBS))))
     begun = time.monotonic()
     with open(JOBS) as given_jobs:
-        run = subprocess.run([PROGRAM, str(seed), str(rounds)], stdin=given_jobs, capture_output=True, text=True)
+        run = subprocess.run([PROGRAM, str(seed), str(rounds)], stdin=given_jobs, capture_output=True, text=True,
+                             timeout=PATIENCE * max(rounds / ROUNDS, 1))
     seconds = time.monotonic() - begun
     lines = run.stdout.splitlines()
     if run.returncode or f"{rounds} rounds from seed {seed}: no difference" not in lines:

@@ -67,7 +67,8 @@ class Shard:
         assert self.process.returncode == 0, self.process.returncode
         for dump in (self.folder / "dumps").glob("*.jsonl"):
             with open(dump) as lines:
-                done = subprocess.run([found("arena-script"), "check"], stdin=lines, capture_output=True, text=True)
+                done = subprocess.run([found("arena-script"), "check"], stdin=lines, capture_output=True, text=True,
+                                      timeout=PATIENCE)
             assert done.stdout == "yes\n", dump
         entries = {}
         for line in out.splitlines():

@@ -37,8 +37,11 @@ def tried(check: room.Check, programs: pathlib.Path) -> tuple[str, str]:
 
 
 def main(words: list[str]) -> int:
-    """Runs the checks side by side, and says what there is to say in their order. Returns how many failed."""
+    """Runs the checks side by side, and says what there is to say in their order. Returns how many failed. Ends the program
+    if a word is in no check's name."""
     start, ends = time.monotonic(), []
+    if unknown := [word for word in words if not any(word in it.__name__ for it in CHECKS)]:
+        sys.exit(f"no check's name has {', '.join(unknown)}")
     with tempfile.TemporaryDirectory(prefix="arena-install-") as folder:
         programs = room.stage(pathlib.Path(folder) / "programs")
         if not any(programs.iterdir()):

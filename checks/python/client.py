@@ -10,6 +10,7 @@ import os
 import re
 import socket
 import sys
+import tempfile
 import threading
 
 sys.path.insert(0, os.path.abspath("python"))
@@ -164,7 +165,7 @@ def answered_by(reply):
     """The path of a server in a folder of the caller's that answers the first line it gets with these bytes and goes
     away."""
     folder = contextlib.ExitStack()
-    path = os.path.join(folder.enter_context(__import__("tempfile").TemporaryDirectory()), "socket")
+    path = os.path.join(folder.enter_context(tempfile.TemporaryDirectory()), "socket")
     listener = socket.socket(socket.AF_UNIX)
     listener.bind(path)
     listener.listen()

@@ -8,6 +8,8 @@ JOBS_OF_A_TENANT = 200
 STEPS = 1_048_576
 SHORTEST, LONGEST = 12, 20_000
 STEPS_AT_A_TIME = 300
+# How long some jobs may take at most, in seconds.
+PATIENCE = 60
 
 
 class Tenant:
@@ -96,5 +98,5 @@ def serial_values(jobs):
 def serial_answers(lines):
     """What `arena-script serial` says of each line."""
     ran = subprocess.run([PROGRAM, "serial"], input="".join(f"{it}\n" for it in lines), capture_output=True, text=True,
-                         check=True)
+                         check=True, timeout=PATIENCE)
     return [json.loads(line).get("serial", line) for line in ran.stdout.splitlines()]

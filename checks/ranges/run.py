@@ -11,6 +11,8 @@ import sys
 
 ROOT = pathlib.Path(__file__).resolve().parents[2]
 PROGRAM = ROOT / "crates/script_program/out/script_program"
+# How long a script may take at most, in seconds.
+PATIENCE = 60
 
 LEAST, GREATEST = -(2**63), 2**63 - 1
 NONE = {"serial": "none"}
@@ -169,7 +171,7 @@ def build():
 
 
 def script(word, text):
-    run = subprocess.run([PROGRAM, word], input=text + "\n", capture_output=True, text=True)
+    run = subprocess.run([PROGRAM, word], input=text + "\n", capture_output=True, text=True, timeout=PATIENCE)
     return run.returncode, run.stdout, run.stderr
 
 

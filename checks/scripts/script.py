@@ -5,6 +5,8 @@ import re
 import subprocess
 
 ROOT = pathlib.Path(__file__).resolve().parents[2]
+# How long a script may take at most, in seconds.
+PATIENCE = 60
 PROGRAM = ROOT / "crates/script_program/out/script_program"
 SOURCE_OF_JOBS = ROOT / "crates/worked_jobs/src/jobs.rt"
 
@@ -20,7 +22,7 @@ def build():
 
 def run(words, text):
     """Returns the status, what is printed, and what is said on standard error."""
-    ran = subprocess.run([PROGRAM, *words], input=text, capture_output=True, text=True)
+    ran = subprocess.run([PROGRAM, *words], input=text, capture_output=True, text=True, timeout=PATIENCE)
     return ran.returncode, ran.stdout, ran.stderr
 
 

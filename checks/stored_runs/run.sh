@@ -14,8 +14,8 @@ passed=0
 failed=0
 for run in checks/stored_runs/*/; do
     status=0
-    # Its words have no spaces.
-    "$program" $(cat "$run/args") < "$run/stdin" > "$work/stdout" 2> "$work/stderr" || status=$?
+    # Its words have no spaces. A run that is not over after a minute has status 124.
+    timeout 60 "$program" $(cat "$run/args") < "$run/stdin" > "$work/stdout" 2> "$work/stderr" || status=$?
     echo "$status" > "$work/status"
     same=yes
     for part in stdout stderr status; do
