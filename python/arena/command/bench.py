@@ -2,6 +2,7 @@
 import threading
 import time
 from collections.abc import Callable
+from concurrent.futures import ThreadPoolExecutor
 from dataclasses import dataclass, field
 
 from arena.client import Client
@@ -46,7 +47,8 @@ class Measured:
 
 
 def measure(call: Call, what: str, clients: int, count: int, ask: Callable[[Client], object]) -> Measured:
-    """Lets so many clients together ask so many times. A client stops at its first fault."""
+    """Lets so many clients together ask so many times. A client stops at its first fault. Blocks until all have ended, and
+    raises what one of them met that is no ArenaError."""
     measured, lock, start = Measured(what, clients), threading.Lock(), threading.Barrier(clients + 1)
     open_clients = [call.connect() for _ in range(clients)]
     progress = Progress(what, count)
@@ -63,22 +65,24 @@ def measure(call: Call, what: str, clients: int, count: int, ask: Callable[[Clie
         except ArenaError as fault:
             with lock:
                 measured.faults.append(fault)
-        with lock:
-            measured.times += mine
+        finally:
+            with lock:
+                measured.times += mine
 
     shares = [count // clients + (at < count % clients) for at in range(clients)]
-    threads = [threading.Thread(target=work, args=pair) for pair in zip(open_clients, shares)]
-    for thread in threads:
-        thread.start()
-    start.wait()
-    begun = time.perf_counter()
-    for at, thread in enumerate(threads):
-        thread.join()
-        progress.at(count * at // clients)
-    measured.seconds = time.perf_counter() - begun
+    with ThreadPoolExecutor(max(clients, 1)) as pool:
+        asking = [pool.submit(work, *pair) for pair in zip(open_clients, shares)]
+        start.wait()
+        begun = time.perf_counter()
+        for at, it in enumerate(asking):
+            it.exception()  # waits until it has ended
+            progress.at(count * at // clients)
+        measured.seconds = time.perf_counter() - begun
     progress.end()
     for client in open_clients:
         client.close()
+    for it in asking:
+        it.result()
     return measured
 
 

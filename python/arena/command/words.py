@@ -3,7 +3,7 @@ import argparse
 import enum
 from collections.abc import Callable, Sequence
 from dataclasses import dataclass, field
-from typing import TYPE_CHECKING, Any, NoReturn
+from typing import TYPE_CHECKING, Any, NamedTuple, NoReturn
 
 if TYPE_CHECKING:
     from arena.command.call import Call
@@ -105,12 +105,19 @@ def positional(name: str, help: str, completes: Completes = Completes.NOTHING, *
     return Word((name,), help, completes, more)
 
 
-def assignment(text: str) -> tuple[str, int]:
+class Assignment(NamedTuple):
+    """A parameter of a source with its value."""
+
+    name: str
+    value: int
+
+
+def assignment(text: str) -> Assignment:
     """`N=8` as a name with its number."""
     name, equals, value = text.partition("=")
     if not equals or not name.isidentifier():
         raise argparse.ArgumentTypeError(f"{text}: write NAME=NUMBER")
-    return name, int(value, 0)
+    return Assignment(name, int(value, 0))
 
 
 COMMON = (

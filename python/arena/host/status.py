@@ -4,7 +4,7 @@ import json
 import os
 from collections.abc import Callable, Iterator
 from dataclasses import dataclass
-from typing import TypeVar
+from typing import NamedTuple, TypeVar
 
 from arena.host.folder import RunFolder
 from arena.lint import read_value
@@ -270,8 +270,15 @@ def host_runs(folder: RunFolder, now: float) -> bool:
         return read_status(folder).stale(now) is None
 
 
-def parse_status(data: bytes, file: str = "status.json") -> tuple[HostStatus, dict]:
-    """The status in some bytes, and the object that it was read from. Raises StatusFault."""
+class Parsed(NamedTuple):
+    """A status, and the object that it was read from."""
+
+    status: HostStatus
+    value: dict
+
+
+def parse_status(data: bytes, file: str = "status.json") -> Parsed:
+    """The status in some bytes. Raises StatusFault."""
     if len(data) > MOST_BYTES:
         raise StatusFault(file, f"more than {MOST_BYTES:,} bytes; this is not a status of arena-host")
     if not data.strip():
@@ -281,7 +288,7 @@ def parse_status(data: bytes, file: str = "status.json") -> tuple[HostStatus, di
     except ValueError as fault:
         raise StatusFault(file, f"no JSON: {fault}; it may be cut, and a host writes it whole") from None
     part = _Part(value, "", file)
-    return _host(part), part.value
+    return Parsed(_host(part), part.value)
 
 
 def _host(part: _Part) -> HostStatus:

@@ -3,6 +3,7 @@ import json
 import os
 from collections.abc import Iterable, Iterator
 from dataclasses import dataclass, field
+from typing import BinaryIO
 
 PRIORITIES = ("low", "normal", "high")
 
@@ -72,8 +73,15 @@ class Dump:
 
 
 def read_dump(path: str | os.PathLike) -> Dump:
-    """Opens a dump. Raises OSError, and DumpFault for its first line; the iteration raises DumpFault for later ones."""
-    return parse_dump(open(path, "rb"), os.fspath(path))
+    """Opens a dump, and closes it once its entries are read, or given up. Raises OSError, and DumpFault for its first line;
+    the iteration raises DumpFault for later ones."""
+    return parse_dump(_lines_of(open(path, "rb")), os.fspath(path))
+
+
+def _lines_of(file: BinaryIO) -> Iterator[bytes]:
+    """The lines of a file, which is closed after the last of them, or when no more are wanted."""
+    with file:
+        yield from file
 
 
 def parse_dump(lines: Iterable[bytes | str], file: str = "<dump>") -> Dump:
