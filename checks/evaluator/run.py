@@ -7,12 +7,13 @@ that completes, whatever the order of arrivals and advances, must do so with its
 usage: checks/evaluator/run.py [SEED [SCRIPTS]], at the top of the repository, after `rt ci`, or `rt run` in
 crates/script_program. The seed is 1, and there are 300 scripts of each kind, if none is said.
 """
-import collections
 import json
 import os
 import random
 import subprocess
 import sys
+from collections import Counter
+from collections.abc import Iterable, Sequence
 
 from draws import Draws
 from serial import serial_value
@@ -37,17 +38,18 @@ PATIENCE = 60
 ORDERS = 10
 
 
-def text(value):
+def text(value: object) -> str:
     return json.dumps(value, separators=(",", ":"), sort_keys=True)
 
 
-def printed(words, lines):
+def printed(words: Sequence[str], lines: Iterable[object]) -> list[str]:
+    """The lines that arena-script prints of a script, given these words."""
     script = "\n".join(map(text, lines))
     done = subprocess.run([PROGRAM, *words], input=script, capture_output=True, text=True, check=True, timeout=PATIENCE)
     return done.stdout.splitlines()
 
 
-def answer(tenant, step):
+def answer(tenant: Tenant, step: dict) -> dict:
     """What the second evaluator answers to a step of a tenant."""
     if step["step"] == "ask":
         return tenant.ask(step["request"]) or moved("pending")
@@ -56,14 +58,14 @@ def answer(tenant, step):
     return tenant.arrive(step["slot"]) if step["step"] == "arrive" else tenant.advance(step["slot"])
 
 
-def kind(answered):
+def kind(answered: dict) -> str:
     """What is counted of an answer."""
     numbered = [f"{word} {answered[name]}" for name, word in NUMBERED.items() if name in answered]
     named = [answered[name] for name in ("moved", "status") if name in answered]
     return (numbered or named or ["other"])[0]
 
 
-def differs(words, first, steps, wanted):
+def differs(words: Sequence[str], first: dict, steps: Sequence[dict], wanted: Sequence[dict]) -> bool:
     """Whether a script is answered in another way than is wanted; says where."""
     lines = printed(words, [first, *steps])
     places = [at for at, line in enumerate(map(text, wanted)) if lines[at : at + 1] != [line]]
@@ -73,7 +75,7 @@ def differs(words, first, steps, wanted):
     return bool(places) or len(lines) != len(wanted)
 
 
-def script_differs(draws, seen):
+def script_differs(draws: Draws, seen: Counter) -> bool:
     """Whether a drawn script of a tenant is answered in another way."""
     config = draws.tenant()
     steps, tenant = list(draws.steps(config["slots"])), Tenant(config)
@@ -82,7 +84,7 @@ def script_differs(draws, seen):
     return differs([], {"tenant": config}, steps, wanted)
 
 
-def world_differs(draws, seen):
+def world_differs(draws: Draws, seen: Counter) -> bool:
     """Whether a drawn script of a world is answered in another way, or the steps of one of its tenants are, alone."""
     config = draws.world()
     steps, wanted, world = [], [], World(config)
@@ -98,7 +100,7 @@ def world_differs(draws, seen):
     return differs(["run"], alone, [step for step, _ in own], [answered for _, answered in own])
 
 
-def serial_jobs_differ(draws, seen, count):
+def serial_jobs_differ(draws: Draws, seen: Counter, count: int) -> int:
     """How many of the drawn jobs have another serial value, or complete with another value than that."""
     jobs = [draws.job(is_serial=draws.random.random() < 0.9) for _ in range(count)]
     values = [serial_value(job) for job in jobs]
@@ -112,7 +114,7 @@ def serial_jobs_differ(draws, seen, count):
     return sum(want != line for _, want, line in pairs) + sum(orders)
 
 
-def order_differs(draws, seen, job, value):
+def order_differs(draws: Draws, seen: Counter, job: dict, value: int) -> bool:
     """Whether a job with this serial value completes with another one, after moves in a drawn order."""
     steps = list(draws.order(job))
     outcome = json.loads(printed([], steps)[-1])
@@ -123,16 +125,17 @@ def order_differs(draws, seen, job, value):
     return False
 
 
-def main(seed=1, scripts=300):
+def main(seed: int = 1, scripts: int = 300) -> bool:
+    """Draws and compares. Returns whether anything differs, or never came up."""
     sys.setrecursionlimit(100_000)
-    draws, seen = Draws(random.Random(seed)), collections.Counter()
+    draws, seen = Draws(random.Random(seed)), Counter()
     differ = sum(script_differs(draws, seen) + world_differs(draws, seen) for _ in range(scripts))
     differ += serial_jobs_differ(draws, seen, scripts)
     missing = [it for it in FINDS if not seen[it]] if scripts >= 300 else []
     if missing:
         print(f"no answer is one of {missing}")
     print(f"{scripts} tenants and {scripts} worlds, {seen.total()} steps, {scripts} serial jobs: {differ} differences")
-    return differ or missing
+    return bool(differ or missing)
 
 
-sys.exit(bool(main(*map(int, sys.argv[1:]))))
+sys.exit(main(*map(int, sys.argv[1:])))

@@ -5,7 +5,7 @@ from collections.abc import Callable
 
 from hosts import Host, Load, ask, dumps, fib, hang_up, is_at_end, rotate, tenant
 from servers import Bound, by_deadline
-from waits import leave_a_job, used_while_it_waits
+from waits import MEETINGS, is_left, used_while_it_waits
 
 DIVIDES = {"args": [0, 0], "fuel": 10, "procs": [[["set", 2, 1], ["div", 2, 2, 3], ["ret", 2]]]}
 
@@ -181,17 +181,23 @@ def what_it_shows() -> None:
 
 def what_it_shows_of_rows_that_wait() -> None:
     """A job that its client has left has three rows on slots, none of which waits to be started; the worker is at its
-    slot, and waits there without using a processor."""
-    host = Host([tenant("acme", steps=1_000_000, slots=2)], "--connections", 3, workers=1)
-    stays = host.connect()
-    leave_a_job(host.connect, stays)
-    used = used_while_it_waits(host.process.pid, stays)
+    slot, and waits there without using a processor. A host at which the threads did not meet in time shows nothing."""
+    for _ in range(MEETINGS):
+        host = Host([tenant("acme", steps=1_000_000, slots=2)], "--connections", 3, "--rotate-at", 100, workers=1)
+        waiting, other = host.connect(), host.connect()
+        if is_left(host.connect(), waiting, other):
+            break
+        hang_up(waiting, other)
+        assert host.stop() == 0
+    else:
+        raise AssertionError("sessions go on though their clients have gone")
+    used = used_while_it_waits(host.process.pid, waiting)
     assert used < 0.2, f"{used:.2f} s of a processor in a second"
     [generation] = by_deadline(lambda: host.status()["generations"])
     assert generation["workers"] == [{"worker": 0, "tenant": "acme", "slot": 1}]
     [acme] = generation["tenants"]
     assert acme["rows"] == {"open": 3, "waiting": 0} and acme["jobs_now"]["running"] == 1, acme
-    hang_up(stays)
+    hang_up(waiting, other)
     assert host.stop() == 0
 
 

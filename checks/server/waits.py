@@ -7,19 +7,20 @@ from collections.abc import Callable
 from servers import Bound, by_deadline
 
 TICKS = os.sysconf("SC_CLK_TCK")
-# How often a client may come too late.
-TRIES = 20
-
-# Each procedure begins on another slot than the one before, which has begun a row that waits for it: the root on the
-# reserved slot, the others on the worker's, the reserved and the worker's. The last one takes its time, and says so by the
-# cell of key 3 when it is done. A session whose client has gone leaves the reserved slot before; then nothing continues
-# the row there, and so none of those that wait for it.
+# How often threads may miss each other: on one processor they do two times of five.
+MEETINGS = 20
+# Four rows, each of which spawns the next one, begins to wait for it once it is on the other slot, and tells by a cell how
+# far it is: the root on the reserved slot, the second on the worker's, the third on the reserved and the last on the
+# worker's. The reserved slot has nothing to run for the first time while the last row counts down, and a session whose
+# client has gone leaves it then. When the last row is done, by the cell of key 3, nothing continues the third, and so
+# neither of those that wait for it: the second one never comes to its cell of key 4.
 LEFT = {"args": [0, 0], "fuel": 1_000_000, "procs": [
     [["spawn", 0, 1, 0, 1], ["count", 2, 0], ["jz", 2, 1], ["wait", 3, 4, 0], ["ret", 3]],
-    [["store", 0, 0], ["spawn", 0, 2, 0, 1], ["count", 2, 1], ["jz", 2, 2], ["wait", 3, 4, 0], ["ret", 3]],
+    [["spawn", 0, 2, 0, 1], ["store", 0, 0], ["count", 2, 1], ["jz", 2, 2], ["wait", 3, 4, 0], ["store", 4, 3],
+     ["ret", 3]],
     [["store", 1, 0], ["spawn", 0, 3, 0, 1], ["count", 2, 2], ["jz", 2, 2], ["wait", 3, 4, 0], ["ret", 3]],
-    [["store", 2, 0], ["set", 2, 150_000], ["set", 3, 1], ["sub", 2, 2, 3], ["jz", 2, 6], ["jmp", 3], ["store", 3, 0],
-     ["ret", 0]]]}
+    [["store", 2, 0], ["set", 2, 50_000], ["set", 3, 1], ["count", 4, 0], ["sub", 2, 2, 3], ["jz", 2, 7], ["jmp", 3],
+     ["store", 3, 0], ["ret", 0]]]}
 
 
 def processor_seconds(process: int) -> float:
@@ -47,20 +48,14 @@ def ask(connection: Bound, request: dict) -> dict:
     return json.loads(connection.replies.readline())
 
 
-def leave_a_job(connect: Callable[[], Bound], stays: Bound) -> int:
-    """Lets clients of a tenant with a reserved slot and one for a worker execute LEFT and go at once, one after another,
-    until a session has left its slot in time. Returns the job's number, which another client then collects: no reply came
-    to it within a second. The tenant has had no job before."""
-    for number in range(1, TRIES + 1):
-        client, replies = connect()
-        client.sendall((json.dumps({"job": LEFT, "op": "execute"}) + "\n").encode())
-        replies.close()
-        client.close()
-        by_deadline(lambda: ask(stays, {"op": "poll", "job": number}).get("status") not in (None, "running")
-                    or ask(stays, {"op": "cells", "key": 3})["count"])
-        stays.client.sendall((json.dumps({"job": number, "op": "collect"}) + "\n").encode())
-        if not is_answered(stays):
-            return number
-        stays.replies.readline()
-        assert ask(stays, {"op": "retire"})["epoch"] == number
-    raise AssertionError(f"{TRIES} sessions went on though their clients had gone")
+def is_left(client: Bound, waiting: Bound, other: Bound) -> bool:
+    """Lets a client of a tenant with a reserved slot and one for a worker execute LEFT, as its first job, and go at once,
+    and another one collect the job. Returns whether the session has left its slot while that had nothing to run: no reply
+    came within a second, and the worker's slot waits. Otherwise the threads did not meet in time."""
+    client.client.sendall((json.dumps({"job": LEFT, "op": "execute"}) + "\n").encode())
+    client.replies.close()
+    client.client.close()
+    by_deadline(lambda: ask(other, {"op": "poll", "job": 1}).get("status") not in (None, "running")
+                or ask(other, {"op": "cells", "key": 3})["count"])
+    waiting.client.sendall(b'{"job":1,"op":"collect"}\n')
+    return not is_answered(waiting) and ask(other, {"op": "cells", "key": 4})["count"] == 0
