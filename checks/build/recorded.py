@@ -15,7 +15,8 @@ RECORDED = pathlib.Path(__file__).parent / "recorded"
 RUNS = {"first": (0, True, 7), "unchanged": (2, True, None), "refused": (1, False, None)}
 
 
-def main():
+def main() -> None:
+    """Compares, and says what is read otherwise."""
     wrong = []
     for name, (status, proved, functions) in RUNS.items():
         text = (RECORDED / name).read_text()

@@ -18,11 +18,12 @@ PROGRAMS = {"script_program": "arena-script", "server_program": "arena-server", 
 START = time.monotonic()
 
 
-def say(text):
+def say(text: str) -> None:
+    """Prints a line with the minutes since the start."""
     print(f"{(time.monotonic() - START) / 60:5.1f} min  {text}", flush=True)
 
 
-def prove(name, command):
+def prove(name: str, command: list[str]) -> None:
     """Proves a crate by a command of `rt`, and ends the script if that fails. A program is also run, on no input; what
     it then says does not matter."""
     say(f"{name} ..")
@@ -36,7 +37,8 @@ def prove(name, command):
     say(f"{name} proved{f', {functions} functions' if functions else ''}")
 
 
-def main():
+def main() -> None:
+    """Proves all, and leaves the programs in out/."""
     os.makedirs("out", exist_ok=True)
     crates = read_crates()
     order = list(dict.fromkeys(name for program in PROGRAMS for name in [*below(crates, program), program]))

@@ -10,6 +10,7 @@ import dataclasses
 import pathlib
 import re
 import sys
+from collections.abc import Iterator
 
 HEADING = re.compile(r"# == (?P<name>\w+): (?P<what>[^\[]+?)(?: \[on (?P<below>[\w ]+)\])?$")
 COMMENT = {".rt": re.compile(r"//.*"), ".antt": re.compile(r"--.*")}
@@ -18,12 +19,14 @@ TABLE_HEADING = re.compile(r"\| \*\*(\w+)\*\*")
 
 @dataclasses.dataclass
 class Group:
+    """A group of crates, and the groups that its crates may stand on."""
+
     name: str
     below: list[str]
     crates: dict[str, list[str]] = dataclasses.field(default_factory=dict)
 
 
-def read_groups(text):
+def read_groups(text: str) -> list[Group]:
     """The groups of crates.txt, each with its crates and what these stand on."""
     groups = []
     for line in text.splitlines():
@@ -35,7 +38,7 @@ def read_groups(text):
     return groups
 
 
-def wrong_edges(groups):
+def wrong_edges(groups: list[Group]) -> Iterator[str]:
     """Yields what is wrong between crates."""
     group_of = {crate: group.name for group in groups for crate in group.crates}
     names = [group.name for group in groups]
@@ -55,13 +58,13 @@ def wrong_edges(groups):
                     for name in group.below if name not in names[:place])
 
 
-def words_of(crate):
+def words_of(crate: str) -> set[str]:
     """The words of a crate's sources, definitions and proofs, without comments."""
     paths = [path for path in pathlib.Path("crates", crate).rglob("*") if path.suffix in COMMENT and "out" not in path.parts]
     return {word for path in paths for word in re.findall(r"\w+", COMMENT[path.suffix].sub("", path.read_text()))}
 
 
-def unused(groups):
+def unused(groups: list[Group]) -> Iterator[str]:
     """Yields the crates that another one stands on and never names."""
     for group in groups:
         for crate, on in group.crates.items():
@@ -69,7 +72,7 @@ def unused(groups):
             yield from (f"crates.txt: {crate} names {other} nowhere" for other in on if other not in words)
 
 
-def table_of(page):
+def table_of(page: str) -> dict[str, list[str]]:
     """The groups of the README's table, each with the crates of its rows."""
     groups = {}
     for line in page.splitlines():
@@ -82,11 +85,13 @@ def table_of(page):
     return groups
 
 
-def heading_of(groups):
+def heading_of(groups: dict[str, list[str]]) -> str:
+    """The last group so far."""
     return list(groups)[-1]
 
 
-def main():
+def main() -> None:
+    """Compares, and says what is wrong."""
     groups = read_groups(pathlib.Path("crates.txt").read_text())
     wrong = [*wrong_edges(groups), *unused(groups)]
     table = table_of(pathlib.Path("README.md").read_text())

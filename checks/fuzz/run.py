@@ -12,6 +12,7 @@ import random
 import subprocess
 import sys
 import time
+from collections.abc import Iterator
 
 ROOT = pathlib.Path(__file__).resolve().parents[2]
 sys.path += [str(ROOT / "checks" / folder) for folder in ("evaluator", "scripts")]
@@ -39,7 +40,7 @@ KINDS = [
 ]
 
 
-def build():
+def build() -> None:
     """Builds the program unless it is newer than every source."""
     if PROGRAM.exists():
         built = PROGRAM.stat().st_mtime
@@ -52,7 +53,7 @@ def build():
         sys.exit(1)
 
 
-def jobs(seed, count):
+def jobs(seed: int, count: int) -> Iterator[dict]:
     """Yields the worked jobs, and as many drawn ones as are wanted."""
     yield from (job for name, job in worked_jobs().items() if name != "NOT_VALID")
     draws = Draws(random.Random(seed))
@@ -61,7 +62,8 @@ def jobs(seed, count):
         yield draw()
 
 
-def main():
+def main() -> None:
+    """Runs the rounds, and says what differed or never came up."""
     given = [int(word) for word in sys.argv[1:3]]
     seed, rounds = given + [SEED, ROUNDS][len(given):]
     build()

@@ -13,11 +13,12 @@ import subprocess
 import sys
 import threading
 import time
+from collections.abc import Iterator
 
 TICKS = os.sysconf("SC_CLK_TCK")
 
 
-def is_below(process, above):
+def is_below(process: str, above: str) -> bool:
     """Whether a process was started by another one, or by one that it started."""
     while process not in ("0", above):
         with open(f"/proc/{process}/stat") as it:
@@ -25,7 +26,7 @@ def is_below(process, above):
     return process == above
 
 
-def checks_now(above):
+def checks_now(above: str) -> Iterator[tuple[str, str, str, float]]:
     """Yields (process, crate, kind, processor seconds) for each running check of a crate below a process."""
     for name in os.listdir("/proc"):
         if not name.isdigit():
@@ -50,7 +51,7 @@ def checks_now(above):
         yield name, crate, kind, (int(fields[11]) + int(fields[12])) / TICKS
 
 
-def watch(above, spent, is_over):
+def watch(above: str, spent: dict[tuple[str, str, str], float], is_over: threading.Event) -> None:
     """Keeps in `spent` what each check below a process has used of the processors, until the run is over."""
     while not is_over.is_set():
         for process, crate, kind, seconds in checks_now(above):
@@ -58,7 +59,7 @@ def watch(above, spent, is_over):
         is_over.wait(0.5)
 
 
-def table(spent):
+def table(spent: dict[tuple[str, str, str], float]) -> Iterator[str]:
     """Returns the lines of the table, the dearest crate last."""
     kinds = ("proofs", "tests", "edits")
     sums = {}
@@ -74,7 +75,8 @@ def table(spent):
         yield f"| {crate} | {parts} | {sum(row.values()):.1f} |"
 
 
-def main():
+def main() -> int:
+    """Runs `rt ci`, and returns its status."""
     start, spent, is_over = time.monotonic(), {}, threading.Event()
     processors = len(os.sched_getaffinity(0))
     room = {"RT_JOBS": str(processors), **os.environ}

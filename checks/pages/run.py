@@ -22,8 +22,9 @@ A word of one letter, or of capitals alone, stands for what a reader puts there.
 import pathlib
 import re
 import sys
+from collections.abc import Iterable, Iterator
 
-from spans import TOP, pages, spans_of
+from spans import TOP, Span, pages, spans_of
 from tree import WORD, Tree
 
 ENDS = "md|py|rt|antt|sh|job|jasm|json|jsonl|svg|txt|edit|bash|toml|service|crt|pem|deb"
@@ -53,18 +54,18 @@ def allowed() -> Allowed:
     return Allowed((pathlib.Path(__file__).parent / "allowed.txt").read_text().splitlines())
 
 
-def is_path(word):
+def is_path(word: str) -> bool:
     """Whether a word has a slash, or an ending of a file."""
     is_named = re.fullmatch(rf"[\w.-]+\.(?:{ENDS})", word)
     return bool(is_named or ("/" in word and len(word) > 1 and re.fullmatch(r"[~\w./*-]+", word)))
 
 
-def is_readers_own(path):
+def is_readers_own(path: str) -> bool:
     """Whether a path is outside of the tree, or a part of it stands for a name that the reader chooses."""
     return path[0] in "/~" or any(re.fullmatch(r"[A-Z]+(\.(?!md$).*)?", part) for part in path.split("/"))
 
 
-def has_path(tree, page, path):
+def has_path(tree: Tree, page: str, path: str) -> bool:
     """Whether a path on a page is there, or is made by a program."""
     parts = page.split("/")
     path = path.removeprefix("./")
@@ -77,13 +78,13 @@ def has_path(tree, page, path):
     return tree.has_path(path)
 
 
-def has_member(tree, name):
+def has_member(tree: Tree, name: str) -> bool:
     """Whether each part of A::b::c is defined in the one before it."""
     parts = name.split("::")
     return all(after in tree.within.get(before, ()) for before, after in zip(parts, parts[1:]))
 
 
-def command_faults(tree, text):
+def command_faults(tree: Tree, text: str) -> Iterator[str]:
     """Yields the targets of `make` and the commands of `arena` in a text that are not there."""
     for target in re.findall(r"(?:^|[;&(]\s*)make ([a-z][\w-]*)", text):
         if target not in tree.targets:
@@ -93,7 +94,7 @@ def command_faults(tree, text):
             yield f"arena {command}"
 
 
-def word_faults(tree, words, is_alone):
+def word_faults(tree: Tree, words: Iterable[str], is_alone: bool) -> Iterator[str]:
     """Yields the words that are no names and no texts of the code."""
     for word in words:
         is_there = word in tree.names or word in tree.texts or (not is_alone and word in tree.said)
@@ -101,7 +102,7 @@ def word_faults(tree, words, is_alone):
             yield word
 
 
-def faults(tree, let_through, span):
+def faults(tree: Tree, let_through: Allowed, span: Span) -> Iterator[str]:
     """Yields the parts of a span that name something which is not there."""
     if span.is_link:
         if "://" not in span.text and not (TOP / span.page).parent.joinpath(span.text).exists():
@@ -126,7 +127,7 @@ def faults(tree, let_through, span):
         yield f"no type is seen as {span.text}"
 
 
-def shape_faults(tree):
+def shape_faults(tree: Tree) -> Iterator[str]:
     """Yields what is wrong with the pages of crates as a whole."""
     for crate in sorted(path for path in tree.paths if re.fullmatch(r"crates/\w+", path)):
         page = TOP / crate / "README.md"
@@ -137,7 +138,8 @@ def shape_faults(tree):
             yield f"{crate}/README.md: {len(lines)} lines, more than {MOST_LINES}"
 
 
-def main():
+def main() -> None:
+    """Looks at all pages, or at those that are named."""
     tree, let_through = Tree(), allowed()
     count, found = 0, []
     for page in sys.argv[1:] or pages():

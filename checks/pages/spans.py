@@ -2,6 +2,7 @@
 import dataclasses
 import pathlib
 import re
+from collections.abc import Iterator
 
 TOP = pathlib.Path(__file__).resolve().parents[2]
 PATTERNS = ("README.md", "CONTRIBUTING.md", "docs/*.md", "crates/*/README.md", "checks/README.md", "benches/**/*.md")
@@ -11,6 +12,8 @@ LINK = re.compile(r"\]\(([^)\s#]+)[^)]*\)")
 
 @dataclasses.dataclass(frozen=True)
 class Span:
+    """What a page sets apart: a word or some between back quotes, a line of code, or a link."""
+
     page: str
     line: int
     text: str
@@ -19,12 +22,12 @@ class Span:
     is_value: bool = False  # what a type of the crate is seen as
 
 
-def pages():
+def pages() -> list[str]:
     """Returns the pages, by their paths from the top."""
     return sorted({str(page.relative_to(TOP)) for pattern in PATTERNS for page in TOP.glob(pattern)})
 
 
-def spans_of(page):
+def spans_of(page: str) -> Iterator[Span]:
     """Yields the spans of a page in their order. A block of code is fenced, or indented by four spaces."""
     is_fenced = False
     for number, line in enumerate((TOP / page).read_text().splitlines(), 1):

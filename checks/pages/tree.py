@@ -4,6 +4,7 @@ import collections
 import pathlib
 import re
 import subprocess
+from collections.abc import Iterator
 
 from spans import TOP
 
@@ -14,7 +15,7 @@ CONTAINER = re.compile(r"^(?:pub )?(?:impl\b.*?(?:\bfor )?(\w+)(?:<[^{]*)?\s*\{|
 SPEC = re.compile(r"^(?:abbrev )?(?:pub )?(?:record |data )?([\w-]+)|(?:pub )?\b([\w-]+) :")
 
 
-def folders_of(path):
+def folders_of(path: str) -> Iterator[str]:
     """Yields a path, the same without its ending, and each folder that it is in."""
     yield path
     yield path.removesuffix(pathlib.PurePath(path).suffix)
@@ -27,7 +28,8 @@ class Tree:
     are seen as (`values`); the words that are a text of the code or a member in one (`texts`), and all words of its texts
     (`said`)."""
 
-    def __init__(self):
+    def __init__(self) -> None:
+        """Reads the tree as git knows it."""
         command = ["git", "ls-files", "-co", "--exclude-standard"]
         listed = subprocess.run(command, cwd=TOP, stdout=subprocess.PIPE, text=True, check=True)
         self.files = [path for path in listed.stdout.splitlines() if (TOP / path).exists()]
@@ -45,10 +47,11 @@ class Tree:
             self.read(path)
         self.commands = set(re.findall(r'\bCommand\("([a-z-]+)"', self.source("python/arena/command/")))
 
-    def source(self, folder):
+    def source(self, folder: str) -> str:
+        """The text of all files of Python below a folder."""
         return "\n".join((TOP / path).read_text() for path in self.files if path.startswith(folder) and path.endswith(".py"))
 
-    def read(self, path):
+    def read(self, path: str) -> None:
         """Takes the names and texts of one file of code; a file's own name is one, too."""
         self.names.update(re.split(r"[/.]", path))
         if path.endswith(".py") and not path.startswith("checks/pages/"):
@@ -62,7 +65,7 @@ class Tree:
         elif path.endswith((".sh", ".json", ".jsonl", ".toml", ".bash")) or path.startswith("examples/"):
             self.add_text((TOP / path).read_text())
 
-    def read_python(self, path):
+    def read_python(self, path: str) -> None:
         """Takes what a file of Python defines, names as it calls something, or assigns to, and its strings."""
         for node in ast.walk(ast.parse((TOP / path).read_text())):
             match node:
@@ -74,7 +77,7 @@ class Tree:
                 case ast.Constant(value=str(text)):
                     self.add_text(text)
 
-    def read_rattle(self, path):
+    def read_rattle(self, path: str) -> None:
         """Takes the definitions of a source, also as those of its crate and of the type in whose block each stands."""
         crate, container = path.split("/")[1], None
         for line in (TOP / path).read_text().splitlines():
@@ -97,7 +100,7 @@ class Tree:
             if line.startswith("}"):
                 container = None
 
-    def read_definitions(self, path):
+    def read_definitions(self, path: str) -> None:
         """Takes the names of a file of definitions or proofs, and of the fields and cases in it."""
         crate = path.split("/")[1]
         for line in (TOP / path).read_text().splitlines():
@@ -109,7 +112,7 @@ class Tree:
                 self.names |= names
                 self.within[crate] |= names
 
-    def add_text(self, text):
+    def add_text(self, text: str) -> None:
         """Takes the words of one string of the code: as a whole if it has no space, and each that stands in quotes in it."""
         words = WORD.findall(text)
         self.said.update(words)
@@ -117,7 +120,7 @@ class Tree:
             self.texts.add(text.strip(":-_ "))
         self.texts.update(re.findall(r'"([\w-]+)"', text))
 
-    def has_path(self, path, folder=""):
+    def has_path(self, path: str, folder: str = "") -> bool:
         """Whether a path is there: in a folder, or, without one, as the end of any path."""
         path = path.strip("/")
         return f"{folder}/{path}" in self.paths if folder else path in self.ends

@@ -17,13 +17,13 @@ class Metric:
     samples: dict[frozenset[tuple[str, str]], float] = field(default_factory=dict)
 
 
-def unescaped(text, quoted):
+def unescaped(text: str, quoted: bool) -> str:
     """A text without its escapes: those of a label's value, or those of a help."""
     known = {"\\\\": "\\", "\\n": "\n", **({'\\"': '"'} if quoted else {})}
     return re.sub(r"\\.", lambda it: known[it[0]], text)
 
 
-def labels_of(text):
+def labels_of(text: str) -> frozenset[tuple[str, str]]:
     """The labels between the braces of a sample."""
     found, at = {}, 0
     assert text, "braces without a label"
@@ -38,7 +38,7 @@ def labels_of(text):
     return frozenset(found.items())
 
 
-def parsed(text):
+def parsed(text: str) -> dict[str, Metric]:
     """The metrics of a text by their names. Raises AssertionError for all that is not as it must be."""
     assert text.endswith("\n") and "\r" not in text and "\n\n" not in text
     found, name = {}, None
@@ -58,7 +58,7 @@ def parsed(text):
     return found
 
 
-def take(found, name, line):
+def take(found: dict[str, Metric], name: str | None, line: str) -> None:
     """Takes the line of a sample, which is of the metric that was named last."""
     sample = SAMPLE.fullmatch(line)
     assert sample and sample[1] == name and found[name].kind, line

@@ -2,6 +2,8 @@
 import importlib.util
 import os
 import sys
+from collections.abc import Iterator
+from types import ModuleType
 
 ROOT = os.path.abspath(os.path.join(os.path.dirname(__file__), "..", ".."))
 PROGRAM = os.path.join(ROOT, "crates/script_program/out/script_program")
@@ -12,7 +14,7 @@ PACKAGE = os.environ.get("ARENA_PYTHON", os.path.join(ROOT, "python"))
 sys.path.insert(0, PACKAGE)
 
 
-def module_of(name, path):
+def module_of(name: str, path: str) -> ModuleType:
     """A module of another check, by its path in the repository."""
     spec = importlib.util.spec_from_file_location(name, os.path.join(ROOT, path))
     module = importlib.util.module_from_spec(spec)
@@ -21,12 +23,12 @@ def module_of(name, path):
     return module
 
 
-def worked_jobs():
+def worked_jobs() -> dict[str, dict]:
     """The jobs of `worked_jobs` by their names."""
     return module_of("script", "checks/scripts/script.py").worked_jobs()
 
 
-def examples():
+def examples() -> Iterator[tuple[str, str]]:
     """The names and texts of the examples in the language."""
     for name in sorted(os.listdir(EXAMPLES)):
         with open(os.path.join(EXAMPLES, name)) as it:

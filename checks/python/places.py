@@ -14,11 +14,13 @@ class Expected:
     instruction: int | None = None
 
 
-def job(procs, **more):
+def job(procs: object, **more: object) -> str:
+    """A job as a text."""
     return json.dumps({"args": [0, 0], "fuel": 10, "procs": procs, **more}, separators=(",", ":"))
 
 
-def at(procedure, instruction, words):
+def at(procedure: int, instruction: int, words: str) -> Expected:
+    """The refusal of an instruction."""
     return Expected(f"procs[{procedure}][{instruction}]: {words}", procedure, instruction)
 
 
@@ -73,11 +75,13 @@ JOBS = [
 ]
 
 
-def tenant(**members):
+def tenant(**members: object) -> dict:
+    """The smallest tenant, but for these members."""
     return {"name": "a", "priority": "low", "reserved": 0, "rows": 1, "slots": 1, "steps": 1, **members}
 
 
-def config(*tenants, workers=1):
+def config(*tenants: object, workers: int = 1) -> dict:
+    """A configuration."""
     return {"tenants": list(tenants), "workers": workers}
 
 

@@ -1,6 +1,8 @@
 """Runs jobs by `arena-script`: alone on a tenant under a drawn schedule, and by the word `serial`."""
 import json
+import random
 import subprocess
+from collections.abc import Iterable, Sequence
 
 from paths import PROGRAM
 
@@ -15,7 +17,7 @@ PATIENCE = 60
 class Tenant:
     """An `arena-script own` for a drawn tenant, which runs one job after another."""
 
-    def __init__(self, draws, slots=None):
+    def __init__(self, draws: random.Random, slots: int | None = None) -> None:
         self.draws, self.jobs = draws, 0
         self.slots = slots or draws.randint(1, 4)
         self.reserved = draws.randint(0, self.slots - 1)  # a posted row needs a worker, or a row that waits
@@ -24,10 +26,11 @@ class Tenant:
         self.write({"tenant": {"isolation": isolation, "name": "a", "priority": "low", "reserved": self.reserved,
                                "rows": 4096, "slots": self.slots, "steps": STEPS}})
 
-    def write(self, line):
+    def write(self, line: object) -> None:
+        """Gives it one line."""
         self.program.stdin.write(json.dumps(line, separators=(",", ":")) + "\n")
 
-    def answers(self, steps):
+    def answers(self, steps: Sequence[dict]) -> list[dict]:
         """The answers to steps; only so many steps are under way at a time as the pipes hold."""
         found = []
         for start in range(0, len(steps), STEPS_AT_A_TIME):
@@ -38,11 +41,12 @@ class Tenant:
             found += [json.loads(self.program.stdout.readline()) for _ in part]
         return found
 
-    def move(self, slot):
+    def move(self, slot: int) -> dict:
+        """An arrival at a slot, or an advance of it."""
         step = "advance" if slot < self.reserved or self.draws.random() < 0.7 else "arrive"
         return {"slot": slot, "step": step}
 
-    def moves(self, count):
+    def moves(self, count: int) -> list[dict]:
         """Drawn moves, which may stay at a slot for a while."""
         slot, found = 0, []
         for _ in range(count):
@@ -51,7 +55,7 @@ class Tenant:
             found.append(self.move(slot))
         return found
 
-    def outcome(self, job, length):
+    def outcome(self, job: dict, length: int) -> dict:
         """The status of a job once it has an outcome, after about so many moves at a time; `running` if it has none
         after very many."""
         self.jobs += 1
@@ -68,34 +72,36 @@ class Tenant:
                 break
         return status
 
-    def retire(self):
+    def retire(self) -> dict:
         """Retires all jobs and cells, which have ended."""
         return self.answers([ask({"op": "retire"})])[0]
 
-    def is_spent(self):
+    def is_spent(self) -> bool:
+        """Whether it has had so many jobs that another tenant should take its place."""
         return self.jobs >= JOBS_OF_A_TENANT
 
-    def close(self):
+    def close(self) -> None:
+        """Lets it end, and waits for that."""
         self.program.stdin.close()
         self.program.stdout.close()
-        self.program.wait()
+        self.program.wait(PATIENCE)
 
-
-    def cells(self, key):
+    def cells(self, key: int) -> dict:
         """The reply for the cells of a key."""
         return self.answers([ask({"key": key, "op": "cells"})])[0]
 
 
-def ask(request):
+def ask(request: dict) -> dict:
+    """The step of a request."""
     return {"request": request, "step": "ask"}
 
 
-def serial_values(jobs):
+def serial_values(jobs: Iterable[dict]) -> list:
     """What `arena-script serial` says of each job: a number, `none` or `not_serial`, or else its whole line."""
     return serial_answers(json.dumps(it, separators=(",", ":")) for it in jobs)
 
 
-def serial_answers(lines):
+def serial_answers(lines: Iterable[str]) -> list:
     """What `arena-script serial` says of each line."""
     ran = subprocess.run([PROGRAM, "serial"], input="".join(f"{it}\n" for it in lines), capture_output=True, text=True,
                          check=True, timeout=PATIENCE)

@@ -6,6 +6,7 @@ import os
 import subprocess
 import sys
 import tempfile
+from collections.abc import Sequence
 from dataclasses import dataclass
 
 SERVER = os.path.abspath("crates/server_program/out/server_program")
@@ -16,7 +17,7 @@ PACKAGE = os.path.abspath("python")
 PATIENCE = 240
 
 
-def job(*procs, args=(0, 0), fuel=1000):
+def job(*procs: list, args: Sequence[int] = (0, 0), fuel: int = 1000) -> dict:
     """A JOB."""
     return {"args": [*args], "fuel": fuel, "procs": [*procs]}
 
@@ -32,7 +33,7 @@ SPIN = job([["jmp", 0]], fuel=1500)
 INVALID = job([["jmp", 1]])
 
 
-def tenant(name="acme", slots=2, reserved=1, **more):
+def tenant(name: str = "acme", slots: int = 2, reserved: int = 1, **more: object) -> dict:
     """A TENANT with room for 200 open rows and 10,000 entries, unless told otherwise."""
     return {"name": name, "priority": "normal", "reserved": reserved, "rows": 200, "slots": slots, "steps": 10_000,
             **more}
@@ -42,7 +43,8 @@ class Server:
     """A server in a folder that goes when the `with` block ends. It ends once all its connections have been used, so
     `end` opens and closes those that are left."""
 
-    def __init__(self, *tenants, workers=2, connections=64):
+    def __init__(self, *tenants: dict, workers: int = 2, connections: int = 64) -> None:
+        """Starts it, and waits until it listens."""
         self.folder = tempfile.TemporaryDirectory()
         self.path, self.dumps = self.file("socket"), self.file("dumps")
         os.mkdir(self.dumps)
@@ -53,19 +55,19 @@ class Server:
         self.process = subprocess.Popen([SERVER, *words], stdout=subprocess.PIPE, text=True)
         assert self.process.stdout.readline() == "listening\n"
 
-    def __enter__(self):
+    def __enter__(self) -> "Server":
         return self
 
-    def __exit__(self, *_):
+    def __exit__(self, *_: object) -> None:
         self.process.kill()
         self.process.communicate()
         self.folder.cleanup()
 
-    def file(self, name):
+    def file(self, name: str) -> str:
         """A path in the folder."""
         return os.path.join(self.folder.name, name)
 
-    def dump(self, name="acme"):
+    def dump(self, name: str = "acme") -> str:
         """Lets the server end, and returns the path of a tenant's dump, to which `check` says yes."""
         import arena
         try:
@@ -91,13 +93,13 @@ class Done:
     stderr: str
 
 
-def environment_of(more):
+def environment_of(more: dict[str, str]) -> dict[str, str]:
     """The environment of a call, which names no server unless `more` does."""
     return {**{name: value for name, value in os.environ.items() if not name.startswith("ARENA_")},
             "PYTHONPATH": PACKAGE, **more}
 
 
-def arena_process(*words, stdin="", **more):
+def arena_process(*words: str, stdin: str = "", **more: str) -> Done:
     """Runs the command as a process of its own."""
     done = subprocess.run([sys.executable, "-m", "arena", *words], input=stdin, capture_output=True, text=True,
                           timeout=PATIENCE,
@@ -105,7 +107,7 @@ def arena_process(*words, stdin="", **more):
     return Done(done.returncode, done.stdout, done.stderr)
 
 
-def arena_command(*words, stdin="", **more):
+def arena_command(*words: str, stdin: str = "", **more: str) -> Done:
     """Runs the command within this process, which takes a tenth of the time."""
     from arena.command import main
     before, given = dict(os.environ), sys.stdin

@@ -8,6 +8,7 @@ import json
 import pathlib
 import subprocess
 import sys
+from collections.abc import Iterable, Iterator, Sequence
 
 ROOT = pathlib.Path(__file__).resolve().parents[2]
 PROGRAM = ROOT / "crates/script_program/out/script_program"
@@ -20,11 +21,13 @@ BAD = {"code": 4, "error": "bad_program"}
 RETURN = ["ret", 0]
 
 
-def job(procs=None, args=(0, 0), fuel=1, **more):
+def job(procs: list | None = None, args: Sequence[object] = (0, 0), fuel: object = 1, **more: object) -> str:
+    """A job as a text."""
     return json.dumps({"args": args, "fuel": fuel, "procs": procs or [[RETURN]], **more})
 
 
-def procedure(*instructions):
+def procedure(*instructions: object) -> str:
+    """A job of one procedure."""
     return job(procs=[list(instructions)])
 
 
@@ -100,11 +103,13 @@ JOBS = [
 ]
 
 
-def tenant(**members):
+def tenant(**members: object) -> dict:
+    """The smallest tenant, but for these members."""
     return {"name": "a", "priority": "low", "reserved": 0, "rows": 1, "slots": 1, "steps": 1, **members}
 
 
-def without(name):
+def without(name: str) -> dict:
+    """That tenant without a member."""
     return {member: value for member, value in tenant().items() if member != name}
 
 
@@ -138,7 +143,8 @@ TENANTS = [
 ]
 
 
-def configuration(count, workers, last=None):
+def configuration(count: int, workers: int, last: str | None = None) -> dict:
+    """One of so many tenants, the last of which may have a name of its own."""
     names = [str(number) for number in range(count)]
     if last is not None:
         names[-1] = last
@@ -161,7 +167,7 @@ CONFIGURATIONS = [
 ]
 
 
-def build():
+def build() -> None:
     """Builds the program unless it is newer than every source."""
     if PROGRAM.exists():
         built = PROGRAM.stat().st_mtime
@@ -170,12 +176,13 @@ def build():
     subprocess.run(["make", "-s", "build"], cwd=ROOT, check=True)
 
 
-def script(word, text):
+def script(word: str, text: str) -> tuple[int, str, str]:
+    """The status of a script, what it prints, and what it says on standard error."""
     run = subprocess.run([PROGRAM, word], input=text + "\n", capture_output=True, text=True, timeout=PATIENCE)
     return run.returncode, run.stdout, run.stderr
 
 
-def serial_differences():
+def serial_differences() -> Iterator[str]:
     """The jobs that are answered otherwise; each is a line of one script."""
     status, printed, said = script("serial", "\n".join(text for text, _ in JOBS))
     answers = [json.loads(line) for line in printed.splitlines()]
@@ -187,7 +194,7 @@ def serial_differences():
             yield f"{text[:200]}: {answer}, not {expected}"
 
 
-def first_line_differences(word, lines):
+def first_line_differences(word: str, lines: Iterable[tuple[object, bool]]) -> Iterator[str]:
     """The first lines that are not accepted or refused as they should be."""
     for line, is_valid in lines:
         expected = (0, "", "") if is_valid else (2, "", "arena-script: config\n")
@@ -196,7 +203,8 @@ def first_line_differences(word, lines):
             yield f"{word} {json.dumps(line)[:200]}: {answer}"
 
 
-def main():
+def main() -> None:
+    """Compares all values, and says what differs."""
     build()
     tenants = [({"tenant": it}, is_valid) for it, is_valid in TENANTS]
     differences = [

@@ -9,6 +9,7 @@ neither blank, nor a comment, nor a `use`. Definitions of `std` and of other cra
 """
 import re
 import sys
+from collections.abc import Iterator
 from functools import cache
 from pathlib import Path
 
@@ -50,7 +51,7 @@ WORD = re.compile(r"[\w']+")
 class Module:
     """A file of definitions: its definitions by their names, and what it uses of other files."""
 
-    def __init__(self, path):
+    def __init__(self, path: Path) -> None:
         text = path.read_text()
         self.crate = path.parts[1]
         self.named, self.called = uses_of(text)
@@ -66,7 +67,7 @@ class Module:
             if lines is not None:
                 lines.append(line)
 
-    def cited(self, text):
+    def cited(self, text: str) -> Iterator[tuple["Module", str]]:
         """Yields the definitions, here and in other files, that a text cites."""
         for word in WORD.findall(text):
             if word in self.definitions:
@@ -74,7 +75,7 @@ class Module:
         yield from cited(text, self.named, self.called)
 
 
-def uses_of(text):
+def uses_of(text: str) -> tuple[dict[str, Module], dict[str, Module]]:
     """Returns which module each name that a text uses is of, and which module each name for a module means."""
     named, called = {}, {}
     for crate, path, names, other in USE.findall(text):
@@ -86,7 +87,7 @@ def uses_of(text):
     return named, called
 
 
-def cited(text, named, called):
+def cited(text: str, named: dict[str, Module], called: dict[str, Module]) -> Iterator[tuple[Module, str]]:
     """Yields the definitions of other files that a text cites, by name or as `module.name`."""
     for word in WORD.findall(text):
         if word in named and word in named[word].definitions:
@@ -97,11 +98,12 @@ def cited(text, named, called):
 
 
 @cache
-def module_of(path):
+def module_of(path: Path) -> Module:
+    """The module of a file, which is read once."""
     return Module(path)
 
 
-def module_at(crate, name):
+def module_at(crate: str, name: str) -> Module | None:
     """Returns the module that a name such as `A.B` means: the longest beginning that is a file."""
     parts = name.split(".")
     while parts:
@@ -112,11 +114,12 @@ def module_at(crate, name):
     return None
 
 
-def sources(crate):
+def sources(crate: str) -> list[str]:
+    """The texts of a crate's sources."""
     return [path.read_text() for path in sorted((CRATES / crate / "src").rglob("*.rt"))]
 
 
-def contracts_of(name):
+def contracts_of(name: str) -> Iterator[tuple[str, str]]:
     """Yields the signature and contract of a function, or those of all functions of a type or trait, each with the text of
     the file that they stand in."""
     crate, *_, last = name.split("::")
@@ -128,14 +131,14 @@ def contracts_of(name):
                 yield found.group(), text
 
 
-def without(labels, contract):
+def without(labels: list[str], contract: str) -> str:
     """Returns a contract without the clauses of these labels."""
     clauses = re.split(r"(?=^\s*(?:requires|ensures|//))", contract, flags=re.M)
     return "".join(clause for clause in clauses if not re.match(rf"\s*ensures ({'|'.join(labels) or '-'})\b", clause))
 
 
 @cache
-def models():
+def models() -> dict[str, tuple[str, str]]:
     """Returns the text of the model of each type, and of the file that it stands in."""
     found = {}
     for crate in sorted(path.name for path in CRATES.iterdir()):
@@ -145,7 +148,7 @@ def models():
     return found
 
 
-def roots_of(name):
+def roots_of(name: str) -> Iterator[tuple[Module, str]]:
     """Yields the definitions that contracts cite, and those of the models of their types."""
     name, _, dropped = name.partition(" without ")
     contracts = [(without(dropped.split(), contract), text) for contract, text in contracts_of(name)]
@@ -159,7 +162,7 @@ def roots_of(name):
         yield from cited(model, *uses_of(text))
 
 
-def reached(names):
+def reached(names: list[str]) -> set[tuple[Module, str]]:
     """Returns the definitions that contracts rest on."""
     found, waiting = set(), [root for name in names for root in roots_of(name)]
     while waiting:
@@ -170,7 +173,8 @@ def reached(names):
     return found
 
 
-def row(promise, definitions):
+def row(promise: str, definitions: set[tuple[Module, str]]) -> str:
+    """The row of a promise."""
     crates = {}
     for module, name in definitions:
         crates[module.crate] = crates.get(module.crate, 0) + len(module.definitions[name])
@@ -178,7 +182,8 @@ def row(promise, definitions):
     return f"| {promise} | {len(definitions)} | {sum(crates.values())} | {shares} |"
 
 
-def main():
+def main() -> None:
+    """Prints the table."""
     print("| Promise | Definitions | Lines | Crates, from the most lines down |")
     print("|---|---|---|---|")
     everything = set()

@@ -2,15 +2,17 @@
 from whole import *
 
 
-def asked(reply, request):
+def asked(reply: dict, request: dict) -> str:
+    """The line of a request with its reply."""
     return line_of({"reply": reply, "request": request, "step": "ask"}) + "\n"
 
 
-def moved(word, slot, **more):
+def moved(word: str, slot: int, **more: int) -> str:
+    """The line of an advance."""
     return line_of({"moved": word, "slot": slot, "step": "advance", **more}) + "\n"
 
 
-def history(value):
+def history(value: int) -> str:
     """The history of a job that returns its first argument, 7, with this value as its outcome."""
     return (
         asked({"job": 1}, {"job": SEVEN, "op": "submit"})
@@ -22,7 +24,7 @@ def history(value):
 RIGHT, WRONG = history(7), history(8)
 
 
-def replied(reply):
+def replied(reply: str) -> str:
     """An ask for the arena's limits, with the text of a reply."""
     return f'{{"reply":{reply},"request":{{"op":"arena"}},"step":"ask"}}\n'
 
@@ -134,11 +136,11 @@ OTHER_MOVES = [
 YES = ("yes\n", DONE)
 
 
-def no_at(step):
+def no_at(step: int) -> tuple:
     return (f"no at step {step}\n", DONE)
 
 
-def bad_line(number):
+def bad_line(number: int) -> tuple:
     return (f"bad line {number}\n", BAD_LINE)
 
 

@@ -3,6 +3,8 @@ import json
 import pathlib
 import re
 import subprocess
+from collections.abc import Sequence
+from typing import NamedTuple
 
 ROOT = pathlib.Path(__file__).resolve().parents[2]
 # How long a script may take at most, in seconds.
@@ -11,7 +13,15 @@ PROGRAM = ROOT / "crates/script_program/out/script_program"
 SOURCE_OF_JOBS = ROOT / "crates/worked_jobs/src/jobs.rt"
 
 
-def build():
+class Ran(NamedTuple):
+    """How a script ended: its status, what it printed, and what it said on standard error."""
+
+    status: int
+    printed: str
+    said: str
+
+
+def build() -> None:
     """Builds the program unless it is newer than every source."""
     if PROGRAM.exists():
         built = PROGRAM.stat().st_mtime
@@ -20,17 +30,18 @@ def build():
     subprocess.run(["make", "-s", "build"], cwd=ROOT, check=True)
 
 
-def run(words, text):
-    """Returns the status, what is printed, and what is said on standard error."""
+def run(words: Sequence[str], text: str) -> Ran:
+    """Runs a script, for a minute at most, by these words."""
     ran = subprocess.run([PROGRAM, *words], input=text, capture_output=True, text=True, timeout=PATIENCE)
-    return ran.returncode, ran.stdout, ran.stderr
+    return Ran(ran.returncode, ran.stdout, ran.stderr)
 
 
-def line_of(value):
+def line_of(value: object) -> str:
+    """A value as a line, without its newline."""
     return json.dumps(value, separators=(",", ":"), sort_keys=True)
 
 
-def worked_jobs():
+def worked_jobs() -> dict[str, dict]:
     """Returns the jobs by their names, as they stand in `worked_jobs`."""
     job = re.compile(
         r"pub const (\w+): JobText = JobText \{\s*"
@@ -45,45 +56,48 @@ def worked_jobs():
     }
 
 
-def tenant(slots, reserved, **more):
+def tenant(slots: int, reserved: int, **more: object) -> str:
     """The first line: a tenant with room for 200 open rows and 10,000 entries, unless told otherwise."""
     members = {"name": "acme", "priority": "normal", "reserved": reserved, "rows": 200, "slots": slots, "steps": 10_000}
     return line_of({"tenant": {**members, **more}})
 
 
-def ask(op, **members):
+def ask(op: str, **members: object) -> str:
+    """The step of a request."""
     return line_of({"request": {"op": op, **members}, "step": "ask"})
 
 
-def submit(job):
+def submit(job: dict) -> str:
     return ask("submit", job=job)
 
 
-def execute(job):
+def execute(job: dict) -> str:
     return ask("execute", job=job)
 
 
-def poll(job):
+def poll(job: int) -> str:
     return ask("poll", job=job)
 
 
-def collect(job):
+def collect(job: int) -> str:
     return ask("collect", job=job)
 
 
-def cancel(job):
+def cancel(job: int) -> str:
     return ask("cancel", job=job)
 
 
-def cells(key):
+def cells(key: int) -> str:
     return ask("cells", key=key)
 
 
-def arrive(slot):
+def arrive(slot: int) -> str:
+    """The step of a worker that comes to a slot."""
     return line_of({"slot": slot, "step": "arrive"})
 
 
-def advance(slot):
+def advance(slot: int) -> str:
+    """The step of a slot that advances."""
     return line_of({"slot": slot, "step": "advance"})
 
 
@@ -93,55 +107,61 @@ RAN, FREED, LEFT, IDLE, NOTHING, FULL, PENDING, BAD_STEP = (
     line_of({"moved": it}) for it in ("ran", "freed", "left", "idle", "none", "full", "pending", "bad_step"))
 
 
-def arrived(row):
+def arrived(row: int) -> str:
     return line_of({"moved": "arrived", "row": row})
 
 
-def nested(row):
+def nested(row: int) -> str:
     return line_of({"moved": "nested", "row": row})
 
 
-def made(job):
+def made(job: int) -> str:
+    """The reply to a job that waits."""
     return line_of({"job": job})
 
 
-def placed(job, slot):
+def placed(job: int, slot: int) -> str:
+    """The reply to a job that is on a slot."""
     return line_of({"job": job, "slot": slot})
 
 
-def first(job, is_first):
+def first(job: int, is_first: bool) -> str:
+    """The reply to a cancel."""
     return line_of({"first": is_first, "job": job})
 
 
-def running(job):
+def running(job: int) -> str:
     return line_of({"job": job, "status": "running"})
 
 
-def canceled(job):
+def canceled(job: int) -> str:
     return line_of({"job": job, "status": "canceled"})
 
 
-def complete(job, value):
+def complete(job: int, value: int) -> str:
     return line_of({"job": job, "status": "complete", "value": value})
 
 
-def fault(job, number):
+def fault(job: int, number: int) -> str:
     return line_of({"fault": number, "job": job, "status": "fault"})
 
 
-def cell(key, count, total):
+def cell(key: int, count: int, total: int) -> str:
+    """The reply for the cells of a key."""
     return line_of({"count": count, "key": key, "sum": total})
 
 
-def epoch(number):
+def epoch(number: int) -> str:
+    """The reply to a retire."""
     return line_of({"epoch": number})
 
 
-def limits(priority, reserved, slots):
+def limits(priority: str, reserved: int, slots: int) -> str:
+    """The reply for the arena."""
     return line_of({"priority": priority, "reserved": reserved, "slots": slots})
 
 
-def error(code, name):
+def error(code: int, name: str) -> str:
     return line_of({"code": code, "error": name})
 
 
