@@ -5,6 +5,7 @@ import json
 import os
 import re
 import xml.etree.ElementTree as tree
+from collections.abc import Sequence
 
 from arena.trace import replay
 from arena.trace.axis import Axis
@@ -14,7 +15,7 @@ from arena.trace.html import MOST_BYTES, page
 from arena.trace.report import to_value
 from arena.trace.stats import statistics_of
 from arena.trace.svg import svg
-from arena.trace.timeline import Choice, timeline_of
+from arena.trace.timeline import Choice, Timeline, timeline_of
 from arena.trace.waiting import Waiting, levels_of
 
 DATA = os.path.join(os.path.dirname(os.path.abspath(__file__)), "data")
@@ -24,13 +25,13 @@ SPACE = "{http://www.w3.org/2000/svg}"
 CHARACTER = 0.58
 
 
-def timeline(lines, **choice):
+def timeline(lines: Sequence[str], **choice: object) -> Timeline:
     """The timeline of a dump's lines."""
     dump = parse_dump(lines)
     return timeline_of(replay(dump), dump.tenant, Choice(**choice))
 
 
-def is_well_drawn(lines):
+def is_well_drawn(lines: Sequence[str]) -> None:
     """Draws a history on each axis, in whole and in part."""
     entries = len(lines) - 1
     for axis in Axis:
@@ -61,7 +62,7 @@ def box_of(text):
     return Box(left, y - 0.75 * size, left + wide, y + 0.1 * size, text.text)
 
 
-def picture_has_room(picture):
+def picture_has_room(picture: str) -> None:
     """A picture must be XML in which each text lies within the page, and on no other text; one in a bar lies within
     the bar."""
     root = tree.fromstring(picture)
@@ -101,7 +102,7 @@ class Tags(html.parser.HTMLParser):
             self.data += data
 
 
-def page_is_whole(text, shown):
+def page_is_whole(text: str, shown: Timeline) -> None:
     """A page must be at most 5 MB, closed, without a link to anywhere, and hold each row, by itself or in a block."""
     assert len(text.encode()) <= MOST_BYTES == 5_000_000
     assert not re.search(r"(?:src|href)=|https?:|@[A-Z]+@", text)
@@ -137,7 +138,7 @@ def trace_nests(trace, shown):
     assert [event["ts"] for event in counts] == sorted({event["ts"] for event in counts})
 
 
-def levels_keep_the_greatest():
+def levels_keep_the_greatest() -> None:
     """How many rows wait: of changes that are too near to be seen the greatest number stays, for as long as it is seen."""
     def levels(spans, least):
         return [(it.at, it.rows) for it in levels_of([Waiting(begin, end, 1, 1, 0) for begin, end in spans], least)]
@@ -153,7 +154,7 @@ def levels_keep_the_greatest():
 GOLDEN = {"plain_waiter": {}, "isolated_waiter": {}, "four_workers": {"axis": Axis.CLOCK}}
 
 
-def golden(name):
+def golden(name: str) -> dict[str, str]:
     """What is drawn and said of a small dump, by the name of its file."""
     with open(os.path.join(DATA, f"{name}.jsonl")) as it:
         lines = it.readlines()
@@ -163,7 +164,7 @@ def golden(name):
             f"{name}.stat.json": json.dumps(statistics, indent=1) + "\n"}
 
 
-def write_golden():
+def write_golden() -> None:
     """Writes the golden files."""
     for name in GOLDEN:
         for file, text in golden(name).items():
@@ -172,7 +173,7 @@ def write_golden():
             print(os.path.join(DATA, file))
 
 
-def golden_files_are_drawn():
+def golden_files_are_drawn() -> int:
     """Compares with the golden files; how many there are."""
     count = 0
     for name in GOLDEN:

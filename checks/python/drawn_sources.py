@@ -1,27 +1,28 @@
 """Draws sources, as syntax trees, whose value no schedule changes, though some are not serial: cells are read where no
 other row can have written them, groups are cancelled before anything is spawned into them."""
+import random
 from dataclasses import dataclass
 
 from arena.language.faults import NOWHERE
 from arena.language.syntax import (Application, Assign, Binary, Block, Break, Call, Cancel, CellName, CellPart,
-                                   Constant, Continue, DeclareGroup, Evaluate, For, Function, Give, If, Inline,
-                                   Isolate, Let, LetBoth, LetTask, Name, Not, Number, Parameter, ParallelSum, Post,
-                                   ReadCell, Return, Spawn, StoreCell, Sync, Wait, While)
+                                   Constant, Continue, DeclareGroup, Evaluate, Expression, For, Function, Give, If,
+                                   Inline, Isolate, Item, Let, LetBoth, LetTask, Name, Not, Number, Parameter,
+                                   ParallelSum, Post, ReadCell, Return, Spawn, StoreCell, Sync, Wait, While)
 
 NUMBERS = (0, 1, 2, 3, 4, 5, 7, 10, 64, 100, -1, -3, 2**20, 2**40, 2**63 - 1, -(2**63))
 ARITHMETIC, COMPARISONS, LOGIC = "++--**/%", ("<", ">", "<=", ">=", "==", "!="), ("&&", "||")
 MOST_VARIABLES = (4, 4, 6)
 
 
-def number(value):
+def number(value: int) -> Number:
     return Number(NOWHERE, value)
 
 
-def name(text):
+def name(text: str) -> Name:
     return Name(NOWHERE, text)
 
 
-def binary(operator, left, right):
+def binary(operator: str, left: Expression, right: Expression) -> Binary:
     return Binary(NOWHERE, operator, left, right)
 
 
@@ -60,7 +61,7 @@ class Room:
 class Drawer:
     """Draws sources. Some use what makes a job not serial, if `may_be_unserial`."""
 
-    def __init__(self, draws, may_be_unserial):
+    def __init__(self, draws: random.Random, may_be_unserial: bool) -> None:
         self.draws, self.may_be_unserial, self.count = draws, may_be_unserial, 0
         self.most_variables = draws.choice(MOST_VARIABLES)
 
@@ -287,7 +288,7 @@ class Drawer:
             found = binary(self.draws.choice("+-"), binary("*", name(variable), number(factor)), found)
         return found
 
-    def program(self):
+    def program(self) -> list[Item]:
         """The items of a source whose `main` has two parameters."""
         room = Room(("a", "b"), (), (), 0)
         inlines = [Inline(NOWHERE, it, (Parameter(NOWHERE, "a"), Parameter(NOWHERE, "b")), value) for it, value in (
@@ -323,7 +324,7 @@ class Drawer:
                         Return(NOWHERE, binary("-", name("first"), name("second"))))
 
 
-def uses(expression, inline):
+def uses(expression: Expression, inline: str) -> bool:
     """Whether an expression applies an inline function."""
     match expression:
         case Application(name=found, arguments=arguments):

@@ -113,7 +113,7 @@ def history_that_fills_is_found():
     assert [it["outcome"] for it in found["jobs"]] == ["8", "running"]
 
 
-def is_found():
+def is_found() -> int:
     """Makes the dumps, and looks for what is in them; how many there are."""
     checks = (slow_job_is_found, job_near_its_fuel_is_found, tenant_that_waits_for_workers_is_found,
               history_that_fills_is_found)

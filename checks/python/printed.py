@@ -1,10 +1,11 @@
 """The source of a syntax tree, with no more parentheses than it needs, save some that are drawn."""
 import random
+from collections.abc import Sequence
 
 from arena.language.syntax import (Application, Assign, Binary, Block, Break, Call, Cancel, CellName, Constant,
-                                   Continue, DeclareGroup, Evaluate, For, Function, Give, If, Inline, Isolate, Let,
-                                   LetBoth, LetTask, Name, Not, Number, ParallelSum, Post, ReadCell, Return, Spawn,
-                                   StoreCell, Sync, Wait, While)
+                                   Continue, DeclareGroup, Evaluate, Expression, For, Function, Give, If, Inline,
+                                   Isolate, Item, Let, LetBoth, LetTask, Name, Not, Number, ParallelSum, Post,
+                                   ReadCell, Return, Spawn, Statement, StoreCell, Sync, Wait, While)
 
 LEVEL = {"||": 1, "&&": 2, "==": 3, "!=": 3, "<": 3, "<=": 3, ">": 3, ">=": 3, "+": 4, "-": 4, "*": 5, "/": 5, "%": 5}
 UNARY = 6
@@ -14,13 +15,14 @@ SOMETIMES = 0.05
 class Printer:
     """Prints trees; `draws` says where parentheses stand that are not needed, and which short forms are taken."""
 
-    def __init__(self, draws: random.Random):
+    def __init__(self, draws: random.Random) -> None:
         self.draws = draws
 
-    def program(self, items):
+    def program(self, items: Sequence[Item]) -> str:
+        """The source of some items."""
         return "\n".join(self.item(it) for it in items) + "\n"
 
-    def item(self, it):
+    def item(self, it: Item) -> str:
         match it:
             case Constant():
                 return f"{'param' if it.is_parameter else 'const'} {it.name} = {self.expression(it.value)}"
@@ -31,15 +33,15 @@ class Printer:
             case Function():
                 return f"fn {it.name}({self.parameters(it)}) {self.block(it.body, '')}"
 
-    def parameters(self, it):
+    def parameters(self, it: Inline | Function) -> str:
         return ", ".join(p.name if p.bits is None else f"{p.name}: u{p.bits}" for p in it.parameters)
 
-    def block(self, block, indent):
+    def block(self, block: Block, indent: str) -> str:
         inner = indent + "    "
         lines = [f"{inner}{self.statement(it, inner)}\n" for it in block.statements]
         return "{\n" + "".join(lines) + indent + "}"
 
-    def statement(self, it, indent):
+    def statement(self, it: Statement, indent: str) -> str:
         match it:
             case Let(name=name, value=value):
                 return f"let {name} = {self.expression(value)}"
@@ -79,24 +81,24 @@ class Printer:
             case If():
                 return self.conditional(it, indent)
 
-    def conditional(self, it, indent):
+    def conditional(self, it: If, indent: str) -> str:
         text = f"if {self.expression(it.condition)} {self.block(it.then, indent)}"
         return f"{text} else {self.block(it.otherwise, indent)}" if it.otherwise.statements else text
 
-    def assignment(self, name, value):
+    def assignment(self, name: str, value: Expression) -> str:
         is_short = isinstance(value, Binary) and isinstance(value.left, Name) and value.left.name == name
         if is_short and value.operator in "+-*/%" and self.draws.random() < 0.7:
             return f"{name} {value.operator}= {self.expression(value.right)}"
         return f"{name} = {self.expression(value)}"
 
-    def application(self, it: Application):
+    def application(self, it: Application) -> str:
         return f"{it.name}({', '.join(self.expression(argument) for argument in it.arguments)})"
 
-    def expression(self, it, level=0):
+    def expression(self, it: Expression, level: int = 0) -> str:
         text, own = self.bare(it)
         return f"({text})" if own < level or self.draws.random() < SOMETIMES else text
 
-    def bare(self, it):
+    def bare(self, it: Expression) -> tuple[str, int]:
         """The text without parentheses around it, and how strongly it binds."""
         match it:
             case Number(value=value):

@@ -8,6 +8,7 @@ import os
 import subprocess
 import sys
 import time
+from collections.abc import Sequence
 from concurrent.futures import ThreadPoolExecutor
 
 CHECKS = ("language", "faults", "assembler", "trace", "page", "commands", "fuel", "lint", "refusals", "damaged", "worked",
@@ -15,7 +16,7 @@ CHECKS = ("language", "faults", "assembler", "trace", "page", "commands", "fuel"
 FOLDER = os.path.dirname(os.path.abspath(__file__))
 
 
-def run(check):
+def run(check: str) -> tuple[bool, str]:
     """Runs a check. Returns whether it passed, and what it printed, with how long it took."""
     start = time.monotonic()
     pipes = {"stdout": subprocess.PIPE, "stderr": subprocess.STDOUT, "text": True}
@@ -24,9 +25,12 @@ def run(check):
     return done.returncode == 0, f"{done.stdout}{check}: {said}, {time.monotonic() - start:.0f} s"
 
 
-def main(checks):
-    """Runs checks side by side, as many as there are processors, the longest first."""
+def main(checks: Sequence[str]) -> list[str]:
+    """Runs checks side by side, as many as there are processors, the longest first. Returns those that failed, and ends
+    the program if one is named that is not there."""
     checks, failed = checks or CHECKS, []
+    if unknown := [check for check in checks if check not in CHECKS]:
+        sys.exit(f"no check is called {', '.join(unknown)}")
     with ThreadPoolExecutor(len(os.sched_getaffinity(0))) as pool:
         for check, (passed, text) in zip(checks, pool.map(run, checks)):
             print(text, flush=True)

@@ -1,9 +1,11 @@
 """A walk over the syntax tree of a source, as docs/LANGUAGE.md describes it: every task runs as soon as it is made. It
 has its own arithmetic, and shares nothing with the compiler but the classes of the tree."""
+from collections.abc import Sequence
+
 from arena.language.syntax import (Application, Assign, Binary, Break, Call, Cancel, CellName, CellPart, Constant,
-                                   Continue, DeclareGroup, Evaluate, For, Function, Give, If, Inline, Isolate, Let,
-                                   LetBoth, LetTask, Name, Not, Number, ParallelSum, Post, ReadCell, Return, Spawn,
-                                   StoreCell, Sync, Wait, While)
+                                   Continue, DeclareGroup, Evaluate, For, Function, Give, If, Inline, Isolate, Item,
+                                   Let, LetBoth, LetTask, Name, Not, Number, ParallelSum, Post, ReadCell, Return,
+                                   Spawn, StoreCell, Sync, Wait, While)
 
 HALF = 2**63
 
@@ -32,11 +34,12 @@ class Continued(Exception):
     """The next turn of a loop."""
 
 
-def wrapped(number):
+def wrapped(number: int) -> int:
+    """The number as a signed one of 64 bits."""
     return (number + HALF) % (2 * HALF) - HALF
 
 
-def divided(a, b):
+def divided(a: int, b: int) -> int:
     """a / b rounded toward zero."""
     if b == 0:
         raise DivisionByZero
@@ -50,7 +53,7 @@ class Group:
     def __init__(self):
         self.total, self.is_cancelled = 0, False
 
-    def waited(self):
+    def waited(self) -> tuple[int, int]:
         """Its total and status; then it begins anew."""
         found = self.total, 2 if self.is_cancelled else 1
         self.total, self.is_cancelled = 0, False
@@ -60,10 +63,11 @@ class Group:
 class Scope:
     """Variables of a block, by their names; what is not here is further out."""
 
-    def __init__(self, outer=None):
+    def __init__(self, outer: "Scope | None" = None) -> None:
         self.outer, self.own = outer, {}
 
-    def holder(self, name):
+    def holder(self, name: str) -> dict[str, object]:
+        """The variables of the block that a name is of."""
         scope = self
         while name not in scope.own:
             scope = scope.outer
@@ -86,7 +90,8 @@ class Frame:
 class Walk:
     """Walks over the items of a source on an arena of so many slots. `turns` and `rows` count what it took."""
 
-    def __init__(self, items, slots=1, turns=2_000, rows=100):
+    def __init__(self, items: Sequence[Item], slots: int = 1, turns: int = 2_000, rows: int = 100) -> None:
+        """Raises DivisionByZero where a constant divides by 0."""
         self.functions = {it.name: it for it in items if isinstance(it, Function)}
         self.inlines = {it.name: it for it in items if isinstance(it, Inline)}
         self.cells = {it.name: None for it in items if isinstance(it, CellName)}
@@ -96,16 +101,19 @@ class Walk:
             if isinstance(it, Constant):
                 self.constants[it.name] = self.value(it.value, Scope(), Frame())
 
-    def root(self, args):
-        """What the job's root returns. `main` has as many parameters as there are arguments, or fewer."""
+    def root(self, args: Sequence[int]) -> int:
+        """What the job's root returns. `main` has as many parameters as there are arguments, or fewer. Raises
+        DivisionByZero, TooLong."""
         return self.call("main", args)
 
-    def turn(self):
+    def turn(self) -> None:
+        """Takes one turn. Raises TooLong."""
         self.turns_left -= 1
         if self.turns_left < 0:
             raise TooLong
 
-    def call(self, name, args):
+    def call(self, name: str, args: Sequence[int]) -> int:
+        """What a function returns, as a row of its own. Raises DivisionByZero, TooLong."""
         self.rows, self.rows_left = self.rows + 1, self.rows_left - 1
         if self.rows_left < 0:
             raise TooLong
