@@ -123,11 +123,11 @@ def threads_that_wait_use_no_processor() -> None:
 def half_closed_clients() -> None:
     """A client that only ends its sending side gets all that it is owed."""
     host = Host([tenant("acme")], "--connections", 2)
-    client, replies = host.connect()
-    client.sendall((json.dumps(fib(6)) + "\n" + json.dumps(fib(7)) + "\n").encode())
-    client.shutdown(socket.SHUT_WR)
-    assert [json.loads(line)["value"] for line in replies] == [8, 13]
-    hang_up((client, replies))
+    connection = host.connect()
+    connection.client.sendall((json.dumps(fib(6)) + "\n" + json.dumps(fib(7)) + "\n").encode())
+    connection.client.shutdown(socket.SHUT_WR)
+    assert [json.loads(line)["value"] for line in connection.replies] == [8, 13]
+    hang_up(connection)
     assert host.stop() == 0
 
 

@@ -59,11 +59,11 @@ def is_closed(lines: Sequence[str], names: Sequence[str] = ("acme",)) -> bool:
 def client_that_collects_and_goes() -> None:
     """No slot may ever start the job: the only one is reserved for executes."""
     server = Server([tenant("acme", 1, 1)], 1, 1)
-    client, replies = greeted(server)
-    send(client, {"op": "submit", "job": SEVEN}, {"op": "collect", "job": 1})
-    assert json.loads(replies.readline()) == {"job": 1}
+    waiting = greeted(server)
+    send(waiting.client, {"op": "submit", "job": SEVEN}, {"op": "collect", "job": 1})
+    assert json.loads(waiting.replies.readline()) == {"job": 1}
     began = time.monotonic()
-    hang_up((client, replies))
+    hang_up(waiting)
     assert server.end() == (["acme: closed, 1 entries"], "", 0)
     assert time.monotonic() - began < SOON
 
