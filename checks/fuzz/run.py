@@ -28,6 +28,9 @@ SEED, ROUNDS = 1, 400
 # How long the rounds may take at most, in seconds: some minutes, and as long again for each round beyond those of the gate.
 PATIENCE = 300
 MOST_JOBS = 10_000
+# As many procedures as a program may have. Each but the last runs the next one as a region.
+REGIONS = {"args": [3, 4], "fuel": 1000,
+           "procs": [*([["isolate", 2, number + 1, 0, 1], ["ret", 2]] for number in range(15)), [["ret", 0]]]}
 
 KINDS = [
     *(f"advance: {it}" for it in ("ran", "nested", "freed", "left", "idle", "stale", "full")),
@@ -56,6 +59,7 @@ def build() -> None:
 def jobs(seed: int, count: int) -> Iterator[dict]:
     """Yields the worked jobs, and as many drawn ones as are wanted."""
     yield from (job for name, job in worked_jobs().items() if name != "NOT_VALID")
+    yield REGIONS
     draws = Draws(random.Random(seed))
     ways = [draws.job, lambda: draws.job(is_serial=True), draws.nest, draws.tower, draws.tree]
     for draw in draws.random.choices(ways, [10, 2, 4, 1, 3], k=count):

@@ -10,9 +10,10 @@ import time
 import clients
 import ends
 import rotations
+import sharing
 import starts
 
-CHECKS = [check for module in (starts, clients, rotations, ends) for check in module.CHECKS]
+CHECKS = [check for module in (starts, clients, sharing, rotations, ends) for check in module.CHECKS]
 
 
 def main() -> None:

@@ -3,20 +3,27 @@
 Each server writes dumps, and `arena-script check` must answer `yes` to all of them.
 
 usage: checks/server/run.py, at the top of the repository, after `rt ci`, or `rt run` in crates/server_program and in
-crates/script_program.
+crates/script_program. It needs `cc` on the path.
 """
 import json
 import os
+import pathlib
 import select
 import socket
+import subprocess
+import tempfile
 import threading
 from collections.abc import Callable
 
 import endings
+import levels
 import requests
 import starts
 from requests import job
 from servers import FIB, HELLO, PATIENCE, SEVEN, Server, dump_lines, side_by_side, tenant
+
+# A library by which no file is brought to the disk.
+UNFLUSHED = pathlib.Path(__file__).with_name("unflushed.c")
 
 
 def job_is_executed_and_polled() -> None:
@@ -298,6 +305,18 @@ def dump_that_fails_is_left_out() -> None:
     assert sorted(os.listdir(server.dumps)) == ["acme.jsonl", "beta.jsonl"] and dump_lines(server.dumps, "beta") == 1
 
 
+def dump_that_is_not_flushed_is_left_out() -> None:
+    """A dump takes its name only once the system has said that it is on the disk, which here it never says."""
+    with tempfile.TemporaryDirectory() as folder:
+        library = os.path.join(folder, "unflushed.so")
+        subprocess.run(["cc", "-shared", "-fPIC", "-o", library, UNFLUSHED], check=True, timeout=PATIENCE)
+        server = Server([tenant("acme", 1, 1)], 1, 1, preload=library)
+        server.ask(HELLO)
+        out, err = server.process.communicate(timeout=PATIENCE)
+    assert (out, err, server.process.returncode) == ("acme: closed, 0 entries\n", "arena-server: device\n", 3)
+    assert os.listdir(server.dumps) == []
+
+
 def socket_may_be_gone_at_the_end() -> None:
     server = Server([tenant("acme", 1, 1)], 1, 1)
     with server.connect():
@@ -312,7 +331,8 @@ CHECKS = [job_is_executed_and_polled, workers_share_a_job, tenants_do_not_see_ea
           jobs_are_retired_round_after_round, jobs_are_retired_beside_clients_that_run_them, dump_is_the_history,
           dump_has_the_job_that_was_sent,
           waiting_ends_at_a_full_history, executes_end_at_a_full_history, folder_of_dumps_is_missing,
-          dump_that_fails_is_left_out, socket_may_be_gone_at_the_end, *starts.CHECKS, *endings.CHECKS]
+          dump_that_fails_is_left_out, dump_that_is_not_flushed_is_left_out, socket_may_be_gone_at_the_end,
+          *starts.CHECKS, *levels.CHECKS, *endings.CHECKS]
 
 
 def main() -> None:

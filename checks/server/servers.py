@@ -81,8 +81,9 @@ class Server:
     """A server on a socket in a folder of its own, which goes when it ends, or in the folder of another server."""
 
     def __init__(self, tenants: list[dict], workers: int, connections: int, memory: int = resource.RLIM_INFINITY,
-                 beside: "Server | None" = None) -> None:
-        """Starts it, and waits until it listens. `memory` is what it may map at most, in bytes."""
+                 beside: "Server | None" = None, preload: str = "") -> None:
+        """Starts it, and waits until it listens. `memory` is what it may map at most, in bytes, and `preload` the path of a
+        library that is loaded before the C library."""
         self.folder = beside.folder if beside else tempfile.TemporaryDirectory()
         self.path = os.path.join(self.folder.name, "socket")
         self.dumps = os.path.join(self.folder.name, "dumps")
@@ -92,7 +93,7 @@ class Server:
             json.dump({"tenants": tenants, "workers": workers}, it)
         words = ["--config", config, "--socket", self.path, "--connections", str(connections), "--dump", self.dumps]
         self.process = subprocess.Popen([PROGRAM, *words], stdout=subprocess.PIPE, stderr=subprocess.PIPE, text=True,
-                                        preexec_fn=limited(memory))
+                                        preexec_fn=limited(memory), env={**os.environ, "LD_PRELOAD": preload})
         atexit.register(self.process.kill)  # where a check fails, its server goes too
         assert select.select([self.process.stdout], [], [], PATIENCE)[0], "it neither listens nor ends"
         assert self.process.stdout.readline() == "listening\n"
