@@ -170,8 +170,9 @@ impl Pair {
             return Some(Difference::Heights { slot, arena, solo });
         }
         match (self.arena.view(slot), solo) {
-            (View::Bare, 0) | (View::Unshared, _) => None,
-            (View::Bare, _) | (View::Top(_), 0) => Some(Difference::View { slot }),
+            (View::Bare, 0) => None,
+            // No handle on a program is refused here.
+            (View::Bare | View::Unshared, _) | (View::Top(_), 0) => Some(Difference::View { slot }),
             (View::Top(_), _) => None,
         }
     }

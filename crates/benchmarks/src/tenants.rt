@@ -9,7 +9,7 @@ use std::alloc::Global;
 #[derive(Clone, Copy)]
 pub(crate) struct Size {
     pub(crate) slots: u8,
-    /// The slots for masters.
+    /// The reserved slots.
     pub(crate) reserved: u8,
     pub(crate) rows: usize,
     pub(crate) steps: usize,

@@ -87,9 +87,18 @@ fn reply_of<R: Wait>(rt: &R, door: &TenantDoor, asked: AskOutcome) -> Reply {
         pass,
     } = asked;
     if let Some(pass) = pass {
-        door.give_home(rt, pass);
+        give_home(rt, door, pass);
     }
     reply
+}
+
+/// Gives a pass home. One of another tenant ends.
+fn give_home<R: Wait>(rt: &R, door: &TenantDoor, pass: Pass) {
+    if pass.tenant() == door.tenant() {
+        door.give_home(rt, pass);
+    } else {
+        door.end_foreign(rt, pass);
+    }
 }
 
 /// Asks for what brings the job, again if it was refused for lack of memory.
@@ -128,7 +137,7 @@ fn work<R: Wait>(rt: &R, door: &TenantDoor) -> Option<()> {
             None => return is_left(moved),
         }
     }
-    door.give_home(rt, pass);
+    give_home(rt, door, pass);
     None
 }
 
@@ -142,7 +151,7 @@ fn is_left(moved: Moved) -> Option<()> {
 /// Advances the slot of a pass. A pass that is not of the door's tenant is ended.
 fn advance<R: Wait>(rt: &R, door: &TenantDoor, pass: Pass) -> Option<Advanced> {
     if pass.tenant() != door.tenant() {
-        door.give_home(rt, pass);
+        give_home(rt, door, pass);
         return None;
     }
     Some(door.advance(rt, pass))
@@ -162,17 +171,17 @@ fn commit_all<R: Wait>(rt: &R, door: &TenantDoor, first: Pass) -> Option<()> {
             None => return Some(()),
         }
     }
-    door.give_home(rt, pass);
+    give_home(rt, door, pass);
     None
 }
 
-/// Commits the private run of the topmost frame of a pass's slot. Where there is none, the pass goes home.
+/// Commits the private run of the topmost frame of a pass's slot. If there is none, the pass goes home.
 fn commit<R: Wait>(rt: &R, door: &TenantDoor, pass: Pass) -> Option<Advanced> {
     let segment = again(|| seen(rt, door, &pass));
     match segment {
         Some(segment) if pass.tenant() == door.tenant() => Some(door.commit(rt, pass, segment)),
         _ => {
-            door.give_home(rt, pass);
+            give_home(rt, door, pass);
             None
         }
     }

@@ -1,9 +1,9 @@
 -- The generations of a host, and what may become of them.
 use Rattle.std.specs.Prelude.{ℕ, suc, ◌==◌, ◌||◌, Bool, false, List, [], ◌∷◌, ◌++◌, ◌+◌, Option, Some, None, length, option_map, map, filter, find, not, if◌then◌else◌, ◌≤◌, nat_le}
 use Rattle.generation_life.specs.declared.generations.Leaving.{Leaving}
-use Rattle.generation_life.specs.declared.generations.Stage.{Stage}
+use Rattle.generation_life.specs.declared.generations.LifeStage.{LifeStage}
 use Rattle.generation_life.specs.declared.generations.Why.{Why}
-use Rattle.generation_life.specs.declared.generations.Stage.TheVariants.{Serving, Draining, Closing}
+use Rattle.generation_life.specs.declared.generations.LifeStage.TheVariants.{Serving, Draining, Closing}
 
 -- the generation that serves, those that are left but not closed, and the number of the next one
 pub record Line : Type 0 where
@@ -18,11 +18,11 @@ abbrev pub is_serving : Option ℕ → ℕ → Bool
 is_serving None n = false
 is_serving (Some m) n = m == n
 
-abbrev pub stage_left : Leaving → Stage
+abbrev pub stage_left : Leaving → LifeStage
 stage_left g = if g.is_closing then Closing else Draining
 
 -- the stage of the generation of a number; none if it was not opened yet, or is closed
-abbrev pub stage_of : Line → ℕ → Option Stage
+abbrev pub stage_of : Line → ℕ → Option LifeStage
 stage_of l n = if is_serving l.serving n then Some Serving else option_map stage_left (find (has_number n) l.leaving)
 
 -- why the generation of a number is left; none if it is not
@@ -61,7 +61,7 @@ closing_if n g = record g { is_closing = g.is_closing || (g.number == n) }
 abbrev pub closing : ℕ → Line → Line
 closing n l = record l { leaving = map (closing_if n) l.leaving }
 
--- The generation of that number, if it is being closed, is closed.
+-- The generation of that number, if it was left, is closed.
 abbrev pub ended : ℕ → Line → Line
 ended n l = record l { leaving = filter (λ g. not (has_number n g)) l.leaving }
 

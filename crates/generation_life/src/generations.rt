@@ -21,7 +21,7 @@ pub enum Why {
 /// The stage of a generation that was opened and is not closed.
 #[derive(Clone, Copy, Debug, PartialEq, Eq, Serialize)]
 #[serde(rename_all = "lowercase")]
-pub enum Stage {
+pub enum LifeStage {
     /// It takes new connections.
     Serving,
     /// It goes on for the connections that it has.
@@ -42,13 +42,13 @@ pub struct Leaving {
 }
 
 impl Leaving {
-    fn stage(&self) -> Stage
+    fn stage(&self) -> LifeStage
         ensures { result ≡ stage_left self.now }
     {
         if self.is_closing {
-            Stage::Closing
+            LifeStage::Closing
         } else {
-            Stage::Draining
+            LifeStage::Draining
         }
     }
 }
@@ -108,11 +108,11 @@ impl Generations {
     }
 
     /// The stage of the generation of that number. None if it was not opened yet, or is closed.
-    pub fn stage(&self, number: u64) -> Option<Stage>
+    pub fn stage(&self, number: u64) -> Option<LifeStage>
         ensures { result ≡ stage_of self.now number }
     {
         match self.serving {
-            Some(serving) if serving == number => Some(Stage::Serving),
+            Some(serving) if serving == number => Some(LifeStage::Serving),
             _ => self.leaving_stage(number),
         }
     }
@@ -128,7 +128,7 @@ impl Generations {
     }
 
     /// The stage of a generation that serves no more.
-    fn leaving_stage(&self, number: u64) -> Option<Stage>
+    fn leaving_stage(&self, number: u64) -> Option<LifeStage>
         ensures { result ≡ option_map stage_left (find (has_number number) self.now.leaving) }
     {
         self.leaving

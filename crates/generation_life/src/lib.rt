@@ -6,4 +6,4 @@ mod dumps;
 mod generations;
 
 pub use dumps::Shelf;
-pub use generations::{Generations, Leaving, Stage, Why};
+pub use generations::{Generations, Leaving, LifeStage, Why};

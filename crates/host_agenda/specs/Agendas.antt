@@ -3,8 +3,8 @@ use Rattle.std.specs.Prelude.{◌≡◌, ◌≤◌, ◌<◌, ◌⊎◌, ℕ, IsS
 use Rattle.generation_life.specs.Lines.{alive, drained, is_over, opened}
 use Rattle.generation_life.specs.declared.generations.Why.{Why}
 use Rattle.generation_life.specs.declared.generations.Why.TheVariants.{File, History, Stop}
-use Rattle.host_agenda.specs.declared.agenda.Step.{Step}
-use Rattle.host_agenda.specs.declared.agenda.Step.TheVariants.{Wait, Open, Hold, Failed, End}
+use Rattle.host_agenda.specs.declared.agenda.HostStep.{HostStep}
+use Rattle.host_agenda.specs.declared.agenda.HostStep.TheVariants.{Wait, Open, Hold, Failed, End}
 use Rattle.host_agenda.specs.declared.agenda.TheConstants.{MOST_ALIVE}
 use Rattle.host_agenda.specs.States.{State}
 
@@ -37,7 +37,7 @@ still_asked (Some Stop) = Some Stop
 -- fewer are there than may be; that it has to wait for that is said once; a failure is reported once, and before anything
 -- else is done; the host ends once it stops, all generations are closed and none is being opened; and it waits only if there
 -- is nothing else to do.
-abbrev pub Takes : State → Step → State → Type 0
+abbrev pub Takes : State → HostStep → State → Type 0
 Takes old Wait new = HasNothingToDo old × (new ≡ old)
 Takes old (Open left) new =
     (old.is_opening ≡ false) × (old.is_stopping ≡ false) × (old.failed ≡ None) × Leaves old.generations.serving old.wish left

@@ -3,13 +3,13 @@ ghost use Rattle.host_agenda.specs.States.{AreFew, State};
 
 mod steps;
 
-use generation_life::{Generations, Stage, Why};
+use generation_life::{Generations, LifeStage, Why};
 use server_io::ServerEnd;
 use std::marker::Model;
 
 /// What the thread that opens generations is to do next.
 #[derive(Clone, Copy, Debug, PartialEq, Eq)]
-pub enum Step {
+pub enum HostStep {
     /// Nothing but to wait.
     Wait,
     /// Open a generation. The one of that number serves, and is to be left for that reason.
@@ -26,7 +26,7 @@ pub enum Step {
 #[derive(Clone, Copy, Debug, PartialEq, Eq)]
 pub struct Look {
     /// How far its life is. None if it is closed.
-    pub stage: Option<Stage>,
+    pub stage: Option<LifeStage>,
     /// Why it was left, if it was.
     pub why: Option<Why>,
     /// Whether the host stops.
@@ -37,6 +37,8 @@ pub struct Look {
 /// histories in memory. That many are there if each drains for the 30 seconds that a host has by default, and a rotation
 /// comes every two.
 pub const MOST_ALIVE: usize = 16;
+
+const _: () = prove!(MOST_ALIVE == 16);
 
 /// The generations of a host that are not closed, and what is to be done about them.
 #[derive(Drop)]

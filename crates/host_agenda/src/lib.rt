@@ -4,5 +4,5 @@
 mod agenda;
 mod shares;
 
-pub use agenda::{Agenda, Look, MOST_ALIVE, Step};
+pub use agenda::{Agenda, HostStep, Look, MOST_ALIVE};
 pub use shares::is_used;

@@ -1,8 +1,10 @@
 // What the generations of a host share.
+ghost use Rattle.std.specs.Prelude.{◌≡◌, ◌||◌};
+ghost use Rattle.generation_life.specs.Lines.{ended};
 
-use generation_life::{Stage, Why};
-use host_agenda::{Agenda, Look, Step};
-use host_status::{ClosedGeneration, Generation, Status, status_line};
+use generation_life::{LifeStage, Why};
+use host_agenda::{Agenda, HostStep, Look};
+use host_status::{ClosedGeneration, Generation, HostStatus, status_line};
 use server_io::ServerEnd;
 use std::alloc::{AllocError, Global};
 use std::sync::{Condvar, CondvarTimeouts, Mutex, Wait};
@@ -21,6 +23,25 @@ struct Kept {
     living: Vec<Generation>,
     /// The last ones that were closed, the newest last.
     closed: Vec<ClosedGeneration>,
+}
+
+impl Kept {
+    /// Notes that a generation is closed, and whether some tenant of it was closed with a fault.
+    fn end(&mut self, closed: ClosedGeneration, has_fault: bool)
+        ensures fault { self.new.has_close_fault ≡ (self.old.has_close_fault || has_fault) }
+        ensures agenda { self.new.agenda ≡ record self.old.agenda
+            { generations = ended closed.generation self.old.agenda.generations } }
+    {
+        let number = closed.generation;
+        self.has_close_fault |= has_fault;
+        self.living.retain(|known| known.generation != number);
+        if self.closed.len() >= SHOWN {
+            self.closed.remove(0);
+        }
+        // It is missing among those that are shown, and nowhere else.
+        let _ = self.closed.push(closed);
+        self.agenda.end(number);
+    }
 }
 
 /// What the generations of a host share, and the thread that opens them.
@@ -46,7 +67,7 @@ impl Host {
 
     /// What is to be done next. `Open`, `Hold` and `Failed` come once each: then a generation is being opened, or it is
     /// known that the next one waits, or that one failed.
-    pub fn step<R: Wait>(&self, rt: &R) -> Step {
+    pub fn step<R: Wait>(&self, rt: &R) -> HostStep {
         self.kept.lock(rt).agenda.step()
     }
 
@@ -134,24 +155,15 @@ impl Host {
         kept.agenda.close(number);
         for known in kept.living.iter_mut() {
             if known.generation == number {
-                known.state = Stage::Closing;
+                known.state = LifeStage::Closing;
             }
         }
     }
 
-    /// The generation is closed. What it was is shown, unless an allocation fails.
-    pub fn end<R: Wait>(&self, rt: &R, closed: ClosedGeneration) {
-        let number = closed.generation;
-        let has_fault = closed.tenants.iter().any(|tenant| tenant.fault.is_some());
-        let mut kept = self.kept.lock(rt);
-        kept.has_close_fault |= has_fault;
-        kept.living.retain(|known| known.generation != number);
-        if kept.closed.len() >= SHOWN {
-            kept.closed.remove(0);
-        }
-        // It is missing among those that are shown, and nowhere else.
-        let _ = kept.closed.push(closed);
-        kept.agenda.end(number);
+    /// The generation is closed, and some tenant of it was closed with a fault or none was. What it was is shown, unless
+    /// an allocation fails.
+    pub fn end<R: Wait>(&self, rt: &R, closed: ClosedGeneration, has_fault: bool) {
+        self.kept.lock(rt).end(closed, has_fault);
         self.changed.notify_all();
     }
 
@@ -161,10 +173,10 @@ impl Host {
         &self,
         rt: &R,
         alloc: Global,
-        status: Status<'_>,
+        status: HostStatus<'_>,
     ) -> Result<String, serde_json::Error> {
         let kept = self.kept.lock(rt);
-        let Status {
+        let HostStatus {
             time,
             began,
             connections,
@@ -174,7 +186,7 @@ impl Host {
             memory,
             ..
         } = status;
-        let whole = Status {
+        let whole = HostStatus {
             time,
             began,
             connections,

@@ -5,7 +5,7 @@ use crate::living::Setting;
 use crate::places::Place;
 use crate::reception::Reception;
 use crate::reports::{Facts, is_one_used, report};
-use generation_life::{Stage, Why};
+use generation_life::{LifeStage, Why};
 use host_agenda::Look;
 use host_status::{Event, Fault};
 use server_io::ServerEnd;
@@ -176,7 +176,7 @@ impl<'s, 'p> Life<'s, 'p> {
             ..
         } = self.setting;
         match self.phase {
-            Phase::Serving if look.stage == Some(Stage::Serving) => {
+            Phase::Serving if look.stage == Some(LifeStage::Serving) => {
                 if is_one_used(rt, house, config, terms.rotate_at) {
                     host.wish(rt, Why::History);
                 }
@@ -220,7 +220,7 @@ impl<'s, 'p> Life<'s, 'p> {
         } = self.setting;
         let facts = Facts {
             number: self.number,
-            stage: look.stage.unwrap_or(Stage::Draining),
+            stage: look.stage.unwrap_or(LifeStage::Draining),
             why: look.why,
             began: self.began,
             connections: self.reception.guests(rt),

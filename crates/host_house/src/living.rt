@@ -1,5 +1,5 @@
 // The threads of a generation.
-ghost use Rattle.std.specs.Prelude.{◌≡◌, IfOk, IfSome, length};
+ghost use Rattle.std.specs.Prelude.{◌≡◌, ◌<◌, ◌≤◌, [], IfOk, IfSome, length};
 ghost use Rattle.server_house.specs.Shared.{ArePassesOf};
 
 use crate::desks::{Desk, attend_desk};
@@ -223,11 +223,14 @@ fn next_posts<'h>(
     alloc: Global,
     posts: &mut Posts<'h>,
     count: usize,
-) -> Result<Vec<Post<'h>>, AllocError> {
+) -> Result<Vec<Post<'h>>, AllocError>
+    ensures most { IfOk result (λ taken. length taken.items ≤ count) }
+    ensures all { IfOk result (λ taken. length taken.items < count → posts.new.passes ≡ []) }
+{
     let mut taken = Vec::with_capacity(alloc, count)?;
     for _post in 0..count {
         let Some(post) = posts.next() else {
-            break;
+            return Ok(taken);
         };
         taken.push(post)?;
     }

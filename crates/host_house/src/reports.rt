@@ -1,9 +1,9 @@
 // What a generation reports of itself.
 
 use crate::places::Place;
-use generation_life::{Stage, Why};
+use generation_life::{LifeStage, Why};
 use host_agenda::is_used;
-use host_status::{Generation, Jobs, Rows, Tenant, Worker};
+use host_status::{Generation, Jobs, Rows, TenantStatus, Worker};
 use job_language::Config;
 use server_house::House;
 use std::alloc::{AllocError, Global};
@@ -14,7 +14,7 @@ use tenant_lock::JobTally;
 #[derive(Clone, Copy)]
 pub(crate) struct Facts {
     pub(crate) number: u64,
-    pub(crate) stage: Stage,
+    pub(crate) stage: LifeStage,
     pub(crate) why: Option<Why>,
     /// In seconds since 1970.
     pub(crate) began: u64,
@@ -79,11 +79,11 @@ fn tenants<R: Wait>(
     alloc: Global,
     house: &House,
     config: &Config,
-) -> Result<Vec<Tenant>, AllocError> {
+) -> Result<Vec<TenantStatus>, AllocError> {
     let mut tenants = Vec::with_capacity(alloc, config.tenants().len())?;
     for (door, tenant) in house.doors().iter().zip(config.tenants()) {
         let (counts, tally) = (door.counts(rt), door.tally(rt));
-        tenants.push(Tenant {
+        tenants.push(TenantStatus {
             tenant: String::from_str(alloc, tenant.tenant().name.as_str())?,
             steps: tenant.tenant().steps,
             entries: counts.entries,

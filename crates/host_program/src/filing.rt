@@ -48,6 +48,8 @@ pub(crate) struct Filing {
     failures: u32,
     /// Until when to wait before it is tried again, in milliseconds of the monotonic clock.
     rest: u64,
+    /// Whether some tenant was closed with a fault.
+    has_fault: bool,
     /// What the status will show of the tenants that are done with.
     tenants: Vec<ClosedTenant>,
 }
@@ -61,6 +63,7 @@ impl Filing {
             at: 0,
             failures: 0,
             rest: 0,
+            has_fault: false,
             tenants: Vec::new(alloc),
         })
     }
@@ -256,6 +259,7 @@ impl Filing {
         let mut filing = self;
         // It is missing among those that are shown, and nowhere else.
         let _ = filing.note(alloc, entries, fault, dumped);
+        filing.has_fault |= fault.is_some();
         filing.at = filing.at.saturating_add(1);
         filing.failures = 0;
         filing.rest = 0;
@@ -308,7 +312,12 @@ impl Filing {
 
     /// The generation has ended.
     fn end<R: Wait + Clock + Eprint>(self, rt: &R, alloc: Global, host: &Host) {
-        let Filing { left, tenants, .. } = self;
+        let Filing {
+            left,
+            has_fault,
+            tenants,
+            ..
+        } = self;
         let Left { lived, since, .. } = left;
         let ms = millis(rt).saturating_sub(since);
         say(
@@ -332,6 +341,7 @@ impl Filing {
                 ms,
                 tenants,
             },
+            has_fault,
         );
     }
 }

@@ -10,7 +10,7 @@ use crate::showing::show;
 use crate::system::System;
 use crate::writing::{Writer, write_histories};
 use generation_life::Why;
-use host_agenda::Step;
+use host_agenda::HostStep;
 use host_house::{Eyes, Host, Terms, millis, say, seconds};
 use host_status::Event;
 use job_language::Config;
@@ -163,9 +163,9 @@ impl<'h> Keeper<'h> {
     }
 
     /// What is to be done next.
-    fn step<R: Wait + Clock>(&self, rt: &R) -> Step {
+    fn step<R: Wait + Clock>(&self, rt: &R) -> HostStep {
         if millis(rt) < self.rest && !self.is_stopping {
-            return Step::Wait;
+            return HostStep::Wait;
         }
         self.office.host.step(rt)
     }
@@ -176,25 +176,25 @@ impl<'h> Keeper<'h> {
         R: Files + Net + Wait + Clock + Print + Eprint + AllocGlobal,
     {
         match self.step(rt) {
-            Step::Wait => Next::Stay,
-            Step::Open(left) => match self.prepare(rt, alloc, left, site) {
+            HostStep::Wait => Next::Stay,
+            HostStep::Open(left) => match self.prepare(rt, alloc, left, site) {
                 Ok(plan) => Next::Open(plan),
                 Err(fault) => {
                     site.host.give_up(rt, fault);
                     Next::Stay
                 }
             },
-            Step::Hold(left) => {
+            HostStep::Hold(left) => {
                 if let Some((generation, why)) = left {
                     say(rt, alloc, Event::Waiting { generation, why });
                 }
                 Next::Stay
             }
-            Step::Failed(fault) => match self.note_failure(rt, alloc, fault) {
+            HostStep::Failed(fault) => match self.note_failure(rt, alloc, fault) {
                 Ok(()) => Next::Stay,
                 Err(end) => Next::End(Err(end)),
             },
-            Step::End => Next::End(Ok(self.end(rt))),
+            HostStep::End => Next::End(Ok(self.end(rt))),
         }
     }
 

@@ -3,7 +3,7 @@
 use crate::folders::Folder;
 use generation_life::Why;
 use host_house::{Host, seconds};
-use host_status::Status;
+use host_status::HostStatus;
 use program_words::HostWords;
 use server_io::ServerEnd;
 use std::alloc::Global;
@@ -28,7 +28,7 @@ pub(crate) fn show<R: Files + Wait + Clock + AllocGlobal>(
     let alloc = rt.alloc();
     let memory = resident(rt);
     let time = seconds(rt);
-    let status = Status {
+    let status = HostStatus {
         time,
         began,
         connections: words.connections,

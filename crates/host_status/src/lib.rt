@@ -6,5 +6,6 @@ mod status;
 
 pub use events::{Event, Fault};
 pub use status::{
-    ClosedGeneration, ClosedTenant, Generation, Jobs, Rows, Status, Tenant, Worker, status_line,
+    ClosedGeneration, ClosedTenant, Generation, HostStatus, Jobs, Rows, TenantStatus, Worker,
+    status_line,
 };

@@ -2,7 +2,7 @@
 ghost use Rattle.std.specs.Prelude.{IfOk, string_bytes};
 ghost use Rattle.host_status.specs.Lines.{IsCompact};
 
-use generation_life::{Stage, Why};
+use generation_life::{LifeStage, Why};
 use serde::Serialize;
 use std::alloc::Global;
 
@@ -35,7 +35,7 @@ pub struct Rows {
 
 /// How much of a tenant's history is used, and what it has at this moment.
 #[derive(Drop, Serialize)]
-pub struct Tenant {
+pub struct TenantStatus {
     /// The tenant's name.
     pub tenant: String,
     /// How many entries the history may have.
@@ -57,7 +57,7 @@ pub struct Tenant {
 pub struct Generation {
     /// Its number.
     pub generation: u64,
-    pub state: Stage,
+    pub state: LifeStage,
     /// When it was opened.
     pub began: u64,
     /// Why it is left, if it is.
@@ -69,7 +69,7 @@ pub struct Generation {
     /// By their numbers.
     pub workers: Vec<Worker>,
     /// In the order of the configuration.
-    pub tenants: Vec<Tenant>,
+    pub tenants: Vec<TenantStatus>,
 }
 
 /// A tenant of a generation that is closed.
@@ -106,7 +106,7 @@ pub struct ClosedGeneration {
 
 /// What a host does. Times are in seconds since 1970.
 #[derive(Drop, Serialize)]
-pub struct Status<'s> {
+pub struct HostStatus<'s> {
     /// When it was made.
     pub time: u64,
     /// When the host began.
@@ -128,7 +128,7 @@ pub struct Status<'s> {
 }
 
 /// The line that a status is, without its newline. An error if an allocation fails.
-pub fn status_line(alloc: Global, status: &Status<'_>) -> Result<String, serde_json::Error>
+pub fn status_line(alloc: Global, status: &HostStatus<'_>) -> Result<String, serde_json::Error>
     ensures { IfOk result (λ line. IsCompact (string_bytes line)) }
 {
     serde_json::to_string(alloc, status)

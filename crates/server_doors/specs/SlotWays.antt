@@ -32,7 +32,7 @@ pub record MakesDue (tenant : ℕ) (due : Option Call) (under : Option ℕ → T
 -- what is known of a move of a pass's slot with that answer, from which the pass q comes back: the slot that it made due is called
 abbrev pub IsMoveBy : (Advanced → CellData → CellData → Type 0) → PassData → Moved → Option Call → Option PassData → Type 0
 IsMoveBy moves p m due q =
-    ComesBack p m q × MakesDue p.tenant due (λ slot. WasUnder (moves (record { moved = m; due = slot; pass = q })))
+    ComesBack p m q × MakesDue p.tenant due (λ slot. WasUnder p.tenant (moves (record { moved = m; due = slot; pass = q })))
 
 -- An advance. Without a pass it is idle.
 abbrev pub Moves : SlotsSeen → Moved → Option Call → SlotsSeen → Type 0
@@ -65,12 +65,12 @@ GoesHome s t = t ≡ left s
 -- The thread without its pass, and a slot of the pass's tenant, if one became due. Without a pass none does.
 abbrev pub HandsOver : SlotsSeen → Option Call → SlotsSeen → Type 0
 HandsOver s due t =
-    (t ≡ left s) × MatchOption s.pass (due ≡ None) (λ p. MakesDue p.tenant due (λ slot. WasUnder (IsHandOverOf p slot)))
+    (t ≡ left s) × MatchOption s.pass (due ≡ None) (λ p. MakesDue p.tenant due (λ slot. WasUnder p.tenant (IsHandOverOf p slot)))
 
 -- An arrival at the door of a call's tenant. Without such a tenant it finds nothing.
 abbrev pub IsArrivalBy : (tenants : ℕ) → Call → Came → Option Call → Option PassData → Type 0
 IsArrivalBy tenants call came due q =
-    (call.tenant < tenants → MakesDue call.tenant due (λ slot. WasUnder (IsArrivalOf call.tenant call (record { came = came; due = slot; pass = q }))))
+    (call.tenant < tenants → MakesDue call.tenant due (λ slot. WasUnder call.tenant (IsArrivalOf call.tenant call (record { came = came; due = slot; pass = q }))))
     × (tenants ≤ call.tenant → (came ≡ Nothing) × (due ≡ None))
 
 -- An arrival for a call. The pass that the thread had goes home first.
@@ -84,4 +84,4 @@ pub record AsksBy (s : SlotsSeen) (asker : SeatData) (request : Request) (reply 
   pub doors : t.doors ≡ s.doors
   pub pass : GoesWith asker.tenant (placed_on reply) t.pass
   pub seat : told ≡ asked asker request reply
-  pub under : MakesDue asker.tenant called (λ slot. WasUnder (IsAskOf asker.tenant asker request (record { reply = reply; due = slot; pass = t.pass }) told))
+  pub under : MakesDue asker.tenant called (λ slot. WasUnder asker.tenant (IsAskOf asker.tenant asker request (record { reply = reply; due = slot; pass = t.pass }) told))

@@ -21,6 +21,9 @@ pub const SHORT_RUN: u32 = 64;
 /// How many moves of a slot after a short run are advances under the lock, before the slot is looked at again.
 pub const MOVES_UNDER_LOCK: u8 = 16;
 
+// The height that a door may have is the one that a tenant's slot may have.
+const _: () = prove!(nested_wait::MAX_HEIGHT == tenant_model::MAX_HEIGHT as usize);
+
 /// One thread's way to the slots of all tenants. It is at one slot at most, whose pass it has. It can't be let go: at its
 /// end the slot goes home (`TenantSlots::end`).
 pub struct TenantSlots<'d, R: Wait> {
@@ -51,7 +54,7 @@ impl<'d, R: Wait> Model for TenantSlots<'d, R> {
 }
 
 impl<'d, R: Wait> TenantSlots<'d, R> {
-    /// A thread that is at no slot. The doors are those of tenants 0, 1 and so on. Where it waits it stops once the
+    /// A thread that is at no slot. The doors are those of tenants 0, 1 and so on. If it waits, it stops once the
     /// flag is raised.
     pub fn new(rt: &'d R, doors: &'d [TenantDoor], stop: &'d StopFlag) -> Self
         requires { AreNumbered doors.now }
@@ -129,10 +132,12 @@ impl<'d, R: Wait> TenantSlots<'d, R> {
 }
 
 impl<'d, R: Wait> DueDoor for TenantSlots<'d, R> {
-    ghost use Rattle.std.specs.Prelude.{length};
+    ghost use Rattle.std.specs.Prelude.{length, option_map};
     ghost use Rattle.server_doors.specs.SlotWays.{Commits, Moves, MayBeHigh, MayBeSeen, Pauses, GoesHome, HandsOver};
 
     ghost tenants = { λ s. length s.doors };
+
+    ghost at_tenant = { λ s. option_map (λ p. p.tenant) s.pass };
 
     ghost views = { MayBeSeen };
 

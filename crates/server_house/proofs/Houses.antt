@@ -10,6 +10,7 @@ use Rattle.job_language.specs.Tenant.{IsValidTenant}
 use Rattle.job_language.specs.declared.steps.Entry.{Entry}
 use Rattle.job_language.specs.declared.tenants.TheConstants.{MAX_SLOTS}
 use Rattle.job_language.specs.declared.tenants.Tenant.{Tenant}
+use Rattle.market_config.specs.Told.{market_tenant}
 use Rattle.tenant_model.specs.State.{empty}
 use Rattle.tenant_model.proofs.KeptAdvances.{empty_kept}
 use Rattle.tenant_model.proofs.RegionLaws.{keeps_regions}
@@ -36,6 +37,10 @@ valid_from seats n (t ∷ ts) valid (suc k) d low = valid_from seats (n + 1) ts 
 pub names_from : (seats n : ℕ) (ts : List Tenant) → map (λ (d : DoorData). d.config.name) (map (door_of seats) (enumerate_from n ts)) ≡ names_of ts
 names_from seats n [] = refl
 names_from seats n (t ∷ ts) = ap (λ rest. t.name ∷ rest) (names_from seats (n + 1) ts)
+
+pub market_from : (seats n : ℕ) (ts : List Tenant) → map (λ (d : DoorData). market_tenant d.config) (map (door_of seats) (enumerate_from n ts)) ≡ map market_tenant ts
+market_from seats n [] = refl
+market_from seats n (t ∷ ts) = ap (λ rest. market_tenant t ∷ rest) (market_from seats (n + 1) ts)
 
 pub length_doors : (seats n : ℕ) (ts : List Tenant) → length (map (door_of seats) (enumerate_from n ts)) ≡ length ts
 length_doors seats n ts = length-map (enumerate_from n ts) (door_of seats) ∙ length-enumerate_from n ts

@@ -4,3 +4,4 @@ pub mod Sessions
 pub mod Visits
 pub mod Returned
 pub mod Houses
+pub mod Workers

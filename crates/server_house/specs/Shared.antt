@@ -2,6 +2,7 @@
 use Rattle.std.specs.Prelude.{ℕ, ◌≡◌, List, length, map, All}
 use Rattle.job_language.specs.Tenant.{IsValidTenant}
 use Rattle.call_queues.specs.Queues.{QueuesSeen, QueueSet, PassSeen}
+use Rattle.market_config.specs.Told.{market_tenant}
 use Rattle.tenant_lock.specs.Doors.{DoorData}
 use Rattle.server_doors.specs.Slots.{AreNumbered}
 
@@ -11,11 +12,12 @@ pub record SharedSeen : Type 0 where
   pub names : List (List ℕ)
   pub queues : QueuesSeen
 
--- The doors are numbered, each is of a valid tenant, and there is a level of the queues for each. The names are the tenants' own, in order.
+-- The doors are numbered, and each is of a valid tenant. The queues have the levels and the room that these tenants' calls need. The names are the tenants' own, in order.
 pub record IsShared (h : SharedSeen) : Type 0 where
   pub doors : AreNumbered h.doors
   pub tenants : All (λ (d : DoorData). IsValidTenant d.config) h.doors
   pub levels : length h.queues.config ≡ length h.doors
+  pub market : h.queues.config ≡ map (λ (d : DoorData). market_tenant d.config) h.doors
   pub names : h.names ≡ map (λ (d : DoorData). d.config.name) h.doors
 
 -- All passes are of these queues.

@@ -123,7 +123,9 @@ impl House {
     }
 
     /// The doors of the tenants, in the order of the configuration.
-    pub fn doors(&self) -> &[TenantDoor] {
+    pub fn doors(&self) -> &[TenantDoor]
+        ensures { result.now ≡ self.now.doors }
+    {
         self.doors.as_slice()
     }
 

@@ -116,7 +116,8 @@ impl<'h> Posts<'h> {
         seats: &mut FreshSeats,
     ) -> Result<Option<Client<'h>>, AllocError>
         ensures house { self.new.house ≡ self.old.house }
-        ensures post { IfOk result (λ made. IfSome made (λ client. client.post.house ≡ self.old.house)) }
+        ensures post { IfOk result (λ made. IfSome made
+            (λ client. client.post.house ≡ self.old.house)) }
         ensures pass { IfOk result (λ made. IfSome made
             (λ client. self.old.passes ≡ self.new.passes ++ client.post.pass ∷ [])) }
         ensures left { IfOk result (λ made. IfSome made
@@ -141,7 +142,7 @@ impl<'h> Posts<'h> {
 }
 
 impl<'h> Client<'h> {
-    /// The doors of a session that has asked nothing yet. Where it waits it stops once the flag is raised.
+    /// The doors of a session that has asked nothing yet. If it waits, it stops once the flag is raised.
     pub fn into_doors<R: Wait>(self, rt: &'h R, stop: &'h StopFlag) -> LockedDoors<'h, 'h, R, Bell>
         ensures session { result ≡ first_session self.entry }
         ensures client { IsClient self.entry }

@@ -3,6 +3,7 @@ ghost use Rattle.std.specs.Prelude.{◌≡◌, ◌⊎◌, All};
 ghost use Rattle.server_house.specs.Returned.{IsGivenBack};
 ghost use Rattle.server_house.specs.Sessions.{ServesClient};
 ghost use Rattle.server_house.specs.Visits.{at_no_slot, IsVisit, ServesNext};
+ghost use Rattle.server_house.specs.Workers.{WorksThere};
 
 use crate::posts::{Client, Post};
 use server_doors::{LockedDoors, TenantSlots};
@@ -46,7 +47,8 @@ pub fn serve_next<R: Wait, I: Read, O: Write>(
 )
     ensures served { ServesNext (I.remaining reader.old) (I.remaining reader.new)
         (O.contents writer.old) (O.contents writer.new) doors.old doors.new
-        ⊎ ((reader.new ≡ reader.old) × (writer.new ≡ writer.old) × (doors.new ≡ at_no_slot doors.old)) }
+        ⊎ ((reader.new ≡ reader.old) × (writer.new ≡ writer.old)
+        × (doors.new ≡ at_no_slot doors.old)) }
     ensures visit { IsVisit doors.old doors.new }
 {
     let _end = serve(alloc, reader, writer, doors);
@@ -61,7 +63,9 @@ pub fn serve_calls<R: Wait, S: Signal, G: Gate>(
     signal: &S,
     gate: &G,
     visiting: Visiting,
-) {
+)
+    ensures { WorksThere visiting (S.stops signal.now) post.entry }
+{
     let Post { house, pass } = post;
     // A worker stops with the house.
     let never = StopFlag::new();

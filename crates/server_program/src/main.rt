@@ -1,7 +1,9 @@
 //! `arena-server`: serves tenants to clients over a Unix socket.
 #![tactic(auto)]
 
-ghost use Rattle.std.specs.Prelude.{◌≤◌};
+ghost use Rattle.std.specs.Prelude.{◌≡◌, ◌≤◌, IfOk, is_ok};
+ghost use Rattle.std.specs.List.{list_all};
+ghost use Rattle.server_program.specs.Ends.{AreDoorsOf, EndsAs, end_of_all};
 
 use dump_files::{can_dump, dump_history};
 use dump_lines::DumpFault;
@@ -163,7 +165,7 @@ fn config_bytes<R: Files + AllocGlobal>(rt: &R, path: &str) -> Result<Vec<u8>, S
     }
 }
 
-/// Closes all tenants, tells each one's end, and goes on after a fault. The first fault is the end.
+/// Closes all tenants, reports each one's end, and goes on after a fault. The first fault is the end.
 fn close_tenants<R: Files + Print>(
     rt: &R,
     alloc: Global,
@@ -171,22 +173,39 @@ fn close_tenants<R: Files + Print>(
     returned: Returned,
     configs: &[TenantConfig],
     folder: Option<&str>,
-) -> Result<ServerEnd, ServerEnd> {
+) -> Result<ServerEnd, ServerEnd>
+    requires { AreDoorsOf configs.now house.doors }
+    ensures { IfOk result (λ end. EndsAs house.doors returned.seats end) }
+{
     let ends = house.close_returned(alloc, returned)?;
-    let mut end = ServerEnd::Done;
     let mut fault = None;
     for (closed, config) in ends.iter().zip(configs) {
-        if closed.is_err() {
-            end = ServerEnd::Close;
-        }
         if let Err(met) = tell_end(rt, alloc, closed, config, folder) {
             fault = fault.or(Some(met));
         }
     }
     match fault {
         Some(fault) => Err(fault),
-        None => Ok(end),
+        None => Ok(end_of_all(ends.as_slice())),
     }
+}
+
+/// How a server ends whose tenants were closed like that.
+fn end_of_all(ends: &[Result<Closed, CloseFault>]) -> ServerEnd
+    ensures { result ≡ end_of_all ends.now }
+{
+    if have_all_closed(ends) {
+        ServerEnd::Done
+    } else {
+        ServerEnd::Close
+    }
+}
+
+/// Whether all tenants closed without a fault.
+fn have_all_closed(ends: &[Result<Closed, CloseFault>]) -> bool
+    ensures { result ≡ list_all is_ok ends.now }
+{
+    ends.iter().all(|end| end.is_ok())
 }
 
 /// Prints a tenant's end, and writes its history to the folder, if there is one.

@@ -55,17 +55,18 @@ pub record IsHandOverOf (p : PassData) (due : Option ℕ) (c d : CellData) : Typ
   pub handed : has_slot_of c p ≡ true → IsHandedOver c p due d
   pub elsewhere : has_slot_of c p ≡ false → (due ≡ None) × (d ≡ c)
 
--- A right cell lay under the lock, to which that was done, and which is right after it.
-pub record WasUnder (done : CellData → CellData → Type 0) : Type 0 where
+-- A right cell of the tenant of that number lay under the lock, to which that was done, and which is right after it.
+pub record WasUnder (tenant : ℕ) (done : CellData → CellData → Type 0) : Type 0 where
   pub before : CellData
   pub after : CellData
+  pub own : before.tenant ≡ tenant
   pub right : IsRight before
   pub still_right : IsRight after
   pub is : done before after
 
 -- Of a right cell, with nothing done to it.
-abbrev pub WasThere : (CellData → Type 0) → Type 0
-WasThere holds = WasUnder (λ c d. holds c × (d ≡ c))
+abbrev pub WasThere : (tenant : ℕ) → (CellData → Type 0) → Type 0
+WasThere tenant holds = WasUnder tenant (λ c d. holds c × (d ≡ c))
 
 -- That many rows are on the slot of a pass.
 abbrev pub IsHigh : PassData → ℕ → CellData → Type 0

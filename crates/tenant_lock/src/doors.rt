@@ -1,6 +1,7 @@
 // The tenant's door: the calls that take the lock.
-ghost use Rattle.std.specs.Prelude.{◌≡◌, ◌≤◌, IfOk, IfErr, IfSome, IsSome, Some};
+ghost use Rattle.std.specs.Prelude.{◌≡◌, ◌≢◌, ◌≤◌, IfOk, IfErr, IfSome, IsSome, Some};
 ghost use Rattle.std.specs.Option.{is_some};
+ghost use Rattle.std.specs.Sync.Mutex.{mutex_guard_value};
 ghost use Rattle.job_language.specs.Brought.{job_of};
 ghost use Rattle.job_language.specs.declared.errors.Error.TheVariants.{NoMemory};
 ghost use Rattle.tenant_model.specs.Told.{placed_on};
@@ -121,7 +122,8 @@ impl TenantDoor {
         ensures memory { result.reply ≡ Reply.Refused NoMemory → IsSome (job_of request) }
         ensures placed { GoesWith self.now.tenant (placed_on result.reply) result.pass }
         ensures pending { result.reply ≡ Reply.Pending → IsCollect request }
-        ensures cell { WasUnder (IsAskOf self.now.tenant seat.old request result seat.new) }
+        ensures cell { WasUnder self.now.tenant
+            (IsAskOf self.now.tenant seat.old request result seat.new) }
     {
         let done = self.lock(rt).ask(self.tenant, seat, request);
         let asked = self.tell(done);
@@ -136,7 +138,7 @@ impl TenantDoor {
     /// nothing happens.
     pub fn arrive<R: Wait>(&self, rt: &R, call: Call) -> Arrived
         ensures comes { ComesWith self.now.tenant call.slot result.came result.pass }
-        ensures cell { WasUnder (IsArrivalOf self.now.tenant call result) }
+        ensures cell { WasUnder self.now.tenant (IsArrivalOf self.now.tenant call result) }
     {
         let done = self.lock(rt).arrive(self.tenant, call);
         self.tell(done)
@@ -146,7 +148,7 @@ impl TenantDoor {
     pub fn advance<R: Wait>(&self, rt: &R, pass: Pass) -> Advanced
         requires { pass.tenant ≡ self.now.tenant }
         ensures back { ComesBack pass result.moved result.pass }
-        ensures cell { WasUnder (IsAdvanceOf pass result) }
+        ensures cell { WasUnder self.now.tenant (IsAdvanceOf pass result) }
     {
         let done = self.lock(rt).advance(pass);
         self.tell(done)
@@ -157,7 +159,7 @@ impl TenantDoor {
     pub fn commit<R: Wait>(&self, rt: &R, pass: Pass, segment: Segment) -> Advanced
         requires { pass.tenant ≡ self.now.tenant }
         ensures back { ComesBack pass result.moved result.pass }
-        ensures cell { WasUnder (IsCommitOf pass segment result) }
+        ensures cell { WasUnder self.now.tenant (IsCommitOf pass segment result) }
     {
         let done = self.lock(rt).commit(pass, segment);
         self.tell(done)
@@ -168,8 +170,9 @@ impl TenantDoor {
     pub fn advance_and_look<R: Wait>(&self, rt: &R, pass: Pass, view: &mut View) -> Turned
         requires { pass.tenant ≡ self.now.tenant }
         ensures back { ComesBack pass result.advanced.moved result.advanced.pass }
-        ensures cell { WasUnder (IsAdvanceOf pass result.advanced) }
-        ensures seen { WasUnder (AndLooked result view.new (IsAdvanceOf pass result.advanced)) }
+        ensures cell { WasUnder self.now.tenant (IsAdvanceOf pass result.advanced) }
+        ensures seen { WasUnder self.now.tenant
+            (AndLooked result view.new (IsAdvanceOf pass result.advanced)) }
         ensures look { is_some result.height ≡ is_some result.advanced.pass }
         ensures most { IfSome result.height (λ height. height ≤ MAX_HEIGHT) }
     {
@@ -181,8 +184,9 @@ impl TenantDoor {
     pub fn advance_and_count<R: Wait>(&self, rt: &R, pass: Pass) -> Turned
         requires { pass.tenant ≡ self.now.tenant }
         ensures back { ComesBack pass result.advanced.moved result.advanced.pass }
-        ensures cell { WasUnder (IsAdvanceOf pass result.advanced) }
-        ensures counted { WasUnder (AndCounted result (IsAdvanceOf pass result.advanced)) }
+        ensures cell { WasUnder self.now.tenant (IsAdvanceOf pass result.advanced) }
+        ensures counted { WasUnder self.now.tenant
+            (AndCounted result (IsAdvanceOf pass result.advanced)) }
         ensures count { is_some result.height ≡ is_some result.advanced.pass }
         ensures most { IfSome result.height (λ height. height ≤ MAX_HEIGHT) }
     {
@@ -201,8 +205,8 @@ impl TenantDoor {
     ) -> Turned
         requires { pass.tenant ≡ self.now.tenant }
         ensures back { ComesBack pass result.advanced.moved result.advanced.pass }
-        ensures cell { WasUnder (IsCommitOf pass segment result.advanced) }
-        ensures seen { WasUnder
+        ensures cell { WasUnder self.now.tenant (IsCommitOf pass segment result.advanced) }
+        ensures seen { WasUnder self.now.tenant
             (AndLooked result view.new (IsCommitOf pass segment result.advanced)) }
         ensures look { is_some result.height ≡ is_some result.advanced.pass }
         ensures most { IfSome result.height (λ height. height ≤ MAX_HEIGHT) }
@@ -215,7 +219,7 @@ impl TenantDoor {
     /// granted.
     pub fn view<R: Wait>(&self, rt: &R, pass: &Pass) -> View
         requires { pass.now.tenant ≡ self.now.tenant }
-        ensures cell { WasThere (λ c. IsSeen (state_of c) pass.now.slot result) }
+        ensures cell { WasThere self.now.tenant (λ c. IsSeen (state_of c) pass.now.slot result) }
     {
         self.lock(rt).cell().view(pass)
     }
@@ -223,7 +227,7 @@ impl TenantDoor {
     /// How many rows are on a pass's slot.
     pub fn height<R: Wait>(&self, rt: &R, pass: &Pass) -> usize
         requires { pass.now.tenant ≡ self.now.tenant }
-        ensures cell { WasThere (IsHigh pass.now result) }
+        ensures cell { WasThere self.now.tenant (IsHigh pass.now result) }
         ensures most { result ≤ MAX_HEIGHT }
     {
         self.lock(rt).cell().height(pass)
@@ -231,14 +235,14 @@ impl TenantDoor {
 
     /// How much of the tenant's history is used.
     pub fn counts<R: Wait>(&self, rt: &R) -> Counts
-        ensures { WasThere (AreCounts result) }
+        ensures { WasThere self.now.tenant (AreCounts result) }
     {
         self.lock(rt).counts()
     }
 
     /// How far the tenant's jobs are, and how many of its rows are open.
     pub fn tally<R: Wait>(&self, rt: &R) -> Tally
-        ensures { WasThere (IsTally result) }
+        ensures { WasThere self.now.tenant (IsTally result) }
     {
         self.lock(rt).tally()
     }
@@ -248,9 +252,18 @@ impl TenantDoor {
         self.jobs.load(Ordering::SeqCst)
     }
 
-    /// Puts a pass home. One that is not of one of the tenant's slots is ended.
-    pub fn give_home<R: Wait>(&self, rt: &R, pass: Pass) {
+    /// Puts a pass home.
+    pub fn give_home<R: Wait>(&self, rt: &R, pass: Pass)
+        requires { pass.tenant ≡ self.now.tenant }
+    {
         self.lock(rt).give_home(pass);
+    }
+
+    /// Ends a pass of another tenant, whose slot then stays taken.
+    pub fn end_foreign<R: Wait>(&self, rt: &R, pass: Pass)
+        requires { pass.tenant ≢ self.now.tenant }
+    {
+        self.lock(rt).cell().end_foreign(pass);
     }
 
     /// Puts a pass home, and under the same lock calls a worker to the lowest slot for workers whose pass
@@ -258,7 +271,7 @@ impl TenantDoor {
     /// the worker. It is no entry, so nobody is woken.
     pub fn hand_over<R: Wait>(&self, rt: &R, pass: Pass) -> Option<u8>
         requires { pass.tenant ≡ self.now.tenant }
-        ensures cell { WasUnder (IsHandOverOf pass result) }
+        ensures cell { WasUnder self.now.tenant (IsHandOverOf pass result) }
     {
         self.lock(rt).hand_over(pass)
     }
@@ -328,8 +341,22 @@ impl TenantDoor {
         self.wake_all();
     }
 
-    /// Takes the lock. It is held for microseconds, so a thread looks for about as long before it sleeps for it.
-    fn lock<R: Wait>(&self, rt: &R) -> MutexGuard<'_, Held> {
+    /// Takes the lock. What lies under it is known by its type alone, so whether it is this tenant's cell is looked at
+    /// each time. It always is: a lock with another one under it would never be taken.
+    fn lock<R: Wait>(&self, rt: &R) -> MutexGuard<'_, Held>
+        ensures { (mutex_guard_value result).cell.tenant ≡ self.now.tenant }
+    {
+        for _ in rt.forever() {
+            let held = self.wait_for_lock(rt);
+            if held.cell().tenant() == self.tenant {
+                return held;
+            }
+        }
+        unreachable!()
+    }
+
+    /// Waits for the lock. It is held for microseconds, so a thread looks for about as long before it sleeps for it.
+    fn wait_for_lock<R: Wait>(&self, rt: &R) -> MutexGuard<'_, Held> {
         for _ in 0..LOOKS {
             if let Some(held) = self.held.try_lock() {
                 return held;

@@ -272,7 +272,7 @@ impl Held {
         Some(self.cell.height(pass))
     }
 
-    /// What the slot of a pass is to be moved by. Where no other pass is out nothing runs beside a
+    /// What the slot of a pass is to be moved by. If no other pass is out, nothing runs beside a
     /// private run, so the slot is to be advanced under the lock. So is one with a long program.
     fn show(&self, pass: &Pass) -> View
         ensures { IsShown self.now.cell pass.now result }

@@ -1,4 +1,4 @@
-// Doors to the slots of tenants, whose calls tell which slot they made due.
+// Doors to the slots of tenants, whose calls report which slot they made due.
 ghost use Rattle.std.specs.Prelude.{◌≡◌, ◌<◌, ◌≤◌, ℕ, Bool, Option, IfSome};
 ghost use Rattle.job_language.specs.declared.answers.Moved.{Moved};
 ghost use Rattle.job_language.specs.declared.answers.Came.{Came};
@@ -14,11 +14,14 @@ use nested_wait::MAX_HEIGHT;
 /// One activity's way to the slots of tenants, which leads to at most one slot at a time. Others may
 /// act on the tenants between two calls, so what each call may see and do is a relation that the
 /// implementation gives. A call that makes a slot due gives the call for a worker that is to be
-/// pushed. Where it leads to no slot its height is 0, it sees a bare slot, its turns are idle, and a
+/// pushed. If it leads to no slot its height is 0, it sees a bare slot, its turns are idle, and a
 /// pause says to stop.
 pub trait DueDoor {
     /// How many tenants there are.
     ghost tenants: { Self → ℕ };
+
+    /// The tenant of the slot that it leads to.
+    ghost at_tenant: { Self → Option ℕ };
 
     /// What the slot may be seen as.
     ghost views: { Self → View → Type 0 };
@@ -43,7 +46,8 @@ pub trait DueDoor {
 
     /// The tenant of the slot that it leads to.
     fn tenant(&self) -> Option<usize>
-        ensures { IfSome result (λ tenant. tenant < tenants self.now) };
+        ensures is { result ≡ at_tenant self.now }
+        ensures there { IfSome result (λ tenant. tenant < tenants self.now) };
 
     /// The topmost frame of the slot, with what its private run depends on.
     fn view(&self) -> View

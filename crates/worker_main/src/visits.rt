@@ -44,7 +44,7 @@ where
     }
 }
 
-/// Attends the slot until it is left. Where it cannot go on, the slot is given home.
+/// Attends the slot until it is left. If it cannot go on, the slot is given home.
 fn visit<R, S, G, D>(door: &mut SlotDoor<'_, R, S, G, D>, visiting: Visiting)
 where
     R: Wait,
@@ -98,7 +98,7 @@ where
     after(door.advance())
 }
 
-/// What an advance of a slot without rows tells.
+/// What an advance of a slot without rows says.
 fn after(moved: Moved) -> Round
     ensures { result ≡ next_round moved }
 {

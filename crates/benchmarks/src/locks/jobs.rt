@@ -8,7 +8,7 @@ use worked_jobs::JobText;
 /// How many rows a tenant may have open.
 const ROWS: usize = 200;
 
-/// A tenant with these slots, of which `reserved` are for masters, whose history may have `steps` entries.
+/// A tenant with these slots, of which `reserved` are reserved, whose history may have `steps` entries.
 pub(crate) fn with_slots(slots: u8, reserved: u8, steps: usize) -> Result<TenantConfig, Stop> {
     let size = Size {
         slots,

@@ -3,9 +3,9 @@ ghost use Rattle.std.specs.Prelude.{◌≡◌, ◌≢◌, ◌↔◌, IfOk, IfSom
 ghost use Rattle.generation_life.specs.declared.generations.Why.TheVariants.{File};
 ghost use Rattle.generation_life.specs.Lines.{closing, ended, stage_of, why_of};
 ghost use Rattle.host_agenda.specs.Agendas.{Begins, OpensNone, Takes, new_agenda, stopped};
-ghost use Rattle.host_agenda.specs.declared.agenda.Step.TheVariants.{Hold, Wait};
+ghost use Rattle.host_agenda.specs.declared.agenda.HostStep.TheVariants.{Hold, Wait};
 
-use super::{Agenda, Look, MOST_ALIVE, Step};
+use super::{Agenda, HostStep, Look, MOST_ALIVE};
 use generation_life::{Generations, Why};
 use server_io::ServerEnd;
 use std::alloc::{AllocError, Global};
@@ -27,11 +27,11 @@ impl Agenda {
 
     /// What is to be done next. `Open`, `Hold` and `Failed` come once each: then a generation is being opened, or it is
     /// known that the next one waits, or that one failed.
-    pub fn step(&mut self) -> Step
+    pub fn step(&mut self) -> HostStep
         ensures { Takes self.old result self.new }
     {
         if self.is_opening {
-            return Step::Wait;
+            return HostStep::Wait;
         }
         if let Some(end) = self.failed {
             self.failed = None;
@@ -39,39 +39,39 @@ impl Agenda {
             if self.wish == Some(Why::File) {
                 self.wish = None;
             }
-            return Step::Failed(end);
+            return HostStep::Failed(end);
         }
         if self.is_stopping {
             return if self.generations.is_over() {
-                Step::End
+                HostStep::End
             } else {
-                Step::Wait
+                HostStep::Wait
             };
         }
         let left = match (self.generations.serving(), self.wish) {
             (None, _) => None,
             (Some(number), Some(why)) => Some((number, why)),
-            (Some(_), None) => return Step::Wait,
+            (Some(_), None) => return HostStep::Wait,
         };
         if self.generations.alive() >= MOST_ALIVE {
             return self.hold(left);
         }
         self.is_opening = true;
         self.is_held = false;
-        Step::Open(left)
+        HostStep::Open(left)
     }
 
     /// The next generation has to wait.
-    fn hold(&mut self, left: Option<(u64, Why)>) -> Step
+    fn hold(&mut self, left: Option<(u64, Why)>) -> HostStep
         ensures said { self.old.is_held ≡ true → (result ≡ Wait) × (self.new ≡ self.old) }
         ensures says { self.old.is_held ≡ false
             → (result ≡ Hold left) × (self.new ≡ record self.old { is_held = true }) }
     {
         if self.is_held {
-            return Step::Wait;
+            return HostStep::Wait;
         }
         self.is_held = true;
-        Step::Hold(left)
+        HostStep::Hold(left)
     }
 
     /// Notes that the generation that was to be opened serves from now on, and gives its number. The one that served

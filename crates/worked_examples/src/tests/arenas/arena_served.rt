@@ -20,7 +20,7 @@ const BOUND: &str = "{\"tenant\":\"acme\"}\n";
 const RETURNS: &str =
     "{\"job\":{\"args\":[7,0],\"fuel\":10,\"procs\":[[[\"ret\",0]]]},\"op\":\"execute\"}\n";
 
-/// A tenant of one slot, which is for masters.
+/// A tenant of one slot, which is reserved.
 fn one_slot(name: &str, steps: usize) -> Result<TenantConfig, Fail> {
     Ok(tenant(name, 1, 1, steps).ok_or("each number is in its range")?)
 }

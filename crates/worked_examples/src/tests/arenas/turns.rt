@@ -1,4 +1,4 @@
-// How a thread's door moves its slot: where nobody else is out, and beside another one.
+// How a thread's door moves its slot: if nobody else is out, and beside another one.
 
 use super::tenants::{FIB, job_of, tenant};
 use crate::tests::assert_same;

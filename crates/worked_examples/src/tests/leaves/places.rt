@@ -108,14 +108,17 @@ fn firsts(filing: &Filing) -> [Option<usize>; 3] {
     [filing.first(0), filing.first(1), filing.first(2)]
 }
 
-/// Files the places 3 and 1 in list 0, and then 3 in list 1; files all of list 1 in list 0; unfiles 1; and
-/// unfiles 4, which is filed in none, and 3. The first places before all that and after each part of it.
-fn file_and_unfile(filing: &mut Filing) -> [[Option<usize>; 3]; 5]
+/// Files the places 3 and 1 in list 0, and 3 there once more, at its end; then 3 in list 1; files all of list 1 in
+/// list 0; unfiles 1; and unfiles 4, which is filed in none, and 3. The first places before all that and after each
+/// part of it.
+fn file_and_unfile(filing: &mut Filing) -> [[Option<usize>; 3]; 6]
     requires { filing.old ≡ record { lists = 2; by_place = replicate 5 None } }
 {
     let unfiled = firsts(filing);
     filing.file(3, 0);
     filing.file(1, 0);
+    filing.file(3, 0);
+    let again = firsts(filing);
     filing.file(3, 1);
     let apart = firsts(filing);
     filing.file_all(1, 0);
@@ -124,7 +127,7 @@ fn file_and_unfile(filing: &mut Filing) -> [[Option<usize>; 3]; 5]
     let one = firsts(filing);
     filing.unfile(4);
     filing.unfile(3);
-    [unfiled, apart, together, one, firsts(filing)]
+    [unfiled, again, apart, together, one, firsts(filing)]
 }
 
 #[test]
@@ -133,6 +136,7 @@ fn a_place_is_filed_in_one_list(rt: HostRuntime) -> Result<(), Fail> {
     let seen = file_and_unfile(&mut filing);
     let wanted = [
         [None, None, None],
+        [Some(1), None, None],
         [Some(1), Some(3), None],
         [Some(1), None, None],
         [Some(3), None, None],

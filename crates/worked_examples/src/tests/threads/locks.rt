@@ -86,9 +86,9 @@ pub(super) fn poll<R: Wait>(rt: &R, door: &TenantDoor, seat: &mut Seat, job: u64
     Some(reply)
 }
 
-/// Gives a pass home, if there is one.
+/// Gives a pass home, if there is one. One of another tenant ends.
 pub(super) fn give_home<R: Wait>(rt: &R, door: &TenantDoor, pass: Option<Pass>) {
-    if let Some(pass) = pass {
+    if let Some(pass) = own(rt, door, pass) {
         door.give_home(rt, pass);
     }
 }
@@ -99,7 +99,7 @@ fn own<R: Wait>(rt: &R, door: &TenantDoor, pass: Option<Pass>) -> Option<Pass>
 {
     let pass = pass?;
     if pass.tenant() != door.tenant() {
-        door.give_home(rt, pass);
+        door.end_foreign(rt, pass);
         return None;
     }
     Some(pass)

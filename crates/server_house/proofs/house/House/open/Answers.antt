@@ -5,7 +5,8 @@ use Rattle.job_language.specs.Tenant.{IsValidTenant}
 use Rattle.tenant_lock.specs.Doors.{DoorData}
 use Rattle.server_doors.specs.Slots.{AreNumbered}
 use Rattle.server_house.specs.Houses.{doors_of}
-use Rattle.server_house.proofs.Houses.{length_doors, names_from, numbered_from, valid_from}
+use Rattle.market_config.specs.Told.{market_tenant}
+use Rattle.server_house.proofs.Houses.{length_doors, market_from, names_from, numbered_from, valid_from}
 use Rattle.job_language.specs.Configuration.{names_of}
 use Rattle.server_house.specs.Posts.{IsFresh}
 use Rattle.server_house.proofs.Seats.{fresh_from}
@@ -20,6 +21,7 @@ invariant_of-house c =
       tenants = subst (All (λ (d : DoorData). IsValidTenant d.config)) (sym doors) (valid_from c.from.result 0 tenants c.tenants-tenants.ensures.valid.each);
       names = c.in_ok-names.ensures ∙ ap names_of c.tenants-tenants.ensures.value ∙ sym (ap (map (λ (d : DoorData). d.config.name)) doors ∙ names_from c.from.result 0 tenants);
       levels = ap length c.in_ok-queues.ensures.queues.0 ∙ ap length c.in_ok-market.ensures ∙ length-map tenants _ ∙ sym (ap length doors ∙ length_doors c.from.result 0 tenants);
+      market = c.in_ok-queues.ensures.queues.0 ∙ c.in_ok-market.ensures ∙ sym (ap (map (λ (d : DoorData). market_tenant d.config)) doors ∙ market_from c.from.result 0 tenants);
     }
 
 pub new-requires-3 : goal.new-requires-3

@@ -59,6 +59,8 @@ struct Visitor<'q> {
     queues: &'q CallQueues,
     pass: QueuePass,
     counts: Counts,
+    /// How often a pop found nothing.
+    missed: u32,
 }
 
 impl<'q> Model for Visitor<'q> {
@@ -69,7 +71,8 @@ impl<'q> Model for Visitor<'q> {
 
     ghost view = { λ v. (v.queues.now, v.pass) };
 
-    ghost invariant = { λ v. (v.pass.queues ≡ v.queues.now.queues) × (length v.queues.now.config ≡ 3) };
+    ghost invariant = { λ v. (v.pass.queues ≡ v.queues.now.queues)
+        × (length v.queues.now.config ≡ 3) };
 }
 
 /// A visitor that has counted nothing yet.
@@ -81,6 +84,7 @@ fn visitor_at<'q>(queues: &'q CallQueues, pass: QueuePass) -> Visitor<'q>
         queues,
         pass,
         counts: NONE_YET,
+        missed: 0,
     }
 }
 
@@ -107,6 +111,7 @@ impl Visitor<'_> {
             if self.pops(rt) {
                 return;
             }
+            self.missed = self.missed.saturating_add(1);
         }
     }
 
@@ -146,7 +151,8 @@ fn visit_all<R: Threads + Wait + Sync>(
     mut passes: Vec<QueuePass>,
 ) -> Counts
     requires long { length passes.items ≡ 4 }
-    requires fresh { (k : ℕ) (d : PassSeen) → k < 4 → slice_index_or passes.items k d ≡ fresh queues.now.queues k }
+    requires fresh { (k : ℕ) (d : PassSeen) → k < 4
+        → slice_index_or passes.items k d ≡ fresh queues.now.queues k }
     requires tenants { length queues.now.config ≡ 3 }
 {
     let mut a = visitor_at(queues, passes.remove(3));
@@ -176,5 +182,32 @@ fn a_crowd_pops_what_it_pushes(rt: HostRuntime) -> Result<(), Fail> {
         popped: each,
     };
     assert_same(&rt, &seen, &wanted);
+    Ok(())
+}
+
+/// One thread visits alone: what it counted, and how often a pop found nothing.
+fn alone<R: Wait>(rt: &R, alloc: Global) -> Result<(Counts, u32), AllocError> {
+    let (queues, mut passes) = CallQueues::new(alloc, three_levels(alloc)?, 1)?;
+    Ok(visit_alone(rt, &queues, passes.remove(0)))
+}
+
+fn visit_alone<R: Wait>(rt: &R, queues: &CallQueues, pass: QueuePass) -> (Counts, u32)
+    requires queues { pass.queues ≡ queues.now.queues }
+    requires tenants { length queues.now.config ≡ 3 }
+{
+    let mut visitor = visitor_at(queues, pass);
+    let counts = visitor.visit(rt);
+    (counts, visitor.missed)
+}
+
+#[test]
+fn a_thread_alone_pops_each_call_at_once(rt: HostRuntime) -> Result<(), Fail> {
+    let seen = alone(&rt, rt.alloc())?;
+    let each = [83_334, 83_333, 83_333];
+    let counts = Counts {
+        pushed: each,
+        popped: each,
+    };
+    assert_same(&rt, &seen, &(counts, 0));
     Ok(())
 }

@@ -15,7 +15,7 @@ const ACME: Call = Call { tenant: 0, slot: 1 };
 
 const BETA: Call = Call { tenant: 1, slot: 0 };
 
-// Acme has a slot for masters and one for workers, beta one for workers and a higher priority.
+// Acme has a reserved slot and one for workers, beta one for workers and a higher priority.
 fn acme_and_beta(alloc: Global) -> Result<MarketConfig, AllocError>
     ensures { IfOk result (λ c. length c ≡ 2) }
 {
@@ -94,7 +94,8 @@ fn push_by_both<R: Wait>(
     passes: &mut [QueuePass],
 ) -> ([Pushed; 2], [Option<Call>; 2])
     requires long { length passes.old ≡ 2 }
-    requires fresh { (k : ℕ) (d : PassSeen) → k < 2 → slice_index_or passes.old k d ≡ fresh queues.now.queues k }
+    requires fresh { (k : ℕ) (d : PassSeen) → k < 2
+        → slice_index_or passes.old k d ≡ fresh queues.now.queues k }
     requires tenant { length queues.now.config ≡ 1 }
 {
     let pushed = [

@@ -1,5 +1,5 @@
 // Two tenants and one worker: in which order their rows are run.
-ghost use Rattle.std.specs.Prelude.{◌≡◌, ◌<◌, IfOk, length};
+ghost use Rattle.std.specs.Prelude.{◌≡◌, ◌<◌, if◌then◌else◌, IfOk, length};
 
 use crate::tests::assert_same;
 use crate::tests::threads::queues::push;
@@ -14,27 +14,26 @@ use worker_main::{Bell, CallDoors, DueDoor, NoGate, Visiting, worker};
 
 /// One of the two tenants.
 #[derive(Clone, Copy, Debug, PartialEq, Eq)]
-enum Side {
-    /// The first tenant, with three rows.
-    Noisy,
-    /// The second one, with one row.
-    Quiet,
+struct Side {
+    /// Whether it is the second one, with one row. The first has three.
+    is_quiet: bool,
 }
+
+const NOISY: Side = Side { is_quiet: false };
+
+const QUIET: Side = Side { is_quiet: true };
 
 impl Side {
     fn number(self) -> usize
-        ensures { result < 2 }
+        ensures { result ≡ (if self.is_quiet then 1 else 0) }
     {
-        match self {
-            Side::Noisy => 0,
-            Side::Quiet => 1,
-        }
+        if self.is_quiet { 1 } else { 0 }
     }
 
     fn of(tenant: usize) -> Option<Side> {
         match tenant {
-            0 => Some(Side::Noisy),
-            1 => Some(Side::Quiet),
+            0 => Some(NOISY),
+            1 => Some(QUIET),
             _ => None,
         }
     }
@@ -105,7 +104,11 @@ impl<'t, R: Wait> Pair<'t, R> {
 }
 
 impl<R: Wait> DueDoor for Pair<'_, R> {
+    ghost use Rattle.std.specs.Prelude.{option_map, if◌then◌else◌};
+
     ghost tenants = { λ _. 2 };
+
+    ghost at_tenant = { λ s. option_map (λ side. if side.is_quiet then 1 else 0) s.at };
 
     ghost views = { λ _ _. Unit {0} };
 
@@ -215,27 +218,17 @@ fn served<R: Wait>(rt: &R, queues: &CallQueues, mut pass: QueuePass, visiting: V
     requires pass { pass.queues ≡ queues.now.queues }
     requires tenants { length queues.now.config ≡ 2 }
 {
-    let _ = push(rt, queues, &mut pass, Side::Noisy.call());
-    let _ = push(rt, queues, &mut pass, Side::Quiet.call());
+    let _ = push(rt, queues, &mut pass, NOISY.call());
+    let _ = push(rt, queues, &mut pass, QUIET.call());
     let bell = Bell::new();
     let pair = Pair::new(rt, &bell);
     let (_pass, pair) = worker(rt, queues, pass, pair, &bell, &NoGate, visiting);
     pair.order
 }
 
-const QUIET_SECOND: Order = [
-    Some(Side::Noisy),
-    Some(Side::Quiet),
-    Some(Side::Noisy),
-    Some(Side::Noisy),
-];
+const QUIET_SECOND: Order = [Some(NOISY), Some(QUIET), Some(NOISY), Some(NOISY)];
 
-const QUIET_LAST: Order = [
-    Some(Side::Noisy),
-    Some(Side::Noisy),
-    Some(Side::Noisy),
-    Some(Side::Quiet),
-];
+const QUIET_LAST: Order = [Some(NOISY), Some(NOISY), Some(NOISY), Some(QUIET)];
 
 #[test]
 fn a_worker_that_shares_leaves_after_one_row(rt: HostRuntime) -> Result<(), Fail> {

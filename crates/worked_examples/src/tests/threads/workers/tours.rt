@@ -6,6 +6,7 @@ use job_step::{Frame, Segment, Top, View};
 use market_config::{Call, MarketConfig, MarketTenant};
 use nested_wait::MAX_HEIGHT;
 use std::alloc::{AllocError, Global};
+use std::cell::Cell;
 use std::sync::Wait;
 use std::test::Fail;
 use worker_main::{Bell, CallDoors, DueDoor};
@@ -26,7 +27,8 @@ pub(super) struct Tour<'t, R> {
     pub at: Option<u8>,
     /// Arrivals until the bell tells to stop.
     pub arrivals: u32,
-    pub commits: u32,
+    /// How many commits were made.
+    pub commits: &'t Cell<u32>,
     pub advances: u32,
     pub pauses: u32,
     pub homes: u32,
@@ -37,6 +39,7 @@ impl<'t, R> Tour<'t, R> {
         program: Program,
         rt: &'t R,
         bell: &'t Bell,
+        commits: &'t Cell<u32>,
         rows: &'t [Row],
         arrivals: u32,
     ) -> Self {
@@ -48,7 +51,7 @@ impl<'t, R> Tour<'t, R> {
             place: 0,
             at: None,
             arrivals,
-            commits: 0,
+            commits,
             advances: 0,
             pauses: 0,
             homes: 0,
@@ -115,7 +118,11 @@ pub(super) fn one_tenant(alloc: Global) -> Result<MarketConfig, AllocError>
 }
 
 impl<R: Wait> DueDoor for Tour<'_, R> {
+    ghost use Rattle.std.specs.Prelude.{option_map};
+
     ghost tenants = { λ _. 1 };
+
+    ghost at_tenant = { λ s. option_map (λ _. 0) s.at };
 
     ghost views = { λ _ _. Unit {0} };
 
@@ -143,7 +150,7 @@ impl<R: Wait> DueDoor for Tour<'_, R> {
     }
 
     fn commit(&mut self, _segment: Segment) -> (Moved, Option<Call>) {
-        self.commits = self.commits.wrapping_add(1);
+        self.commits.set(self.commits.get().wrapping_add(1));
         self.answer()
     }
 

@@ -6,12 +6,14 @@ use crate::tests::assert_same;
 use crate::tests::threads::queues::push;
 use call_queues::{CallQueues, QueuePass};
 use job_language::{Came, Moved, Program};
+use job_step::{View, segment_of};
 use market_config::Call;
 use nested_wait::Door;
 use std::alloc::Global;
+use std::cell::Cell;
 use std::sync::Wait;
 use std::test::*;
-use worker_main::{Bell, NoGate, Ringer, Signal, SlotDoor, Visiting, worker};
+use worker_main::{Bell, Gate, NoGate, Ringer, Signal, SlotDoor, Visiting, worker};
 
 const FIRST: Call = Call { tenant: 0, slot: 5 };
 
@@ -51,11 +53,12 @@ fn served<R: Wait>(
     let _ = push(rt, queues, &mut pass, FIRST);
     let _ = push(rt, queues, &mut pass, SECOND);
     let bell = Bell::new();
-    let tour = Tour::new(program, rt, &bell, rows, 2);
+    let commits = Cell::new(0);
+    let tour = Tour::new(program, rt, &bell, &commits, rows, 2);
     let (mut pass, tour) = worker(rt, queues, pass, tour, &bell, &NoGate, Visiting::Staying);
     Counts {
         place: tour.place,
-        commits: tour.commits,
+        commits: commits.get(),
         advances: tour.advances,
         pauses: tour.pauses,
         homes: tour.homes,
@@ -155,7 +158,8 @@ fn arrive_and_advance<R: Wait>(
 {
     let bell = Bell::new();
     let rows = [(1, Moved::Ran, Some(9)), (0, Moved::Left, None)];
-    let tour = Tour::new(program, rt, &bell, &rows, 2);
+    let commits = Cell::new(0);
+    let tour = Tour::new(program, rt, &bell, &commits, &rows, 2);
     let mut door = SlotDoor::new(Ringer::new(rt, &bell, queues, pass), &NoGate, tour);
     let came = door.arrive(FIRST);
     let before = bell.listen(rt);
@@ -181,5 +185,63 @@ fn the_bell_rings_for_a_slot_that_becomes_due(rt: HostRuntime) -> Result<(), Fai
         left: Some(DUE),
     };
     assert_same(&rt, &rung, &wanted);
+    Ok(())
+}
+
+/// What passed a gate: how often, and the last time of which tenant and slot, after how many commits.
+type Passed = (u32, Option<(usize, u8, u32)>);
+
+/// A gate that notes what passes it.
+#[derive(Drop)]
+struct NotingGate<'n> {
+    commits: &'n Cell<u32>,
+    passed: Cell<Passed>,
+}
+
+impl Gate for NotingGate<'_> {
+    fn inside(&self, tenant: usize, slot: u8) {
+        let (times, _) = self.passed.get();
+        let last = Some((tenant, slot, self.commits.get()));
+        self.passed.set((times.wrapping_add(1), last));
+    }
+}
+
+/// A slot is arrived at, and the private run of its topmost frame is committed: what passed the gate, and how many
+/// commits were made.
+fn pass_gate<R: Wait>(rt: &R, alloc: Global) -> Result<(Passed, u32), Fail> {
+    let program = returns_its_slot(alloc)?;
+    let (queues, mut passes) = CallQueues::new(alloc, one_tenant(alloc)?, 1)?;
+    Ok(view_and_commit(rt, &queues, passes.remove(0), program))
+}
+
+fn view_and_commit<R: Wait>(
+    rt: &R,
+    queues: &CallQueues,
+    pass: QueuePass,
+    program: Program,
+) -> (Passed, u32)
+    requires pass { pass.queues ≡ queues.now.queues }
+    requires tenant { length queues.now.config ≡ 1 }
+{
+    let bell = Bell::new();
+    let commits = Cell::new(0);
+    let gate = NotingGate {
+        commits: &commits,
+        passed: Cell::new((0, None)),
+    };
+    let rows = [(1, Moved::Ran, None)];
+    let tour = Tour::new(program, rt, &bell, &commits, &rows, 2);
+    let mut door = SlotDoor::new(Ringer::new(rt, &bell, queues, pass), &gate, tour);
+    let _came = door.arrive(FIRST);
+    if let View::Top(top) = door.view() {
+        let _moved = door.commit(segment_of(top));
+    }
+    (gate.passed.get(), commits.get())
+}
+
+#[test]
+fn a_private_run_passes_the_gate_before_its_commit(rt: HostRuntime) -> Result<(), Fail> {
+    let seen = pass_gate(&rt, rt.alloc())?;
+    assert_same(&rt, &seen, &((1, Some((0, 5, 0))), 1));
     Ok(())
 }

@@ -1,0 +1,28 @@
+-- How a server ends, by how its tenants were closed.
+use Rattle.std.specs.Prelude.{ℕ, ◌≡◌, List, Result, is_ok, if◌then◌else◌}
+use Rattle.std.specs.List.{list_all}
+use Rattle.job_language.specs.declared.tenants.Tenant.{Tenant}
+use Rattle.server_house.specs.Houses.{AreEnds, doors_of}
+use Rattle.server_house.specs.Returned.{AreAskedBy, IsGivenBack}
+use Rattle.server_io.specs.declared.ends.ServerEnd.{ServerEnd}
+use Rattle.server_io.specs.declared.ends.ServerEnd.TheVariants.{Close, Done}
+use Rattle.tenant_lock.specs.Doors.{DoorData}
+use Rattle.tenant_lock.specs.declared.doors.Closed.{Closed}
+use Rattle.tenant_lock.specs.declared.faults.CloseFault.{CloseFault}
+use Rattle.tenant_record.specs.SeatData.{SeatData}
+
+-- The doors are those of these tenants, in order.
+pub record AreDoorsOf (tenants : List Tenant) (doors : List DoorData) : Type 0 where
+  pub seats : ℕ
+  pub are : doors ≡ doors_of seats tenants
+
+-- well if all tenants closed, and else with a close fault
+abbrev pub end_of_all : List (Result Closed CloseFault) → ServerEnd
+end_of_all ends = if list_all is_ok ends then Done else Close
+
+-- The tenants of these doors were closed with these seats, and the server ends as that asks.
+pub record EndsAs (doors : List DoorData) (seats : List SeatData) (end : ServerEnd) : Type 0 where
+  pub ends : List (Result Closed CloseFault)
+  pub are : AreEnds doors seats ends
+  pub sessions : AreAskedBy IsGivenBack doors ends
+  pub end_is : end ≡ end_of_all ends
