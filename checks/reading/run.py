@@ -41,6 +41,7 @@ PROMISES = [
     ("the words of the server", ["program_words::read_server_words"]),
     ("a server's tenants, from its start to its end", ["server_house::House"]),
     ("a session of a server", ["server_house::serve_client"]),
+    ("a worker of a server", ["server_house::serve_calls"]),
 ]
 # A definition begins in the first column with one of these words, or with the name alone.
 HEAD = re.compile(r"^((?:(?:abbrev|unfoldable|pub|private|record|data) )*)([^\s:(]+)")
