@@ -2,7 +2,7 @@
 """Looks for what the pages name in the tree: each path, command, option, and name between back quotes must be there.
 
 usage: checks/pages/run.py [PAGE..]. It prints each span that names something which is not there, and, where no page is
-named, each word of allowed.txt that no page has; its status is then 1.
+named, each commit that is not in the history and each word of allowed.txt that no page has; its status is then 1.
 
 The rules; what is in allowed.txt, with its reason, is let through:
 1. A path is a file or folder of the tree, or the end of such a path, perhaps without its ending. On a crate's page one that
@@ -24,6 +24,7 @@ import re
 import sys
 from collections.abc import Iterable, Iterator
 
+from history import commit_faults
 from spans import TOP, Span, pages, spans_of
 from tree import WORD, Tree
 
@@ -146,7 +147,7 @@ def main() -> None:
         for span in spans_of(page):
             count += not span.is_code
             found += [f"{span.page}:{span.line}: {fault}, in: {span.text}" for fault in faults(tree, let_through, span)]
-    others = [] if sys.argv[1:] else [*shape_faults(tree), *(
+    others = [] if sys.argv[1:] else [*shape_faults(tree), *commit_faults(), *(
         f"checks/pages/allowed.txt: no page has {word}" for word in sorted(let_through.words - let_through.had))]
     print(*found, *others, sep="\n", end="\n" if found or others else "")
     print(f"{count} names on {len(sys.argv[1:] or pages())} pages: {len(found)} are not there")
