@@ -1,8 +1,8 @@
 -- How a server ends, by how its tenants were closed.
-use Rattle.std.specs.Prelude.{ℕ, ◌≡◌, List, Result, is_ok, if◌then◌else◌}
-use Rattle.std.specs.List.{list_all}
+use Rattle.std.specs.Prelude.{ℕ, ◌≡◌, List, Result, IfOk, is_ok, if◌then◌else◌}
+use Rattle.std.specs.List.{AllZip, list_all}
 use Rattle.job_language.specs.declared.tenants.Tenant.{Tenant}
-use Rattle.server_house.specs.Houses.{AreEnds, doors_of}
+use Rattle.server_house.specs.Houses.{AreEnds, IsOwnHistory, doors_of}
 use Rattle.server_house.specs.Returned.{AreAskedBy, IsGivenBack}
 use Rattle.server_io.specs.declared.ends.ServerEnd.{ServerEnd}
 use Rattle.server_io.specs.declared.ends.ServerEnd.TheVariants.{Close, Done}
@@ -15,6 +15,14 @@ use Rattle.tenant_record.specs.SeatData.{SeatData}
 pub record AreDoorsOf (tenants : List Tenant) (doors : List DoorData) : Type 0 where
   pub seats : ℕ
   pub are : doors ≡ doors_of seats tenants
+
+-- If the tenant closed, it did so with a history of its own.
+abbrev pub IsOwnEnd : Tenant → Result Closed CloseFault → Type 0
+IsOwnEnd t end = IfOk end (λ closed. IsOwnHistory t closed.history.items)
+
+-- These are the ends of these tenants, in order.
+abbrev pub AreOwnEnds : List Tenant → List (Result Closed CloseFault) → Type 0
+AreOwnEnds tenants ends = AllZip IsOwnEnd tenants ends
 
 -- well if all tenants closed, and else with a close fault
 abbrev pub end_of_all : List (Result Closed CloseFault) → ServerEnd

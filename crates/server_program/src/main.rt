@@ -3,7 +3,7 @@
 
 ghost use Rattle.std.specs.Prelude.{◌≡◌, ◌≤◌, IfOk, is_ok};
 ghost use Rattle.std.specs.List.{list_all};
-ghost use Rattle.server_program.specs.Ends.{AreDoorsOf, EndsAs, end_of_all};
+ghost use Rattle.server_program.specs.Ends.{AreDoorsOf, AreOwnEnds, EndsAs, IsOwnEnd, end_of_all};
 
 use dump_files::{can_dump, dump_history};
 use dump_lines::DumpFault;
@@ -178,16 +178,28 @@ fn close_tenants<R: Files + Print>(
     ensures { IfOk result (λ end. EndsAs house.doors returned.seats end) }
 {
     let ends = house.close_returned(alloc, returned)?;
-    let mut fault = None;
-    for (closed, config) in ends.iter().zip(configs) {
-        if let Err(met) = tell_end(rt, alloc, closed, config, folder) {
-            fault = fault.or(Some(met));
-        }
-    }
-    match fault {
+    match report_ends(rt, alloc, ends.as_slice(), configs, folder) {
         Some(fault) => Err(fault),
         None => Ok(end_of_all(ends.as_slice())),
     }
+}
+
+/// Reports each tenant's end, and goes on after a fault: the first one, if there is any.
+fn report_ends<R: Files + Print>(
+    rt: &R,
+    alloc: Global,
+    ends: &[Result<Closed, CloseFault>],
+    configs: &[TenantConfig],
+    folder: Option<&str>,
+) -> Option<ServerEnd>
+    requires { AreOwnEnds configs.now ends.now }
+{
+    let ([end, ends @ ..], [config, configs @ ..]) = (ends, configs) else {
+        return None;
+    };
+    let fault = report_end(rt, alloc, end, config, folder).err();
+    let later = report_ends(rt, alloc, ends, configs, folder);
+    fault.or(later)
 }
 
 /// How a server ends whose tenants were closed like that.
@@ -209,13 +221,15 @@ fn have_all_closed(ends: &[Result<Closed, CloseFault>]) -> bool
 }
 
 /// Prints a tenant's end, and writes its history to the folder, if there is one.
-fn tell_end<R: Files + Print>(
+fn report_end<R: Files + Print>(
     rt: &R,
     alloc: Global,
     end: &Result<Closed, CloseFault>,
     config: &TenantConfig,
     folder: Option<&str>,
-) -> Result<(), ServerEnd> {
+) -> Result<(), ServerEnd>
+    requires { IsOwnEnd config.now end.now }
+{
     let is_printed = print_end(rt, end, config).is_ok();
     if let (Some(folder), Ok(closed)) = (folder, end) {
         let path = dump_path(alloc, folder, config)?;
