@@ -92,12 +92,16 @@ fn reply_of<R: Wait>(rt: &R, door: &TenantDoor, asked: AskOutcome) -> Reply {
     reply
 }
 
-/// Gives a pass home. One of another tenant ends.
+/// Gives a pass home. It is of the door's tenant, or this does not return. If rows are on its slot, the door is told to
+/// stop first.
 fn give_home<R: Wait>(rt: &R, door: &TenantDoor, pass: Pass) {
-    if pass.tenant() == door.tenant() {
-        door.give_home(rt, pass);
-    } else {
-        door.end_foreign(rt, pass);
+    for _ in rt.forever() {
+        if pass.tenant() == door.tenant() {
+            if door.height(rt, &pass) > 0 {
+                door.stop(rt);
+            }
+            return door.give_home(rt, pass);
+        }
     }
 }
 

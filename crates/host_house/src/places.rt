@@ -50,12 +50,18 @@ impl<'b, 'p> Signal for HeardBell<'b, 'p> {
 
     ghost hears = { λ _ _. Unit {0} };
 
+    ghost looked = { λ _ _. Unit {0} };
+
     fn ring<R: Wait>(&self, rt: &R, pushed: Pushed) {
         self.bell.ring(rt, pushed);
     }
 
     fn listen<R: Wait>(&self, rt: &R) -> Option<u64> {
         self.bell.listen(rt)
+    }
+
+    fn may_go_on(&self, look: u64) -> bool {
+        self.bell.may_go_on(look)
     }
 
     fn wait_past<R: Wait>(&self, rt: &R, heard: u64) {

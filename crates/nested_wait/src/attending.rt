@@ -52,7 +52,7 @@ pub fn attend<D: Door>(door: &mut D, floor: usize) -> Attended
 }
 
 /// Moves the slot once. The private run of a topmost frame is made here, between two calls.
-fn take_turn<D: Door>(door: &mut D) -> Moved
+pub fn take_turn<D: Door>(door: &mut D) -> Moved
     ensures { Turn D.views D.commits D.advances door.old result door.new }
 {
     match door.view() {

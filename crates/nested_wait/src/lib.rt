@@ -4,5 +4,5 @@
 mod attending;
 mod doors;
 
-pub use attending::{Attended, attend};
+pub use attending::{Attended, attend, take_turn};
 pub use doors::{Door, MAX_HEIGHT};

@@ -54,8 +54,8 @@ impl<'d, R: Wait> Model for TenantSlots<'d, R> {
 }
 
 impl<'d, R: Wait> TenantSlots<'d, R> {
-    /// A thread that is at no slot. The doors are those of tenants 0, 1 and so on. If it waits, it stops once the
-    /// flag is raised.
+    /// A thread that is at no slot. The doors are those of tenants 0, 1 and so on. If it waits for a job, it stops
+    /// once the flag is raised. At a slot it does not: whoever is there stays until the slot may be left.
     pub fn new(rt: &'d R, doors: &'d [TenantDoor], stop: &'d StopFlag) -> Self
         requires { AreNumbered doors.now }
         ensures { result ≡ record { doors = doors.now; pass = None } }
@@ -220,9 +220,9 @@ impl<'d, R: Wait> DueDoor for TenantSlots<'d, R> {
     }
 
     fn pause(&mut self) -> bool {
-        let (rt, doors, stop) = (self.rt, self.doors, self.stop);
+        let (rt, doors) = (self.rt, self.doors);
         match &self.pass {
-            Some(pass) => doors[pass.tenant()].pause_until(rt, pass, stop),
+            Some(pass) => doors[pass.tenant()].pause(rt, pass),
             None => true,
         }
     }

@@ -4,6 +4,7 @@ use Rattle.server_doors.specs.Slots.{SlotsSeen}
 use Rattle.server_doors.specs.SlotWays.{ArrivesAt, Commits, GoesHome, HandsOver, MayBeHigh, MayBeSeen, Moves, Pauses}
 use Rattle.server_house.specs.Posts.{PostSeen}
 use Rattle.worker_main.specs.Slots.{SlotSeen, Ways, ways}
+use Rattle.worker_main.specs.Visits.{Told}
 use Rattle.worker_main.specs.Works.{Works}
 use Rattle.worker_main.specs.declared.visiting.Visiting.{Visiting}
 
@@ -19,6 +20,6 @@ first_worker p = record {
 }
 
 -- It works at the slots of the house, as a worker does, until the signal says to stop.
-pub record WorksThere (visiting : Visiting) (stops : Type 0) (p : PostSeen) : Type 0 where
+pub record WorksThere (visiting : Visiting) (l : Told) (p : PostSeen) : Type 0 where
   pub last : SlotSeen SlotsSeen
-  pub works : Works ways_there visiting stops (first_worker p) last
+  pub works : Works ways_there visiting l (first_worker p) last

@@ -4,6 +4,7 @@ ghost use Rattle.server_house.specs.Returned.{IsGivenBack};
 ghost use Rattle.server_house.specs.Sessions.{ServesClient};
 ghost use Rattle.server_house.specs.Visits.{at_no_slot, IsVisit, ServesNext};
 ghost use Rattle.server_house.specs.Workers.{WorksThere};
+ghost use Rattle.worker_main.specs.Visits.{told};
 
 use crate::posts::{Client, Post};
 use server_doors::{LockedDoors, TenantSlots};
@@ -16,7 +17,7 @@ use tenant_record::Seat;
 use worker_main::{Bell, Gate, Signal, Visiting, worker};
 
 /// Serves one client, and gives the seats back, however its session ended: with what its asks were answered, or as they
-/// were if there was no memory for a session. It waits for nothing once the flag is raised.
+/// were if there was no memory for a session. It waits for no job once the flag is raised.
 pub fn serve_client<R: Wait, I: Read, O: Write>(
     rt: &R,
     alloc: Global,
@@ -64,7 +65,7 @@ pub fn serve_calls<R: Wait, S: Signal, G: Gate>(
     gate: &G,
     visiting: Visiting,
 )
-    ensures { WorksThere visiting (S.stops signal.now) post.entry }
+    ensures { WorksThere visiting (told (S.stops signal.now) (S.looked signal.now)) post.entry }
 {
     let Post { house, pass } = post;
     // A worker stops with the house.

@@ -1,5 +1,5 @@
 -- Who waits for the outcomes of jobs.
-use Rattle.std.specs.Prelude.{ℕ, ◌≡◌, ◌⊎◌, ◌&&◌, not, Bool, true, false, Option, Some, None, is_none, position, replicate, slice_set}
+use Rattle.std.specs.Prelude.{ℕ, ◌≡◌, ◌⊎◌, ◌&&◌, not, Bool, true, false, Option, Some, None, nat_lt, replicate, slice_set, if◌then◌else◌}
 use Rattle.std.specs.List.{list_all}
 use Rattle.job_language.specs.declared.answers.Status.{Status}
 use Rattle.job_language.specs.declared.answers.Status.TheVariants.{Running}
@@ -36,14 +36,9 @@ abbrev pub jobs_of : Option Jobs → Jobs
 jobs_of None = no_jobs
 jobs_of (Some jobs) = jobs
 
--- the jobs, with one more at that place; if no place is named, among the others
-abbrev pub added_at : Jobs → ℕ → Option ℕ → Jobs
-added_at jobs job (Some place) = record jobs { noted = slice_set jobs.noted place (Some job) }
-added_at jobs job None = record jobs { others = true }
-
--- the jobs, with one more at the first free place; it is among the others only if no place is free
-abbrev pub added : Jobs → ℕ → Jobs
-added jobs job = added_at jobs job (position is_none jobs.noted)
+-- the jobs, with that of a seat in its place; that of a seat without a place is among the others
+abbrev pub added : Jobs → (seat job : ℕ) → Jobs
+added jobs seat job = if nat_lt seat NOTED then record jobs { noted = slice_set jobs.noted seat (Some job) } else record jobs { others = true }
 
 -- Either all who sleep for jobs may look again, and are forgotten until they sleep again; or nothing is forgotten, those who
 -- are noted have to sleep, and after an entry there are no others. They look again only if one who is noted need not sleep,

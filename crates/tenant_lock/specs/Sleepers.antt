@@ -3,7 +3,9 @@ use Rattle.std.specs.Prelude.{ℕ, ◌≡◌, ◌≢◌, ◌⊎◌, ◌&&◌, �
 use Rattle.job_language.specs.declared.answers.Moved.TheVariants.{Idle}
 use Rattle.job_language.specs.declared.tenants.TheConstants.{MAX_SLOTS}
 use Rattle.tenant_model.specs.Advance.{advance}
-use Rattle.tenant_record.specs.Cell.{CellData, state_of}
+use Rattle.tenant_model.specs.Walks.{height}
+use Rattle.tenant_record.specs.Cell.{CellData, has_slot_of, state_of}
+use Rattle.tenant_record.specs.PassData.{PassData}
 use Rattle.tenant_lock.specs.Awaited.{added, jobs_of}
 use Rattle.tenant_lock.specs.Pauses.{has_to_stop}
 use Rattle.tenant_lock.specs.declared.awaited.Jobs.{Jobs}
@@ -24,9 +26,14 @@ must_stop h = has_to_stop h.is_stopped h.cell
 abbrev pub with_sleeper : HeldData → (slot : ℕ) → HeldData
 with_sleeper h slot = record h { noted = slice_set h.noted slot true }
 
--- with somebody who may sleep for that job
-abbrev pub with_waiter : HeldData → (job : ℕ) → HeldData
-with_waiter h job = record h { awaited = Some (added (jobs_of h.awaited) job) }
+-- with a seat that may sleep for that job
+abbrev pub with_waiter : HeldData → (seat job : ℕ) → HeldData
+with_waiter h seat job = record h { awaited = Some (added (jobs_of h.awaited) seat job) }
+
+-- The slot of a pass may be left: it is one of the cell's, and nothing is on it, or those who wait have to stop.
+pub record MayLeave (h : HeldData) (p : PassData) : Type 0 where
+  pub there : has_slot_of h.cell p ≡ true
+  pub empty : must_stop h ≡ false → height (state_of h.cell).rows p.slot ≡ 0
 
 -- of each slot whether it is one of these
 abbrev pub marks : Option Slots → List Bool

@@ -11,7 +11,7 @@ use Rattle.market_config.specs.declared.calls.Call.{Call}
 use Rattle.tenant_model.specs.Changes.{open_rows}
 use Rattle.tenant_model.specs.Walks.{height, is_unstarted}
 use Rattle.tenant_record.specs.Cell.{CellData, IsCommitted, IsRight, AnswersAsk, advance_of, arrival, has_slot_of, state_of}
-use Rattle.tenant_record.specs.Locked.{IsArrived, IsAsked, IsHandedOver, IsMoved}
+use Rattle.tenant_record.specs.Locked.{IsArrived, IsAsked, IsHandedOver, IsMoved, given_home}
 use Rattle.tenant_record.specs.PassData.{PassData}
 use Rattle.tenant_record.specs.SeatData.{SeatData}
 use Rattle.tenant_record.specs.declared.cells.AskOutcome.{AskOutcome}
@@ -34,7 +34,7 @@ pub record IsArrivalOf (tenant : ℕ) (call : Call) (a : Arrived) (c d : CellDat
   pub arrived : call.tenant ≡ tenant → c.tenant ≡ tenant → IsArrived c call.slot a.came a.due a.pass d
   pub elsewhere : (call.tenant ≢ tenant) ⊎ (c.tenant ≢ tenant) → (a ≡ record { came = Nothing; due = None; pass = None }) × (d ≡ c)
 
--- Nothing was done for a pass that is not of one of the cell's slots.
+-- Nothing was done for a pass that is not the one that is out of one of the cell's slots.
 abbrev pub IsStale : PassData → Advanced → (c d : CellData) → Type 0
 IsStale p a c d = (a ≡ record { moved = Stale; due = None; pass = Some p }) × (d ≡ c)
 
@@ -50,10 +50,15 @@ pub record IsCommitOf (p : PassData) (t : Top) (a : Advanced) (c d : CellData) :
   pub moved : has_slot_of c p ≡ true → IsMoved c p a.moved a.due a.pass d
   pub elsewhere : has_slot_of c p ≡ false → IsStale p a c d
 
--- A pass is put home and a worker called. One that is not of one of the cell's slots changes nothing.
+-- The pass of one of the cell's slots, which was out, is put home.
+pub record IsGivenHome (p : PassData) (c d : CellData) : Type 0 where
+  pub there : has_slot_of c p ≡ true
+  pub given : d ≡ given_home c p
+
+-- The same, and at that moment a worker is called.
 pub record IsHandOverOf (p : PassData) (due : Option ℕ) (c d : CellData) : Type 0 where
-  pub handed : has_slot_of c p ≡ true → IsHandedOver c p due d
-  pub elsewhere : has_slot_of c p ≡ false → (due ≡ None) × (d ≡ c)
+  pub there : has_slot_of c p ≡ true
+  pub handed : IsHandedOver c p due d
 
 -- A right cell of the tenant of that number lay under the lock, to which that was done, and which is right after it.
 pub record WasUnder (tenant : ℕ) (done : CellData → CellData → Type 0) : Type 0 where

@@ -1,5 +1,5 @@
 // Who waits for which jobs.
-ghost use Rattle.std.specs.Prelude.{◌≡◌, ◌<◌, IfSome, Some, is_none, length, position};
+ghost use Rattle.std.specs.Prelude.{◌≡◌, Some};
 ghost use Rattle.tenant_lock.specs.Awaited.{
   AreWaitersTold,
   added,
@@ -13,15 +13,15 @@ ghost use Rattle.tenant_lock.specs.Awaited.{
 use job_language::Status;
 use tenant_record::TenantCell;
 
-/// How many waits are noted with their job.
-const NOTED: usize = 8;
+/// How many seats have a place for the job that they wait for. A server, and a generation of a host, has no more.
+const NOTED: usize = 64;
 
 /// The jobs for whose outcomes somebody may sleep who was not told to look again.
 #[derive(Clone, Copy, Debug, PartialEq, Eq)]
 pub(crate) struct Jobs {
-    /// The job of each wait for which there is room.
+    /// The job that each seat waits for, by the seat's number.
     noted: [Option<u64>; NOTED],
-    /// Whether somebody may sleep for a job that is not noted.
+    /// Whether a seat that has no place may wait.
     others: bool,
 }
 
@@ -36,22 +36,15 @@ impl Jobs {
         }
     }
 
-    /// Adds a job: at the first free place, or else to the others.
-    fn add(&mut self, job: u64)
-        ensures { self.new ≡ added self.old job }
+    /// Adds the job that a seat waits for.
+    fn add(&mut self, seat: usize, job: u64)
+        ensures { self.new ≡ added self.old seat job }
     {
-        match self.first_free() {
-            Some(free) => self.noted[free] = Some(job),
-            None => self.others = true,
+        if seat < NOTED {
+            self.noted[seat] = Some(job);
+        } else {
+            self.others = true;
         }
-    }
-
-    /// The first place at which no job is noted.
-    fn first_free(&self) -> Option<usize>
-        ensures place { result ≡ position is_none self.now.noted }
-        ensures there { IfSome result (λ place. place < length self.now.noted) }
-    {
-        self.noted.iter().position(|noted| noted.is_none())
     }
 
     /// Whether those that are noted are there without an outcome, and nobody has to stop.
@@ -64,16 +57,18 @@ impl Jobs {
     }
 }
 
-/// Notes that somebody is about to sleep for a job.
-pub(crate) fn note(awaited: &mut Option<Jobs>, job: u64)
-    ensures { awaited.new ≡ Some (added (jobs_of awaited.old) job) }
+/// Notes that a seat is about to sleep for a job.
+pub(crate) fn note(awaited: &mut Option<Jobs>, seat: usize, job: u64)
+    ensures { awaited.new ≡ Some (added (jobs_of awaited.old) seat job) }
 {
-    let mut jobs = match *awaited {
-        Some(jobs) => jobs,
-        None => Jobs::none(),
-    };
-    jobs.add(job);
-    *awaited = Some(jobs);
+    match awaited {
+        Some(jobs) => jobs.add(seat, job),
+        None => {
+            let mut jobs = Jobs::none();
+            jobs.add(seat, job);
+            *awaited = Some(jobs);
+        }
+    }
 }
 
 /// Says whether those who sleep for jobs may go on after a call that made an entry, or none. If so, all are to be
@@ -86,10 +81,10 @@ pub(crate) fn tell_waiters(
 ) -> bool
     ensures { AreWaitersTold cell.now is_over is_entry awaited.old result awaited.new }
 {
-    let Some(jobs) = *awaited else {
-        return false;
+    let is_told = match awaited {
+        Some(jobs) => (is_entry && jobs.others) || !jobs.are_open(cell, is_over),
+        None => false,
     };
-    let is_told = (is_entry && jobs.others) || !jobs.are_open(cell, is_over);
     if is_told {
         *awaited = None;
     }

@@ -1,5 +1,5 @@
 // The tenant's door: the calls that take the lock.
-ghost use Rattle.std.specs.Prelude.{◌≡◌, ◌≢◌, ◌≤◌, IfOk, IfErr, IfSome, IsSome, Some};
+ghost use Rattle.std.specs.Prelude.{◌≡◌, ◌≤◌, IfOk, IfErr, IfSome, IsSome, Some};
 ghost use Rattle.std.specs.Option.{is_some};
 ghost use Rattle.std.specs.Sync.Mutex.{mutex_guard_value};
 ghost use Rattle.job_language.specs.Brought.{job_of};
@@ -12,7 +12,8 @@ ghost use Rattle.arena_core.specs.Views.{IsSeen};
 ghost use Rattle.tenant_record.specs.Cell.{IsCollect, IsRight, state_of};
 ghost use Rattle.tenant_lock.specs.Closing.{Agree, Closes, IsFault, IsRefused};
 ghost use Rattle.tenant_lock.specs.Doors.{ComesBack, ComesWith, door_of};
-ghost use Rattle.tenant_lock.specs.Under.{AndCounted, AndLooked, AreCounts, IsAdvanceOf, IsArrivalOf, IsAskOf, IsCommitOf, IsHandOverOf, IsHigh, IsTally, WasThere, WasUnder};
+ghost use Rattle.tenant_lock.specs.Under.{AndCounted, AndLooked, AreCounts, IsAdvanceOf, IsArrivalOf, IsAskOf, IsCommitOf, IsGivenHome, IsHandOverOf, IsHigh, IsTally, WasThere, WasUnder};
+ghost use Rattle.tenant_lock.specs.Sleepers.{MayLeave};
 
 use crate::closing::fault_of;
 use crate::counts::{Counts, Tally};
@@ -252,28 +253,23 @@ impl TenantDoor {
         self.jobs.load(Ordering::SeqCst)
     }
 
-    /// Puts a pass home.
+    /// Puts a pass home. A slot with rows on it is not left to itself: until they are gone, those who wait
+    /// for the tenant were told to stop, or its history is full, the call does not return.
     pub fn give_home<R: Wait>(&self, rt: &R, pass: Pass)
         requires { pass.tenant ≡ self.now.tenant }
+        ensures { WasUnder self.now.tenant (IsGivenHome pass) }
     {
-        self.lock(rt).give_home(pass);
+        self.lock_to_leave(rt, &pass).give_home(pass);
     }
 
-    /// Ends a pass of another tenant, whose slot then stays taken.
-    pub fn end_foreign<R: Wait>(&self, rt: &R, pass: Pass)
-        requires { pass.tenant ≢ self.now.tenant }
-    {
-        self.lock(rt).cell().end_foreign(pass);
-    }
-
-    /// Puts a pass home, and under the same lock calls a worker to the lowest slot for workers whose pass
-    /// is home with nobody called, if a row waits. That slot is given, and who asks for it has to call
-    /// the worker. It is no entry, so nobody is woken.
+    /// Puts a pass home as `give_home`, and under the same lock calls a worker to the lowest slot for
+    /// workers whose pass is home with nobody called, if a row waits. That slot is given, and who asks for
+    /// it has to call the worker. It is no entry, so nobody is woken.
     pub fn hand_over<R: Wait>(&self, rt: &R, pass: Pass) -> Option<u8>
         requires { pass.tenant ≡ self.now.tenant }
         ensures cell { WasUnder self.now.tenant (IsHandOverOf pass result) }
     {
-        self.lock(rt).hand_over(pass)
+        self.lock_to_leave(rt, &pass).hand_over(pass)
     }
 
     /// Waits while an advance of the pass's slot would be idle. It says whether to stop: those who wait were told
@@ -281,27 +277,20 @@ impl TenantDoor {
     pub fn pause<R: Wait>(&self, rt: &R, pass: &Pass) -> bool
         requires { pass.now.tenant ≡ self.now.tenant }
     {
-        self.pause_until(rt, pass, &StopFlag::new())
-    }
-
-    /// As `pause`, and it also stops at a flag that is raised.
-    pub fn pause_until<R: Wait>(&self, rt: &R, pass: &Pass, stop: &StopFlag) -> bool
-        requires { pass.now.tenant ≡ self.now.tenant }
-    {
         let held = self.lock(rt);
         let Some(at_slot) = self.at_slots.get(usize::from(pass.slot())) else {
-            return stop.is_raised() || held.is_over();
+            return held.is_over();
         };
         let mut has_slept = false;
         let held = at_slot.wait_while(rt, held, |held| {
-            let sleeps = !stop.is_raised() && held.sleeps_at(pass);
+            let sleeps = held.sleeps_at(pass);
             if has_slept {
                 held.count_wake(sleeps);
             }
             has_slept = true;
             sleeps
         });
-        stop.is_raised() || held.is_over()
+        held.is_over()
     }
 
     /// How many wait at the tenant's slots, and how often they were woken.
@@ -318,12 +307,12 @@ impl TenantDoor {
     }
 
     /// As `pause_for`, and it also stops at a flag that is raised.
-    pub fn pause_for_until<R: Wait>(&self, rt: &R, _seat: &Seat, job: u64, stop: &StopFlag) -> bool
-        requires { _seat.now.tenant ≡ self.now.tenant }
+    pub fn pause_for_until<R: Wait>(&self, rt: &R, seat: &Seat, job: u64, stop: &StopFlag) -> bool
+        requires { seat.now.tenant ≡ self.now.tenant }
     {
         let held = self.lock(rt);
         let held = self.outcomes.wait_while(rt, held, |held| {
-            !stop.is_raised() && held.sleeps_for(job)
+            !stop.is_raised() && held.sleeps_for(seat, job)
         });
         stop.is_raised() || held.is_stopped()
     }
@@ -351,6 +340,23 @@ impl TenantDoor {
             if held.cell().tenant() == self.tenant {
                 return held;
             }
+        }
+        unreachable!()
+    }
+
+    /// Takes the lock when the slot of a pass may be left. Who moved the slot until it was empty, or until a
+    /// pause said to stop, takes it at once.
+    fn lock_to_leave<R: Wait>(&self, rt: &R, pass: &Pass) -> MutexGuard<'_, Held>
+        ensures own { (mutex_guard_value result).cell.tenant ≡ self.now.tenant }
+        ensures may { MayLeave (mutex_guard_value result) pass.now }
+    {
+        for _ in rt.forever() {
+            let held = self.lock(rt);
+            if held.may_leave(pass) {
+                return held;
+            }
+            drop(held);
+            yield_now();
         }
         unreachable!()
     }

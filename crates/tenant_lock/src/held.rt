@@ -9,13 +9,13 @@ ghost use Rattle.tenant_model.specs.Told.{placed_on};
 ghost use Rattle.tenant_model.specs.declared.rows.TheConstants.{MAX_HEIGHT};
 ghost use Rattle.tenant_record.specs.PassData.{GoesWith};
 ghost use Rattle.tenant_record.specs.SeatData.{asked};
-ghost use Rattle.tenant_record.specs.Cell.{IsCollect, IsRight, arrival, has_slot_of};
-ghost use Rattle.tenant_record.specs.Locked.{IsArrived, given_home};
+ghost use Rattle.tenant_record.specs.Cell.{IsAttended, IsCollect, IsRight, arrival, has_slot_of};
+ghost use Rattle.tenant_record.specs.Locked.{IsArrived};
 ghost use Rattle.tenant_lock.specs.Awaited.{is_open};
 ghost use Rattle.tenant_lock.specs.Doors.{ComesWith};
 ghost use Rattle.tenant_lock.specs.Looks.{IsCountAfter, IsLook, IsLookAfter, IsShown, rows_on};
-ghost use Rattle.tenant_lock.specs.Sleepers.{CanMove, IsIdle, must_stop, with_sleeper, with_waiter};
-ghost use Rattle.tenant_lock.specs.Under.{AreCounts, IsAdvanceOf, IsArrivalOf, IsAskOf, IsCommitOf, IsHandOverOf, IsTally};
+ghost use Rattle.tenant_lock.specs.Sleepers.{CanMove, IsIdle, MayLeave, must_stop, with_sleeper, with_waiter};
+ghost use Rattle.tenant_lock.specs.Under.{AreCounts, IsAdvanceOf, IsArrivalOf, IsAskOf, IsCommitOf, IsGivenHome, IsHandOverOf, IsTally};
 ghost use Rattle.tenant_lock.specs.Watch.{IsTurn, KeepsWatch};
 
 use crate::awaited::{Jobs, is_open, note};
@@ -32,7 +32,8 @@ use tenant_record::{Advanced, Arrived, AskOutcome, Pass, Seat, TenantCell};
 
 /// A tenant's cell, whether those who wait for it must stop, at which slots they wait, and for which jobs.
 /// By its type, whoever is noted as asleep at a slot has nothing to do there: each call that changes that
-/// names the slot.
+/// names the slot. And a slot with rows on it is out, so that somebody moves it, until those who wait have
+/// to stop.
 #[derive(Drop)]
 pub(crate) struct Held {
     cell: TenantCell,
@@ -60,8 +61,9 @@ pub struct Turned {
 }
 
 impl Held {
-    /// A tenant for which nobody waits.
+    /// A tenant for which nobody waits, and of which no slot has rows but those that are out.
     pub(crate) fn new(cell: TenantCell) -> Held
+        requires { IsAttended cell }
         ensures cell { result.cell ≡ cell }
         ensures stopped { result.is_stopped ≡ false }
         ensures noted { result.noted ≡ replicate MAX_SLOTS false }
@@ -284,35 +286,38 @@ impl Held {
         }
     }
 
-    /// Puts a pass home, if its slot is one of the cell's. Another one is ended.
-    pub(crate) fn give_home(&mut self, pass: Pass)
-        ensures home { has_slot_of self.old.cell pass ≡ true
-            → self.new.cell ≡ given_home self.old.cell pass }
-        ensures kept { has_slot_of self.old.cell pass ≡ false → self.new ≡ self.old }
-        // Whoever is noted as asleep stays noted.
-        ensures rest { self.new ≡ record self.old { cell = self.new.cell } }
+    /// Whether the slot of a pass may be left: nothing is on it, or those who wait for the tenant have to stop.
+    pub(crate) fn may_leave(&self, pass: &Pass) -> bool
+        ensures { result ≡ true → MayLeave self.now pass.now }
     {
-        if self.cell.has_slot_of(&pass) {
-            self.cell.give_home(pass);
-        } else {
-            self.cell.end_foreign(pass);
-        }
+        self.cell.has_slot_of(pass) && (self.is_over() || self.cell.height(pass) == 0)
     }
 
-    /// Puts a pass home and calls a worker, if its slot is one of the cell's.
-    pub(crate) fn hand_over(&mut self, pass: Pass) -> Option<u8>
-        ensures cell { IsHandOverOf pass result self.old.cell self.new.cell }
+    /// Puts a pass home.
+    pub(crate) fn give_home(&mut self, pass: Pass)
+        requires { MayLeave self.old pass }
+        ensures cell { IsGivenHome pass self.old.cell self.new.cell }
         ensures right { IsRight self.old.cell × IsRight self.new.cell }
-        ensures kept { has_slot_of self.old.cell pass ≡ false → self.new ≡ self.old }
         // Whoever is noted as asleep stays noted.
         ensures rest { self.new ≡ record self.old { cell = self.new.cell } }
     {
         // Proof hint: the cell is right.
         let _ = self.cell.history();
-        if !self.cell.has_slot_of(&pass) {
-            self.cell.end_foreign(pass);
-            return None;
-        }
+        self.cell.give_home(pass);
+        // Proof hint: it still is.
+        let _ = self.cell.history();
+    }
+
+    /// Puts a pass home and calls a worker.
+    pub(crate) fn hand_over(&mut self, pass: Pass) -> Option<u8>
+        requires { MayLeave self.old pass }
+        ensures cell { IsHandOverOf pass result self.old.cell self.new.cell }
+        ensures right { IsRight self.old.cell × IsRight self.new.cell }
+        // Whoever is noted as asleep stays noted.
+        ensures rest { self.new ≡ record self.old { cell = self.new.cell } }
+    {
+        // Proof hint: the cell is right.
+        let _ = self.cell.history();
         let due = self.cell.hand_over(pass);
         // Proof hint: it still is.
         let _ = self.cell.history();
@@ -363,16 +368,16 @@ impl Held {
         jobs
     }
 
-    /// Notes who has to sleep for a job, and says whether to sleep: the job is there without an outcome, and nobody has
-    /// to stop.
-    pub(crate) fn sleeps_for(&mut self, job: u64) -> bool
+    /// Notes the seat that has to sleep for a job, and says whether to sleep: the job is there without an outcome, and
+    /// nobody has to stop.
+    pub(crate) fn sleeps_for(&mut self, seat: &Seat, job: u64) -> bool
         ensures waits { result ≡ is_open self.old.cell (must_stop self.old) job }
-        ensures noted { result ≡ true → self.new ≡ with_waiter self.old job }
+        ensures noted { result ≡ true → self.new ≡ with_waiter self.old seat.now.number job }
         ensures kept { result ≡ false → self.new ≡ self.old }
     {
         let sleeps = is_open(&self.cell, self.is_over(), job);
         if sleeps {
-            note(&mut self.awaited, job);
+            note(&mut self.awaited, seat.number(), job);
         }
         sleeps
     }
@@ -463,6 +468,7 @@ fn arrive_at(cell: &mut TenantCell, slot: u8) -> Arrived
     ensures comes { ComesWith cell.old.tenant slot result.came result.pass }
     ensures answer { result.came ≡ (arrival cell.old slot).0 }
     ensures arrived { IsArrived cell.old slot result.came result.due result.pass cell.new }
+    ensures attended { IsAttended cell.old → IsAttended cell.new }
 {
     cell.arrive(slot)
 }

@@ -4,3 +4,5 @@ pub mod Calling
 pub mod Rightness
 pub mod Kept
 pub mod Placing
+mod Freeing
+pub mod Attending

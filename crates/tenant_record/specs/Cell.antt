@@ -1,5 +1,5 @@
 -- What a tenant's lock keeps, and when it is right.
-use Rattle.std.specs.Prelude.{ℕ, ◌≡◌, ◌≤◌, ◌<◌, ◌+◌, ◌==◌, ◌⊎◌, Bool, true, false, ◌||◌, ◌&&◌, List, [], ◌∷◌, length, take, drop, replicate, Option, Some, None, IsSome, All, count_by, nat_lt, slice_set, slice_index_or, if◌then◌else◌}
+use Rattle.std.specs.Prelude.{ℕ, ◌≡◌, ◌≤◌, ◌<◌, ◌+◌, ◌==◌, ◌⊎◌, Bool, true, false, not, ◌||◌, ◌&&◌, List, [], ◌∷◌, length, take, drop, replicate, Option, Some, None, IsSome, All, count_by, nat_lt, slice_set, slice_index_or, if◌then◌else◌}
 use Rattle.job_language.specs.Brought.{job_of}
 use Rattle.job_language.specs.Recorded.{is_entry, is_recorded_reply}
 use Rattle.job_language.specs.declared.answers.Answer.{Answer}
@@ -40,9 +40,9 @@ pub record CellData : Type 0 where
   pub home : List Place
   pub stills : List (Option ℕ)
 
--- Is the slot of the pass one of the cell's?
+-- Is the slot of the pass one of the cell's, and its pass out?
 abbrev pub has_slot_of : CellData → PassData → Bool
-has_slot_of c p = (p.tenant == c.tenant) && nat_lt p.slot c.config.slots
+has_slot_of c p = (p.tenant == c.tenant) && nat_lt p.slot c.config.slots && not (is_in (place c.home p.slot))
 
 -- the state that the arena stands for
 abbrev pub state_of : CellData → State
@@ -89,6 +89,13 @@ AreCounted history counts = (slot : ℕ) → slot < MAX_SLOTS → slice_index_or
 -- The pass of each reserved slot with nothing on it is home.
 abbrev pub AreHome : Tenant → State → List Place → Type 0
 AreHome c s home = (slot : ℕ) → slot < c.reserved → height s.rows slot ≡ 0 → is_in (place home slot) ≡ true
+
+-- A slot with rows on it is out: somebody has its pass, to move it.
+abbrev pub AreAttended : State → List Place → Type 0
+AreAttended s home = (slot : ℕ) → is_in (place home slot) ≡ true → height s.rows slot ≡ 0
+
+abbrev pub IsAttended : CellData → Type 0
+IsAttended c = AreAttended (state_of c) c.home
 
 -- The passes that are home are those of their slots.
 abbrev pub ArePlaced : ℕ → List Place → Type 0

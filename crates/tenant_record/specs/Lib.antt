@@ -11,3 +11,4 @@ pub mod Locked
 pub mod CellFields
 pub mod Logs
 pub mod Closing
+pub mod Attended

@@ -11,7 +11,7 @@ ghost use Rattle.tenant_model.specs.Changes.{open_rows};
 ghost use Rattle.tenant_model.specs.Told.{placed_on};
 ghost use Rattle.tenant_model.specs.Walks.{height, is_unstarted};
 ghost use Rattle.tenant_model.specs.Advance.{advance};
-ghost use Rattle.tenant_record.specs.Cell.{IsCollect, IsCommitted, IsRight, state_of, first_cell, has_slot_of, is_on, advance_of, arrival, entered, AnswersAsk, askers_of};
+ghost use Rattle.tenant_record.specs.Cell.{IsAttended, IsCollect, IsCommitted, IsRight, state_of, first_cell, has_slot_of, is_on, advance_of, arrival, entered, AnswersAsk, askers_of};
 ghost use Rattle.tenant_record.specs.Locked.{IsMoved, IsArrived, IsAsked, IsHandedOver, given_home};
 ghost use Rattle.tenant_record.specs.PassData.{GoesWith};
 ghost use Rattle.tenant_record.specs.Places.{place, pass_in, is_one_out, is_told_full};
@@ -19,7 +19,7 @@ ghost use Rattle.tenant_record.specs.Replayed.{status_of};
 ghost use Rattle.arena_core.specs.Views.{IsSeen};
 
 use crate::passes::Pass;
-use crate::places::{call, is_one_out, pass_at, put, room_at};
+use crate::places::{call, is_one_out, is_out, pass_at, put, room_at};
 use crate::replay::Replay;
 use crate::seats::Seat;
 use crate::slots::{Advanced, Arrived, SlotBooks};
@@ -74,7 +74,8 @@ impl TenantCell {
     /// A tenant that has done nothing yet, whose passes are all home, with room for all that it may
     /// record. Tenants are numbered from 0.
     pub fn new(alloc: Global, tenant: usize, config: TenantConfig) -> Result<TenantCell, AllocError>
-        ensures { IfOk result (λ cell. cell ≡ first_cell tenant config) }
+        ensures cell { IfOk result (λ cell. cell ≡ first_cell tenant config) }
+        ensures attended { IfOk result IsAttended }
     {
         let steps = config.tenant().steps;
         Ok(TenantCell {
@@ -230,6 +231,7 @@ impl TenantCell {
         ensures placed { GoesWith self.old.tenant (placed_on result.reply) result.pass }
         ensures asked { IsAsked self.old seat.old request result.reply
             result.due result.pass self.new seat.new }
+        ensures attended { IsAttended self.old → IsAttended self.new }
     {
         let (Ok(copy), Ok(kept)) = (request.try_clone(), request.try_clone()) else {
             return AskOutcome {
@@ -253,6 +255,7 @@ impl TenantCell {
         ensures found { let at = entered slot (is_entry (Answer.Came result.came)) in
             GoesWith self.old.tenant at result.pass }
         ensures arrived { IsArrived self.old slot result.came result.due result.pass self.new }
+        ensures attended { IsAttended self.old → IsAttended self.new }
     {
         let Some(has_room) = room_at(self.slots.home.as_slice(), slot) else {
             return Arrived {
@@ -272,6 +275,8 @@ impl TenantCell {
         ensures answer { result.moved ≡ (advance_of self.old pass).0 }
         ensures state { state_of self.new ≡ (advance_of self.old pass).1 }
         ensures moved { IsMoved self.old pass result.moved result.due result.pass self.new }
+        ensures attended { has_slot_of self.old pass ≡ true
+            → IsAttended self.old → IsAttended self.new }
     {
         let entries = self.replay.history().len();
         let moved = self.replay.advance(pass.slot(), pass.has_room());
@@ -285,6 +290,8 @@ impl TenantCell {
         requires slot { pass.slot < self.old.config.slots }
         ensures answer { IsCommitted self.old pass segment result.moved self.new }
         ensures moved { IsMoved self.old pass result.moved result.due result.pass self.new }
+        ensures attended { has_slot_of self.old pass ≡ true
+            → IsAttended self.old → IsAttended self.new }
     {
         let entries = self.replay.history().len();
         let moved = self.replay.commit(pass.slot(), &segment, pass.has_room());
@@ -295,20 +302,25 @@ impl TenantCell {
     pub fn give_home(&mut self, pass: Pass)
         requires tenant { pass.tenant ≡ self.old.tenant }
         requires slot { pass.slot < self.old.config.slots }
-        ensures { self.new ≡ given_home self.old pass }
+        ensures home { self.new ≡ given_home self.old pass }
+        ensures attended { height (state_of self.old).rows pass.slot ≡ 0
+            → IsAttended self.old → IsAttended self.new }
     {
         put(self.slots.home.as_mut_slice(), pass);
     }
 
-    /// Whether the slot of a pass is one of this tenant's.
+    /// Whether the slot of a pass is one of this tenant's, and its pass is out.
     pub fn has_slot_of(&self, pass: &Pass) -> bool
         ensures value { result ≡ has_slot_of self.now pass.now }
         ensures few { result ≡ true → pass.now.slot < MAX_SLOTS }
     {
-        pass.tenant() == self.tenant && pass.slot() < self.config().slots
+        let slot = pass.slot();
+        pass.tenant() == self.tenant
+            && slot < self.config().slots
+            && is_out(self.slots.home.as_slice(), slot)
     }
 
-    /// Ends a pass that is not of one of this tenant's slots.
+    /// Ends a pass that is not the one that is out of one of this tenant's slots.
     pub fn end_foreign(&self, pass: Pass)
         requires { has_slot_of self.now pass ≡ false }
     {

@@ -4,6 +4,7 @@
 
 mod cells;
 mod closing;
+mod laws;
 mod logs;
 mod notes;
 mod passes;
@@ -14,6 +15,7 @@ mod slots;
 
 pub use cells::{AskOutcome, TenantCell};
 pub use closing::{SlotFault, are_all_told, are_seats, first_slot_fault, is_one_full, slot_fault};
+pub use laws::some_holder_can_move;
 pub use passes::Pass;
 pub use replay::Replay;
 pub use seats::{Seat, first_seats};

@@ -1,5 +1,5 @@
 // Where the passes of a tenant's slots are.
-ghost use Rattle.std.specs.Prelude.{◌≡◌, ◌<◌, ◌≤◌, IfOk, Some, None, if◌then◌else◌, slice_set, find, length, option_map, IfSome};
+ghost use Rattle.std.specs.Prelude.{◌≡◌, ◌<◌, ◌≤◌, IfOk, Some, None, if◌then◌else◌, not, slice_set, find, length, option_map, IfSome};
 ghost use Rattle.std.specs.List.{range_with_len};
 ghost use Rattle.tenant_record.specs.PassData.{has_room, goes_home};
 ghost use Rattle.tenant_record.specs.Places.{HasRoomFor, place, is_home, is_told_full, pass_in, is_worker_home, is_in, is_other_out, is_one_out, other_out, due_place, due_after, arrived_pass, arrived_place, taken, placed_pass, returned, woken, first_places};
@@ -136,10 +136,14 @@ fn other_out(home: &[Place], slots: u8, slot: u8) -> Option<u8>
 fn is_other_out(home: &[Place], slot: u8, other: u8) -> bool
     ensures { result ≡ is_other_out home.now slot other }
 {
-    if other == slot {
-        return false;
-    }
-    match home.get(other as usize) {
+    other != slot && is_out(home, other)
+}
+
+/// Whether the pass of a slot is out.
+pub(crate) fn is_out(home: &[Place], slot: u8) -> bool
+    ensures { result ≡ not (is_in (place home.now slot)) }
+{
+    match home.get(slot as usize) {
         Some(place) => !place.is_in(),
         None => true,
     }

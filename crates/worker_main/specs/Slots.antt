@@ -6,8 +6,6 @@ use Rattle.job_step.specs.declared.segments.Top.{Top}
 use Rattle.job_step.specs.declared.segments.View.{View}
 use Rattle.market_config.specs.declared.calls.Call.{Call}
 use Rattle.nested_wait.specs.Turns.{Turn}
-use Rattle.nested_wait.specs.Runs.{Attends}
-use Rattle.nested_wait.specs.declared.attending.Attended.{Attended}
 use Rattle.worker_main.specs.Pushes.{RingerSeen, PushesDue, Pops}
 
 -- the thread at the queues, and its doors
@@ -68,6 +66,6 @@ Arrives {D = D} arrives s call came t = (due : Option Call) × (arrives s.doors 
 abbrev pub PopsAt : {D : Type 0} → SlotSeen D → Option Call → SlotSeen D → Type 0
 PopsAt {D = D} s popped t = (t.doors ≡ s.doors) × Pops s.ringer popped t.ringer
 
--- the slot is attended until it has no row
-abbrev pub AttendsSlot : {D : Type 0} → Ways D → Attended → SlotSeen D → SlotSeen D → Type 0
-AttendsSlot {D = D} w how s t = Attends (Turn (views_of w.views) (commits_of w.commits) (advances_of w.advances)) (heights_of w.heights) (pauses_of w.pauses) 1 how s t
+-- one turn of the slot: what is seen of it decides whether a commit or an advance
+abbrev pub TakesOne : {D : Type 0} → Ways D → SlotSeen D → Moved → SlotSeen D → Type 0
+TakesOne {D = D} w s m t = Turn (views_of w.views) (commits_of w.commits) (advances_of w.advances) s m t

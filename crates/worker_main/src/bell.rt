@@ -4,6 +4,7 @@ ghost use Rattle.worker_main.specs.Rings.{next_ring};
 
 use crate::signal::Signal;
 use call_queues::Pushed;
+use std::sync::atomic::{AtomicBool, Ordering};
 use std::sync::{Condvar, Mutex, Wait};
 
 /// A bell for workers. A thread that waits for it sleeps. Rings are counted, so one that comes
@@ -11,6 +12,8 @@ use std::sync::{Condvar, Mutex, Wait};
 pub struct Bell {
     rung: Mutex<Rung>,
     changed: Condvar,
+    /// Whether it told to stop, for those who look without the lock.
+    has_told: AtomicBool,
 }
 
 impl Drop for Bell {
@@ -19,6 +22,7 @@ impl Drop for Bell {
         let Bell {
             rung: _rung,
             changed: _changed,
+            has_told: _has_told,
         } = self;
     }
 }
@@ -69,11 +73,13 @@ impl Bell {
                 is_stopped: false,
             }),
             changed: Condvar::new(),
+            has_told: AtomicBool::new(false),
         }
     }
 
-    /// Tells all that listen to stop, from now on.
+    /// Tells all that listen to stop, from now on, and those that are at a slot before their next turn there.
     pub fn stop<R: Wait>(&self, rt: &R) {
+        self.has_told.store(true, Ordering::SeqCst);
         self.rung.lock(rt).stop();
         self.changed.notify_all();
     }
@@ -84,6 +90,8 @@ impl Signal for Bell {
 
     ghost hears = { λ _ _. Unit {0} };
 
+    ghost looked = { λ _ _. Unit {0} };
+
     fn ring<R: Wait>(&self, rt: &R, pushed: Pushed) {
         self.rung.lock(rt).ring();
         self.changed.notify_one();
@@ -92,6 +100,10 @@ impl Signal for Bell {
 
     fn listen<R: Wait>(&self, rt: &R) -> Option<u64> {
         self.rung.lock(rt).heard()
+    }
+
+    fn may_go_on(&self, _look: u64) -> bool {
+        !self.has_told.load(Ordering::SeqCst)
     }
 
     fn wait_past<R: Wait>(&self, rt: &R, heard: u64) {

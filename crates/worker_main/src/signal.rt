@@ -1,5 +1,5 @@
 // What workers listen to.
-ghost use Rattle.std.specs.Prelude.{◌≡◌, ℕ, None, IfSome};
+ghost use Rattle.std.specs.Prelude.{◌≡◌, ℕ, None, IfSome, true, false};
 
 use call_queues::Pushed;
 use std::sync::Wait;
@@ -12,6 +12,9 @@ pub trait Signal {
     /// That number was heard. Nobody can say so but by `listen`, unless the signal lets them.
     ghost hears: { Self → ℕ → Type 0 };
 
+    /// At the look of that number it had not told them to stop.
+    ghost looked: { Self → ℕ → Type 0 };
+
     /// Rings once for a call that was pushed. It wakes a worker, if one waits.
     fn ring<R: Wait>(&self, rt: &R, pushed: Pushed);
 
@@ -19,6 +22,12 @@ pub trait Signal {
     fn listen<R: Wait>(&self, rt: &R) -> Option<u64>
         ensures stops { result ≡ None → stops self.now }
         ensures heard { IfSome result (λ number. hears self.now number) };
+
+    /// Whether a worker at a slot may go on: it is asked before each turn there, by looks numbered from 0, and
+    /// waits for nobody.
+    fn may_go_on(&self, look: u64) -> bool
+        ensures goes { result ≡ true → looked self.now look }
+        ensures stops { result ≡ false → stops self.now };
 
     /// Waits until that number is no longer the one that was heard, or the workers must stop.
     fn wait_past<R: Wait>(&self, rt: &R, heard: u64)

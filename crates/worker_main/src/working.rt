@@ -1,6 +1,7 @@
 // A worker's life.
 ghost use Rattle.std.specs.Prelude.{◌≡◌, ◌≤◌, length};
 ghost use Rattle.worker_main.specs.Slots.{ways};
+ghost use Rattle.worker_main.specs.Visits.{told};
 ghost use Rattle.worker_main.specs.Works.{TakesTurn, Works};
 
 use crate::doors::CallDoors;
@@ -13,8 +14,9 @@ use crate::visits::answer_call;
 use call_queues::{CallQueues, QueuePass};
 use std::sync::Wait;
 
-/// Serves calls until the signal says to stop: it pops a call, arrives at its slot and attends it
-/// until the slot is left, or handed over by a worker that shares. It waits if there is no call. The
+/// Serves calls until the signal says to stop: it pops a call, arrives at its slot and moves it until
+/// the slot is left, or handed over by a worker that shares. Before each turn at a slot it looks whether
+/// the signal says to stop, so it takes at most one more after that. It waits if there is no call. The
 /// queue pass and the doors come back. A worker makes at most 2^64 - 1 turns.
 pub fn worker<R, S, G, D>(
     rt: &R,
@@ -34,7 +36,7 @@ where
     requires tenants { D.tenants doors ≤ length queues.now.config }
     ensures pass { (result.0.queues ≡ pass.queues) × (result.0.number ≡ pass.number) }
     ensures works { Works (ways D.views D.commits D.advances D.heights D.pauses D.homes D.hands
-        D.arrives) visiting (S.stops signal.now)
+        D.arrives) visiting (told (S.stops signal.now) (S.looked signal.now))
         (record { ringer = record { queues = queues.now; pass = pass }; doors = doors })
         (record { ringer = record { queues = queues.now; pass = result.0 }; doors = result.1 }) }
 {
@@ -51,7 +53,7 @@ where
     G: Gate,
     D: CallDoors,
     ensures { Works (ways D.views D.commits D.advances D.heights D.pauses D.homes D.hands D.arrives)
-        visiting (S.stops signal.now) door.old door.new }
+        visiting (told (S.stops signal.now) (S.looked signal.now)) door.old door.new }
 {
     for _turn in 0..u64::MAX {
         let Some(heard) = signal.listen(rt) else {
@@ -76,10 +78,10 @@ where
     D: CallDoors,
     requires { S.hears signal.now heard }
     ensures { TakesTurn (ways D.views D.commits D.advances D.heights D.pauses D.homes D.hands
-        D.arrives) visiting door.old door.new }
+        D.arrives) visiting (told (S.stops signal.now) (S.looked signal.now)) door.old door.new }
 {
     match door.pop() {
-        Some(call) => answer_call(door, call, visiting),
+        Some(call) => answer_call(signal, door, call, visiting),
         None => signal.wait_past(rt, heard),
     }
 }

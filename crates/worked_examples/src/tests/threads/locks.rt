@@ -15,7 +15,7 @@ use std::test::Fail;
 use std::thread;
 use std::thread::Threads;
 use tenant_lock::{CloseFault, Closed, StopFlag, TenantDoor};
-use tenant_record::{Advanced, Arrived, AskOutcome, Pass, Seat};
+use tenant_record::{Advanced, Arrived, AskOutcome, Pass, Seat, TenantCell};
 
 /// The call of the only slot for workers.
 pub(super) const CALL: Call = Call { tenant: 0, slot: 1 };
@@ -86,23 +86,39 @@ pub(super) fn poll<R: Wait>(rt: &R, door: &TenantDoor, seat: &mut Seat, job: u64
     Some(reply)
 }
 
-/// Gives a pass home, if there is one. One of another tenant ends.
+/// Gives a pass home, if there is one. If rows are on its slot, the door is told to stop first.
 pub(super) fn give_home<R: Wait>(rt: &R, door: &TenantDoor, pass: Option<Pass>) {
     if let Some(pass) = own(rt, door, pass) {
+        if door.height(rt, &pass) > 0 {
+            door.stop(rt);
+        }
         door.give_home(rt, pass);
     }
 }
 
-/// The pass, if it is one of the door's. Another one ends.
+/// The pass, if there is one. It is of the door's tenant, or this does not return.
 fn own<R: Wait>(rt: &R, door: &TenantDoor, pass: Option<Pass>) -> Option<Pass>
     ensures { IfSome result (λ p. p.tenant ≡ door.now.tenant) }
 {
     let pass = pass?;
-    if pass.tenant() != door.tenant() {
-        door.end_foreign(rt, pass);
-        return None;
+    for _ in rt.forever() {
+        if pass.tenant() == door.tenant() {
+            return Some(pass);
+        }
     }
-    Some(pass)
+    unreachable!()
+}
+
+/// Ends a pass: it goes home to a cell of its own. It is one of this tenant's, or this does not return.
+fn end<R: Wait>(rt: &R, mut cell: TenantCell, pass: Option<Pass>) {
+    let Some(pass) = pass else {
+        return;
+    };
+    for _ in rt.forever() {
+        if pass.tenant() == cell.tenant() && pass.slot() < cell.config().slots {
+            return cell.give_home(pass);
+        }
+    }
 }
 
 /// Lets a worker arrive: the answer, and the pass if a row was found.
@@ -329,9 +345,8 @@ fn submit_and_arrive<R: Wait>(
 #[test]
 fn a_pass_that_is_kept_is_missed(rt: HostRuntime) -> Result<(), Fail> {
     let (door, mut seats) = TenantDoor::new(rt.alloc(), 0, two_slots()?, 1)?;
-    let (other, _others) = TenantDoor::new(rt.alloc(), 0, two_slots()?, 1)?;
     let pass = submit_and_arrive(&rt, rt.alloc(), &door, seats.as_mut_slice());
-    give_home(&rt, &other, pass);
+    end(&rt, TenantCell::new(rt.alloc(), 0, two_slots()?)?, pass);
     let fault = door.close(seats).err();
     assert_same(&rt, &fault, &Some(CloseFault::PassLost(1)));
     Ok(())

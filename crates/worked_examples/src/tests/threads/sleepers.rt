@@ -9,7 +9,7 @@ use std::sync::Wait;
 use std::test::Fail;
 use std::thread;
 use std::thread::{Threads, yield_now};
-use tenant_lock::{StopFlag, TenantDoor, Waits};
+use tenant_lock::{TenantDoor, Waits};
 use tenant_record::{Pass, Seat};
 
 /// How many entries are made that leave a sleeper's slot idle.
@@ -171,40 +171,33 @@ fn an_entry_wakes_the_slot_alone_that_it_lets_move(rt: HostRuntime) -> Result<()
     Ok(())
 }
 
-/// Sleeps at the slot of a pass until a flag is raised, and says whether to stop.
-fn pause_until<R: Wait>(rt: &R, door: &TenantDoor, pass: &Option<Pass>, stop: &StopFlag) -> bool {
-    match pass {
-        Some(pass) => pass.tenant() == door.tenant() && door.pause_until(rt, pass, stop),
-        None => false,
-    }
-}
-
-/// A worker sleeps at its slot, and once it does another thread raises its flag.
-fn sleep_until_the_flag<R: Threads + Wait + Sync>(
+/// A worker sleeps at its slot, and sleeps on when all are woken, as they are when a client hangs up; then another
+/// thread does its task.
+fn sleep_through_a_wake<R: Threads + Wait + Sync>(
     rt: &R,
     alloc: Global,
     door: &TenantDoor,
     seat: &mut Seat,
-) -> Option<bool> {
-    let (waits, works) = pair(rt, alloc, door, seat, 1)?;
-    let stop = &StopFlag::new();
-    let raise = move || {
+) -> Option<(bool, Option<Moved>)> {
+    let (waits, mut works) = pair(rt, alloc, door, seat, 1)?;
+    let task = &mut works;
+    let act = move || {
         watch(rt, door, 1, 0);
-        stop.raise();
         door.wake(rt);
+        watch(rt, door, 1, 1);
+        finish(rt, door, task)
     };
-    let slept = || pause_until(rt, door, &waits, stop);
-    let (stopped, _raised) = thread::join(rt, slept, raise);
+    let slept = thread::join(rt, || pause(rt, door, &waits), act);
     give_home(rt, door, waits);
     give_home(rt, door, works);
-    Some(stopped)
+    Some(slept)
 }
 
 #[test]
-fn a_sleeper_at_a_slot_is_woken_by_its_flag(rt: HostRuntime) -> Result<(), Fail> {
+fn a_sleeper_at_a_slot_stays_until_it_can_move(rt: HostRuntime) -> Result<(), Fail> {
     let (door, mut seats) = TenantDoor::new(rt.alloc(), 0, tenant(3, 256)?, 1)?;
     let seat = seats.as_mut_slice().first_mut().ok_or("a seat")?;
-    let stopped = sleep_until_the_flag(&rt, rt.alloc(), &door, seat);
-    assert_same(&rt, &stopped, &Some(true));
+    let slept = sleep_through_a_wake(&rt, rt.alloc(), &door, seat);
+    assert_same(&rt, &slept, &Some((false, Some(Moved::Ran))));
     Ok(())
 }

@@ -1,8 +1,10 @@
 use Rattle.worker_main.specs.Slots.{ways}
+use Rattle.worker_main.specs.Visits.{told}
 use Rattle.worker_main.proofs.Rounds.{turns_more}
 use Rattle.worker_main.proofs.working.work.Goals as goal
 
 pub loop-turn-preserved : goal.loop-turn-preserved
 loop-turn-preserved g c =
     let w = ways g.D.DueDoor.views g.D.DueDoor.commits g.D.DueDoor.advances g.D.DueDoor.heights g.D.DueDoor.pauses g.D.DueDoor.homes g.D.DueDoor.hands g.D.CallDoors.arrives in
-    turns_more w c.args.visiting c.loop-turn._turn c.args.door.now c.loop-turn.door c.take_turn.new.door c.loop-turn.invariant c.take_turn.ensures
+    let l = told (g.S.Signal.stops c.args.signal.now) (g.S.Signal.looked c.args.signal.now) in
+    turns_more w c.args.visiting l c.loop-turn._turn c.args.door.now c.loop-turn.door c.take_turn.new.door c.loop-turn.invariant c.take_turn.ensures

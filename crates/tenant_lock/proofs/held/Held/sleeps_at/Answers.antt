@@ -20,6 +20,7 @@ invariant_of-self c = elim c.if-has_slot_of.branch [
       record {
         slots = rw c.note.ensures (noted_more h.cell (has_to_stop h.is_stopped h.cell) (marks h.waiting.noted) c.slot-slot.result c.self.invariant.slots idle);
         jobs = c.self.invariant.jobs;
+        attended = c.self.invariant.attended;
       }
   | else-has_slot_of w ↦ absurd (both_ways _ (w.sleeps-is ∙ w.if-has_slot_of.false) c.if-sleeps.true)
 ]

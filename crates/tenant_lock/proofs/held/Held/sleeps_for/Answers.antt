@@ -9,5 +9,6 @@ invariant_of-self c =
     let waits = rw (c.is_over.ensures, ← c.self.view_is) at (sym c.is_open-sleeps.ensures ∙ c.if-sleeps.true) in
     record {
       slots = c.self.invariant.slots;
-      jobs = rw c.note.ensures (added_open h.cell (has_to_stop h.is_stopped h.cell) h.awaited c.args.job c.self.invariant.jobs waits);
+      jobs = rw c.note.ensures (added_open h.cell (has_to_stop h.is_stopped h.cell) h.awaited c.number.result c.args.job c.self.invariant.jobs waits);
+      attended = c.self.invariant.attended;
     }

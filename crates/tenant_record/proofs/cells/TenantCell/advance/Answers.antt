@@ -11,6 +11,7 @@ use Rattle.tenant_record.proofs.Histories.{well_formed}
 use Rattle.tenant_record.proofs.Taking.{advance_taken, advance_idle}
 use Rattle.tenant_record.proofs.Rightness.{counts_by}
 use Rattle.tenant_record.proofs.Kept.{moved_right}
+use Rattle.tenant_record.proofs.Attending.{moved_attended, advanced_empty}
 use Rattle.tenant_record.proofs.cells.TenantCell.advance.Goals as goal
 
 pub invariant_of-self : goal.invariant_of-self
@@ -50,3 +51,28 @@ invariant_of-self c =
       valid = rw grown.config valid;
       room = rw grown.config c.self.invariant.room;
     }
+
+pub returns-clause-attended : goal.returns-clause-attended
+returns-clause-attended c =
+    let i = c.self.inside in
+    let old : CellData = cell_data i in
+    let p = c.args.pass in
+    let m = c.advance-moved.result in
+    let grown = c.advance-moved.ensures in
+    let told = c.moved.ensures in
+    let d : CellData = record { tenant = i.tenant; config = c.advance-moved.new.self.config; history = c.advance-moved.new.self.history; askers = i.askers.items; home = c.moved.new.self.home.items; stills = c.moved.new.self.stills } in
+    let is : IsMoved old p m c.moved.result.due c.moved.result.pass d = record {
+      history = rw (← c.slot.ensures) grown.history;
+      tenant = refl;
+      config = grown.config;
+      askers = refl;
+      stills = rw (← c.history-entries.ensures.value) told.stills;
+      pass = rw (← c.history-entries.ensures.value) told.pass;
+      due = rw (← c.history-entries.ensures.value, ← grown.config) told.due;
+      home = rw (← c.history-entries.ensures.value) told.home;
+    } in
+    let formed = well_formed i.replay.config i.replay.history c.self.invariant.valid in
+    let answered : m ≡ (advance_within c.has_room.result (state_of old) p.slot).0 = rw (← c.slot.ensures) grown.answer in
+    let led : state_of d ≡ (advance_within c.has_room.result (state_of old) p.slot).1 = rw (← c.slot.ensures) grown.state in
+    let takes = advance_taken c.has_room.result (state_of old) p.slot m (state_of d) formed answered led in
+    rw (← c.self.view_is) (moved_attended old d p m c.moved.result.due c.moved.result.pass formed is takes (advanced_empty c.has_room.result (state_of old) (state_of d) p.slot m formed answered led))

@@ -10,6 +10,7 @@ use Rattle.tenant_record.proofs.Histories.{well_formed}
 use Rattle.tenant_record.proofs.Taking.{arrive_taken}
 use Rattle.tenant_record.proofs.Rightness.{counts_by}
 use Rattle.tenant_record.proofs.Kept.{arrived_right, nobody_came}
+use Rattle.tenant_record.proofs.Attending.{arrived_attended}
 use Rattle.std.specs.Option.{option_map}
 use Rattle.std.specs.Prelude.{Some}
 use Rattle.tenant_record.specs.PassData.{has_room}
@@ -57,3 +58,26 @@ returns-clause-found c =
     let i = c.self.inside in
     let held : option_map has_room (pass_in (place i.slots.home.items c.args.slot)) ≡ Some c.in-Some.has_room = rw (← c.as_slice.ensures.value) (sym c.in-Some.ensures.room) in
     rw (c.arrived.ensures.came, c.arrived.ensures.pass, ← c.self.view_is) (arrived_goes i.tenant c.args.slot c.arrive-came.result (place i.slots.home.items c.args.slot) c.in-Some.has_room held (c.self.invariant.right.places c.args.slot))
+
+pub returns-clause-attended : goal.returns-clause-attended
+returns-clause-attended c =
+    let i = c.self.inside in
+    let old : CellData = cell_data i in
+    let m = c.arrive-came.result in
+    let grown = c.arrive-came.ensures in
+    let told = c.arrived.ensures in
+    let d : CellData = record { tenant = i.tenant; config = c.arrive-came.new.self.config; history = c.arrive-came.new.self.history; askers = i.askers.items; home = c.arrived.new.self.home.items; stills = c.arrived.new.self.stills } in
+    let is : IsArrived old c.args.slot m c.arrived.result.due c.arrived.result.pass d = record {
+      history = grown.history;
+      tenant = refl;
+      config = grown.config;
+      askers = refl;
+      stills = told.stills;
+      pass = told.pass;
+      due = rw (← grown.config) told.due;
+      home = told.home;
+    } in
+    let inside : c.args.slot < length i.slots.home.items = rw (← c.as_slice.ensures.value) c.in-Some.ensures.within in
+    let formed = well_formed i.replay.config i.replay.history c.self.invariant.valid in
+    let takes = arrive_taken c.in-Some.has_room (state_of old) c.args.slot m (state_of d) formed grown.answer grown.state in
+    rw (← c.self.view_is) (arrived_attended old d c.args.slot m c.arrived.result.due c.arrived.result.pass formed inside is takes)

@@ -12,6 +12,7 @@ use Rattle.tenant_record.specs.SeatData.{SeatData, asked}
 use Rattle.tenant_record.proofs.Taking.{ask_taken, pending_within, placed_fits, placed_low}
 use Rattle.tenant_record.proofs.Rightness.{counts_same}
 use Rattle.tenant_record.proofs.Kept.{asked_right}
+use Rattle.tenant_record.proofs.Attending.{asked_attended}
 use Rattle.tenant_record.proofs.Placing.{asked_goes}
 use Rattle.tenant_record.proofs.cells.TenantCell.ask.Goals as goal
 
@@ -67,3 +68,32 @@ returns-clause-placed c =
 
 pub returns-clause-pending : goal.returns-clause-pending
 returns-clause-pending c = pending_within c.has_room.result (state_of (cell_data c.self.inside)) c.args.request c.ask-reply.result c.ask-reply.ensures.answer
+
+pub returns-clause-attended : goal.returns-clause-attended
+returns-clause-attended c =
+    let i = c.self.inside in
+    let old : CellData = cell_data i in
+    let r = c.args.request in
+    let y = c.ask-reply.result in
+    let s : SeatData = c.tell.new.self in
+    let grown = c.ask-reply.ensures in
+    let told = c.asked-due.ensures in
+    let d : CellData = record { tenant = i.tenant; config = c.ask-reply.new.self.config; history = c.ask-reply.new.self.history; askers = c.note_asker.new.askers.items; home = c.asked-due.new.self.home.items; stills = c.asked-due.new.self.stills } in
+    let is : IsAsked old s r y c.asked-due.result.0 c.asked-due.result.1 d (asked s r y) = record {
+      history = grown.history;
+      tenant = refl;
+      config = grown.config;
+      askers = rw (← c.number.ensures) c.note_asker.ensures.items;
+      stills = told.stills;
+      seat = refl;
+      pass = told.pass;
+      due = rw (← grown.config) told.due;
+      home = told.home;
+    } in
+    let places = c.self.invariant.right.slots in
+    let reserved = c.self.invariant.valid.reserved in
+    let config : (state_of old).config.reserved ≡ i.replay.config.reserved = ap (λ (k : Tenant). k.reserved) c.self.invariant.right.history.config in
+    let formed = well_formed i.replay.config i.replay.history c.self.invariant.valid in
+    let takes = ask_taken c.has_room.result (state_of old) r y (state_of d) formed grown.answer grown.state in
+    let inside = placed_low c.has_room.result (state_of old) r y (length i.slots.home.items) grown.answer (omega (arith, places, reserved, config)) in
+    rw (← c.self.view_is) (asked_attended old d s (asked s r y) r y c.asked-due.result.0 c.asked-due.result.1 formed inside is takes)

@@ -11,6 +11,7 @@ use Rattle.tenant_record.proofs.Histories.{well_formed}
 use Rattle.tenant_record.proofs.Taking.{commit_takes, commit_idle}
 use Rattle.tenant_record.proofs.Rightness.{counts_by}
 use Rattle.tenant_record.proofs.Kept.{moved_right}
+use Rattle.tenant_record.proofs.Attending.{moved_attended, committed_empty}
 use Rattle.tenant_record.proofs.cells.TenantCell.commit.Goals as goal
 
 pub invariant_of-self : goal.invariant_of-self
@@ -49,3 +50,27 @@ invariant_of-self c =
       valid = rw grown.config valid;
       room = rw grown.config c.self.invariant.room;
     }
+
+pub returns-clause-attended : goal.returns-clause-attended
+returns-clause-attended c =
+    let i = c.self.inside in
+    let old : CellData = cell_data i in
+    let p = c.args.pass in
+    let m = c.commit-moved.result in
+    let grown = c.commit-moved.ensures in
+    let told = c.moved.ensures in
+    let d : CellData = record { tenant = i.tenant; config = c.commit-moved.new.self.config; history = c.commit-moved.new.self.history; askers = i.askers.items; home = c.moved.new.self.home.items; stills = c.moved.new.self.stills } in
+    let is : IsMoved old p m c.moved.result.due c.moved.result.pass d = record {
+      history = rw (← c.slot.ensures) grown.history;
+      tenant = refl;
+      config = grown.config;
+      askers = refl;
+      stills = rw (← c.history-entries.ensures.value) told.stills;
+      pass = rw (← c.history-entries.ensures.value) told.pass;
+      due = rw (← c.history-entries.ensures.value, ← grown.config) told.due;
+      home = rw (← c.history-entries.ensures.value) told.home;
+    } in
+    let formed = well_formed i.replay.config i.replay.history c.self.invariant.valid in
+    let commits : Commits c.has_room.result (state_of old) p.slot c.args.segment m (state_of d) = rw (← c.slot.ensures) grown.answer in
+    let takes = commit_takes c.has_room.result (state_of old) p.slot c.args.segment m (state_of d) formed commits in
+    rw (← c.self.view_is) (moved_attended old d p m c.moved.result.due c.moved.result.pass formed is takes (committed_empty c.has_room.result (state_of old) (state_of d) p.slot c.args.segment m formed commits))

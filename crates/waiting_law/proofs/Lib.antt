@@ -1,0 +1,2 @@
+mod Ranked
+pub mod Waiting
