@@ -1,13 +1,16 @@
 """The commands that ask the server: run, submit, wait, poll, cancel, cells, info, retire."""
+from arena.client import Client
 from arena.command.call import Call
 from arena.command.output import GREEN, RED, YELLOW
 from arena.command.sources import job_of
-from arena.command.words import JOB_WORDS, Command, Status, positional
+from arena.command.words import JOB_WORDS, Command, Status, option, positional
 from arena.jobs import GREATEST_FUEL
-from arena.replies import Canceled, Complete, Fault, FaultCode, Running
+from arena.replies import ArenaError, Canceled, Complete, ConnectionLost, Fault, FaultCode, Outcome, Running, TimedOut
 from arena.replies import Status as JobStatus
 
 NUMBER = positional("JOB", "the job's number", type=int)
+TO_CANCEL = 5.0
+"""How many seconds an interrupted `run` takes at most to cancel its job."""
 
 
 def about_fuel(given: int | None) -> str:
@@ -40,9 +43,40 @@ def tell(call: Call, status: JobStatus, given: int | None = None) -> int:
 
 
 def run(call: Call) -> int:
-    """Executes a job."""
+    """Runs a job to its outcome: submits and collects it, so that it goes on without this command."""
     job = job_of(call.words)
-    return tell(call, call.client.execute(job), job["fuel"])
+    if call.words.execute or has_no_slot_for_workers(call):
+        return tell(call, call.client.execute(job), job["fuel"])
+    return tell(call, collected(call, call.client.submit(job)), job["fuel"])
+
+
+def has_no_slot_for_workers(call: Call) -> bool:
+    """Whether all slots of the tenant are reserved, so that a submitted job would wait for ever."""
+    limits = call.client.arena()
+    return limits.slots == limits.reserved
+
+
+def collected(call: Call, number: int) -> Outcome:
+    """The outcome of a job that was submitted. If it is not waited for to its end, its number is said."""
+    try:
+        return call.client.collect(number)
+    except TimedOut:
+        raise TimedOut(f"job {number}: no outcome within {call.words.timeout} s; it goes on: `arena wait {number}` waits "
+                       f"for it, `arena cancel {number}` cancels it") from None
+    except ConnectionLost as fault:
+        raise ConnectionLost(f"job {number}: {fault}") from None
+    except KeyboardInterrupt:
+        call.output.complain(f"arena: {canceled(call, number)}")
+        raise
+
+
+def canceled(call: Call, number: int) -> str:
+    """Cancels a job whose outcome is not waited for any more, by another connection; says what came of it."""
+    try:
+        with Client(call.socket, call.tenant, timeout=TO_CANCEL) as other:
+            return f"job {number} is cancelled" if other.cancel(number) else f"job {number} has ended"
+    except ArenaError as fault:
+        return f"job {number} goes on, as it could not be cancelled: {fault}"
 
 
 def submit(call: Call) -> int:
@@ -68,7 +102,7 @@ def cancel(call: Call) -> int:
     first = call.client.cancel(number)
     text = f"job {number}: canceled" if first else f"job {number}: it had ended, had a fault, or was cancelled before"
     call.output.say(text, {"first": first, "job": number})
-    return Status.DONE
+    return Status.DONE if first else Status.UNCHANGED
 
 
 def cells(call: Call) -> int:
@@ -97,8 +131,13 @@ def retire(call: Call) -> int:
 
 COMMANDS = (
     Command("run", "run a job and print its value",
-            "Runs a job to its outcome, and prints the value. The exit status says how it ended: 0 complete, 1 a "
-            "fault, 3 cancelled.", "arena run examples/jobs/fib.job --args 20", run, JOB_WORDS, in_shell=True),
+            "Submits a job, waits for its outcome, and prints the value. The exit status says how it ended: 0 complete, 1 "
+            "a fault, 3 cancelled. If --timeout is over before, the job goes on, and its number is said; Ctrl-C cancels "
+            "it. Where all slots are reserved the job is executed, as with --execute.",
+            "arena run examples/jobs/fib.job --args 20", run,
+            (*JOB_WORDS, option("--execute", help="execute the job, on a reserved slot if one is free, which starts it at "
+                                "once; its number is known only at its end, so Ctrl-C can't cancel it",
+                                action="store_true")), in_shell=True),
     Command("submit", "make a job that waits for a worker, and print its number",
             "Makes a job that waits for a worker, and prints its number at once. A tenant without slots for workers "
             "never runs it.", "arena submit examples/jobs/fib.job --args 20", submit, JOB_WORDS, in_shell=True),
@@ -111,8 +150,8 @@ COMMANDS = (
             "`wait`.",
             "arena poll 1", poll, (NUMBER,), in_shell=True),
     Command("cancel", "cancel a job",
-            "Cancels a job: its rows that wait are dropped, and those that run learn of it if they ask.",
-            "arena cancel 1",
+            "Cancels a job: its rows that wait are dropped, and those that run learn of it if they ask. The status is 1 if "
+            "that changed nothing, since the job had ended, had a fault, or was cancelled before.", "arena cancel 1",
             cancel, (NUMBER,), in_shell=True),
     Command("cells", "print how many cells a key has, and their sum",
             "Prints on how many slots a key has a cell, and the sum of these cells, which wraps to 64 bits.",

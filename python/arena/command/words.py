@@ -15,6 +15,7 @@ class Status(enum.IntEnum):
     DONE = 0
     FAULT = 1
     ADVICE = 1
+    UNCHANGED = 1
     WORDS = 2
     CANCELED = 3
     RUNNING = 4
@@ -31,7 +32,7 @@ class Status(enum.IntEnum):
 
 STATUS_TEXTS = {
     Status.DONE: "done; the job is complete",
-    Status.FAULT: "the job ended with a fault; `advise` has something to say",
+    Status.FAULT: "the job ended with a fault; `cancel` changed nothing; `advise` has something to say",
     Status.WORDS: "the words are wrong, or no tenant or folder is named",
     Status.CANCELED: "the job was cancelled",
     Status.RUNNING: "the job is still running",
@@ -124,8 +125,8 @@ COMMON = (
     option("-s", "--socket", help="the server's socket; else ARENA_SOCKET, else /tmp/arena.sock", metavar="PATH",
            completes=Completes.FILE),
     option("-t", "--tenant", help="the tenant's name; else ARENA_TENANT", metavar="NAME"),
-    option("--timeout", help="how long to wait for each reply; without it, for as long as the server does", type=float,
-           metavar="SECONDS"),
+    option("--timeout", help="how long to wait for each reply; without it, for as long as the server does",
+           type=lambda text: seconds(text), metavar="SECONDS"),
     option("--json", help="print JSON, one value a line, for scripts", action="store_true"),
     option("--color", help="colours: on a terminal, always or never", choices=("auto", "always", "never")),
 )
