@@ -90,6 +90,13 @@ def faults_have_their_status(it):
     it.call("run", it.file("broken.json", '{"args":\n]'), status=5, err=r"broken.json:2:1: no JSON")
     it.call("run", it.server.file("invalid.json"), status=5, err=r"invalid.json: procs\[0\]\[0\]")
     it.call("run", seven, "--args", "1", "2", "3", status=5, err="a job has two arguments")
+    wide = it.file("wide.job", "fn main(n, lo: u20, hi: u8) { return n * 1000000 + lo * 1000 + hi }\n")
+    it.call("run", wide, "--args", "7", "0x10", "200", out="7016200\n")
+    it.call("run", wide, "--args", "7", out="7000000\n")
+    it.call("run", wide, "--args", "7", "1", "256", status=5, err="wide.job: 256 does not fit hi: u8, which is from 0 to 255")
+    it.call("run", wide, "--args", "1", "2", "3", "4", status=5, err="wide.job: main has 3 parameters, and here are 4")
+    it.call("run", it.server.file("fib.job"), "--args", "1", "2", "3", status=5, err="fib.job: a job has two arguments, and "
+            "here are 3")
     it.call("run", seven, "-D", "N", status=2, err="write NAME=NUMBER")
     it.call(status=2, err="COMMAND")
     it.call("dance", status=2, err="invalid choice: 'dance'")
@@ -98,8 +105,8 @@ def faults_have_their_status(it):
     for fuel, more in (("70", r": it had 70; --fuel gives up to 1,000,000"),
                        ("1000000", ": it had 1,000,000, the most that a job can have; split the work into several jobs")):
         it.call("run", it.server.file("spin.json"), "--fuel", fuel, status=1, out=re.compile(f"{out_of_fuel}{more}\n"))
-    it.call("submit", it.server.file("spin.json"), out="13\n")
-    it.call("wait", "13", status=1, out=re.compile(f"{out_of_fuel}; a job has 1,000,000 at most\n"))
+    it.call("submit", it.server.file("spin.json"), out="15\n")
+    it.call("wait", "15", status=1, out=re.compile(f"{out_of_fuel}; a job has 1,000,000 at most\n"))
 
 
 def jobs_are_built(it):

@@ -121,6 +121,11 @@ def assignment(text: str) -> Assignment:
     return Assignment(name, int(value, 0))
 
 
+def integer(text: str) -> int:
+    """A whole number as in a source: 1_000, 0x1f, -5."""
+    return int(text, 0) if text.lower().lstrip("+-").startswith("0x") else int(text)
+
+
 COMMON = (
     option("-s", "--socket", help="the server's socket; else ARENA_SOCKET, else /tmp/arena.sock", metavar="PATH",
            completes=Completes.FILE),
@@ -135,7 +140,8 @@ JOB_WORDS = (
     positional("FILE", "a job: .job is compiled, .jasm assembled, and any other file is a JOB in JSON; - is standard "
                "input",
                Completes.JOB_FILE),
-    option("--args", help="the job's arguments, 0 if they are left out", nargs="+", type=int, metavar=("X", "Y")),
+    option("--args", help="the job's arguments, 0 if they are left out; for a .job file one for each parameter of its "
+           "main", nargs="+", type=integer, metavar=("X", "Y")),
     option("--fuel", help="its fuel: how many instructions it may execute; 1,000,000, the most, unless this or "
            "its file says less", type=int, metavar="N"),
     option("-D", "--define", help="gives a parameter of a .job file its value", action="append", type=assignment,
