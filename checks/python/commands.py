@@ -237,6 +237,7 @@ def every_command_has_help(it):
     for command in COMMANDS:
         assert command.example.split()[:2] == ["arena", command.name], command
         assert command.name in parser().format_help()
+    it.call("--version", out=re.compile(r"arena \d+\.\d+\.\d+\n"))
     it.call("run", "--help", out=re.compile(r"(?s)usage: arena run .*example:\n  arena run .*"))
     it.call("--help", out=re.compile(r"(?s)usage: arena .*exit status:\n +0  done.*"), how=arena_process)
 

@@ -5,6 +5,8 @@ from collections.abc import Callable, Sequence
 from dataclasses import dataclass, field
 from typing import TYPE_CHECKING, Any, NamedTuple, NoReturn
 
+import arena
+
 if TYPE_CHECKING:
     from arena.command.call import Call
 
@@ -177,6 +179,7 @@ def parser_of(commands: Sequence[Command], prog: str = "arena", about: str = "")
                     + statuses())
     for word in COMMON:
         _add(parser, word, {"default": None})
+    parser.add_argument("--version", action="version", version=f"{prog} {arena.__version__}", help="print the version")
     inner = parser.add_subparsers(dest="command", metavar="COMMAND", required=True)
     for command in commands:
         sub = inner.add_parser(command.name, help=command.summary, description=command.text, allow_abbrev=False,
