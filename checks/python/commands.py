@@ -112,6 +112,9 @@ def faults_have_their_status(it):
 def jobs_are_built(it):
     source, parameter = it.server.file("fib.job"), it.file("parameter.job", PARAMETER)
     it.call("run", source, "--args", "10", out="55\n")
+    divides = it.file("divides.job", "fn main(n) {\n    let a = n / 2 % 3\n    let b = 7 / n\n    return a %\n        (b - b)\n}\n")
+    it.call("run", divides, status=1, out=re.compile(r"job \d+: fault 1, division by zero; its source divides in lines 3 and "
+                                                     r"4\n"))
     it.call("run", parameter, "--args", "4", "-D", "N=8", out="12\n")
     it.call("build", source, "-o", it.server.file("built.json"))
     it.call("run", it.server.file("built.json"), "--args", "6", out="8\n")

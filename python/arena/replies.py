@@ -210,8 +210,8 @@ class HistoryFull(Refused):
     """Error 8."""
 
     code, name = 8, "history_full"
-    advice = ("the tenant's history has all its `steps` entries; start the server anew, with more `steps` if there are "
-              "fewer than 1,048,576")
+    advice = ("the tenant's history has all its `steps` entries; on arena-host connect anew, to the generation that serves "
+              "now; start arena-server anew, with more `steps` if there are fewer than 1,048,576")
 
 
 class NoMemory(Refused):

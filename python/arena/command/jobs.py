@@ -1,12 +1,15 @@
 """The commands that ask the server: run, submit, wait, poll, cancel, cells, info, retire."""
+from collections.abc import Sequence
+
 from arena.client import Client
 from arena.command.call import Call
 from arena.command.output import GREEN, RED, YELLOW
-from arena.command.sources import job_of
+from arena.command.sources import job_of, job_with_divisions
 from arena.command.words import JOB_WORDS, Command, Status, option, positional
 from arena.jobs import GREATEST_FUEL
 from arena.replies import ArenaError, Canceled, Complete, ConnectionLost, Fault, FaultCode, Outcome, Running, TimedOut
 from arena.replies import Status as JobStatus
+from arena.texts import listed
 
 NUMBER = positional("JOB", "the job's number", type=int)
 TO_CANCEL = 5.0
@@ -22,9 +25,16 @@ def about_fuel(given: int | None) -> str:
     return f": it had {given:,}, the most that a job can have; split the work into several jobs"
 
 
-def tell(call: Call, status: JobStatus, given: int | None = None) -> int:
-    """Prints a job's status: a value on standard output, anything else in words. `given` is its fuel, if that is known.
-    Returns the exit status."""
+def about_divisions(lines: Sequence[int]) -> str:
+    """Where a source may have divided by zero."""
+    if not lines:
+        return ""
+    return f"; its source divides in line{'' if len(lines) == 1 else 's'} {listed(map(str, lines))}"
+
+
+def tell(call: Call, status: JobStatus, given: int | None = None, divisions: Sequence[int] = ()) -> int:
+    """Prints a job's status: a value on standard output, anything else in words. `given` is its fuel, and `divisions` the
+    lines of its source that divide, if they are known. Returns the exit status."""
     output = call.output
     match status:
         case Complete(value, job):
@@ -32,6 +42,7 @@ def tell(call: Call, status: JobStatus, given: int | None = None) -> int:
             return Status.DONE
         case Fault(code, _, job):
             text = str(status) + (about_fuel(given) if code is FaultCode.FUEL else "")
+            text += about_divisions(divisions) if code is FaultCode.DIVISION else ""
             output.say(output.paint(text, RED), {"fault": code.value, "job": job, "status": "fault"})
             return Status.FAULT
         case Canceled(job):
@@ -44,10 +55,10 @@ def tell(call: Call, status: JobStatus, given: int | None = None) -> int:
 
 def run(call: Call) -> int:
     """Runs a job to its outcome: submits and collects it, so that it goes on without this command."""
-    job = job_of(call.words)
+    job, divisions = job_with_divisions(call.words)
     if call.words.execute or has_no_slot_for_workers(call):
-        return tell(call, call.client.execute(job), job["fuel"])
-    return tell(call, collected(call, call.client.submit(job)), job["fuel"])
+        return tell(call, call.client.execute(job), job["fuel"], divisions)
+    return tell(call, collected(call, call.client.submit(job)), job["fuel"], divisions)
 
 
 def has_no_slot_for_workers(call: Call) -> bool:

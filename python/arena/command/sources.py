@@ -59,6 +59,14 @@ def read_json(path: str) -> Any:
         raise SourceWrong(f"{path}: nested too deep for the JSON that a server reads") from None
 
 
+def job_with_divisions(words: argparse.Namespace) -> tuple[Mapping[str, Any], list[int]]:
+    """As `job_of`, with the lines of a .job file that divide."""
+    if not words.FILE.endswith(".job"):
+        return job_of(words), []
+    it = compiled(words.FILE, words)
+    return it.job.to_value(), it.divisions()
+
+
 def job_of(words: argparse.Namespace) -> Mapping[str, Any]:
     """The JOB of the words FILE, --args, --fuel and -D. Raises OSError, SourceWrong."""
     path = words.FILE

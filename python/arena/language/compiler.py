@@ -44,6 +44,12 @@ class Compiled:
         source lines."""
         return output.listing(self._procedures, self.serial)
 
+    def divisions(self) -> list[int]:
+        """The lines of the source that divide by something else than a constant from 1: where fault 1 may come from. The
+        ends of a `psum` that do not fit its index are divided by 0."""
+        return sorted({line.source_line for procedure in self._procedures for line in procedure.lines
+                       if line.instruction.name == "div" and not line.names[-1].strip("-0").isdigit()})
+
     def source_map(self) -> dict:
         """For JSON: `{"file":..,"procedures":[{"lines":[..],"name":..},..]}` with the source line of each
         instruction."""
