@@ -170,7 +170,7 @@ COMMANDS = (
                                                        metavar="KEY"),),
             in_shell=True),
     Command("info", "print the tenant's slots and priority",
-            "Prints how many slots the tenant has, how many of them are reserved for `run`, and its priority.",
+            "Prints how many slots the tenant has, how many of them are reserved for jobs that are executed, and its priority.",
             "arena info --tenant acme", info, in_shell=True),
     Command("retire", "forget all jobs and cells of the tenant",
             "Forgets all jobs and cells of the tenant, so that it may have 256 jobs again. The server refuses while "
