@@ -138,5 +138,6 @@ def service_works(room: Room) -> None:
         service.works()
 
 
-CHECKS = (package_has_its_files, package_says_what_it_is, package_says_whether_it_is_proved, package_is_the_same_again, server_runs_from_the_package,
-          host_runs_from_the_package, package_is_installed_and_purged, service_works)
+CHECKS = (package_has_its_files, package_says_what_it_is, package_says_whether_it_is_proved,
+          package_is_the_same_again, server_runs_from_the_package, host_runs_from_the_package,
+          package_is_installed_and_purged, service_works)

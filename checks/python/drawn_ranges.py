@@ -101,7 +101,19 @@ IN_LOOP = """fn main(n) {
 fn f(x) { return x }
 """
 AROUND_LOOP = "fn main(n) { group g; for i in 0..n { spawn g: f(i) }; return wait g }\nfn f(x) { return x }\n"
-BROKEN = "const A =\n    3\nfn main(n) {\n    group g\n    spawn g: f(n)\n    let t, s =\n        wait g\n    for i in 0..\n        A { t += i }\n    return t\n}\nfn f(x) { return x }\n"
+BROKEN = """const A =
+    3
+fn main(n) {
+    group g
+    spawn g: f(n)
+    let t, s =
+        wait g
+    for i in 0..
+        A { t += i }
+    return t
+}
+fn f(x) { return x }
+"""
 
 WORKED = [
     (LEAVES.format(word="break"), (5, 2), 21_001), (LEAVES.format(word="continue"), (5, 2), (10 + 11 + 13 + 14) * 1000 + 1),

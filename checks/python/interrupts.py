@@ -275,6 +275,12 @@ def a_path_may_be_too_long():
     assert "107" in text and "125" in text and "running there" not in text, text
 
 
+def a_server_that_takes_no_connection_is_told_of():
+    with answering(lambda it: time.sleep(LATER)) as path:
+        text = str(raises(arena.TimedOut, lambda: arena.Client(path, "acme", timeout=SOON)))
+    assert text == f"{path}: no reply to hello within {SOON} s; the server may have as many connections as it serves at a time"
+
+
 def a_wrong_job_has_its_place():
     def session(it):
         it.hello()
@@ -501,7 +507,7 @@ def the_pipelines_exceptions_do_not_grow():
 CHECKS = [an_interrupted_call_leaves_its_reply_to_nobody, an_interrupted_pipeline_leaves_its_replies_to_nobody,
           signals_at_any_moment_mix_nothing_up, each_reply_is_compared_with_what_was_asked, a_reply_without_end_is_none,
           a_client_is_for_one_thread_at_a_time, one_time_limit_covers_connecting_and_sending, a_late_reply_is_told_of,
-          a_path_may_be_too_long, a_wrong_job_has_its_place, the_shell_goes_on_after_an_interrupt,
+          a_path_may_be_too_long, a_server_that_takes_no_connection_is_told_of, a_wrong_job_has_its_place, the_shell_goes_on_after_an_interrupt,
           a_run_that_is_given_up_says_its_number, an_interrupted_run_cancels_its_job,
           a_tenant_without_slots_for_workers_executes, the_pipelines_exceptions_do_not_grow]
 AWAITED = [closing_takes_no_longer_than_the_time_limit, a_connect_that_is_cancelled_leaves_nothing,

@@ -54,6 +54,10 @@ class Client:
         if tenant is not None:
             try:
                 self.tenant = self._ask(requests.hello(tenant), deadline)
+            except TimedOut:
+                self.close()
+                raise TimedOut(f"{self.path}: no reply to hello within {deadline.limit} s; the server may have as many "
+                               "connections as it serves at a time") from None
             except BaseException:
                 self.close()
                 raise
