@@ -14,7 +14,7 @@ from runs import Tenant, serial_values
 
 LEAST, GREATEST = -(2**63), 2**63 - 1
 LIMITS = (LEAST, LEAST + 1, LEAST + 40, -41, -1, 0, 1, 15, 16, 17, 40, 2**62, GREATEST - 40, GREATEST - 1, GREATEST)
-LONGEST, DRAWN, FUEL = 120, 300, 20_000
+LONGEST, DRAWN, FUEL = 60, 200, 6_000
 NONE = "none"
 
 

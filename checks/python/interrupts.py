@@ -46,8 +46,8 @@ def raises(kind, call, *words):
 
 
 @contextlib.contextmanager
-def alarm(kind=Alarm, after=SOON):
-    """Raises an exception from a signal's handler soon."""
+def alarm(kind=Alarm, after=0.0):
+    """Raises an exception from a signal's handler: after some seconds, or when the server of a check gives the signal."""
     def handler(*_):
         raise kind("time is up")
     before = signal.signal(signal.SIGALRM, handler)
@@ -59,20 +59,35 @@ def alarm(kind=Alarm, after=SOON):
         signal.signal(signal.SIGALRM, before)
 
 
-def late_answers(session):
-    """Answers polls of jobs 1, 2, .., the first one late."""
-    session.hello()
-    session.next()
-    time.sleep(LATER)
-    session.answer(COMPLETE.format(1))
-    for number in (2, 3):
-        session.next()
-        session.answer(COMPLETE.format(number))
+class Late:
+    """A server that answers polls of jobs 1, 2, .., the first ones only when it may. With `interrupts` it interrupts this
+    process once it has got them."""
+
+    def __init__(self, late=1, interrupts=True):
+        self.late, self.interrupts, self.asked, self.may = late, interrupts, threading.Event(), threading.Event()
+
+    def __call__(self, session):
+        session.hello()
+        for _ in range(self.late):
+            session.next()
+        self.asked.set()
+        if self.late > 1:
+            session.answer(COMPLETE.format(1))
+        if self.interrupts:
+            time.sleep(LATER)  # until the client waits; where it is still sending, it would close the connection
+            os.kill(os.getpid(), signal.SIGALRM)
+        self.may.wait(PATIENCE)
+        session.answer(*(COMPLETE.format(number) for number in range(2 if self.late > 1 else 1, self.late + 1)))
+        number = self.late
+        while session.next():
+            number += 1
+            session.answer(COMPLETE.format(number))
 
 
 def an_interrupted_call_leaves_its_reply_to_nobody():
     for kind in (Alarm, KeyboardInterrupt, TimeoutError):
-        with answering(late_answers) as path, arena.Client(path, "acme") as client:
+        server = Late()
+        with answering(server) as path, arena.Client(path, "acme") as client:
             try:
                 with alarm(kind):
                     client.collect(1)
@@ -80,27 +95,20 @@ def an_interrupted_call_leaves_its_reply_to_nobody():
             except kind as fault:
                 assert type(fault) is kind, fault  # and not a TimedOut, which is a TimeoutError too
             assert client.late == 1
+            server.may.set()
             assert client.poll(2) == arena.Complete(200, 2) and client.late == 0
             assert client.poll(3) == arena.Complete(300, 3)
 
 
 def an_interrupted_pipeline_leaves_its_replies_to_nobody():
-    def session(it):
-        it.hello()
-        for _ in range(3):
-            it.next()
-        it.answer(COMPLETE.format(1))
-        time.sleep(LATER)
-        it.answer(COMPLETE.format(2), COMPLETE.format(3))
-        it.next()
-        it.answer(COMPLETE.format(4))
-
-    with answering(session) as path, arena.Client(path, "acme") as client:
+    server = Late(late=3)
+    with answering(server) as path, arena.Client(path, "acme") as client:
         line = client.pipeline()
         asked = [line.poll(number) for number in (1, 2, 3)]
         with contextlib.suppress(Alarm), alarm():
             line.__exit__(None, None, None)
             raise AssertionError("not interrupted")
+        server.may.set()
         assert asked[0].result() == arena.Complete(100, 1) and client.late == 2
         assert "the pipeline ended before its reply" in str(raises(arena.ArenaError, asked[1].result))
         assert client.poll(4) == arena.Complete(400, 4)
@@ -117,9 +125,8 @@ def signals_at_any_moment_mix_nothing_up():
     answered, interrupted = 0, 0
     with answering(*[session] * 2000) as path:
         client = arena.Client(path, "acme")
-        end = time.monotonic() + 2
-        number = 0
-        while time.monotonic() < end:
+        number, begun = 0, time.monotonic()
+        while time.monotonic() < begun + 2 or (min(answered, interrupted) < 20 and time.monotonic() < begun + PATIENCE):
             number += 1
             try:
                 with alarm(after=0.00002 + number % 97 * 0.000004):
@@ -132,7 +139,7 @@ def signals_at_any_moment_mix_nothing_up():
                 client.close()
                 client = arena.Client(path, "acme")
         client.close()
-    assert answered > 20 and interrupted > 20, (answered, interrupted)
+    assert min(answered, interrupted) >= 20, (answered, interrupted)
 
 
 # Replies that are none to their requests.
@@ -197,17 +204,19 @@ async def without_end(path):
 
 
 def a_client_is_for_one_thread_at_a_time():
-    with answering(late_answers) as path, arena.Client(path, "acme") as client:
+    server = Late(interrupts=False)
+    with answering(server) as path, arena.Client(path, "acme") as client:
         found = []
         thread = threading.Thread(target=lambda: found.append(client.poll(1)))
         thread.start()
-        time.sleep(SOON)
+        server.asked.wait(PATIENCE)
         for call in (client.poll, client.collect, client.cancel):
             raises(arena.InUse, call, 2)
         raises(arena.InUse, client.reconnect)
         line = client.pipeline()
         line.poll(2)
         raises(arena.InUse, line.__exit__, None, None, None)
+        server.may.set()
         thread.join()
         assert found == [arena.Complete(100, 1)] and client.poll(2) == arena.Complete(200, 2)
 
@@ -215,15 +224,17 @@ def a_client_is_for_one_thread_at_a_time():
 def one_time_limit_covers_connecting_and_sending():
     def reads_nothing(it):
         it.hello()
-        time.sleep(3)
+        done.wait(PATIENCE)
 
+    done = threading.Event()
     large = {"args": [0, 0], "fuel": 10, "procs": [[["ret", 0]] * 40_000]}
     with answering(reads_nothing, reads_nothing) as path:
         with arena.Client(path, "acme", timeout=LATER) as client:
             begun = time.monotonic()
             fault = raises(arena.TimedOut, client.submit, large)
-            assert time.monotonic() - begun < 2 and "in part" in str(fault), fault
+            assert time.monotonic() - begun < PATIENCE / 2 and "in part" in str(fault), fault
             raises(arena.ConnectionLost, client.poll, 1)  # what follows half a line would be a part of it
+        done.set()
     with answering(backlog=0) as path:
         taken = [socket.socket(socket.AF_UNIX) for _ in range(4)]
         with contextlib.suppress(OSError):
@@ -232,7 +243,7 @@ def one_time_limit_covers_connecting_and_sending():
                 it.connect(path)
         begun = time.monotonic()
         raises(arena.TimedOut, lambda: arena.Client(path, "acme", timeout=LATER))
-        assert time.monotonic() - begun < 2
+        assert time.monotonic() - begun < PATIENCE / 2
         for it in taken:
             it.close()
 
@@ -242,7 +253,7 @@ def a_late_reply_is_told_of():
     def session(it):
         it.hello()
         it.next()
-        time.sleep(2 * LATER)
+        may.wait(PATIENCE)
         it.answer('{"job":9}')
         it.next()
         it.answer('{"epoch":1}')
@@ -254,17 +265,22 @@ def a_late_reply_is_told_of():
         it.next()
         it.answer('{"epoch":3}')
 
-    with answering(session, other) as path, arena.Client(path, "acme", timeout=SOON) as client:
+    may = threading.Event()
+    with answering(session, other) as path, arena.Client(path, "acme") as client:
+        client.timeout = SOON
         fault = raises(arena.TimedOut, client.submit, SEVEN)
         assert "late_jobs" in str(fault) and "poll" not in str(fault) and client.late == 1
         fault = raises(arena.TimedOut, client.retire)
         assert "behind the late reply to `submit`" in str(fault) and "reconnect" in str(fault) and client.late == 2
         assert client.late_jobs == []
         client.timeout = PATIENCE
+        may.set()
         assert client.retire() == 2 and client.late == 0 and client.late_jobs == [9]
-    with answering(session, other) as path, arena.Client(path, "acme", timeout=SOON) as client:
-        raises(arena.TimedOut, client.collect, 1)
+    may.clear()
+    with answering(session, other) as path, arena.Client(path, "acme") as client:
+        raises(arena.TimedOut, lambda: client.collect(1, timeout=SOON))
         client.timeout = PATIENCE
+        threading.Timer(SOON, may.set).start()  # the server of this check has one connection at a time
         client.reconnect()
         assert client.late == 0 and client.retire() == 3
 
@@ -276,8 +292,10 @@ def a_path_may_be_too_long():
 
 
 def a_server_that_takes_no_connection_is_told_of():
-    with answering(lambda it: time.sleep(LATER)) as path:
+    done = threading.Event()
+    with answering(lambda it: done.wait(PATIENCE)) as path:
         text = str(raises(arena.TimedOut, lambda: arena.Client(path, "acme", timeout=SOON)))
+        done.set()
     assert text == f"{path}: no reply to hello within {SOON} s; the server may have as many connections as it serves at a time"
 
 
@@ -344,8 +362,8 @@ def a_run_that_is_given_up_says_its_number():
         it.next()
 
     with answering(has_no_outcome) as path:
-        done = arena_process("run", "-", "--timeout", "0.2", "-s", path, "-t", "acme", stdin=json.dumps(SEVEN))
-    assert done.returncode == 7 and done.stdout == "" and "job 5: no outcome within 0.2 s; it goes on" in done.stderr, done
+        done = arena_process("run", "-", "--timeout", "1.5", "-s", path, "-t", "acme", stdin=json.dumps(SEVEN))
+    assert done.returncode == 7 and done.stdout == "" and "job 5: no outcome within 1.5 s; it goes on" in done.stderr, done
     assert "arena wait 5" in done.stderr and "arena cancel 5" in done.stderr, done
 
 
@@ -412,16 +430,19 @@ async def raises_in(kind, call):
 async def closing_takes_no_longer_than_the_time_limit():
     def reads_nothing(it):
         it.hello()
-        time.sleep(3)
+        done.wait(PATIENCE)
 
+    done = threading.Event()
     with answering(reads_nothing) as path:
-        client = arena.aio.Client(path, "acme", timeout=LATER)
+        client = arena.aio.Client(path, "acme")
         await client.connect()
+        client.timeout = LATER
         await raises_in(arena.TimedOut, client.submit({"args": [0, 0], "fuel": 10, "procs": [[["ret", 0]] * 90_000]}))
         begun = time.monotonic()
         await client.close()
-        assert time.monotonic() - begun < 2
+        assert time.monotonic() - begun < PATIENCE / 2
         await raises_in(arena.ConnectionLost, client.retire())
+        done.set()
 
 
 async def a_connect_that_is_cancelled_leaves_nothing():
@@ -435,7 +456,9 @@ async def a_connect_that_is_cancelled_leaves_nothing():
         client = arena.aio.Client(path, "acme")
         await raises_in(TimeoutError, asyncio.wait_for(client.connect(), SOON))
         await raises_in(arena.TimedOut, arena.aio.Client(path, "acme", timeout=SOON).connect())
-        await asyncio.sleep(SOON)
+        begun = time.monotonic()
+        while len(ended) < 2 and time.monotonic() < begun + PATIENCE:
+            await asyncio.sleep(SOON)
         assert ended == [True, True] and len(asyncio.all_tasks()) == 1, asyncio.all_tasks()
 
 
@@ -477,11 +500,12 @@ async def late_numbers_are_kept():
         it.hello()
         it.next()
         it.next()
-        time.sleep(LATER)
+        may.wait(PATIENCE)
         it.answer('{"job":8}', '{"job":9}')
         it.next()
         it.answer('{"epoch":1}')
 
+    may = threading.Event()
     with answering(session) as path:
         async with arena.aio.Client(path, "acme") as client:
             client.timeout = SOON
@@ -489,6 +513,7 @@ async def late_numbers_are_kept():
             await raises_in(arena.TimedOut, client.submit(SEVEN))
             await raises_in(arena.TimedOut, asked)
             client.timeout = PATIENCE
+            may.set()
             assert await client.retire() == 1 and client.late_jobs == [8, 9]
 
 
