@@ -273,9 +273,9 @@ REFUSED = [
             ":1:1: main has at least 258 instructions, and a procedure has at most 256: let another fn do a part"),
     Refused(LONG, ":2:1: the request with this job has 68159 bytes, and a line has at most 65536: make the source shorter; "
             "f0 has the most instructions"),
-    Refused(doubled("{0}(x) + {0}(x)", 30), ":1:21: main has more than 4096 steps, of which a procedure has at most 256: let "
+    Refused(doubled("{0}(x) + {0}(x)", 30), ":1:21: main has more than 1536 steps, of which a procedure has at most 256: let "
             "another fn do a part"),
-    Refused(doubled("{0}({0}(x))", 30), ":1:21: more than 4096 inline functions would be inserted in main, since they use "
+    Refused(doubled("{0}({0}(x))", 30), ":1:21: more than 1536 inline functions would be inserted in main, since they use "
             "each other: make some of them an fn"),
     Refused(main("return " + " + ".join(["n"] * 2000)),
             ":2:{}: the source is nested too deep: split the expression or the block"),

@@ -10,7 +10,7 @@ from arena.language.names import Names, Pending
 from arena.language.syntax import Application, Expression, Function, Parameter
 from arena.language.unit import Unit, folded
 
-MOST_STEPS = 4_096
+MOST_STEPS = 1_536
 """The most steps that are made of a function, and the most inline functions that are inserted in it. What the later
 passes leave out is far less than the difference to what a procedure may have."""
 
