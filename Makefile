@@ -1,7 +1,7 @@
 # The commands of this repository; `make help` lists them. `rt` is the command of the Rattle kit.
 
 .DEFAULT_GOAL := help
-.PHONY: help run build serve serve-unproved host stop install uninstall deb dist pictures test bench check examples clean
+.PHONY: help run build serve serve-unproved host host-unproved stop install uninstall deb dist pictures test bench check examples clean
 
 EXAMPLE ?= first_job
 
@@ -30,11 +30,16 @@ serve-unproved: ## the same within a minute or two, by a server that is built wi
 	@$(MAKE) --no-print-directory -o build serve PROGRAM=out/unproved/arena-server
 
 RUN ?= /tmp/arena
+HOST ?= out/arena-host
 
 host: build ## hosts the same tenants for any number of connections, in the folder RUN (/tmp/arena); Ctrl-C stops it in order
 	@mkdir -p $(RUN)
-	@trap 'rm -f $(RUN)/socket' INT; MALLOC_MMAP_THRESHOLD_=16384 setsid out/arena-host --config $(CONFIG) --run $(RUN) & host=$$!; \
+	@trap 'rm -f $(RUN)/socket' INT; MALLOC_MMAP_THRESHOLD_=16384 setsid $(HOST) --config $(CONFIG) --run $(RUN) & host=$$!; \
 	    while kill -0 $$host 2>/dev/null; do wait $$host; done; wait $$host
+
+host-unproved: ## the same within a few minutes, by a host that is built without proofs
+	@checks/build/unproved.py arena-host
+	@$(MAKE) --no-print-directory -o build host HOST=out/unproved/arena-host
 
 stop: ## stops the server of `make serve` in order, and waits until it has ended, ten minutes at most
 	@examples/server/stop.py $(SOCKET)

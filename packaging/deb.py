@@ -15,11 +15,18 @@ import sys
 import tempfile
 
 from install import Record, Root
-from layout import HERE, TOP, File, Target, built, files
+from layout import HERE, TOP, File, Target, built, files, unproved
 from version import commit, epoch, maintainer, version
 
 DEBIAN = Target(prefix="/usr", python="/usr/bin/python3", is_debian=True)
 SCRIPTS = ("postinst", "prerm", "postrm")
+PROVED = """ The server's answers are proved: given a
+ tenant's own steps, nothing that another tenant does changes its results."""
+UNPROVED = """
+ .
+ NOT PROVED: of the programs here, these were built without proofs, for trying
+ them out: @NAMES@. Nothing is promised of their
+ answers, and their checks of memory make them a hundred times slower or more."""
 
 
 def architecture() -> str:
@@ -32,10 +39,16 @@ def glibc(programs: list[pathlib.Path]) -> int:
     return max(int(it) for path in programs for it in re.findall(rb"\0GLIBC_2\.(\d+)(?=[.\0])", path.read_bytes()))
 
 
-def changelog() -> bytes:
+def package_version(programs: pathlib.Path) -> str:
+    """The version of the package. One with a program that is not proved comes before that of the same commit, so that
+    the proved one takes its place."""
+    return f"{version()}~unproved" if unproved(programs) else version()
+
+
+def changelog(programs: pathlib.Path) -> bytes:
     """Debian's changelog: one entry, for the commit."""
     when = subprocess.run(["date", "-u", "-R", "-d", f"@{epoch()}"], capture_output=True, text=True, check=True)
-    text = (f"arena ({version()}) unstable; urgency=medium\n\n  * Built from commit {commit()}.\n\n"
+    text = (f"arena ({package_version(programs)}) unstable; urgency=medium\n\n  * Built from commit {commit()}.\n\n"
             f" -- {maintainer()}  {when.stdout}")
     return gzip.compress(text.encode(), 9, mtime=0)
 
@@ -43,18 +56,19 @@ def changelog() -> bytes:
 def contents(programs: pathlib.Path) -> list[File]:
     """The files of the package."""
     documents = DEBIAN.documents
-    more = [File(f"{documents}/changelog.gz", changelog()),
+    more = [File(f"{documents}/changelog.gz", changelog(programs)),
             File(f"{documents}/copyright", (HERE / "debian/copyright").read_bytes())]
     return sorted([*files(DEBIAN, programs), *more], key=lambda it: it.path)
 
 
 def control(programs: pathlib.Path, packed: list[File]) -> str:
     """The control file."""
-    there = built(programs)
+    there, names = built(programs), unproved(programs)
     text = (HERE / "debian/control").read_text()
-    values = {"VERSION": version(), "ARCHITECTURE": architecture(), "MAINTAINER": maintainer(),
+    values = {"VERSION": package_version(programs), "ARCHITECTURE": architecture(), "MAINTAINER": maintainer(),
               "SIZE": sum(len(it.content) // 1024 + 1 for it in packed), "GLIBC": glibc(list(there.values())),
-              "PROGRAMS": ", ".join(there)}
+              "PROGRAMS": ", ".join(there), "KIND": ", built without proofs" if names else "",
+              "CLAIM": UNPROVED.replace("@NAMES@", ", ".join(names)) if names else PROVED}
     for name, value in values.items():
         text = text.replace(f"@{name}@", str(value))
     return text
@@ -76,7 +90,7 @@ def stage(folder: pathlib.Path, programs: pathlib.Path) -> None:
 def build(programs: pathlib.Path, to: pathlib.Path, is_fast: bool) -> pathlib.Path:
     """Builds the package into a folder; a fast build compresses less."""
     to.mkdir(parents=True, exist_ok=True)
-    package = to / f"arena_{version()}_{architecture()}.deb"
+    package = to / f"arena_{package_version(programs)}_{architecture()}.deb"
     with tempfile.TemporaryDirectory() as room:
         tree = pathlib.Path(room) / "tree"
         tree.mkdir()

@@ -52,6 +52,15 @@ def built(programs: pathlib.Path) -> dict[str, pathlib.Path]:
     return {name: programs / name for name in PROGRAMS if (programs / name).is_file()}
 
 
+CHECKER = b"__asan_init"
+"""A name in each program that is built without proofs: its checks of memory are those of the address sanitizer."""
+
+
+def unproved(programs: pathlib.Path) -> list[str]:
+    """The names of the programs in a folder that were built without proofs."""
+    return [name for name, path in built(programs).items() if CHECKER in path.read_bytes()]
+
+
 def _below(folder: pathlib.Path, *suffixes: str) -> Iterator[pathlib.Path]:
     """The files below a folder, without what Python has compiled; all suffixes if none is named."""
     for path in sorted(folder.rglob("*")):

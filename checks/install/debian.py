@@ -65,6 +65,21 @@ def package_says_what_it_is(room: Room) -> None:
         run("sh", "-n", meta / script)
 
 
+def package_says_whether_it_is_proved(room: Room) -> None:
+    """The version, the name and the description of a package whose programs are built with checks of memory, as those
+    without proofs are, and of one whose programs are not."""
+    programs = room.at("some")
+    programs.mkdir()
+    for more, is_proved in ((b"", True), (b"\0__asan_init\0", False)):
+        (programs / "arena-script").write_bytes(pathlib.Path("/bin/true").read_bytes() + more)
+        package = build(Room(room.folder, programs), room.at("package"))
+        said = run("dpkg-deb", "--field", package)
+        marks = ("~unproved_" in package.name, bool(re.search(r"^Version: .*~unproved$", said, re.M)),
+                 bool(re.search("^Description: .*, built without proofs$", said, re.M)), "NOT PROVED: " in said,
+                 "answers are proved" not in said)
+        assert marks == (not is_proved,) * len(marks), (package.name, said)
+
+
 def package_is_the_same_again(room: Room) -> None:
     """The same programs and commit give the same bytes."""
     first, second = built(room), build(room, room.at("again"))
@@ -123,5 +138,6 @@ def service_works(room: Room) -> None:
         service.works()
 
 
-CHECKS = (package_has_its_files, package_says_what_it_is, package_is_the_same_again, server_runs_from_the_package,
-          host_runs_from_the_package, package_is_installed_and_purged, service_works)
+CHECKS = (package_has_its_files, package_says_what_it_is, package_says_whether_it_is_proved,
+          package_is_the_same_again, server_runs_from_the_package, host_runs_from_the_package,
+          package_is_installed_and_purged, service_works)

@@ -1,10 +1,11 @@
 """The units for systemd, and its users and folders. They are read by systemd's own tools; nothing is started."""
 import os
 import pathlib
+import re
 import shutil
 import stat
 
-from room import Room, Skipped, need, run
+from room import TOP, Room, Skipped, need, run
 
 # The exposure that `systemd-analyze security` may find, in tenths: from 0, nothing, to 100, all.
 EXPOSURE = 20
@@ -58,4 +59,14 @@ def user_and_folders_are_made(room: Room) -> None:
         assert (stat.S_IMODE(made.st_mode), made.st_uid, made.st_gid) == (mode, int(user), int(group)), path
 
 
-CHECKS = (units_are_verified, sandbox_is_tight, user_and_folders_are_made)
+def each_start_of_the_host_bounds_its_memory(_: Room) -> None:
+    """Whatever starts arena-host here sets the word of docs/HOST.md, Memory, to its value."""
+    places = [TOP / "Makefile", TOP / "packaging/arena-host.service",
+              *(it for it in (TOP / "examples").rglob("*") if it.suffix in (".yaml", ".hcl"))]
+    starts = [it for it in places if re.search(r"(arena-host|\$\(HOST\)),? --config", it.read_text())]
+    assert len(starts) == 4, starts
+    for it in starts:
+        assert re.search(r"MALLOC_MMAP_THRESHOLD_\W+(value: )?\W?16384\b", it.read_text()), it
+
+
+CHECKS = (units_are_verified, sandbox_is_tight, user_and_folders_are_made, each_start_of_the_host_bounds_its_memory)

@@ -45,9 +45,18 @@ proc other(x)
 ]
 
 REFUSALS = [
-    ("", "a: there is no procedure: write `proc main(x, y)` and its instructions"),
+    ("", "a:1:1: there is no procedure: write `proc main(x, y)` and its instructions"),
     ("ret r0", "a:1:1: `ret` stands before the first procedure: write `proc main(x, y)` above it"),
     ("proc", "a:1:1: expected `proc NAME`, or `proc NAME(x, y)` with names for the two arguments"),
+    ("proc a(x, x)\nret x", "a:1:11: a has two arguments x: rename one"),
+    ("proc a\nset r0 " + "9" * 5000 + "\nret r0", "a:2:8: the number of `set` is from -9223372036854775808 to "
+     "9223372036854775807, not " + "9" * 40 + ".."),
+    ("proc a\nset r0 -" + "9" * 5000 + "\nret r0", "a:2:8: the number of `set` is from -9223372036854775808 to "
+     "9223372036854775807, not -" + "9" * 39 + ".."),
+    ("proc a\nret r\u00b2", "a:2:1: ret takes 1 operand, and here are 2: a register"),
+    ("proc a\nspawn g\u0661 a r0 r0\nret r0", "a:2:1: spawn takes 4 operands, and here are 5: a group, a procedure, a "
+     "register and a register"),
+    ("proc a\nset r0 \u0663\nret r0", "a:2:8: the number of `set` is a number, and `\u0663` is none"),
     ("proc a(x, y, z)\nret x", "a:1:7: expected the names of up to two arguments in parentheses"),
     ("proc a(r1)\nret r1", "a:1:8: r1 is another register than that of this argument, r0"),
     ("proc a\nret r0\nproc a\nret r0", "a:3:6: there is a procedure a already: choose another name"),

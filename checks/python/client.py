@@ -110,8 +110,7 @@ def each_refusal_is_an_exception_of_its_name():
         raises(arena.BadRequest, client.cells, 8)
         raises(arena.BadProgram, client.execute, INVALID)
         raises(arena.LineTooLong, client.submit, job(*[[["spawn", 0, 0, 0, 1]] * 255 + [["ret", 0]]] * 16))
-        client.send(b'{"op":\n')
-        raises(arena.BadJson, requests.limits().value, client.read_line())
+        raises(arena.BadJson, requests.limits().value, client.exchange(b'{"op":'))
         raises(arena.UnknownJob, client.collect, 9)
         with client.pipeline() as many:
             numbers = [many.submit(SEVEN) for _ in range(200)]

@@ -47,14 +47,14 @@ def jobs_are_run(it):
     it.call("run", seven, "--json", out='{"job":2,"status":"complete","value":7}\n')
     it.call("run", fib, "--args", "7", "0", "--fuel", "2000", out="13\n")
     it.call("--json", "run", fib, "--args", "7", out='{"job":4,"status":"complete","value":13}\n')
-    it.call("run", "-", stdin=json.dumps(SEVEN), out="7\n")
+    it.call("run", "-", "--execute", stdin=json.dumps(SEVEN), out="7\n")
     it.call("run", seven, "--color", "always", out="\x1b[32m7\x1b[0m\n")
     it.call("run", it.file("divides.json", DIVIDES), status=1, out="job 7: fault 1, division by zero\n")
     it.call("run", it.file("spin.json", SPIN), "--json", status=1, out='{"fault":2,"job":8,"status":"fault"}\n')
     it.call("submit", seven, out="9\n")
     it.call("wait", "9", out="7\n")
     it.call("poll", "9", out="7\n")
-    it.call("cancel", "9", out="job 9: it had ended, had a fault, or was cancelled before\n")
+    it.call("cancel", "9", status=1, out="job 9: it had ended, had a fault, or was cancelled before\n")
     it.call("run", it.file("stores.json", STORES), out="5\n")
     it.call("cells", "3", out="key 3: 1 cell, sum 5\n")
     it.call("cells", "3", "--json", out='{"count":1,"key":3,"sum":5}\n')
@@ -73,7 +73,7 @@ def waiting_jobs_are_looked_after(it):
     it.call("wait", "1", "--timeout", "0.5", status=7, err="^arena: collect 1: no reply within 0.5 s", **still)
     it.call("retire", status=32, err="error 12, busy: .*cancel", **still)
     it.call("cancel", "1", out="job 1: canceled\n", **still)
-    it.call("cancel", "1", "--json", out='{"first":false,"job":1}\n', **still)
+    it.call("cancel", "1", "--json", status=1, out='{"first":false,"job":1}\n', **still)
     it.call("wait", "1", status=3, out="job 1: canceled\n", **still)
     it.call("run", seven, "-s", it.server.path, "-t", "still", out="7\n", ARENA_SOCKET="/nowhere",
             ARENA_TENANT="nobody")
@@ -90,6 +90,13 @@ def faults_have_their_status(it):
     it.call("run", it.file("broken.json", '{"args":\n]'), status=5, err=r"broken.json:2:1: no JSON")
     it.call("run", it.server.file("invalid.json"), status=5, err=r"invalid.json: procs\[0\]\[0\]")
     it.call("run", seven, "--args", "1", "2", "3", status=5, err="a job has two arguments")
+    wide = it.file("wide.job", "fn main(n, lo: u20, hi: u8) { return n * 1000000 + lo * 1000 + hi }\n")
+    it.call("run", wide, "--args", "7", "0x10", "200", out="7016200\n")
+    it.call("run", wide, "--args", "7", out="7000000\n")
+    it.call("run", wide, "--args", "7", "1", "256", status=5, err="wide.job: 256 does not fit hi: u8, which is from 0 to 255")
+    it.call("run", wide, "--args", "1", "2", "3", "4", status=5, err="wide.job: main has 3 parameters, and here are 4")
+    it.call("run", it.server.file("fib.job"), "--args", "1", "2", "3", status=5, err="fib.job: a job has two arguments, and "
+            "here are 3")
     it.call("run", seven, "-D", "N", status=2, err="write NAME=NUMBER")
     it.call(status=2, err="COMMAND")
     it.call("dance", status=2, err="invalid choice: 'dance'")
@@ -98,13 +105,16 @@ def faults_have_their_status(it):
     for fuel, more in (("70", r": it had 70; --fuel gives up to 1,000,000"),
                        ("1000000", ": it had 1,000,000, the most that a job can have; split the work into several jobs")):
         it.call("run", it.server.file("spin.json"), "--fuel", fuel, status=1, out=re.compile(f"{out_of_fuel}{more}\n"))
-    it.call("submit", it.server.file("spin.json"), out="13\n")
-    it.call("wait", "13", status=1, out=re.compile(f"{out_of_fuel}; a job has 1,000,000 at most\n"))
+    it.call("submit", it.server.file("spin.json"), out="15\n")
+    it.call("wait", "15", status=1, out=re.compile(f"{out_of_fuel}; a job has 1,000,000 at most\n"))
 
 
 def jobs_are_built(it):
     source, parameter = it.server.file("fib.job"), it.file("parameter.job", PARAMETER)
     it.call("run", source, "--args", "10", out="55\n")
+    divides = it.file("divides.job", "fn main(n) {\n    let a = n / 2 % 3\n    let b = 7 / n\n    return a %\n        (b - b)\n}\n")
+    it.call("run", divides, status=1, out=re.compile(r"job \d+: fault 1, division by zero; its source divides in lines 3 and "
+                                                     r"4\n"))
     it.call("run", parameter, "--args", "4", "-D", "N=8", out="12\n")
     it.call("build", source, "-o", it.server.file("built.json"))
     it.call("run", it.server.file("built.json"), "--args", "6", out="8\n")
@@ -230,6 +240,7 @@ def every_command_has_help(it):
     for command in COMMANDS:
         assert command.example.split()[:2] == ["arena", command.name], command
         assert command.name in parser().format_help()
+    it.call("--version", out=re.compile(r"arena \d+\.\d+\.\d+\n"))
     it.call("run", "--help", out=re.compile(r"(?s)usage: arena run .*example:\n  arena run .*"))
     it.call("--help", out=re.compile(r"(?s)usage: arena .*exit status:\n +0  done.*"), how=arena_process)
 

@@ -272,7 +272,10 @@ class Drawer:
                    block(Give(NOWHERE, self.expression(inner))), block())
         body = block(*([early] if self.chance(0.4) else []), *(self.body(inner, 2) if self.chance(0.6) else []),
                      Give(NOWHERE, self.expression(inner)))
-        it = ParallelSum(NOWHERE, index, bits, number(low), number(high), number(self.draws.randint(1, 4)), body)
+        ends = [number(low), number(high)]
+        if room.readable and self.chance(0.4):
+            ends = [binary("+", binary("%", name(self.draws.choice(room.readable)), number(5)), end) for end in ends]
+        it = ParallelSum(NOWHERE, index, bits, *ends, number(self.draws.randint(1, 4)), body)
         return [Let(NOWHERE, total, it)], [total]
 
     # items

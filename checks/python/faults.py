@@ -1,6 +1,6 @@
 #!/usr/bin/env python3
-"""Plants each fault of `planted.py` into a copy of the compiler, one at a time, and runs some drawn programs by it
-(`language.py`), which must find it. The last line says how many there are.
+"""Plants each fault of `planted.py` into a copy of the compiler, one at a time, and runs some drawn programs by it, or
+drawn ranges, which must find it. The last line says how many there are.
 
 usage: checks/python/faults.py, from anywhere.
 """
@@ -14,12 +14,11 @@ import tempfile
 import paths
 from planted import PLANTED
 
-SEED, PROGRAMS, DIFFERENCES = 6, 250, 1
 LANGUAGE = "arena/language"
 
 
 def is_found(folder, it):
-    """Whether the drawn programs find a fault; says why if it can't be planted, or is not found."""
+    """Whether its check finds a fault; says why if it can't be planted, or is not found."""
     package = os.path.join(folder, "python")
     shutil.copytree(os.path.join(paths.PACKAGE, "arena"), os.path.join(package, "arena"))
     path = os.path.join(package, LANGUAGE, it.file)
@@ -30,8 +29,8 @@ def is_found(folder, it):
         return False
     with open(path, "w") as source:
         source.write(text.replace(it.old, it.new))
-    check = os.path.join(os.path.dirname(os.path.abspath(__file__)), "language.py")
-    run = subprocess.run([sys.executable, check, str(SEED), str(PROGRAMS), str(DIFFERENCES)],
+    check, *words = it.words
+    run = subprocess.run([sys.executable, os.path.join(os.path.dirname(os.path.abspath(__file__)), check), *words],
                          env={**os.environ, "ARENA_PYTHON": package}, capture_output=True, text=True)
     found = re.search(r": (\d+) differences$", run.stdout.strip())
     if found and int(found[1]) > 0:

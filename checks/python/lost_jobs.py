@@ -202,7 +202,7 @@ async def replies_of_the_last_connection(client):
     made = asyncio.create_task(client.submit(SEVEN))
     while not client._waiting:
         await asyncio.sleep(0)
-    client._waiting[0].set_result(b'{"job":9}\n')  # the task takes it after this turn; the server's own reply is dropped
+    client._waiting[0].reply.set_result(b'{"job":9}\n')  # the task takes it after this turn; the server's own reply is dropped
     client._jobs.connection += 1
     assert await made == 9
     await raises_in(arena.LostJob, client.poll(9))

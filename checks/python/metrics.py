@@ -18,6 +18,7 @@ import subprocess
 import sys
 import tempfile
 import threading
+import time
 from unittest import mock
 
 sys.path.insert(0, os.path.abspath("python"))
@@ -134,10 +135,10 @@ def counters_never_go_back():
 
 
 @contextlib.contextmanager
-def served(folder, clock=None):
+def served(folder, clock=None, **limits):
     """A server of a folder on a thread, at a port that is free."""
     watcher = Watcher(RunFolder(folder.path), clock) if clock else Watcher(RunFolder(folder.path))
-    with MetricsServer(Address.parse("127.0.0.1:0"), watcher) as server:
+    with MetricsServer(Address.parse("127.0.0.1:0"), watcher, **limits) as server:
         thread = threading.Thread(target=server.serve_forever, args=(0.01,))
         thread.start()
         try:
@@ -196,6 +197,31 @@ def answers_have_their_heads():
         assert asked(server, "/other")[0] == 404 and asked(server, "/metrics", "POST")[0] == 501
         with socket.create_connection(("127.0.0.1", server.server_port)):  # one that says nothing holds nobody up
             assert asked(server, "/healthz")[:3:2] == (200, "ok\n")
+
+
+def no_client_keeps_it_busy():
+    """A request has one time limit, however slowly its bytes come; and connections beyond the most are closed."""
+    with FakeHost(tenants=[tenant()]) as host, served(host, most=2, seconds=1) as server:
+        with socket.create_connection(("127.0.0.1", server.server_port)) as slow, contextlib.suppress(OSError):
+            begun = time.monotonic()
+            while time.monotonic() - begun < PATIENCE:
+                slow.sendall(b"x")
+                slow.settimeout(0.1)
+                with contextlib.suppress(TimeoutError):
+                    if not slow.recv(1):
+                        break
+        assert time.monotonic() - begun < 10
+        silent = [socket.create_connection(("127.0.0.1", server.server_port)) for _ in range(2)]
+        time.sleep(0.3)
+        try:
+            asked(server, "/healthz")
+            raise AssertionError("a third connection was answered")
+        except (OSError, http.client.HTTPException):
+            pass
+        time.sleep(1.5)
+        assert asked(server, "/healthz")[0] == 200
+        for it in silent:
+            it.close()
 
 
 def page_is_safe():
@@ -299,7 +325,8 @@ def others_are_let_in_by_request_alone(it):
 
 
 CHECKS = [example_has_its_samples, each_tenant_of_each_generation_has_a_sample, texts_are_escaped,
-          counters_never_go_back, health_is_told, answers_have_their_heads, page_is_safe, command_serves]
+          counters_never_go_back, health_is_told, answers_have_their_heads,
+          no_client_keeps_it_busy, page_is_safe, command_serves]
 
 
 def main():

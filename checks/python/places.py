@@ -43,7 +43,7 @@ JOBS = [
     (job([[RETURN]], args=[0, GREATEST + 1]),
      Expected(f"args: a list of two integers from {LEAST} to {GREATEST}, not [0,{GREATEST + 1}]")),
     ('{"args":[-0,0],"fuel":1,"procs":[[["ret",0]]]}',
-     Expected(f"args: a list of two integers from {LEAST} to {GREATEST}, not [-0.0,0]")),
+     Expected(f"args: a list of two integers from {LEAST} to {GREATEST}, not [-0,0]")),
     (job([]), Expected("procs: a list of 1 to 16 procedures, not 0 procedures")),
     (job({}), Expected("procs: a list of 1 to 16 procedures, not {}")),
     (job([[RETURN]] * 17), Expected("procs: a list of 1 to 16 procedures, not 17 procedures")),

@@ -4,12 +4,17 @@ from dataclasses import dataclass
 
 @dataclass(frozen=True)
 class Planted:
-    """A fault, and what it does: in a file of `arena/language` a text that stands there once becomes another one."""
+    """A fault, and what it does: in a file of `arena/language` a text that stands there once becomes another one. `words`
+    are the check that must find it, and its words."""
 
     file: str
     what: str
     old: str
     new: str
+    words: tuple[str, ...] = ("language.py", "6", "250", "1")
+
+
+RANGES = ("drawn_ranges.py", "1")
 
 
 PLANTED = [
@@ -38,8 +43,8 @@ PLANTED = [
             'self.emit("sub", place, (low,), (register, back))',
             'self.emit("sub", place, (low,), (back, register))'),
     Planted("names.py", "tasks share a group",
-            "taken = {*self._groups.values(), *(it.group for it in self.pending)}",
-            "taken = {*self._groups.values()}"),
+            "taken = {*(it.number for it in groups), *(it.group for it in tasks)}",
+            "taken = {*(it.number for it in groups)}"),
     Planted("conditions.py", "`>=` is `<` in conditions",
             'return Test(register, operator in ("<=", ">="))',
             'return Test(register, operator == "<=")'),
@@ -47,7 +52,7 @@ PLANTED = [
             'self.emit("sub", it.place, (register,), (left, back))',
             'self.emit("sub", it.place, (register,), (back, left))'),
     Planted("captures.py", "no loop's body assigns to its limit",
-            "isinstance(node, Assign) and node.name == name",
+            "isinstance(it, Assign) and it.name == name",
             "False"),
     Planted("sums.py", "the upper half of a parallel sum is the whole",
             'middle = binary("-", high, Name(place, HALF))',
@@ -61,9 +66,21 @@ PLANTED = [
     Planted("flow.py", "jumps over code are dropped",
             "        if step.name not in NO_OPERATION:\n            break",
             '        if step.name in ("jmp", "ret"):\n            break'),
-    Planted("waits.py", "a return does not wait for its groups",
-            "after.add(step.group)",
-            "pass"),
+    Planted("groups.py", "a return does not wait for its groups",
+            'for group in sorted(groups)]',
+            'for group in ()]'),
+    Planted("groups.py", "a block that is left by a jump leaves its groups behind",
+            "if step.name == GROUP_LEFT and step.group in groups:",
+            "if False:", RANGES),
+    Planted("values.py", "a psum spawns its halves for a range that is empty, too",
+            "self.branch(Binary(place, \"<\", low, high), inside, empty, inside)",
+            "pass", RANGES),
+    Planted("values.py", "ends of a psum that do not fit its index are packed",
+            "self.branch(is_misfit, misfit, fits, fits)",
+            "pass", RANGES),
+    Planted("expressions.py", "2^63 is subtracted twice",
+            "return Number(self.advance().place, -(2**63))",
+            "return Number(self.advance().place, 0)", RANGES),
     Planted("code.py", "a division that nothing reads is dropped",
             'frozenset({"set",',
             'frozenset({"set", "div",'),

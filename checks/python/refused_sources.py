@@ -4,7 +4,8 @@ from dataclasses import dataclass, field
 
 @dataclass(frozen=True)
 class Refused:
-    """A source, the parameters given with it, and the words of its refusal without the name of the file."""
+    """A source, the parameters given with it, and the words of its refusal without the name of the file; `{}` in them is
+    any number."""
 
     source: str
     words: str
@@ -14,6 +15,12 @@ class Refused:
 def main(*lines):
     """A source with these lines in its `main(n)`, from line 2 and column 5 on."""
     return "fn main(n) {\n" + "".join(f"    {line}\n" for line in lines) + "}\nfn f(x) { return x }\n"
+
+
+def doubled(body, count):
+    """A source whose inline functions each insert the one before it twice."""
+    return "fn main(n) { return g" + f"{count}(n) }}\ninline fn g0(x) = x + 1\n" + "".join(
+        f"inline fn g{number}(x) = {body.format(f'g{number - 1}')}\n" for number in range(1, count + 1))
 
 
 def spawns(count):
@@ -28,13 +35,21 @@ ONE_TOO_MANY = "".join(f"fn f{number}() {{ }}\n" for number in range(17))
 LONG = "fn main(n) { return n }\n" + "".join(
     f"fn f{number}(n) {{ group g; {'; '.join(['spawn g: main(n)'] * 250)} }}\n" for number in range(15))
 
+INLINED = ("fn main(a, b) {\n    let c = a + b\n    let d = a - b\n    let e = a * b\n    let f = a / b\n    let g = a + c\n"
+           "    return far(c, d) + a + b + c + d + e + f + g\n}")
+
 REFUSED = [
     # tokens
-    Refused("fn main() { return 1 & 2 }", ":1:22: unexpected character `&`: write && for `and`"),
+    Refused("fn main() { return 1 & 2 }", ":1:22: unexpected character `&`: write && for `and`; there are no operations "
+            "on bits"),
     Refused("fn main() { return 1 ^ 2 }", ":1:22: unexpected character `^`: there are no operations on bits"),
     Refused('fn main() { return "a" }', ':1:20: unexpected character `"`: there are no texts, only numbers'),
     Refused("fn main() {\n    return 3x\n}", ":2:12: unexpected character `3`: a number must not end in letters"),
-    Refused("fn main() { return 1 ? 2 }", ":1:22: unexpected character `?`: leave it out"),
+    Refused("fn main() { return 1 ? 2 }", ":1:22: unexpected character `?`: write `if`, as a statement"),
+    Refused("fn main() { return 1 $ 2 }", ":1:22: unexpected character `$`: leave it out"),
+    Refused("fn main() { return [1] }", ":1:20: unexpected character `[`: there are no lists"),
+    Refused("fn main() { return \u0663 }", ":1:20: unexpected character `\u0663`: a number is written with the digits 0 to 9"),
+    Refused("fn main(r) { return r\u00b2 }", ":1:22: unexpected character `\u00b2`: a number is written with the digits 0 to 9"),
     # the grammar
     Refused("let x = 1", ":1:1: expected fn, inline fn, const, param or cell, found `let`"),
     Refused("fn main( { }", ":1:10: expected the name of a parameter, found `{`"),
@@ -42,7 +57,27 @@ REFUSED = [
             "and no name"),
     Refused("fn main()", ":1:10: expected `{`, found the end of the line"),
     Refused("fn main() {\n    return 1\n", ":1:11: this `{` has no `}`"),
-    Refused("fn main() { } fn f() { }", ":1:15: expected the end of the line, found `fn`"),
+    Refused("fn main() { } fn f() { }", ":1:15: expected the end of the line, found `fn`: each fn begins on a line of "
+            "its own, outside of all braces"),
+    Refused(main("fn g() { }"), ":2:5: expected an expression, found `fn`: each fn begins on a line of its own, outside of "
+            "all braces"),
+    Refused(main("if n = 1 { return 1 }"), ":2:10: expected `{`, found `=`: to compare, write `==`"),
+    Refused(main("return n = 1"), ":2:14: expected the end of the statement, found `=`: to compare, write `==`"),
+    Refused(main("n++"), ":2:6: there is no `++`: write `n += 1`"),
+    Refused(main("n--"), ":2:6: there is no `--`: write `n -= 1`"),
+    Refused(main("return n << 2"), ":2:15: expected an expression, found `<`: there are no operations on bits; multiply or "
+            "divide by a power of two"),
+    Refused(main("return 1.5"), ":2:13: expected the end of the statement, found `.`: there are only whole numbers"),
+    Refused(main("let x: int = 1"), ":2:10: expected `=`, found `:`: a variable has no type"),
+    Refused(main("for i in 0..n step 2 { }"), ":2:19: expected `{`, found `step`: a `for` counts by 1: multiply its counter, "
+            "or use `while`"),
+    Refused(main("if n { return 1 } return 2"), ":2:23: expected the end of the statement, found `return`: begin a new line, "
+            "or write `;`"),
+    Refused(main("print(n)"), ":2:5: `print` begins no statement: a job prints nothing: `return` what it found"),
+    Refused(main("f(n)"), ":2:5: this value goes nowhere: an fn is run by `call f(..)` or `spawn f(..)`, and the value of an "
+            "inline fn needs a name, as in `let name = ..`"),
+    Refused(main("return true"), ":2:12: there is no true: write 1"),
+    Refused(main("return false"), ":2:12: there is no false: write 0"),
     Refused(main("let x 1"), ":2:11: expected `=`, found `1`"),
     Refused(main("return (n"), ":3:1: expected `)`, found `}`"),
     Refused(main("return n n"), ":2:14: expected the end of the statement, found `n`"),
@@ -64,6 +99,10 @@ REFUSED = [
             "statement; for its value at once write `call f(..)`"),
     Refused(main("return 9223372036854775808"),
             ":2:12: the number 9223372036854775808 does not fit 64 bits: it is from -2^63 to 2^63 - 1"),
+    Refused(main("return " + "9" * 5000), ":2:12: the number " + "9" * 37 + ".. does not fit 64 bits: it is from -2^63 to 2^63 "
+            "- 1"),
+    Refused(main("return n - 9223372036854775808 * n"),
+            ":2:16: the number 9223372036854775808 does not fit 64 bits: it is from -2^63 to 2^63 - 1"),
     Refused("fn main(x: u63) { }", ":1:12: a width is u1 to u62, found `u63`"),
     Refused("cell c\n" + main("return c.all"), ":3:14: a cell has .local, .sum and .count, not .all"),
     Refused("cell c\n" + main("c.sum = 1"), ":3:7: only c.local can be assigned to"),
@@ -76,9 +115,9 @@ REFUSED = [
     Refused("const A = 1 / 0\n" + main(),
             ":1:13: the value of A is no constant: write it with numbers, operators and the constants above it"),
     Refused("param A = 1\n" + main(), ":1:1: A = 9223372036854775808 does not fit 64 bits", {"A": 2**63}),
-    Refused("const A = 1\n" + main(), ": there is no param A in the source: write `param A = ..` with the value that "
+    Refused("const A = 1\n" + main(), ":1:1: there is no param A in the source: write `param A = ..` with the value that "
             "it has without one", {"A": 1}),
-    Refused("const A = 1", ": there is no fn: write `fn main(x, y) { .. }`"),
+    Refused("const A = 1", ":1:1: there is no fn: write `fn main(x, y) { .. }`"),
     Refused("".join(f"cell c{number}\n" for number in range(9)) + main(),
             ":9:1: there are only 8 cells, and they are c0, c1, c2, c3, c4, c5, c6 and c7: use one for two things"),
     Refused("cell c @ 8\n" + main(), ":1:1: the key of a cell is from 0 to 7"),
@@ -92,7 +131,7 @@ REFUSED = [
             "width, such as lo: u20, so that they share one"),
     Refused("fn main(x: u40, y: u40, z: u40) { }", ":1:25: the parameters of main with a width need more than 63 bits "
             "for each of the 2 arguments that are left for them: make them narrower"),
-    Refused(ONE_TOO_MANY, ": a job has at most 16 procedures, and here are 17 (each fn and each psum is one): make "
+    Refused(ONE_TOO_MANY, ":17:1: a job has at most 16 procedures, and here are 17 (each fn and each psum is one): make "
             "some of them inline"),
     # names
     Refused(main("return coutn"), ":2:12: coutn is not known here: declare it by `let`; alive are n"),
@@ -144,10 +183,31 @@ REFUSED = [
     Refused(main(*FOUR_TASKS, "group g"), f":6:5: no group is left for the group g: {GROUPS_FULL}"),
     Refused(main("group g", "group g"), ":3:5: the group g is there already: leave this line out, or choose another "
                                         "name"),
-    Refused(main("spawn g: f(n)"), ":2:5: there is no group g: write `group g` above this line"),
+    Refused(main("spawn g: f(n)"), ":2:5: there is no group g: write `group g` above this line, in this block or "
+            "one around it"),
+    Refused(main("if n {", "    group g", "}", "return wait g"), ":5:12: g is no group and no task; write `group g`, or `let g = "
+            "spawn ..`, above this line"),
+    Refused(main("group g", "for i in 0..n {", "    let g = i", "    spawn g: f(i)", "}", "return wait g"),
+            ":5:9: g is a variable here, and no group or task: give one of them another name"),
+    Refused(main("group g", "for i in 0..n {", "    let g = i", "    wait g", "}", "return wait g"),
+            ":5:9: g is a variable here, and no group or task: give one of them another name"),
+    Refused(main("group g", "let g = n"), ":3:5: g is a group of this block already: choose another name"),
+    Refused(main("let g = n", "group g"), ":3:5: g is a variable of this block already: choose another name"),
+    # groups and their blocks
+    Refused(main("for i in 0..n {", "    group g", "    spawn g: f(i)", "    if i == 2 { n = wait g }", "}"),
+            ":6:5: the group g may not be waited for in its block: write `wait g` before this brace, or declare it before "
+            "the block"),
+    Refused(main("return psum i in 0..n {", "    group g", "    spawn g: f(i)", "    if i == 2 { give wait g }", "}"),
+            ":6:5: the group g may not be waited for in its block: write `wait g` before this brace, or declare it before "
+            "the block"),
+    Refused(main("if n {", "    group g", "    while n { spawn g: f(n); n = wait g; spawn g: f(n) }", "}"),
+            ":5:5: the group g may not be waited for in its block: write `wait g` before this brace, or declare it before "
+            "the block"),
+    Refused(main("if n { group g; cancel g }"), ":2:30: the group g may not be waited for in its block: write `wait g` "
+            "before this brace, or declare it before the block"),
     Refused(main("return wait g"),
             ":2:12: g is no group and no task; write `group g`, or `let g = spawn ..`, above this line"),
-    Refused(main("group h", "let a = spawn f(n)", "cancel g"), ":4:5: g is no group and no task: there is h and a; "
+    Refused(main("group h", "let a = spawn f(n)", "cancel g"), ":4:5: g is no group and no task: there is a and h; "
             "write `group g`, or `let g = spawn ..`, above this line"),
     Refused(main("let a = spawn f(n)", "sync", "let b, s = wait a"),
             ":4:5: a was waited for already: its status can be had once, by its first wait"),
@@ -186,16 +246,41 @@ REFUSED = [
             "an fn with packed parameters that spawns its halves"),
     Refused(main("return psum i: u31 in 0..n { give i * n }"),
             ":2:12: the index of a psum that uses a variable from outside has at most 30 bits"),
+    Refused(main("return psum i: u4 in n..17 { give i }"),
+            ":2:29: 17 does not fit i: u4, which is from 0 to 15: make the index wider"),
+    Refused(main("let m = 2", "return psum i: u4 in -1..n { give m }"),
+            ":3:26: -1 does not fit i: u4, which is from 0 to 15: make the index wider"),
     # room
     Refused("fn main(a, b) {\n    let c = a + b\n    let d = a - b\n    let e = a * b\n    let f = a / b\n"
             "    let g = a + c\n    let h = a - c\n    let i = a * c\n    return a + b + c + d + e + f + g + h + i\n}",
             ":8:15: main needs more than 8 registers here, and there is no memory to put one into; alive are a, b, c, "
             "d, e, f, g, h and i: let another fn do a part, or compute a value where it is needed"),
+    Refused("inline fn far(a, b) = (a * a + b * b) *\n    (a - b)\n" + INLINED, ":9:12: main needs more than 8 registers here, in "
+            "the inline fn of line 1, column 34, and there is no memory to put one into; alive are a, b, c, d, e, f, g and "
+            "2 other values: let another fn do a part, or compute a value where it is needed"),
+    Refused(main("let m = 1", "return psum i: u9 in 0..n {", "    let a = i + m", "    let b = i - m", "    let c = i * m",
+                 "    let d = a * b", "    let e = c * d", "    let h = a - d", "    give a + b + c + d + e + h", "}"),
+            ":9:19: the psum of line 3 needs more than 8 registers here, and there is no memory to put one into; alive are a, "
+            "b, c, d, e, h, i, m, the end of i and the total: let another fn do a part, or compute a value where it is "
+            "needed"),
     Refused(main(spawns(260)),
             ":1:1: main has at least 261 instructions, and a procedure has at most 256: let another fn do a part"),
     Refused(main(spawns(255)),  # and a wait, a number and a return
-            ":1:1: main has 258 instructions, and a procedure has at most 256: let another fn do a part"),
-    Refused(LONG, ": the request with this job has 68159 bytes, and a line has at most 65536: make the source shorter"),
+            ":1:1: main has at least 257 instructions, and a procedure has at most 256: let another fn do a part"),
+    Refused(main(spawns(254)),  # and a wait, a number, which others might share, and a return
+            ":1:1: main has 257 instructions, and a procedure has at most 256: let another fn do a part"),
+    Refused(main("return " + " + ".join(["n * n"] * 129)),
+            ":1:1: main has at least 258 instructions, and a procedure has at most 256: let another fn do a part"),
+    Refused(LONG, ":2:1: the request with this job has 68159 bytes, and a line has at most 65536: make the source shorter; "
+            "f0 has the most instructions"),
+    Refused(doubled("{0}(x) + {0}(x)", 30), ":1:21: main has more than 1536 steps, of which a procedure has at most 256: let "
+            "another fn do a part"),
+    Refused(doubled("{0}({0}(x))", 30), ":1:21: more than 1536 inline functions would be inserted in main, since they use "
+            "each other: make some of them an fn"),
+    Refused(main("return " + " + ".join(["n"] * 2000)),
+            ":2:{}: the source is nested too deep: split the expression or the block"),
     Refused(main(f"return {'(' * 3000}n{')' * 3000}"),
-            ": the source is nested too deep: split the expression or the block"),
+            ":2:{}: the source is nested too deep: split the expression or the block"),
+    Refused(main("if n { return 1 }" + " else if n { return 1 }" * 400),
+            ":2:{}: the source is nested too deep: split the expression or the block"),
 ]

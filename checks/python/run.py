@@ -12,7 +12,9 @@ from collections.abc import Sequence
 from concurrent.futures import ThreadPoolExecutor
 
 CHECKS = ("language", "faults", "assembler", "trace", "page", "commands", "fuel", "lint", "refusals", "damaged", "worked",
-          "client", "completions", "host", "metrics", "orders", "advise", "lost_jobs")
+          "client", "completions", "host", "metrics", "orders", "advise", "lost_jobs",
+          "interrupts", "unproved_builds", "drawn_ranges",
+          "damaged_dumps")
 FOLDER = os.path.dirname(os.path.abspath(__file__))
 
 

@@ -261,6 +261,8 @@ class Walk:
 
     def sum(self, it, scope, frame):
         low, high, total = self.value(it.low, scope, frame), self.value(it.high, scope, frame), 0
+        if it.bits is not None and low < high and not 0 <= low < high <= 2**it.bits:
+            raise DivisionByZero
         for index in range(low, high):
             self.turn()
             try:

@@ -26,6 +26,11 @@ job "arena" {
       user         = "arena"
       kill_timeout = "300s"
 
+      # Without it the C library keeps what a closed generation gives back (docs/HOST.md, Memory).
+      env {
+        MALLOC_MMAP_THRESHOLD_ = "16384"
+      }
+
       # The first wait ends with the signal, the second with the host, whose status is the task's.
       config {
         command = "/bin/sh"

@@ -11,13 +11,13 @@ and `python3 -m arena` is the command. docs/CLIENT.md and docs/TRACE.md show the
 from arena.client import Client, Pipeline
 from arena.replies import (
     ArenaError, BadJson, BadProgram, BadRequest, Busy, Canceled, Cells, Complete, ConnectionLost, Fault, FaultCode,
-    HistoryFull, JobLimit, Limits, LineTooLong, LostJob, NoMemory, NoTenant, Outcome, Refused, Running, Status,
+    HistoryFull, InUse, JobLimit, Limits, LineTooLong, LostJob, NoMemory, NoTenant, Outcome, Refused, Running, Status,
     StrangeReply, TaskLimit, TimedOut, UnknownJob, UnknownTenant)
 
 __version__ = "1.0.0"
 
 __all__ = [
     "ArenaError", "BadJson", "BadProgram", "BadRequest", "Busy", "Canceled", "Cells", "Client", "Complete",
-    "ConnectionLost", "Fault", "FaultCode", "HistoryFull", "JobLimit", "Limits", "LineTooLong", "LostJob", "NoMemory",
-    "NoTenant", "Outcome", "Pipeline", "Refused", "Running", "Status", "StrangeReply", "TaskLimit", "TimedOut",
+    "ConnectionLost", "Fault", "FaultCode", "HistoryFull", "InUse", "JobLimit", "Limits", "LineTooLong", "LostJob",
+    "NoMemory", "NoTenant", "Outcome", "Pipeline", "Refused", "Running", "Status", "StrangeReply", "TaskLimit", "TimedOut",
     "UnknownJob", "UnknownTenant"]

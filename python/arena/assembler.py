@@ -20,9 +20,10 @@ from arena.jobs import (GREATEST_FUEL, GREATEST_NUMBER, GROUPS, INSTRUCTIONS, IN
                         LAST_INSTRUCTIONS, LEAST_NUMBER, PROCEDURES, REGISTERS, Instruction, Job, Operand)
 from arena.texts import TextFault, counted, is_or_are, listed
 
-_WORD = re.compile(r"[A-Za-z_][\w.]*|-?\d[\d_]*|[():=]|[^\s,]")
-_NAME = re.compile(r"[A-Za-z_][\w.]*")
-_NUMBER = re.compile(r"-?\d[\d_]*")
+_WORD = re.compile(r"[A-Za-z_][A-Za-z0-9_.]*|-?[0-9][0-9_]*|[():=]|[^\s,]")
+_NAME = re.compile(r"[A-Za-z_][A-Za-z0-9_.]*")
+_NUMBER = re.compile(r"-?[0-9][0-9_]*")
+_MOST_DIGITS = 40
 _DIRECTIVES = ("args", "fuel", "proc", "free")
 
 
@@ -49,9 +50,11 @@ class _Word:
         """The word as a number of a range."""
         if not _NUMBER.fullmatch(self.text):
             raise self.fault(f"{what} is a number, and `{self.text}` is none")
-        number = int(self.text.replace("_", ""))
-        if not least <= number <= greatest:
-            raise self.fault(f"{what} is from {least} to {greatest}, not {number}")
+        digits = self.text.lstrip("-").replace("_", "").lstrip("0") or "0"
+        number = int(digits) * (-1 if self.text[0] == "-" else 1) if len(digits) <= _MOST_DIGITS else None
+        if number is None or not least <= number <= greatest:
+            shown = f"{self.text[:_MOST_DIGITS]}.." if number is None else number
+            raise self.fault(f"{what} is from {least} to {greatest}, not {shown}")
         return number
 
 
@@ -68,15 +71,14 @@ class _Named:
 
     def plain(self, text: str) -> int | None:
         """The number in a text such as `r3`."""
-        is_plain = text[:1] == self.letter and text[1:].isdigit() and int(text[1:]) < self.count
-        return int(text[1:]) if is_plain else None
+        return next((number for number in range(self.count) if text == f"{self.letter}{number}"), None)
 
     def number(self, word: _Word, may_be_new: bool) -> int:
         """The number that a word stands for."""
         plain = self.plain(word.text)
         if plain is not None:
             return plain
-        if not word.is_name() or re.fullmatch(rf"{self.letter}\d+", word.text):
+        if not word.is_name() or re.fullmatch(rf"{self.letter}[0-9]+", word.text):
             raise word.fault(f"expected a {self.noun}, {self.letter}0 to {self.letter}{self.count - 1} or a name, "
                              f"found `{word.text}`")
         if word.text not in self.numbers:
@@ -173,7 +175,7 @@ class _Assembler:
             elif words:
                 self._read_line(self.procedures[current] if current >= 0 else None, words)
         if not self.procedures:
-            raise AssemblyFault("there is no procedure: write `proc main(x, y)` and its instructions")
+            raise AssemblyFault("there is no procedure: write `proc main(x, y)` and its instructions", 1, 1)
         for procedure in self.procedures:
             procedure.check()
 
@@ -186,10 +188,17 @@ class _Assembler:
         for number, name in enumerate(names):
             if procedure.registers.plain(name.text) not in (None, number):
                 raise name.fault(f"{name.text} is another register than that of this argument, r{number}")
+            if name.text in procedure.registers.numbers:
+                raise name.fault(f"{procedure.word.text} has two arguments {name.text}: rename one")
             if procedure.registers.plain(name.text) is None:
                 procedure.registers.numbers[name.text] = number
 
     def _read_line(self, procedure: _Procedure | None, words: list[_Word]) -> None:
+        while procedure is not None and len(words) > 1 and words[1].text == ":":
+            self._place(procedure, words[0])
+            words = words[2:]
+        if not words:
+            return
         first, rest = words[0], words[1:]
         if len(words) == 3 and words[1].text == "=" and first.is_name():
             self.constants[first.text] = words[2].number(LEAST_NUMBER, GREATEST_NUMBER, "a constant")
@@ -199,10 +208,6 @@ class _Assembler:
             self.fuel = self._numbers(first, rest, 1, 1, GREATEST_FUEL)[0]
         elif procedure is None:
             raise first.fault(f"`{first.text}` stands before the first procedure: write `proc main(x, y)` above it")
-        elif rest and rest[0].text == ":":
-            self._place(procedure, first)
-            if rest[1:]:
-                self._read_line(procedure, rest[1:])
         elif first.text == "free":
             self._free(procedure, first, rest)
         else:

@@ -6,16 +6,17 @@
 
 `execute` and `collect` hold the connection until the job has an outcome: nothing else is answered on it before. All
 other requests are answered at once. Each call raises `Refused` (by the name of the error reply), `ConnectionLost`,
-`TimedOut` or `StrangeReply`. """
+`TimedOut`, `StrangeReply` or `InUse`. """
 import os
-import socket
-import time
-from collections.abc import Mapping
+import threading
+from collections.abc import Iterator, Mapping, Sequence
+from contextlib import contextmanager
 from typing import TYPE_CHECKING, Generic, Self, TypeVar, cast
 
 from arena import requests
+from arena.connection import Connection, Deadline, DeadlineOver
 from arena.made import JobsMade
-from arena.replies import ArenaError, Cells, ConnectionLost, Limits, Outcome, Status, TimedOut
+from arena.replies import ArenaError, Cells, InUse, Limits, Outcome, Refused, Status, StrangeReply, TimedOut
 from arena.requests import JobLike, Request
 
 if TYPE_CHECKING:
@@ -31,28 +32,33 @@ OUTSTANDING = 256
 class Client:
     """A connection to the server at a path, which is bound to a tenant unless that is left out.
 
-    `timeout`, in seconds, is how long each reply may take; without it a call waits for as long as the server does. A
-    call may be given a timeout of its own. After `TimedOut` the connection goes on: the late reply is read and thrown
-    away before that of the next request, which so waits for it too. """
+    `timeout`, in seconds, is how long a call may take, from its request's first byte to its reply; without it a call
+    waits for as long as the server does. A call may be given a timeout of its own.
+
+    After `TimedOut`, or an exception that interrupts a call, such as KeyboardInterrupt, a reply may still be owed:
+    `late` says how many. The server answers in order, so the next call waits for these first, and does so for as long
+    as a job that was to be collected runs; `reconnect` gives a connection without them. """
 
     def __init__(self, path: str | os.PathLike, tenant: str | None = None, *, timeout: float | None = None) -> None:
         self.path, self.tenant, self.timeout = os.fspath(path), None, timeout
-        self._jobs = JobsMade()
-        self._connect(tenant)
+        self.late_jobs: list[int] = []
+        """The numbers of the jobs that were made by a `submit` or `execute` that timed out or was interrupted: they are
+        known once a later call has read the late reply."""
+        self._late, self._jobs, self._lock = 0, JobsMade(), threading.Lock()
+        with self._turn():
+            self._connect(tenant)
 
     def _connect(self, tenant: str | None) -> None:
-        self._bytes = bytearray()
-        self._owed = 0
-        self._socket = socket.socket(socket.AF_UNIX)
-        try:
-            self._socket.connect(self.path)
-        except OSError as fault:
-            self._socket.close()
-            raise ConnectionLost.at(self.path, fault) from None
+        deadline = Deadline(self.timeout)
+        self._connection = Connection(self.path, deadline)
         if tenant is not None:
             try:
-                self.hello(tenant)
-            except ArenaError:
+                self.tenant = self._ask(requests.hello(tenant), deadline)
+            except TimedOut:
+                self.close()
+                raise TimedOut(f"{self.path}: no reply to hello within {deadline.limit} s; the server may have as many "
+                               "connections as it serves at a time") from None
+            except BaseException:
                 self.close()
                 raise
 
@@ -64,16 +70,27 @@ class Client:
 
     def close(self) -> None:
         """Ends the connection. Jobs go on; another connection of the tenant can collect them."""
-        self._socket.close()
+        self._connection.close()
 
     def reconnect(self) -> None:
         """Ends the connection and makes another, bound to the same tenant. Raises ConnectionLost, UnknownTenant.
 
         A job that was made before may be unknown there, since arena-host begins anew with each generation: then
         `LostJob` is raised. If another job has its number by now, that one is meant. """
-        self.close()
-        self._jobs.connection += 1
-        self._connect(self.tenant)
+        with self._turn():
+            self.close()
+            self._jobs.connection += 1
+            self._connect(self.tenant)
+
+    @property
+    def is_open(self) -> bool:
+        """Whether the connection has not ended, as far as a call has found out; without it, call `reconnect`."""
+        return self._connection.is_open
+
+    @property
+    def late(self) -> int:
+        """How many replies are owed to calls that timed out or were interrupted. The next call waits for them first."""
+        return len(self._connection.owed) if self._connection.is_open else 0
 
     # Requests.
 
@@ -133,51 +150,80 @@ class Client:
 
     def ask(self, request: Request[Value], timeout: float | None = None) -> Value:
         """Sends one request and reads its reply."""
-        self.send(request.line, request.what)
-        return self._jobs.value(request, self.read_line(request.what, timeout), self._jobs.connection)
+        with self._turn():
+            return self._ask(request, self._deadline(timeout))
 
-    def send(self, lines: bytes, what: str = "the request") -> None:
-        """Sends whole lines, each of which is owed a reply by `read_line`."""
+    def exchange(self, line: bytes, timeout: float | None = None) -> bytes:
+        """Sends a line as it is, and returns its reply; neither has a newline. Raises as `ask` does, but for an error
+        reply, which is returned."""
+        with self._turn():
+            deadline = self._deadline(timeout)
+            request = Request("the request", line.replace(b"\n", b" ") + b"\n", lambda reply: reply)
+            self._send((request,), request.what, deadline)
+            return self._reply(request.what, deadline)
+
+    @contextmanager
+    def _turn(self) -> Iterator[None]:
+        """The time of one call. Replies are told apart by their order alone, so no other call may come in between."""
+        if not self._lock.acquire(blocking=False):
+            raise InUse("another call on this client is under way, on another thread or in what a signal interrupted: "
+                        "give each thread a client of its own")
         try:
-            self._socket.settimeout(None)
-            self._socket.sendall(lines)
-        except OSError as fault:
-            raise ConnectionLost(f"{what}: not sent, {fault.strerror or fault}; connect anew") from None
+            yield
+        finally:
+            self._lock.release()
 
-    def read_line(self, what: str = "the request", timeout: float | None = None) -> bytes:
-        """The next reply, without its newline, after those that came too late are thrown away."""
-        limit = self.timeout if timeout is None else timeout
-        deadline = None if limit is None else time.monotonic() + limit
+    def _deadline(self, timeout: float | None = None) -> Deadline:
+        return Deadline(self.timeout if timeout is None else timeout)
+
+    def _ask(self, request: Request[Value], deadline: Deadline) -> Value:
+        self._send((request,), request.what, deadline)
+        return self._value(request, self._reply(request.what, deadline))
+
+    def _send(self, asked: Sequence[Request], what: str, deadline: Deadline) -> None:
+        """Sends requests. All replies that are owed before are late."""
+        self._late = len(self._connection.owed)
+        self._connection.send(asked, what, deadline)
+
+    def _reply(self, what: str, deadline: Deadline) -> bytes:
+        """The next reply, after those that are late."""
         try:
-            while self._owed:
-                self._next_line(what, deadline)
-                self._owed -= 1
-            return self._next_line(what, deadline)
-        except TimeoutError:
-            self._owed += 1
-            raise TimedOut(f"{what}: no reply within {limit} s; what was asked stands, so poll or collect it "
-                           "later") from None
+            while self._late:
+                late, line = self._connection.next_reply(what, deadline)
+                self._late -= 1
+                self._note_late(late, line)
+            return self._connection.next_reply(what, deadline)[1]
+        except DeadlineOver:
+            raise TimedOut(self._overdue(what, deadline)) from None
 
-    def _next_line(self, what: str, deadline: float | None) -> bytes:
-        while (end := self._bytes.find(b"\n")) < 0:
-            left = None if deadline is None else deadline - time.monotonic()
-            if left is not None and left <= 0:
-                raise TimeoutError
-            try:
-                self._socket.settimeout(left)
-                more = self._socket.recv(65536)
-            except TimeoutError:
-                raise
-            except OSError as fault:
-                raise ConnectionLost(f"{what}: no reply, {fault.strerror or fault}; connect anew") from None
-            if not more:
-                raise ConnectionLost(f"{what}: the server ended the connection before its reply; connect anew, and "
-                                     f"look "
-                                     "for the job there")
-            self._bytes += more
-        line = bytes(self._bytes[:end])
-        del self._bytes[: end + 1]
-        return line
+    def _overdue(self, what: str, deadline: Deadline) -> str:
+        """What to say when no reply has come in time."""
+        first, last = self._connection.owed[0], self._connection.owed[-1]
+        behind = f", behind the late reply to `{first.what}`" if self._late else ""
+        stands = "it stands"
+        if last.made is not None:
+            stands = "if it made a job, the client's `late_jobs` has its number once that reply has come"
+        elif last.job is not None:
+            stands = "the job is as it was"
+        return (f"{what}: no reply within {deadline.limit} s{behind}; {stands}. This connection answers nothing else "
+                "before that reply: wait for it, or reconnect")
+
+    def _note_late(self, request: Request, line: bytes) -> None:
+        """Keeps the number of a job that a late reply tells."""
+        try:
+            value = self._value(request, line)
+        except Refused:
+            return
+        if request.made is not None:
+            self.late_jobs.append(request.made(value))
+
+    def _value(self, request: Request[Value], line: bytes) -> Value:
+        """What a reply says. If it is no reply to its request, the connection ends."""
+        try:
+            return self._jobs.value(request, line, self._jobs.connection)
+        except StrangeReply:
+            self._connection.close()
+            raise
 
 
 class Pending(Generic[Value]):
@@ -189,18 +235,21 @@ class Pending(Generic[Value]):
                                                     "after its `with` block")
         self._value: Value | None = None
 
-    def _take(self, line: bytes, jobs: JobsMade) -> None:
-        """Takes the line of the reply."""
-        self._fault = None
+    def _take(self, client: Client, line: bytes) -> None:
+        """Takes the line of the reply. Raises StrangeReply."""
         try:
-            self._value = jobs.value(self._request, line, jobs.connection)
-        except ArenaError as fault:
+            self._value, self._fault = client._value(self._request, line), None
+        except Refused as fault:
             self._fault = fault
+
+    def _give_up(self, why: str) -> None:
+        """Notes why no reply will come."""
+        self._fault = ArenaError(f"{self._request.what}: {why}")
 
     def result(self) -> Value:
         """What the reply says. Raises as the request's own call does."""
         if self._fault is not None:
-            raise self._fault
+            raise self._fault.with_traceback(None)
         return cast(Value, self._value)
 
 
@@ -222,20 +271,29 @@ class Pipeline:
 
     def _run(self) -> None:
         todo, self._all = self._all, []
-        sent = 0
-        for at, pending in enumerate(todo):
-            if sent <= at:
-                batch = todo[at : at + OUTSTANDING]
-                self._client.send(b"".join(it._request.line for it in batch), "the pipeline")
-                sent = at + len(batch)
-            try:
-                pending._take(self._client.read_line(pending._request.what), self._client._jobs)
-            except TimedOut:
-                self._client._owed += sent - at - 1
-                raise
+        with self._client._turn():
+            for start in range(0, len(todo), OUTSTANDING):
+                self._exchange(todo[start:start + OUTSTANDING], todo[start + OUTSTANDING:])
         if self._raises:
             for pending in todo:
                 pending.result()
+
+    def _exchange(self, batch: Sequence[Pending], unsent: Sequence[Pending]) -> None:
+        """Sends some requests and reads their replies. If that ends early, the others know why they have none."""
+        client, answered = self._client, 0
+        why = "not sent, or in part alone: the pipeline ended before"
+        try:
+            client._send([it._request for it in batch], "the pipeline", client._deadline())
+            why = "sent, but the pipeline ended before its reply"
+            for pending in batch:
+                pending._take(client, client._reply(pending._request.what, client._deadline()))
+                answered += 1
+        except BaseException:
+            for pending in batch[answered:]:
+                pending._give_up(why)
+            for pending in unsent:
+                pending._give_up("not sent: the pipeline ended before")
+            raise
 
     def _put(self, request: Request[Value]) -> Pending[Value]:
         self._all.append(Pending(request))

@@ -52,8 +52,23 @@ def read_value(text: str) -> object:
         raise ValueError(TOO_DEEP) from None
     if _nesting(value) > GREATEST_NESTING:
         raise ValueError(TOO_DEEP)
-    json.dumps(value, ensure_ascii=False).encode()  # raises a ValueError for half a surrogate, which is no text
+    if half := next(_half_surrogates(value, ""), None):
+        raise ValueError(str(half))
     return value
+
+
+def _half_surrogates(value: object, path: str) -> Iterator[Place]:
+    """The texts in which half of a surrogate pair stands, which no UTF-8 has."""
+    match value:
+        case str() if any(0xD800 <= ord(it) < 0xE000 for it in value):
+            yield Place(path, f"{shown(value)} has half of a surrogate pair, which is no text")
+        case list():
+            for index, part in enumerate(value):
+                yield from _half_surrogates(part, f"{path}[{index}]")
+        case dict():
+            for name, part in value.items():
+                yield from _half_surrogates(name, path)
+                yield from _half_surrogates(part, f"{path}.{name}" if path else name)
 
 
 def _integer(digits: str) -> int | float:
@@ -99,7 +114,7 @@ def first_fault_of_tenant(value: object) -> Place | None:
 
 def shown(value: object) -> str:
     """A value as messages show it: compact JSON, at most 60 characters."""
-    text = json.dumps(value, separators=(",", ":"))
+    text = re.sub(r"-0\.0(?![0-9])", "-0", json.dumps(value, separators=(",", ":")))
     return text if len(text) <= 60 else f"{text[:57]}..."
 
 

@@ -4,8 +4,11 @@ A status is `Complete`, `Fault`, `Canceled` or `Running`; an outcome is any of t
 as the exception of its name, all of which are `Refused`.
 """
 import enum
+from collections.abc import Mapping
 from dataclasses import dataclass, field
 from typing import ClassVar, Self
+
+from arena.jobs import GREATEST_NUMBER, LEAST_NUMBER
 
 
 class FaultCode(enum.IntEnum):
@@ -116,11 +119,17 @@ class ConnectionLost(ArenaError):
 
 
 class TimedOut(ArenaError, TimeoutError):
-    """No reply came in time. The request stands: a job goes on and can be collected later."""
+    """No reply came in time. A request that was sent stands, and its reply comes before those of later requests."""
 
 
 class StrangeReply(ArenaError):
-    """A line that is no reply of arena-server: something else listens at the path."""
+    """A line that is no reply to what was asked: something else than arena-server listens at the path. The connection
+    ends, since no later reply of it can be trusted."""
+
+
+class InUse(ArenaError):
+    """A call on a client whose other call is under way: on another thread, or interrupted by this one in a signal
+    handler. It did nothing."""
 
 
 class Refused(ArenaError):
@@ -157,10 +166,16 @@ class BadRequest(Refused):
 
 
 class BadProgram(Refused):
-    """Error 4."""
+    """Error 4. `place` says where the job has its first fault, and which, in the words of `arena.lint`."""
 
     code, name = 4, "bad_program"
     advice = "the job is not valid; `arena lint FILE` names the place"
+
+    def __init__(self, request: str = "the request", place: str = "") -> None:
+        super().__init__(request)
+        self.place = place
+        if place:
+            self.args = (f"{request}: error {self.code}, {self.name}: the job is not valid: {place}",)
 
 
 class UnknownTenant(Refused):
@@ -195,8 +210,8 @@ class HistoryFull(Refused):
     """Error 8."""
 
     code, name = 8, "history_full"
-    advice = ("the tenant's history has all its `steps` entries; start the server anew, with more `steps` if there are "
-              "fewer than 1,048,576")
+    advice = ("the tenant's history has all its `steps` entries; on arena-host connect anew, to the generation that serves "
+              "now; start arena-server anew, with more `steps` if there are fewer than 1,048,576")
 
 
 class NoMemory(Refused):
@@ -230,11 +245,65 @@ class Busy(Refused):
 REFUSALS: dict[int, type[Refused]] = {kind.code: kind for kind in Refused.__subclasses__()}
 
 
-def status_of(reply: dict) -> Status:
-    """The status that a reply says. Raises KeyError or ValueError if it says none."""
-    job, status = reply["job"], reply["status"]
-    if status == "complete":
-        return Complete(reply["value"], job)
-    if status == "fault":
-        return Fault(FaultCode(reply["fault"]), job)
-    return {"canceled": Canceled, "running": Running}[status](job)
+PRIORITIES = ("low", "normal", "high")
+GREATEST_COUNT = 2**64 - 1
+"""The greatest number of a job or an epoch."""
+
+
+def whole(number: object, least: int = LEAST_NUMBER, greatest: int = GREATEST_NUMBER) -> int:
+    """A whole number of a reply. Raises ValueError if it is none, or not within the bounds."""
+    if type(number) is not int or not least <= number <= greatest:
+        raise ValueError(f"{number!r:.40} is no whole number from {least} to {greatest}")
+    return number
+
+
+def members(reply: Mapping[str, object], *names: str) -> list:
+    """The values of the members of a reply, which has just these. Raises ValueError if it has others."""
+    if not isinstance(reply, dict) or reply.keys() != set(names):
+        raise ValueError(f"a reply with the members {', '.join(names)} is expected")
+    return [reply[name] for name in names]
+
+
+def number_of(job: object, asked: int | None = None) -> int:
+    """The number of a job in a reply. Raises ValueError if it is none, or not the one that was asked about."""
+    number = whole(job, 1, GREATEST_COUNT)
+    if asked not in (None, number):
+        raise ValueError(f"job {asked} was asked about, and the reply is about job {number}")
+    return number
+
+
+def status_of(reply: dict, asked: int | None = None) -> Status:
+    """The status that a reply says, of the job that was asked about. Raises KeyError or ValueError if it says none."""
+    match reply.get("status"):
+        case "complete":
+            job, _, value = members(reply, "job", "status", "value")
+            return Complete(whole(value), number_of(job, asked))
+        case "fault":
+            code, job, _ = members(reply, "fault", "job", "status")
+            return Fault(FaultCode(whole(code)), number_of(job, asked))
+        case "canceled" | "running" as status:
+            job, _ = members(reply, "job", "status")
+            return {"canceled": Canceled, "running": Running}[status](number_of(job, asked))
+    raise ValueError("a status is expected")
+
+
+def outcome_of(reply: dict, asked: int | None = None) -> Outcome:
+    """The outcome that a reply says, as `status_of`; a job that is running has none."""
+    status = status_of(reply, asked)
+    if isinstance(status, Running):
+        raise ValueError("an outcome is expected")
+    return status
+
+
+def cells_of(reply: dict, asked: int) -> Cells:
+    """The cells of a key that a reply says. Raises ValueError if it says none of that key."""
+    count, key, total = members(reply, "count", "key", "sum")
+    return Cells(whole(key, asked, asked), whole(count, 0), whole(total))
+
+
+def limits_of(reply: dict) -> Limits:
+    """A tenant's limits. Raises ValueError."""
+    priority, reserved, slots = members(reply, "priority", "reserved", "slots")
+    if priority not in PRIORITIES:
+        raise ValueError(f"a priority is one of {', '.join(PRIORITIES)}")
+    return Limits(whole(slots, 1), whole(reserved, 0, slots), priority)

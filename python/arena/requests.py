@@ -4,7 +4,8 @@ from collections.abc import Callable, Mapping
 from dataclasses import dataclass, replace
 from typing import Any, Generic, Protocol, TypeVar
 
-from arena.replies import REFUSALS, Cells, Limits, Outcome, Status, StrangeReply, status_of
+from arena.replies import (GREATEST_COUNT, REFUSALS, BadProgram, Cells, Limits, Outcome, Refused, Status, StrangeReply,
+                           cells_of, limits_of, members, number_of, outcome_of, status_of, whole)
 
 Value = TypeVar("Value")
 
@@ -41,7 +42,7 @@ def line_of(value: object) -> bytes:
 class Request(Generic[Value]):
     """A line to send. `what` names the request in errors; `read` makes a value of a reply that is no error. `job` is
     the number that it asks about; `made` gives the number of the job that it made by the value; `retires` is whether
-    it makes the server forget all jobs."""
+    it makes the server forget all jobs; `program` is the JOB in it."""
 
     what: str
     line: bytes
@@ -49,64 +50,101 @@ class Request(Generic[Value]):
     job: int | None = None
     made: Callable[[Value], int] | None = None
     retires: bool = False
+    program: Mapping[str, Any] | None = None
 
     def value(self, line: bytes) -> Value:
-        """What the line of a reply says. Raises the `Refused` of an error reply, and StrangeReply."""
+        """What the line of a reply says. Raises the `Refused` of an error reply, and StrangeReply for whatever is no
+        reply to this request."""
         try:
             reply = json.loads(line)
             if "error" in reply:
-                raise REFUSALS[reply["code"]](self.what)
+                raise self._refusal(*members(reply, "code", "error"))
             return self.read(reply)
-        except (ValueError, KeyError, TypeError):
-            raise StrangeReply(f"{self.what}: {line[:100]!r} is no reply of arena-server") from None
+        except (ValueError, KeyError, TypeError, AttributeError, RecursionError):
+            raise StrangeReply(f"{self.what}: {line[:100]!r} is no reply of arena-server to this; connect "
+                               "anew") from None
+
+    def _refusal(self, code: object, name: object) -> Refused:
+        """The exception of an error reply. Raises ValueError and KeyError if there is no such error."""
+        kind = REFUSALS[whole(code)]
+        if kind.name != name:
+            raise ValueError(f"error {code} is called {kind.name}")
+        return BadProgram(self.what, place_in(self.program)) if kind is BadProgram else kind(self.what)
 
 
-def _asked(op: str, read: Callable[[dict], Value], **members: object) -> Request[Value]:
-    job = members.get("job")
+def place_in(program: Mapping[str, Any] | None) -> str:
+    """Where a JOB has its first fault, and which, as `arena lint` says it; empty if it has none that is known here."""
+    from arena.lint import first_fault_of_job, read_value
+    try:
+        return str(first_fault_of_job(read_value(json.dumps(program))) or "") if program is not None else ""
+    except ValueError as fault:
+        return str(fault)
+
+
+def _asked(op: str, read: Callable[[dict], Value], **more: object) -> Request[Value]:
+    job = more.get("job")
     number = job if isinstance(job, int) else None
-    return Request(op if number is None else f"{op} {number}", line_of({"op": op, **members}), read, number)
+    return Request(op if number is None else f"{op} {number}", line_of({"op": op, **more}), read, number)
+
+
+def _same_tenant(reply: dict, tenant: str) -> str:
+    (named,) = members(reply, "tenant")
+    if named != tenant:
+        raise ValueError("the connection is bound to another tenant")
+    return named
+
+
+def _first(reply: dict, number: int) -> bool:
+    first, job = members(reply, "first", "job")
+    if type(first) is not bool:
+        raise ValueError("`first` is true or false")
+    number_of(job, number)
+    return first
 
 
 def hello(tenant: str) -> Request[str]:
     """Binds the connection to a tenant."""
-    return _asked("hello", lambda reply: reply["tenant"], tenant=tenant)
+    return _asked("hello", lambda reply: _same_tenant(reply, tenant), tenant=tenant)
 
 
 def submit(job: JobLike) -> Request[int]:
     """Makes a job that waits for a worker; its number."""
-    return replace(_asked("submit", lambda reply: reply["job"], job=value_of(job)), made=lambda number: number)
+    program = value_of(job)
+    return replace(_asked("submit", lambda reply: number_of(*members(reply, "job")), job=program),
+                   made=lambda number: number, program=program)
 
 
 def execute(job: JobLike) -> Request[Outcome]:
     """Runs a job, on a reserved slot if one is free; its outcome."""
-    return replace(_asked("execute", status_of, job=value_of(job)), made=lambda outcome: outcome.job)
+    program = value_of(job)
+    return replace(_asked("execute", outcome_of, job=program), made=lambda outcome: outcome.job, program=program)
 
 
 def poll(number: int) -> Request[Status]:
     """A job's status now."""
-    return _asked("poll", status_of, job=number)
+    return _asked("poll", lambda reply: status_of(reply, number), job=number)
 
 
 def collect(number: int) -> Request[Outcome]:
     """A job's outcome, once it has one."""
-    return _asked("collect", status_of, job=number)
+    return _asked("collect", lambda reply: outcome_of(reply, number), job=number)
 
 
 def cancel(number: int) -> Request[bool]:
     """Cancels a job; whether this request did it."""
-    return _asked("cancel", lambda reply: reply["first"], job=number)
+    return _asked("cancel", lambda reply: _first(reply, number), job=number)
 
 
 def cells(key: int) -> Request[Cells]:
     """The cells of a key."""
-    return _asked("cells", lambda reply: Cells(reply["key"], reply["count"], reply["sum"]), key=key)
+    return _asked("cells", lambda reply: cells_of(reply, key), key=key)
 
 
 def limits() -> Request[Limits]:
     """The tenant's slots and priority."""
-    return _asked("arena", lambda reply: Limits(reply["slots"], reply["reserved"], reply["priority"]))
+    return _asked("arena", limits_of)
 
 
 def retire() -> Request[int]:
     """Forgets all jobs and cells; the epoch that begins."""
-    return replace(_asked("retire", lambda reply: reply["epoch"]), retires=True)
+    return replace(_asked("retire", lambda reply: whole(*members(reply, "epoch"), 1, GREATEST_COUNT)), retires=True)

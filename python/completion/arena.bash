@@ -40,7 +40,7 @@ _arena() {
     esac
     case $command in
         '') choices='run submit wait poll cancel cells info retire build asm dis lint advise shell bench check stat timeline status top metrics stop rotate check-dumps pages' options='-s --socket -t --tenant --timeout --json --color' ;;
-        run) options='--args --fuel -D --define -s --socket -t --tenant --timeout --json --color' files=(.job .jasm .json) ;;
+        run) options='--args --fuel -D --define --execute -s --socket -t --tenant --timeout --json --color' files=(.job .jasm .json) ;;
         submit) options='--args --fuel -D --define -s --socket -t --tenant --timeout --json --color' files=(.job .jasm .json) ;;
         wait) options='-s --socket -t --tenant --timeout --json --color' ;;
         poll) options='-s --socket -t --tenant --timeout --json --color' ;;

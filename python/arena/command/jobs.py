@@ -1,13 +1,19 @@
 """The commands that ask the server: run, submit, wait, poll, cancel, cells, info, retire."""
+from collections.abc import Sequence
+
+from arena.client import Client
 from arena.command.call import Call
 from arena.command.output import GREEN, RED, YELLOW
-from arena.command.sources import job_of
-from arena.command.words import JOB_WORDS, Command, Status, positional
+from arena.command.sources import job_of, job_with_divisions
+from arena.command.words import JOB_WORDS, Command, Status, option, positional
 from arena.jobs import GREATEST_FUEL
-from arena.replies import Canceled, Complete, Fault, FaultCode, Running
+from arena.replies import ArenaError, Canceled, Complete, ConnectionLost, Fault, FaultCode, Outcome, Running, TimedOut
 from arena.replies import Status as JobStatus
+from arena.texts import listed
 
 NUMBER = positional("JOB", "the job's number", type=int)
+TO_CANCEL = 5.0
+"""How many seconds an interrupted `run` takes at most to cancel its job."""
 
 
 def about_fuel(given: int | None) -> str:
@@ -19,9 +25,16 @@ def about_fuel(given: int | None) -> str:
     return f": it had {given:,}, the most that a job can have; split the work into several jobs"
 
 
-def tell(call: Call, status: JobStatus, given: int | None = None) -> int:
-    """Prints a job's status: a value on standard output, anything else in words. `given` is its fuel, if that is known.
-    Returns the exit status."""
+def about_divisions(lines: Sequence[int]) -> str:
+    """Where a source may have divided by zero."""
+    if not lines:
+        return ""
+    return f"; its source divides in line{'' if len(lines) == 1 else 's'} {listed(map(str, lines))}"
+
+
+def tell(call: Call, status: JobStatus, given: int | None = None, divisions: Sequence[int] = ()) -> int:
+    """Prints a job's status: a value on standard output, anything else in words. `given` is its fuel, and `divisions` the
+    lines of its source that divide, if they are known. Returns the exit status."""
     output = call.output
     match status:
         case Complete(value, job):
@@ -29,6 +42,7 @@ def tell(call: Call, status: JobStatus, given: int | None = None) -> int:
             return Status.DONE
         case Fault(code, _, job):
             text = str(status) + (about_fuel(given) if code is FaultCode.FUEL else "")
+            text += about_divisions(divisions) if code is FaultCode.DIVISION else ""
             output.say(output.paint(text, RED), {"fault": code.value, "job": job, "status": "fault"})
             return Status.FAULT
         case Canceled(job):
@@ -40,9 +54,40 @@ def tell(call: Call, status: JobStatus, given: int | None = None) -> int:
 
 
 def run(call: Call) -> int:
-    """Executes a job."""
-    job = job_of(call.words)
-    return tell(call, call.client.execute(job), job["fuel"])
+    """Runs a job to its outcome: submits and collects it, so that it goes on without this command."""
+    job, divisions = job_with_divisions(call.words)
+    if call.words.execute or has_no_slot_for_workers(call):
+        return tell(call, call.client.execute(job), job["fuel"], divisions)
+    return tell(call, collected(call, call.client.submit(job)), job["fuel"], divisions)
+
+
+def has_no_slot_for_workers(call: Call) -> bool:
+    """Whether all slots of the tenant are reserved, so that a submitted job would wait for ever."""
+    limits = call.client.arena()
+    return limits.slots == limits.reserved
+
+
+def collected(call: Call, number: int) -> Outcome:
+    """The outcome of a job that was submitted. If it is not waited for to its end, its number is said."""
+    try:
+        return call.client.collect(number)
+    except TimedOut:
+        raise TimedOut(f"job {number}: no outcome within {call.words.timeout} s; it goes on: `arena wait {number}` waits "
+                       f"for it, `arena cancel {number}` cancels it") from None
+    except ConnectionLost as fault:
+        raise ConnectionLost(f"job {number}: {fault}") from None
+    except KeyboardInterrupt:
+        call.output.complain(f"arena: {canceled(call, number)}")
+        raise
+
+
+def canceled(call: Call, number: int) -> str:
+    """Cancels a job whose outcome is not waited for any more, by another connection; says what came of it."""
+    try:
+        with Client(call.socket, call.tenant, timeout=TO_CANCEL) as other:
+            return f"job {number} is cancelled" if other.cancel(number) else f"job {number} has ended"
+    except ArenaError as fault:
+        return f"job {number} goes on, as it could not be cancelled: {fault}"
 
 
 def submit(call: Call) -> int:
@@ -68,7 +113,7 @@ def cancel(call: Call) -> int:
     first = call.client.cancel(number)
     text = f"job {number}: canceled" if first else f"job {number}: it had ended, had a fault, or was cancelled before"
     call.output.say(text, {"first": first, "job": number})
-    return Status.DONE
+    return Status.DONE if first else Status.UNCHANGED
 
 
 def cells(call: Call) -> int:
@@ -97,8 +142,13 @@ def retire(call: Call) -> int:
 
 COMMANDS = (
     Command("run", "run a job and print its value",
-            "Runs a job to its outcome, and prints the value. The exit status says how it ended: 0 complete, 1 a "
-            "fault, 3 cancelled.", "arena run examples/jobs/fib.job --args 20", run, JOB_WORDS, in_shell=True),
+            "Submits a job, waits for its outcome, and prints the value. The exit status says how it ended: 0 complete, 1 "
+            "a fault, 3 cancelled. If --timeout is over before, the job goes on, and its number is said; Ctrl-C cancels "
+            "it. Where all slots are reserved the job is executed, as with --execute.",
+            "arena run examples/jobs/fib.job --args 20", run,
+            (*JOB_WORDS, option("--execute", help="execute the job, on a reserved slot if one is free, which starts it at "
+                                "once; its number is known only at its end, so Ctrl-C can't cancel it",
+                                action="store_true")), in_shell=True),
     Command("submit", "make a job that waits for a worker, and print its number",
             "Makes a job that waits for a worker, and prints its number at once. A tenant without slots for workers "
             "never runs it.", "arena submit examples/jobs/fib.job --args 20", submit, JOB_WORDS, in_shell=True),
@@ -111,8 +161,8 @@ COMMANDS = (
             "`wait`.",
             "arena poll 1", poll, (NUMBER,), in_shell=True),
     Command("cancel", "cancel a job",
-            "Cancels a job: its rows that wait are dropped, and those that run learn of it if they ask.",
-            "arena cancel 1",
+            "Cancels a job: its rows that wait are dropped, and those that run learn of it if they ask. The status is 1 if "
+            "that changed nothing, since the job had ended, had a fault, or was cancelled before.", "arena cancel 1",
             cancel, (NUMBER,), in_shell=True),
     Command("cells", "print how many cells a key has, and their sum",
             "Prints on how many slots a key has a cell, and the sum of these cells, which wraps to 64 bits.",
@@ -120,7 +170,7 @@ COMMANDS = (
                                                        metavar="KEY"),),
             in_shell=True),
     Command("info", "print the tenant's slots and priority",
-            "Prints how many slots the tenant has, how many of them are reserved for `run`, and its priority.",
+            "Prints how many slots the tenant has, how many of them are reserved for jobs that are executed, and its priority.",
             "arena info --tenant acme", info, in_shell=True),
     Command("retire", "forget all jobs and cells of the tenant",
             "Forgets all jobs and cells of the tenant, so that it may have 256 jobs again. The server refuses while "

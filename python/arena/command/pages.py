@@ -23,7 +23,8 @@ def manual(commands: Sequence[Command], about: str) -> str:
     lines = [".TH ARENA 1", ".SH NAME", "arena \\- run jobs on arena\\-server and see what happened to them",
              ".SH SYNOPSIS",
              ".B arena", "[OPTIONS] COMMAND [WORDS]", ".SH DESCRIPTION", _escaped(about), ".SH OPTIONS",
-             "They may stand before the command or after it.", *_words_of(COMMON), ".SH COMMANDS"]
+             "They may stand before the command or after it.", *_words_of(COMMON),
+             ".TP", ".B \\-\\-version", "print the version of this command, and end", ".SH COMMANDS"]
     for command in commands:
         words = " ".join(word.shown if not word.is_option else "" for word in command.words).split()
         lines += [f".SS arena {_escaped(' '.join([command.name, *words]))}", _escaped(command.text),

@@ -90,16 +90,25 @@ def lines(prompt: str) -> Iterator[str]:
 
 def send_as_is(call: Call, line: str) -> int:
     """Sends a line that is typed as JSON, and prints the reply."""
-    call.client.send(line.encode() + b"\n")
-    print(call.client.read_line().decode())
+    print(call.client.exchange(line.encode()).decode(errors="replace"))
     return Status.DONE
+
+
+def renewed(call: Call) -> Call:
+    """The call with a connection on which no reply is late: otherwise the next command would wait for that, such as for
+    the end of a job whose `wait` was interrupted. Raises ConnectionLost, TimedOut."""
+    if not call.client.is_open or call.client.late:
+        call.client.reconnect()
+        call.output.complain("arena: the connection was made anew; if arena-host has rotated meanwhile, jobs of before are "
+                             "not known on it")
+    return call
 
 
 def one(call: Call, parser: Parser, line: str) -> int:
     """Does what one line says. Its faults are printed, and do not end the shell."""
     from arena.command import guarded
     if line.startswith("{"):
-        return guarded(call, lambda it: send_as_is(it, line))
+        return guarded(call, lambda it: send_as_is(renewed(it), line))
     try:
         typed = shlex.split(line)
         words = parser.parse_args(typed[1:] if typed[0] == "arena" else typed)
@@ -111,7 +120,7 @@ def one(call: Call, parser: Parser, line: str) -> int:
     for name in ("json", "color", "timeout", "socket", "tenant"):
         if getattr(words, name) is None:
             setattr(words, name, getattr(call.words, name))
-    return guarded(call.again(words), words.run)
+    return guarded(call.again(words), lambda it: words.run(renewed(it)))
 
 
 def shell(call: Call) -> int:

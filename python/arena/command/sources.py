@@ -27,12 +27,13 @@ def read_text(path: str) -> str:
 def compiled(path: str, words: argparse.Namespace) -> "Compiled":
     """What the compiler makes of a .job file. Raises SourceWrong."""
     from arena.language import SourceFault, compile_source
-    x, y = _args(words) or (0, 0)
     try:
-        return compile_source(read_text(path), parameters=dict(words.define or ()), args=(x, y),
+        return compile_source(read_text(path), parameters=dict(words.define or ()), args=tuple(words.args or ()),
                               fuel=1_000_000 if words.fuel is None else words.fuel, file=path)
-    except (SourceFault, ValueError) as fault:
+    except SourceFault as fault:
         raise SourceWrong(str(fault)) from None
+    except ValueError as fault:
+        raise SourceWrong(f"{path}: {fault}") from None
 
 
 def assembled(path: str, words: argparse.Namespace) -> Mapping[str, Any]:
@@ -56,6 +57,14 @@ def read_json(path: str) -> Any:
         raise SourceWrong(f"{path}: {fault}") from None
     except RecursionError:
         raise SourceWrong(f"{path}: nested too deep for the JSON that a server reads") from None
+
+
+def job_with_divisions(words: argparse.Namespace) -> tuple[Mapping[str, Any], list[int]]:
+    """As `job_of`, with the lines of a .job file that divide."""
+    if not words.FILE.endswith(".job"):
+        return job_of(words), []
+    it = compiled(words.FILE, words)
+    return it.job.to_value(), it.divisions()
 
 
 def job_of(words: argparse.Namespace) -> Mapping[str, Any]:

@@ -5,6 +5,8 @@ from collections.abc import Callable, Sequence
 from dataclasses import dataclass, field
 from typing import TYPE_CHECKING, Any, NamedTuple, NoReturn
 
+import arena
+
 if TYPE_CHECKING:
     from arena.command.call import Call
 
@@ -15,6 +17,7 @@ class Status(enum.IntEnum):
     DONE = 0
     FAULT = 1
     ADVICE = 1
+    UNCHANGED = 1
     WORDS = 2
     CANCELED = 3
     RUNNING = 4
@@ -31,7 +34,7 @@ class Status(enum.IntEnum):
 
 STATUS_TEXTS = {
     Status.DONE: "done; the job is complete",
-    Status.FAULT: "the job ended with a fault; `advise` has something to say",
+    Status.FAULT: "the job ended with a fault; `cancel` changed nothing; `advise` has something to say",
     Status.WORDS: "the words are wrong, or no tenant or folder is named",
     Status.CANCELED: "the job was cancelled",
     Status.RUNNING: "the job is still running",
@@ -120,12 +123,17 @@ def assignment(text: str) -> Assignment:
     return Assignment(name, int(value, 0))
 
 
+def integer(text: str) -> int:
+    """A whole number as in a source: 1_000, 0x1f, -5."""
+    return int(text, 0) if text.lower().lstrip("+-").startswith("0x") else int(text)
+
+
 COMMON = (
     option("-s", "--socket", help="the server's socket; else ARENA_SOCKET, else /tmp/arena.sock", metavar="PATH",
            completes=Completes.FILE),
     option("-t", "--tenant", help="the tenant's name; else ARENA_TENANT", metavar="NAME"),
-    option("--timeout", help="how long to wait for each reply; without it, for as long as the server does", type=float,
-           metavar="SECONDS"),
+    option("--timeout", help="how long to wait for each reply; without it, for as long as the server does",
+           type=lambda text: seconds(text), metavar="SECONDS"),
     option("--json", help="print JSON, one value a line, for scripts", action="store_true"),
     option("--color", help="colours: on a terminal, always or never", choices=("auto", "always", "never")),
 )
@@ -134,7 +142,8 @@ JOB_WORDS = (
     positional("FILE", "a job: .job is compiled, .jasm assembled, and any other file is a JOB in JSON; - is standard "
                "input",
                Completes.JOB_FILE),
-    option("--args", help="the job's arguments, 0 if they are left out", nargs="+", type=int, metavar=("X", "Y")),
+    option("--args", help="the job's arguments, 0 if they are left out; for a .job file one for each parameter of its "
+           "main", nargs="+", type=integer, metavar=("X", "Y")),
     option("--fuel", help="its fuel: how many instructions it may execute; 1,000,000, the most, unless this or "
            "its file says less", type=int, metavar="N"),
     option("-D", "--define", help="gives a parameter of a .job file its value", action="append", type=assignment,
@@ -170,6 +179,7 @@ def parser_of(commands: Sequence[Command], prog: str = "arena", about: str = "")
                     + statuses())
     for word in COMMON:
         _add(parser, word, {"default": None})
+    parser.add_argument("--version", action="version", version=f"{prog} {arena.__version__}", help="print the version")
     inner = parser.add_subparsers(dest="command", metavar="COMMAND", required=True)
     for command in commands:
         sub = inner.add_parser(command.name, help=command.summary, description=command.text, allow_abbrev=False,

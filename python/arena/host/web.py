@@ -1,7 +1,9 @@
 """The HTTP server of `arena metrics`: /metrics for Prometheus, /healthz for who watches, and a page."""
+import io
 import socket
 import socketserver
 import sys
+import threading
 import time
 from collections.abc import Callable
 from dataclasses import dataclass
@@ -15,8 +17,11 @@ from arena.host.folder import RunFolder
 from arena.host.report import sections_of
 from arena.host.status import Reading, StatusFault, read_status
 
-SECONDS_OF_A_REQUEST = 10
-"""How long a client may take to send a request, in seconds."""
+SECONDS_OF_A_REQUEST = 10.0
+"""How long a client may take to send its whole request, in seconds, and then to take the answer."""
+
+MOST_REQUESTS = 32
+"""How many connections are answered at a time, each on a thread. A further one is closed."""
 
 HTML, PLAIN = "text/html; charset=utf-8", "text/plain; charset=utf-8"
 
@@ -81,12 +86,36 @@ class Watcher:
         return Answer(HTTPStatus.OK, HTML, page.page(self.status().text))
 
 
+class Timely(io.RawIOBase):
+    """What a connection sends, until some seconds are over; then a read raises TimeoutError."""
+
+    def __init__(self, connection: socket.socket, seconds: float) -> None:
+        self._connection, self._end = connection, time.monotonic() + seconds
+
+    def readable(self) -> bool:
+        """It can be read."""
+        return True
+
+    def readinto(self, buffer: memoryview) -> int:
+        """Reads what has come."""
+        left = self._end - time.monotonic()
+        if left <= 0:
+            raise TimeoutError("the request was not sent in time")
+        self._connection.settimeout(left)
+        return self._connection.recv_into(buffer)
+
+
 class Handler(BaseHTTPRequestHandler):
     """Answers one connection, on a thread of its own."""
 
     server: "MetricsServer"
     server_version, sys_version = "arena-metrics", ""
-    timeout = SECONDS_OF_A_REQUEST
+
+    def setup(self) -> None:
+        """Limits the time of the whole request."""
+        super().setup()
+        self.rfile.close()
+        self.rfile = io.BufferedReader(Timely(self.connection, self.server.seconds))
 
     def do_GET(self) -> None:
         """Sends the answer."""
@@ -99,6 +128,7 @@ class Handler(BaseHTTPRequestHandler):
     def _send(self, with_text: bool) -> None:
         answer = self.server.watcher.answer(self.path)
         text = answer.text.encode()
+        self.connection.settimeout(self.server.seconds)
         self.send_response(answer.status)
         for name, value in (("Content-Type", answer.kind), ("Content-Length", str(len(text))),
                             ("Cache-Control", "no-store"), ("X-Content-Type-Options", "nosniff"),
@@ -113,10 +143,14 @@ class Handler(BaseHTTPRequestHandler):
 
 
 class MetricsServer(ThreadingHTTPServer):
-    """The server. Raises OSError if the address can't be listened on."""
+    """The server. Raises OSError if the address can't be listened on. `most` connections are answered at a time, and a
+    request takes `seconds` at most."""
 
-    def __init__(self, address: Address, watcher: Watcher) -> None:
-        self.watcher = watcher
+    daemon_threads = True
+
+    def __init__(self, address: Address, watcher: Watcher, most: int = MOST_REQUESTS,
+                 seconds: float = SECONDS_OF_A_REQUEST) -> None:
+        self.watcher, self.seconds, self._free = watcher, seconds, threading.BoundedSemaphore(most)
         self.address_family = socket.AF_INET6 if ":" in address.host else socket.AF_INET
         super().__init__((address.host, address.port), Handler)
 
@@ -124,6 +158,24 @@ class MetricsServer(ThreadingHTTPServer):
         """Binds, without the search for a name of the address, which may take seconds."""
         socketserver.TCPServer.server_bind(self)
         self.server_name, self.server_port = self.server_address[:2]
+
+    def process_request(self, request: Any, client_address: Any) -> None:
+        """Answers a connection on a thread, or closes it if there are too many."""
+        if not self._free.acquire(blocking=False):
+            self.shutdown_request(request)
+            return
+        try:
+            super().process_request(request, client_address)
+        except BaseException:
+            self._free.release()
+            raise
+
+    def process_request_thread(self, request: Any, client_address: Any) -> None:
+        """Answers a connection."""
+        try:
+            super().process_request_thread(request, client_address)
+        finally:
+            self._free.release()
 
     def handle_error(self, request: Any, client_address: Any) -> None:
         """Says what went wrong, but nothing of a client that went away."""

@@ -3,39 +3,48 @@ alive."""
 from collections.abc import Callable
 from dataclasses import dataclass, field
 
+from arena.jobs import INSTRUCTIONS_OF_A_PROCEDURE
 from arena.language.code import ARGUMENT, LABEL, LOOP, MOVE, Code, Registers, Step
 from arena.language.faults import NOWHERE, Place
 from arena.language.names import Names, Pending
-from arena.language.syntax import Expression, Function, Parameter
+from arena.language.syntax import Application, Expression, Function, Parameter
 from arena.language.unit import Unit, folded
+
+MOST_STEPS = 1_536
+"""The most steps that are made of a function, and the most inline functions that are inserted in it. What the later
+passes leave out is far less than the difference to what a procedure may have."""
 
 
 @dataclass(frozen=True)
 class Loop:
-    """A loop around a place: where `continue` and `break` go, and which tasks were pending when it began."""
+    """A loop around a place: where `continue` and `break` go, and which tasks were pending, and how many blocks open,
+    when it began."""
 
     more: str
     end: str
     pending: Pending
+    blocks: int
 
 
 @dataclass(frozen=True)
 class Sum:
-    """The parallel sum whose body is being made: the register of the sum, and where `give` goes."""
+    """The parallel sum whose body is being made: the register of the sum, where `give` goes, and which tasks were
+    pending, and how many blocks open, when it began."""
 
     total: int
     more: str
     pending: Pending
+    blocks: int
 
 
 @dataclass
 class Source:
-    """What the makers of all functions of a source share. `opened` are the inline functions around the place, and
+    """What the makers of all functions of a source share. `opened` are the uses of inline functions around the place, and
     `add_function` makes a function that is not in the source."""
 
     unit: Unit
     add_function: Callable[[Function], None]
-    opened: list[str] = field(default_factory=list)
+    opened: list[Application] = field(default_factory=list)
 
 
 @dataclass(frozen=True)
@@ -57,7 +66,8 @@ class Builder:
         self.loops: list[Loop] = []
         self.sum: Sum | None = None
         self.depth = 0
-        self._labels = 0
+        self.place = function.place
+        self._labels = self._expanded = 0
 
     def label(self) -> str:
         """A label that nothing uses yet."""
@@ -66,7 +76,26 @@ class Builder:
 
     def emit(self, name: str, place: Place, defines: tuple[int, ...] = (), uses: tuple[int, ...] = (), **more) -> None:
         """Adds a step; `more` are the other members of `Step`."""
-        self.code.append(Step(name, place, defines, uses, depth=self.depth, **more))
+        self.place, caller = place, self.caller()
+        if len(self.code) >= MOST_STEPS:
+            raise (caller or place).fault(f"{self.function.title} has more than {MOST_STEPS} steps, of which a procedure "
+                                          f"has at most {INSTRUCTIONS_OF_A_PROCEDURE}: let another fn do a part")
+        self.code.append(Step(name, place, defines, uses, depth=self.depth, caller=caller, **more))
+
+    def caller(self) -> Place | None:
+        """Where the outermost inline function is used that this place is in."""
+        return self.source.opened[0].place if self.source.opened else None
+
+    def expand(self, application: Application) -> None:
+        """Notes that an inline function is inserted. They may use each other, so what one line says may have no end in
+        practice."""
+        self.place = application.place
+        self._expanded += 1
+        if self._expanded > MOST_STEPS:
+            raise (self.caller() or application.place).fault(
+                f"more than {MOST_STEPS} inline functions would be inserted in {self.function.title}, since they use each "
+                "other: make some of them an fn")
+        self.source.opened.append(application)
 
     def put(self, label: str) -> None:
         """Places a label here."""

@@ -15,14 +15,23 @@ def children(node: Node) -> Iterator[Node]:
                 yield part
 
 
+def parts(node: Node) -> Iterator[Node]:
+    """A node with all that is in it, however deep."""
+    waiting = [node]
+    while waiting:
+        node = waiting.pop()
+        yield node
+        waiting.extend(children(node))
+
+
 def is_assigned(node: Node, name: str) -> bool:
     """Whether a part of the tree assigns to a name, be it of an inner block or not."""
-    return (isinstance(node, Assign) and node.name == name) or any(is_assigned(it, name) for it in children(node))
+    return any(isinstance(it, Assign) and it.name == name for it in parts(node))
 
 
 def spawns_without_group(node: Node) -> bool:
     """Whether a part of the tree has a spawn without a group."""
-    return (isinstance(node, Spawn) and node.group is None) or any(map(spawns_without_group, children(node)))
+    return any(isinstance(it, Spawn) and it.group is None for it in parts(node))
 
 
 def names_from_outside(block: Block, index: str) -> dict[str, Place]:

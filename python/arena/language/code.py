@@ -7,6 +7,10 @@ LABEL, MOVE, ARGUMENT, LOOP = "label", "move", "argument", "loop"
 """The steps that are no instructions: a place to jump to, a copy, a register that holds an argument at the start, and
 the place just before a loop."""
 
+GROUP_END, GROUP_LEFT = "group end", "group left"
+"""The marks of where the block of a group ends, and of where it is left by a jump. They are gone before anything else is
+made of the code."""
+
 NO_OPERATION = (LABEL, LOOP)
 PURE = frozenset({"set", "add", "sub", "mul", "lt", "slot", "width", MOVE})
 """The steps that do nothing but give their register a value: they may be dropped if nothing reads it."""
@@ -16,7 +20,8 @@ PURE = frozenset({"set", "add", "sub", "mul", "lt", "slot", "width", MOVE})
 class Step:
     """An instruction over unlimited registers, or one of the four steps above.
 
-    `place` is that of the source which it is made of. `target` is the label that is jumped to or placed; `number` is a
+    `place` is that of the source which it is made of; `caller` is where the inline function is used that this is in, if
+    it is in one. `target` is the label that is jumped to or placed, or the name of the group that ends; `number` is a
     number to set, or the number of an argument; `depth` is how many loops are around.
     """
 
@@ -30,6 +35,7 @@ class Step:
     procedure: str = ""
     key: int = 0
     depth: int = 0
+    caller: Place | None = None
 
 
 Code = list[Step]

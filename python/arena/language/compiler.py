@@ -1,29 +1,33 @@
 """From a source to a job, through all passes."""
-from collections.abc import Mapping
+from collections.abc import Mapping, Sequence
 from dataclasses import dataclass, field
 
 from arena.jobs import GREATEST_FUEL, INSTRUCTIONS_OF_A_PROCEDURE, REGISTERS, REQUEST_BYTES, Job
 from arena.language import output
 from arena.language.arithmetic import fits
 from arena.language.builder import Source
-from arena.language.code import ARGUMENT, NO_OPERATION, PURE, Code, Registers
+from arena.language.code import ARGUMENT, MOVE, NO_OPERATION, PURE, Code, Registers
 from arena.language.colouring import Coloured, coloured, greatest_pressure
 from arena.language.constants import with_constants
 from arena.language.copies import without_copies
-from arena.language.faults import NOWHERE, SourceFault
+from arena.language.faults import SourceFault
 from arena.language.flow import tidied
+from arena.language.groups import with_ended_groups, with_waits
+from arena.language.layouts import arguments_of
 from arena.language.liveness import without_unread
 from arena.language.output import FinishedProcedure, finished
-from arena.language.parser import parse
+from arena.language.parser import TOO_DEEP, parse
 from arena.language.statements import FunctionMaker
 from arena.language.syntax import Function
 from arena.language.unit import Unit
-from arena.language.waits import with_waits
 from arena.texts import counted, listed
 
 
 MAY_GO = frozenset({*NO_OPERATION, ARGUMENT, *PURE})
 """The steps that may be no instructions in the end."""
+
+MAY_BE_SHARED = frozenset({*NO_OPERATION, ARGUMENT, MOVE, "set"})
+"""Those of them that may be no instructions though they are read: copies, and numbers that are set elsewhere."""
 
 
 @dataclass(frozen=True)
@@ -39,6 +43,12 @@ class Compiled:
         """The job's instructions as `arena.assembler` reads them, with labels, the variables of the registers and the
         source lines."""
         return output.listing(self._procedures, self.serial)
+
+    def divisions(self) -> list[int]:
+        """The lines of the source that divide by something else than a constant from 1: where fault 1 may come from. The
+        ends of a `psum` that do not fit its index are divided by 0."""
+        return sorted({line.source_line for procedure in self._procedures for line in procedure.lines
+                       if line.instruction.name == "div" and not line.names[-1].strip("-0").isdigit()})
 
     def source_map(self) -> dict:
         """For JSON: `{"file":..,"procedures":[{"lines":[..],"name":..},..]}` with the source line of each
@@ -56,10 +66,11 @@ class _Made:
     result: Coloured
 
 
-def compile_source(text: str, *, parameters: Mapping[str, int] | None = None, args: tuple[int, int] = (0, 0),
+def compile_source(text: str, *, parameters: Mapping[str, int] | None = None, args: Sequence[int] = (0, 0),
                    fuel: int = GREATEST_FUEL, file: str = "<job>") -> Compiled:
-    """Compiles a source. `parameters` give values to its `param`s, `args` are the arguments of the root, and `fuel` is
-    the number of instructions that the job may execute. `file` is the name in messages.
+    """Compiles a source. `parameters` give values to its `param`s, `args` are the arguments of the root, one for each
+    parameter of its function, and `fuel` is the number of instructions that the job may execute. `file` is the name in
+    messages.
 
     Raises `SourceFault` if the source can't be compiled, and ValueError for arguments or fuel out of range. It blocks
     for as long as it computes: some milliseconds for each procedure.
@@ -69,19 +80,18 @@ def compile_source(text: str, *, parameters: Mapping[str, int] | None = None, ar
     if not 1 <= fuel <= GREATEST_FUEL:
         raise ValueError(f"the fuel is from 1 to {GREATEST_FUEL}, not {fuel}")
     try:
-        procedures = _procedures(text, parameters or {})
-        job = Job(args, fuel, tuple(it.instructions() for it in procedures))
-        _check_length(job)
-    except RecursionError:
-        raise SourceFault("the source is nested too deep: split the expression or the block", file=file) from None
+        unit = Unit(parse(text), parameters or {})
+        arguments = arguments_of(unit.functions[unit.root()], args)
+        procedures = _procedures(unit)
+        job = Job(arguments, fuel, tuple(it.instructions() for it in procedures))
+        _check_length(job, procedures)
     except SourceFault as fault:
         fault.file = file
         raise
     return Compiled(job, job.is_serial(), file, procedures)
 
 
-def _procedures(text: str, parameters: Mapping[str, int]) -> list[FinishedProcedure]:
-    unit = Unit(parse(text), parameters)
+def _procedures(unit: Unit) -> list[FinishedProcedure]:
     waiting = [unit.functions[name] for name in unit.order()]
 
     def add_function(function: Function) -> None:
@@ -101,9 +111,15 @@ def _procedures(text: str, parameters: Mapping[str, int]) -> list[FinishedProced
 def _made(source: Source, function: Function) -> _Made:
     """The code of a function through all passes up to the choice of its registers."""
     maker = FunctionMaker(source, function)
-    code, registers = tidied(maker.make()), maker.registers
+    registers = maker.registers
+    try:
+        made = maker.make()
+    except RecursionError:
+        raise (maker.caller() or maker.place).fault(TOO_DEEP) from None
+    code = tidied(with_ended_groups(made, registers))
     _check_count(function, sum(it.name not in MAY_GO for it in code), "at least ")
     code = without_unread(with_waits(code, registers))
+    _check_count(function, sum(it.name not in MAY_BE_SHARED for it in code), "at least ")
     result = coloured(code, registers.fixed)
     if result is None:
         raise _pressure(function, code, registers)
@@ -113,17 +129,24 @@ def _made(source: Source, function: Function) -> _Made:
 def _pressure(function: Function, code: Code, registers: Registers) -> SourceFault:
     """The fault that a function needs more registers than there are."""
     pressure = greatest_pressure(code)
-    names = sorted({registers.names[it] for it in pressure.registers if it in registers.names})
+    names = sorted({shown_name(registers.names[it]) for it in pressure.registers if it in registers.names})
     values = sum(it not in registers.names for it in pressure.registers)
     shown = listed([*names, *([counted(values, "other value")] if values else [])])
-    return code[pressure.at].place.fault(
-        f"{function.name} needs more than {REGISTERS} registers here, and there is no memory to put one into; alive "
-        f"are {shown}: let another fn do a part, or compute a value where it is needed")
+    step = code[pressure.at]
+    inside = f", in the inline fn of line {step.place.line}, column {step.place.column}," if step.caller else ""
+    return (step.caller or step.place).fault(
+        f"{function.title} needs more than {REGISTERS} registers here{inside or ','} and there is no memory to put one "
+        f"into; alive are {shown}: let another fn do a part, or compute a value where it is needed")
+
+
+def shown_name(name: str) -> str:
+    """The name of a variable; one that the source does not have stands in parentheses."""
+    return f"the {name[1:-1]}" if name.startswith("(") else name
 
 
 def _finished(it: _Made, numbers: Mapping[str, int]) -> FinishedProcedure:
     """The procedure of a function, if it is not too long."""
-    procedure = finished(it.function.name, it.result, it.registers, numbers)
+    procedure = finished(it.function, it.result, it.registers, numbers)
     _check_count(it.function, len(procedure.lines))
     return procedure
 
@@ -132,12 +155,14 @@ def _check_count(function: Function, count: int, least: str = "") -> None:
     """Refuses a procedure with too many instructions. The first passes say which it has at least, so that none takes
     long for code that is refused at the end."""
     if count > INSTRUCTIONS_OF_A_PROCEDURE:
-        raise function.place.fault(f"{function.name} has {least}{count} instructions, and a procedure has at most "
+        raise function.place.fault(f"{function.title} has {least}{count} instructions, and a procedure has at most "
                                    f"{INSTRUCTIONS_OF_A_PROCEDURE}: let another fn do a part")
 
 
-def _check_length(job: Job) -> None:
+def _check_length(job: Job, procedures: Sequence[FinishedProcedure]) -> None:
+    """Refuses a job whose request is too long, at the procedure with the most instructions."""
     length = job.request_bytes()
     if length > REQUEST_BYTES:
-        raise NOWHERE.fault(f"the request with this job has {length} bytes, and a line has at most {REQUEST_BYTES}: "
-                            "make the source shorter")
+        longest = max(procedures, key=lambda it: len(it.lines))
+        raise longest.place.fault(f"the request with this job has {length} bytes, and a line has at most {REQUEST_BYTES}: "
+                                  f"make the source shorter; {longest.name} has the most instructions")

@@ -5,12 +5,25 @@ from arena.language.faults import Place
 from arena.language.syntax import Parameter
 from arena.language.tokens import Token, TokenKind
 
+MOST_DIGITS = 40
 GREATEST_WIDTH = 62
 """The most bits that a parameter in a packed argument may have."""
 
 ELSEWHERE = {**dict.fromkeys(("elif", "elsif", "elseif"), "write `else if`"),
-             "**": "there is no operator for powers: multiply, as in `n * n`"}
+             "**": "there is no operator for powers: multiply, as in `n * n`",
+             "=": "to compare, write `==`", "step": "a `for` counts by 1: multiply its counter, or use `while`",
+             "print": "a job prints nothing: `return` what it found",
+             "fn": "each fn begins on a line of its own, outside of all braces"}
 """What other languages have, and what to write here."""
+
+
+def magnitude(token: Token) -> int:
+    """The number of a token without its sign. One of very many digits is only known to be too great."""
+    digits = token.text.replace("_", "")
+    if digits.startswith("0x"):
+        return int(digits, 16)
+    digits = digits.lstrip("0") or "0"
+    return int(digits) if len(digits) <= MOST_DIGITS else 10**MOST_DIGITS
 
 
 class Cursor:
@@ -58,8 +71,16 @@ class Cursor:
         found = self.token
         is_word = found.kind is TokenKind.WORD and "name" in wanted
         hint = ", which is a word of the language and no name" if is_word else ""
-        if found.text in ELSEWHERE:
+        if found.text in ELSEWHERE and (found.text != "=" or wanted not in ("`)`", "`,` or `)`")):
             hint = f": {ELSEWHERE[found.text]}"
+        if found.text in ("<", ">") and wanted == "an expression":
+            hint = ": there are no operations on bits; multiply or divide by a power of two"
+        if found.text == ":" and wanted == "`=`":
+            hint = ": a variable has no type"
+        if found.text == "." and self.ahead(1).kind is TokenKind.NUMBER:
+            hint = ": there are only whole numbers"
+        if wanted.startswith("the end") and self._at and self._tokens[self._at - 1].text == "}" and found.text not in ELSEWHERE:
+            hint = ": begin a new line, or write `;`"
         return found.place.fault(f"expected {wanted}, found {found.shown()}{hint}")
 
     def name(self, what: str = "a name") -> str:
@@ -76,10 +97,11 @@ class Cursor:
     def number(self, is_negative: bool = False) -> int:
         """Takes a number, or its negative. It must fit 64 bits with a sign."""
         token = self.advance()
-        base = 16 if token.text.startswith("0x") else 10
-        value = int(token.text.replace("_", ""), base) * (-1 if is_negative else 1)
+        value = magnitude(token) * (-1 if is_negative else 1)
         if not -(2**63) <= value < 2**63:
-            raise token.place.fault(f"the number {value} does not fit 64 bits: it is from -2^63 to 2^63 - 1")
+            shown = ("-" if is_negative else "") + token.text
+            raise token.place.fault(f"the number {shown if len(shown) <= 40 else shown[:37] + '..'} does not fit 64 bits: "
+                                    "it is from -2^63 to 2^63 - 1")
         return value
 
     def parameters(self) -> tuple[Parameter, ...]:
@@ -100,7 +122,7 @@ class Cursor:
         if not self.take(":"):
             return None
         token = self.token
-        match = re.fullmatch(r"u([1-9]\d?)", token.text)
+        match = re.fullmatch(r"u([1-9][0-9]?)", token.text)
         if not match or int(match[1]) > GREATEST_WIDTH:
             raise token.place.fault(f"a width is u1 to u{GREATEST_WIDTH}, found {token.shown()}")
         self.advance()

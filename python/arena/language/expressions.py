@@ -1,10 +1,10 @@
 """The grammar's expressions."""
 from dataclasses import dataclass
 
-from arena.language.cursor import Cursor
+from arena.language.cursor import Cursor, magnitude
 from arena.language.syntax import (Application, Binary, Block, Call, CellPart, Expression, Isolate, Name, Not, Number,
                                    ParallelSum, ReadCell, Wait)
-from arena.language.tokens import TokenKind
+from arena.language.tokens import Token, TokenKind
 
 LEVELS = (("||",), ("&&",), ("==", "!=", "<", "<=", ">", ">="), ("+", "-"), ("*", "/", "%"))
 """The operators between two operands, those that bind least first."""
@@ -36,8 +36,18 @@ class Expressions(Cursor):
         while self.sees(*LEVELS[level]):
             sign = self.advance()
             self.skip_lines()
-            left = Binary(sign.place, sign.text, left, self.expression(level + 1))
+            left = Binary(sign.place, sign.text, left, self._least() if self._sees_least(sign) else
+                          self.expression(level + 1))
         return left
+
+    def _sees_least(self, sign: Token) -> bool:
+        """Whether 2^63 alone is subtracted: it is no number, but the same as -2^63 there, since arithmetic wraps."""
+        return (sign.text == "-" and self.token.kind is TokenKind.NUMBER and magnitude(self.token) == 2**63
+                and self.ahead(1).text not in LEVELS[-1])
+
+    def _least(self) -> Number:
+        """Reads 2^63 as -2^63."""
+        return Number(self.advance().place, -(2**63))
 
     def unary(self) -> Expression:
         """Reads an operand with the signs before it."""
@@ -118,4 +128,5 @@ class Expressions(Cursor):
         if isinstance(low, Application) and low.name == "range" and not self.sees(".."):
             raise low.place.fault("there is no `range(..)`: write both ends, as in `0..n`")
         self.need("..", "`..` and the end of the range")
+        self.skip_lines()
         return Range(low, self.expression())

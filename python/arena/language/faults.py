@@ -21,5 +21,8 @@ class Place:
         return SourceFault(message, self.line, self.column)
 
 
-NOWHERE = Place(0, 0)
+START = Place(1, 1)
 """The place of what is wrong with a source as a whole."""
+
+NOWHERE = Place(0, 0)
+"""The place of code that is of no part of the source."""

@@ -3,6 +3,7 @@ from collections.abc import Sequence
 
 from arena.jobs import ARGUMENTS
 from arena.language.syntax import Function, Parameter
+from arena.texts import counted, is_or_are
 
 PACKED_BITS = 63
 """The bits of an argument that packed parameters share; its sign stays free."""
@@ -27,6 +28,29 @@ def layout_of(function: Function) -> Layout:
     arguments = [[it] for it in whole] + [room for room in rooms if room]
     arguments.sort(key=lambda it: function.parameters.index(it[0]))
     return tuple(map(tuple, arguments))
+
+
+def arguments_of(function: Function, numbers: Sequence[int]) -> tuple[int, int]:
+    """The two arguments of the root from one number for each parameter of its function; those that are left out are 0.
+    Raises ValueError for more numbers than there are, and for one that does not fit its parameter's width."""
+    parameters = function.parameters
+    if all(it.bits is None for it in parameters):
+        if len(numbers) > ARGUMENTS:
+            raise ValueError(f"a job has two arguments, and here are {len(numbers)}: give parameters of {function.name} a "
+                             "width, such as lo: u20")
+        return (*numbers, 0, 0)[0], (*numbers, 0, 0)[1]
+    if any(numbers[len(parameters):]):
+        raise ValueError(f"{function.name} has {counted(len(parameters), 'parameter')}, and here "
+                         f"{is_or_are(len(numbers))}")
+    given = dict(zip(parameters, (*numbers, *[0] * len(parameters))))
+    for it, number in given.items():
+        if it.bits is not None and not 0 <= number < 2**it.bits:
+            raise ValueError(f"{number} does not fit {it.name}: u{it.bits}, which is from 0 to {2**it.bits - 1}")
+    found = [0, 0]
+    for at, shared in enumerate(layout_of(function)):
+        for it in shared:
+            found[at] = found[at] * 2**(it.bits or 0) + given[it]
+    return found[0], found[1]
 
 
 def bits_of(parameters: Sequence[Parameter]) -> int:

@@ -22,7 +22,7 @@ class Loops(Values):
     def body(self, block: Block, place: Place, more: str, end: str) -> None:
         """Makes the body of a loop."""
         before = self.names.pending
-        self.loops.append(Loop(more, end, before))
+        self.loops.append(Loop(more, end, before, self.names.depth()))
         is_left = self.block(block)
         self.loops.pop()
         if not is_left and self.names.pending != before:
@@ -124,15 +124,14 @@ class Loops(Values):
         self.emit("add", place, (index,), (index, self.number(1, place)))
 
     def make_sum_loop(self, it: SumLoop) -> None:
-        """The loop of one task of a parallel sum over its range, which may be empty."""
+        """The loop of one task of a parallel sum over its range, which is not empty."""
         place, end = it.place, self.label()
         index, high = (self.names.variable(name, place).register for name in (it.index, it.end))
         total = self.names.variable(TOTAL, place).register
-        self._skip_if_empty(place, index, Held(place, high), end)
 
         def body(more: str) -> None:
             """Makes the body, in which `give` may stand."""
-            self.sum = Sum(total, more, self.names.pending)
+            self.sum = Sum(total, more, self.names.pending, self.names.depth())
             self.body(it.body, place, more, end)
             self.sum = None
 

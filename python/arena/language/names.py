@@ -12,6 +12,9 @@ TASKS, HALVES = "(tasks)", "(halves)"
 """Groups with names that no source can have: of what is spawned without a group, and of a parallel sum's upper
 halves."""
 
+TRUTHS = {"true": 1, "false": 0}
+"""What other languages call the values of comparisons."""
+
 _SHOWN = {TASKS: "spawn without a group", HALVES: "the halves of the psum"}
 
 
@@ -26,12 +29,28 @@ class Variable:
     kept: str = ""
 
 
+@dataclass(frozen=True, eq=False)
+class Group:
+    """A group and its number, which is its own until its block ends."""
+
+    name: str
+    number: int
+
+
+Meaning = Variable | Group | int
+"""What a name may stand for: a variable, a group, or, in an inline function, a number."""
+
+
 @dataclass
 class Scope:
     """The names of a block. Behind a wall (of an inline function) no outer name is seen."""
 
     is_wall: bool = False
-    variables: dict[str, Variable | int] = field(default_factory=dict)
+    names: dict[str, Meaning] = field(default_factory=dict)
+
+    def groups(self) -> list[Group]:
+        """The groups of the block."""
+        return [it for it in self.names.values() if isinstance(it, Group)]
 
 
 Pending = frozenset[Variable]
@@ -39,41 +58,56 @@ Pending = frozenset[Variable]
 
 
 class Names:
-    """The names that are alive. A name may stand for a variable or, in an inline function, for a number."""
+    """The names that are alive."""
 
     def __init__(self, unit: Unit) -> None:
         self.unit = unit
         self.pending: Pending = frozenset()
         self._scopes = [Scope()]
-        self._groups: dict[str, int] = {}
 
     def open(self, is_wall: bool = False) -> None:
         """Begins a block."""
         self._scopes.append(Scope(is_wall))
 
-    def close(self, end: Place, is_left: bool) -> None:
-        """Ends a block. A task of its own must have been waited for, unless the block's end is not reached."""
-        own = [it for it in self._scopes[-1].variables.values() if isinstance(it, Variable) and it in self.pending]
+    def close(self, end: Place, is_left: bool) -> list[Group]:
+        """Ends a block, and returns its groups. A task of its own must have been waited for, unless the block's end is
+        not reached."""
+        own = [it for it in self._scopes[-1].names.values() if isinstance(it, Variable) and it in self.pending]
         if own and not is_left:
             name = own[0].name
             raise end.fault(f"the task {name} is not waited for in its block: write `wait {name}` or `sync` before "
                             "this brace, or spawn it into a group")
         self.pending -= set(own)
-        self._scopes.pop()
+        return self._scopes.pop().groups()
 
-    def declare(self, name: str, meaning: Variable | int, place: Place) -> None:
-        """Makes a name mean a variable, or a number, until its block ends."""
+    def depth(self) -> int:
+        """How many blocks are open."""
+        return len(self._scopes)
+
+    def groups_within(self, depth: int) -> list[Group]:
+        """The groups of the blocks that were opened since so many were open."""
+        return [group for scope in self._scopes[depth:] for group in scope.groups()]
+
+    def declare(self, name: str, meaning: Meaning, place: Place) -> None:
+        """Makes a name mean a variable, a group or a number, until its block ends."""
         self.unit.check_variable(name, place)
-        if name in self._scopes[-1].variables:
-            raise place.fault(f"{name} is there already in this block: write `{name} = ..` to change it, or choose "
-                              "another name")
-        self._scopes[-1].variables[name] = meaning
+        match self._scopes[-1].names.get(name), meaning:
+            case None, _:
+                self._scopes[-1].names[name] = meaning
+            case Variable() | int(), Variable() | int():
+                raise place.fault(f"{name} is there already in this block: write `{name} = ..` to change it, or choose "
+                                  "another name")
+            case Group(), Group():
+                raise place.fault(f"the group {name} is there already: leave this line out, or choose another name")
+            case before, _:
+                raise place.fault(f"{name} is a {'group' if isinstance(before, Group) else 'variable'} of this block "
+                                  "already: choose another name")
 
-    def found(self, name: str) -> Variable | int | None:
+    def found(self, name: str) -> Meaning | None:
         """What a name means here."""
         for scope in reversed(self._scopes):
-            if name in scope.variables:
-                return scope.variables[name]
+            if name in scope.names:
+                return scope.names[name]
             if scope.is_wall:
                 break
         return None
@@ -90,10 +124,12 @@ class Names:
         found = self.found(name)
         if isinstance(found, Variable):
             return found
-        if name in self._visible_groups():
+        if isinstance(found, Group):
             raise place.fault(f"{name} is a group: write `wait {name}` for its total")
         if name in self.unit.cells:
             raise place.fault(f"{name} is a cell: write {name}.local, {name}.sum or {name}.count")
+        if name in TRUTHS:
+            raise place.fault(f"there is no {name}: write {TRUTHS[name]}")
         raise place.fault(f"{name} is not known here{self._similar(name)}; {self._alive()}")
 
     def readable(self, name: str, place: Place) -> Variable:
@@ -139,58 +175,65 @@ class Names:
 
     def free_group(self, place: Place, user: str) -> int:
         """The lowest group that no name has."""
-        taken = {*self._groups.values(), *(it.group for it in self.pending)}
+        groups, tasks = self.groups_within(0), self.pending_tasks()
+        taken = {*(it.number for it in groups), *(it.group for it in tasks)}
         free = [group for group in range(GROUPS) if group not in taken]
         if not free:
-            names = [*(_SHOWN.get(it, it) for it in self._groups), *(it.name for it in self.pending_tasks())]
+            names = [*(_SHOWN.get(it.name, it.name) for it in groups), *(it.name for it in tasks)]
             raise place.fault(f"no group is left for {user}: a procedure has {GROUPS}, and they are taken by "
                               f"{listed(names)}; spawn several tasks into one group, or wait for one first")
         return free[0]
 
-    def declare_group(self, name: str, place: Place) -> int:
-        """Declares a group, until the end of the function."""
-        if name in self._groups:
-            raise place.fault(f"the group {name} is there already: leave this line out, or choose another name")
-        self._groups[name] = self.free_group(place, _SHOWN.get(name, f"the group {name}"))
-        return self._groups[name]
+    def declare_group(self, name: str, place: Place) -> None:
+        """Declares a group, until its block ends."""
+        self.declare(name, Group(name, self.free_group(place, _SHOWN.get(name, f"the group {name}"))), place)
 
     def spawn_group(self, name: str | None, place: Place) -> int:
         """The group that a spawn names, or that of a spawn without a name."""
-        groups = self._visible_groups()
-        if name is not None and name not in groups:
-            raise place.fault(f"there is no group {name}: write `group {name}` above this line")
-        return groups[name or TASKS]
+        found = self.found(name or TASKS)
+        if isinstance(found, Group):
+            return found.number
+        if found is not None:
+            raise self._no_group(name or TASKS, found, place)
+        raise place.fault(f"there is no group {name}: write `group {name}` above this line, in this block or one around it")
 
     def unnamed_group(self) -> int | None:
         """The group of what is spawned without a name, if the function does so."""
-        return self._groups.get(TASKS)
+        found = self.found(TASKS)
+        return found.number if isinstance(found, Group) else None
 
     def group_or_task(self, name: str, place: Place) -> Variable | int:
         """The task, waited for or not, or the number of the group that a name means."""
         found = self.found(name)
+        if isinstance(found, Group):
+            return found.number
         if isinstance(found, Variable) and found.group is not None:
             return found
-        groups = self._visible_groups()
-        if found is None and name in groups:
-            return groups[name]
-        alive = [*groups, *(it for it in self._alive_names() if getattr(self.found(it), "group", None) is not None)]
-        shown = listed(it for it in alive if it not in _SHOWN)
-        raise place.fault(f"{name} is no group and no task{': there is ' + shown if shown else ''}; write `group "
-                          f"{name}`, or `let {name} = spawn ..`, above this line")
+        raise self._no_group(name, found, place)
 
-    def _visible_groups(self) -> dict[str, int]:
-        return {} if any(it.is_wall for it in self._scopes) else self._groups
+    def _no_group(self, name: str, found: Meaning | None, place: Place) -> Exception:
+        """The fault that a name is no group, nor a task."""
+        if found is not None:
+            return place.fault(f"{name} is a variable here, and no group or task: give one of them another name")
+        alive = [it for it in self._alive_names() if self._is_waited_for(it)]
+        shown = f": there is {listed(alive)}" if alive else ""
+        return place.fault(f"{name} is no group and no task{shown}; write `group {name}`, or `let {name} = spawn ..`, "
+                           "above this line")
+
+    def _is_waited_for(self, name: str) -> bool:
+        found = self.found(name)
+        return isinstance(found, Group) or (isinstance(found, Variable) and found.group is not None)
 
     def _alive_names(self) -> list[str]:
         names: dict[str, None] = {}
         for scope in reversed(self._scopes):
-            names |= dict.fromkeys(it for it in scope.variables if it.isidentifier())
+            names |= dict.fromkeys(it for it in scope.names if it.isidentifier())
             if scope.is_wall:
                 break
         return sorted(names)
 
     def _alive(self) -> str:
-        names = [*self._alive_names(), *sorted(self.unit.constants)]
+        names = [*(it for it in self._alive_names() if not isinstance(self.found(it), Group)), *sorted(self.unit.constants)]
         return f"alive are {listed(names)}" if names else "no name is alive"
 
     def _similar(self, name: str) -> str:

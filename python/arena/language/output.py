@@ -5,6 +5,8 @@ from dataclasses import dataclass
 from arena.jobs import INSTRUCTIONS, Instruction, Operand, Procedure
 from arena.language.code import ARGUMENT, LABEL, LOOP, MOVE, Code, Registers, Step
 from arena.language.colouring import Coloured, Colours
+from arena.language.faults import Place
+from arena.language.syntax import Function
 
 
 @dataclass(frozen=True)
@@ -20,12 +22,13 @@ class Line:
 
 @dataclass(frozen=True)
 class FinishedProcedure:
-    """A procedure with its name and its lines; `holds` says which variables are in which register, at one time or
-    another."""
+    """A procedure with its name, its lines, and the place of its function; `holds` says which variables are in which
+    register, at one time or another."""
 
     name: str
     lines: tuple[Line, ...]
     holds: Mapping[int, tuple[str, ...]]
+    place: Place
 
     def instructions(self) -> Procedure:
         """The instructions alone."""
@@ -69,7 +72,8 @@ def operands_of(step: Step, colours: Colours, targets: Mapping[str, int],
                 yield step.key
 
 
-def finished(name: str, made: Coloured, registers: Registers, procedures: Mapping[str, int]) -> FinishedProcedure:
+def finished(function: Function, made: Coloured, registers: Registers,
+             procedures: Mapping[str, int]) -> FinishedProcedure:
     """The procedure of a function. `procedures` numbers the functions."""
     code, colours = without_moves(made), made.colours
     targets, labels, count = {}, {}, 0
@@ -87,7 +91,7 @@ def finished(name: str, made: Coloured, registers: Registers, procedures: Mappin
             words = tuple(shown(step, operand, number) for operand, number in zip(INSTRUCTIONS[step.name], numbers))
             instruction = Instruction(step.name, numbers)
             lines.append(Line(instruction, step.place.line, tuple(labels.get(len(lines), ())), words, names))
-    return FinishedProcedure(name, tuple(lines), _holds(code, colours, registers))
+    return FinishedProcedure(function.name, tuple(lines), _holds(code, colours, registers), function.place)
 
 
 def shown(step: Step, operand: Operand, number: int) -> str:

@@ -3,12 +3,13 @@ from difflib import get_close_matches
 
 from arena.language.cursor import ELSEWHERE
 from arena.language.expressions import Expressions
-from arena.language.syntax import (Assign, Binary, Block, Break, Call, Cancel, CellName, CellPart, Constant, Continue,
+from arena.language.syntax import (Application, Assign, Binary, Block, Break, Call, Cancel, CellName, CellPart, Constant, Continue,
                                    DeclareGroup, Evaluate, Expression, For, Function, Give, If, Inline, Isolate, Item,
                                    Let, LetBoth, LetTask, Name, Number, ParallelSum, Post, ReadCell, Return, Spawn,
                                    Statement, StoreCell, Sync, Wait, While)
 from arena.language.tokens import WORDS, TokenKind, tokens_of
 
+TOO_DEEP = "the source is nested too deep: split the expression or the block"
 ASSIGNMENTS = ("=", "+=", "-=", "*=", "/=", "%=")
 
 
@@ -33,6 +34,7 @@ class Parser(Expressions):
             is_parameter = self.advance().text == "param"
             name = self.name()
             self.need("=")
+            self.skip_lines()
             return Constant(place, name, self.expression(), is_parameter)
         if self.take("cell"):
             return CellName(place, self.name("a cell"), self.key())
@@ -84,8 +86,10 @@ class Parser(Expressions):
         return self._evaluation()
 
     def _refuse_misspelling(self) -> None:
-        """Refuses two names in a row, of which the first should have been a word, and a word of other languages."""
+        """Refuses two names in a row, of which the first should have been a word, and a word or sign of other languages."""
         first, second = self.token, self.ahead(1)
+        if second.text in ("+", "-") and self.ahead(2).text == second.text:
+            raise second.place.fault(f"there is no `{second.text * 2}`: write `{first.text} {second.text}= 1`")
         if first.text in ELSEWHERE and second.text not in (*ASSIGNMENTS, "."):
             raise first.place.fault(f"`{first.text}` begins no statement: {ELSEWHERE[first.text]}")
         if second.kind in (TokenKind.NAME, TokenKind.NUMBER):
@@ -95,6 +99,9 @@ class Parser(Expressions):
 
     def _evaluation(self) -> Statement:
         place, value = self.place, self.expression()
+        if isinstance(value, Application):
+            raise place.fault(f"this value goes nowhere: an fn is run by `call {value.name}(..)` or `spawn "
+                              f"{value.name}(..)`, and the value of an inline fn needs a name, as in `let name = ..`")
         if not isinstance(value, Wait | Isolate | Call | ParallelSum):
             raise place.fault("this value goes nowhere: write `let name = ..`, or leave it out")
         return Evaluate(place, value)
@@ -124,6 +131,7 @@ class Parser(Expressions):
         if self.take(","):
             status = self.name("the status")
             self.need("=")
+            self.skip_lines()
             self.need("wait")
             return LetBoth(place, name, status, self.name("a group or a task"))
         self.need("=")
@@ -189,4 +197,8 @@ class Parser(Expressions):
 
 def parse(text: str) -> list[Item]:
     """The tree of a source: its items in order. Raises `SourceFault`."""
-    return Parser(tokens_of(text)).items()
+    parser = Parser(tokens_of(text))
+    try:
+        return parser.items()
+    except RecursionError:
+        raise parser.place.fault(TOO_DEEP) from None

@@ -1,6 +1,7 @@
 """Code for statements: the code of a function."""
+from arena.language.builder import Loop, Sum
 from arena.language.captures import spawns_without_group
-from arena.language.code import Code
+from arena.language.code import GROUP_END, GROUP_LEFT, Code
 from arena.language.faults import Place
 from arena.language.loops import Loops
 from arena.language.names import TASKS, Pending, Variable
@@ -34,7 +35,9 @@ class FunctionMaker(Loops):
         """Makes a block; returns whether its end is never reached."""
         self.names.open()
         is_left = self._statements(block)
-        self.names.close(block.end, is_left)
+        for group in self.names.close(block.end, is_left):
+            if not is_left:
+                self.emit(GROUP_END, block.end, group=group.number, target=group.name)
         return is_left
 
     def _statements(self, block: Block) -> bool:
@@ -47,6 +50,7 @@ class FunctionMaker(Loops):
 
     def statement(self, it: Statement | SumLoop) -> bool:
         """Makes a statement; returns whether what follows it is never reached."""
+        self.place = it.place
         match it:
             case Return() | Give() | Break() | Continue():
                 self._leave(it)
@@ -164,6 +168,7 @@ class FunctionMaker(Loops):
             total = self.sum.total
             self.value(Binary(it.place, "+", Held(it.place, total), it.value), total)
         self._drop_tasks(it.place, self.sum.pending, "this `give`")
+        self._drop_groups(it.place, self.sum.blocks)
         self.jump(self.sum.more, it.place)
 
     def _leave_loop(self, it: Break | Continue, word: str) -> None:
@@ -174,6 +179,7 @@ class FunctionMaker(Loops):
             raise it.place.fault(f"`{word}` outside a loop: leave it out")
         loop = self.loops[-1]
         self._drop_tasks(it.place, loop.pending, f"this `{word}`")
+        self._drop_groups(it.place, loop.blocks)
         self.jump(loop.end if isinstance(it, Break) else loop.more, it.place)
 
     def _drop_tasks(self, place: Place, before: Pending, here: str) -> None:
@@ -187,6 +193,11 @@ class FunctionMaker(Loops):
             if task not in before:
                 self._drop_group(task.group or 0, place)
 
+    def _drop_groups(self, place: Place, blocks: int) -> None:
+        """Leaves the groups of the blocks that were opened since so many were open."""
+        for group in self.names.groups_within(blocks):
+            self.emit(GROUP_LEFT, place, group=group.number)
+
     def _target_of(self, block: Block) -> str | None:
         """Where a block goes that does nothing but leave a turn of a loop, with the tasks that the loop began with."""
         if len(block.statements) != 1:
@@ -194,13 +205,17 @@ class FunctionMaker(Loops):
         loop, only = self.loops[-1] if self.loops else None, block.statements[0]
         is_own = loop and not (self.sum and len(self.loops) == 1)
         match only:
-            case Break() if is_own and self.names.pending == loop.pending:
+            case Break() if is_own and self._has_nothing_since(loop):
                 return loop.end
-            case Continue() if is_own and self.names.pending == loop.pending:
+            case Continue() if is_own and self._has_nothing_since(loop):
                 return loop.more
-            case Give() if self.sum and self.fold(only.value) == 0 and self.names.pending == self.sum.pending:
+            case Give() if self.sum and self.fold(only.value) == 0 and self._has_nothing_since(self.sum):
                 return self.sum.more
         return None
+
+    def _has_nothing_since(self, around: Loop | Sum) -> bool:
+        """Whether no task is pending, and no group there, that was not when a loop began."""
+        return self.names.pending == around.pending and not self.names.groups_within(around.blocks)
 
     def _if_jump(self, it: If, target: str) -> None:
         """An `if` whose block does nothing but go to a label: the condition jumps there itself."""

@@ -1,5 +1,6 @@
 """A parallel sum as a function of its own: it spawns the upper half of its range into a group as long as the range is
-longer than the grain, adds the terms of what is left, and then the group's total."""
+longer than the grain, adds the terms of what is left, and then the group's total. It is called for ranges that are not
+empty alone, and so are all parts of one."""
 from collections.abc import Callable
 from dataclasses import dataclass
 
@@ -32,10 +33,11 @@ class SumLoop(Node):
 
 @dataclass(frozen=True)
 class SumFunction:
-    """The function of a parallel sum, and its application to the whole range."""
+    """The function of a parallel sum. `applied` gives its application to a range, which must not be empty, and whose ends
+    must fit the index's width."""
 
     function: Function
-    application: Application
+    applied: Spawned
 
 
 def sum_function(it: ParallelSum, grain: int, names: Names, around: str) -> SumFunction:
@@ -59,8 +61,8 @@ def sum_function(it: ParallelSum, grain: int, names: Names, around: str) -> SumF
         SumLoop(place, it.index, end, it.body),
         Return(place, Binary(place, "+", Name(place, TOTAL), Wait(place, HALVES)))]
     body = Block(place, (DeclareGroup(place, HALVES), split, *leaf), it.body.end)
-    function = Function(place, name, (*outer, *ends), body, _numbers(it, names))
-    return SumFunction(function, spawned(it.low, it.high))
+    function = Function(place, name, (*outer, *ends), body, _numbers(it, names), f"the psum of line {place.line}")
+    return SumFunction(function, spawned)
 
 
 def _numbers(it: ParallelSum, names: Names) -> dict[str, int]:

@@ -304,12 +304,18 @@ class Inline(Node):
 @dataclass(frozen=True, eq=False)
 class Function(Node):
     """`fn name(..) { .. }`: a procedure of the job. `numbers` are names that stand for numbers in it, of the inline
-    function that a parallel sum is in."""
+    function that a parallel sum is in; `shown` is what messages say of it if its name is not in the source."""
 
     name: str
     parameters: tuple[Parameter, ...]
     body: Block
     numbers: Mapping[str, int] = field(default_factory=dict)
+    shown: str = ""
+
+    @property
+    def title(self) -> str:
+        """What messages call it."""
+        return self.shown or self.name
 
 
 Item = Constant | CellName | Inline | Function

@@ -4,7 +4,7 @@ from difflib import get_close_matches
 
 from arena.jobs import KEYS, PROCEDURES
 from arena.language import arithmetic
-from arena.language.faults import NOWHERE, Place
+from arena.language.faults import START, Place
 from arena.language.layouts import Layout, layout_of
 from arena.language.syntax import (Application, Binary, CellName, Constant, Expression, Function, Inline, Item, Name,
                                    Not, Number)
@@ -95,16 +95,16 @@ class Unit:
     def _check(self) -> None:
         unknown = next((name for name in self._given if name not in self._parameters), None)
         if unknown:
-            raise NOWHERE.fault(f"there is no param {unknown} in the source: write `param {unknown} = ..` with the "
-                                "value that it has without one")
+            raise START.fault(f"there is no param {unknown} in the source: write `param {unknown} = ..` with the value "
+                              "that it has without one")
         if not self.functions:
-            raise NOWHERE.fault("there is no fn: write `fn main(x, y) { .. }`")
+            raise START.fault("there is no fn: write `fn main(x, y) { .. }`")
         for function in self.functions.values():
             self._check_names(function)
             layout_of(function)
         for inline in self.inlines.values():
             self._check_names(inline)
-        self.check_count(NOWHERE)
+        self.check_count(list(self.functions.values())[min(len(self.functions) - 1, PROCEDURES)].place)
 
     def _check_names(self, function: Function | Inline) -> None:
         seen: set[str] = set()

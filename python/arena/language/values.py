@@ -1,9 +1,10 @@
 """Code for expressions: the registers with their values."""
+from collections.abc import Sequence
 from dataclasses import dataclass
 
 from arena.language.conditions import Conditions
 from arena.language.names import Variable
-from arena.language.sums import sum_function
+from arena.language.sums import SumFunction, sum_function
 from arena.language.syntax import (Application, Binary, Call, CellPart, Expression, Held, Isolate, Name, Not, Number,
                                    ParallelSum, ReadCell, Wait)
 from arena.language.unit import BUILT_IN
@@ -149,7 +150,7 @@ class Values(Conditions):
                               "or spawn, isolate or post")
         if name not in self.unit.inlines:
             raise place.fault(f"there is no inline fn {name}: write `inline fn {name}(..) = ..` above")
-        if name in self.source.opened:
+        if any(it.name == name for it in self.source.opened):
             raise place.fault(f"inline fn {name} uses itself: make it an fn, and write `call {name}(..)`")
         inline = self.unit.inlines[name]
         if len(inline.parameters) != len(application.arguments):
@@ -161,7 +162,7 @@ class Values(Conditions):
         for parameter, number, register in zip(inline.parameters, numbers, registers):
             meaning = Variable(parameter.name, register) if number is None else number
             self.names.declare(parameter.name, meaning, parameter.place)
-        self.source.opened.append(name)
+        self.expand(application)
         return inline.value
 
     def closed(self, application: Application) -> None:
@@ -175,4 +176,43 @@ class Values(Conditions):
             raise it.grain.place.fault("the grain is a constant from 1: the most indices that one task adds by itself")
         made = sum_function(it, grain, self.names, self.function.name)
         self.source.add_function(made.function)
-        return self.call(made.application, into)
+        low, high = self.fold(it.low), self.fold(it.high)
+        is_known = low is not None and high is not None
+        if is_known and low >= high:
+            return self.number(0, it.place, into)
+        self._check_ends(it)
+        ends = [Number(end.place, number) if number is not None else Held(end.place, self.value(end))
+                for end, number in ((it.low, low), (it.high, high))]
+        return self.call(made.applied(*ends), into) if is_known else self._sum_unless_empty(it, made, ends, into)
+
+    def _sum_unless_empty(self, it: ParallelSum, made: SumFunction, ends: Sequence[Number | Held],
+                          into: int | None) -> int:
+        """The sum over a range whose ends are known when it runs: 0 if it is empty, and fault 1 if an index of it does
+        not fit its width."""
+        place, register, (low, high) = it.place, self._result(into), ends
+        inside, fits, misfit, empty, end = (self.label() for _ in range(5))
+        self.branch(Binary(place, "<", low, high), inside, empty, inside)
+        self.put(inside)
+        if it.bits is not None:
+            is_misfit = Binary(place, "||", Binary(place, "<", low, Number(place, 0)),
+                               Binary(place, "<", Number(place, 2**it.bits), high))
+            self.branch(is_misfit, misfit, fits, fits)
+        self.put(fits)
+        self.call(made.applied(low, high), register)
+        self.jump(end, place)
+        self.put(misfit)
+        if it.bits is not None:
+            zero = self.number(0, place)
+            self.emit("div", place, (self.registers.new(),), (zero, zero))
+        self.put(empty)
+        self.number(0, place, register)
+        self.put(end)
+        return register
+
+    def _check_ends(self, it: ParallelSum) -> None:
+        """Refuses a range that is not empty if a constant end of it shows that some index does not fit its width."""
+        for end in (it.low, it.high):
+            number = self.fold(end)
+            if it.bits is not None and number is not None and not 0 <= number <= 2**it.bits:
+                raise end.place.fault(f"{number} does not fit {it.index}: u{it.bits}, which is from 0 to "
+                                      f"{2**it.bits - 1}: make the index wider")

@@ -62,14 +62,16 @@ def _each(jobs: list[JobStat], about: About, say: Callable[[JobStat], str]) -> I
 def _history(it: Statistics) -> Iterator[Advice]:
     if it.entries >= it.tenant.steps:
         text = (f"the history is full: all {it.tenant.steps:,} entries are used, and every request is answered "
-                "history_full; start the server anew, with more `steps` if there are fewer than 1,048,576")
+                "history_full; arena-host has another generation by now, so clients reconnect; start arena-server anew, "
+                "with more `steps` if there are fewer than 1,048,576")
         yield Advice(About.HISTORY, text, [])
     elif it.fill >= FILLING:
         each = it.entries / max(len(it.jobs), 1)
         left = int((it.tenant.steps - it.entries) / each)
         more = "1 more job" if left == 1 else f"{left:,} more jobs"
         text = (f"the history is {100 * it.fill:.0f} % full: at this rate, {each:,.0f} entries a job, it will be full "
-                f"after {more}; raise `steps`, or start the server anew in time")
+                f"after {more}; arena-host opens another generation before that; for arena-server raise `steps`, or start "
+                "it anew in time")
         yield Advice(About.HISTORY, text, [])
 
 
@@ -92,7 +94,7 @@ def _workers(it: Statistics) -> Iterator[Advice]:
             return begun + ("; a slot was empty, so the workers were busy with other tenants: raise `workers`, at best "
                             "to as many as all tenants have slots for them")
         return begun + (f", and {stat.waited_instructions:,} instructions of other jobs; this tenant's slots were "
-                        "busy: raise `slots`, and `workers` with them")
+                        "busy: raise `slots`, and `workers` with them, or send fewer jobs at a time")
     yield from _each(waited, About.WORKERS, say)
 
 

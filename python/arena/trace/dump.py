@@ -5,7 +5,14 @@ from collections.abc import Iterable, Iterator
 from dataclasses import dataclass, field
 from typing import BinaryIO
 
-PRIORITIES = ("low", "normal", "high")
+from arena.lint import NAME, PRIORITIES
+
+OPS = frozenset({"submit", "execute", "poll", "collect", "cancel", "cells", "arena", "retire"})
+"""The requests that a history has."""
+
+NUMBERS_OF_REPLIES = frozenset({"job", "slot", "value", "fault", "code", "count", "key", "sum", "epoch", "reserved",
+                                "slots"})
+"""The members of replies that are whole numbers."""
 
 
 class DumpFault(Exception):
@@ -99,9 +106,9 @@ def _tenant_of(line: bytes | str, file: str) -> Tenant:
         numbers = (tenant.slots, tenant.reserved, tenant.rows, tenant.steps)
         fits = all(type(it) is int
                    for it in numbers) and 0 < tenant.slots <= 16 and 0 <= tenant.reserved <= tenant.slots
-        if fits and isinstance(tenant.name, str) and tenant.priority in PRIORITIES:
+        if fits and isinstance(tenant.name, str) and NAME.fullmatch(tenant.name) and tenant.priority in PRIORITIES:
             return tenant
-    except (ValueError, KeyError, TypeError):
+    except (ValueError, KeyError, TypeError, RecursionError):
         pass
     raise DumpFault(file, 1, "a dump begins with {\"tenant\":TENANT}; give the file that `arena-server --dump` wrote")
 
@@ -115,7 +122,7 @@ def _entries(lines: Iterator[bytes | str], tenant: Tenant, dump: Dump) -> Iterat
         if entry is None:
             try:
                 entry = _entry_of(json.loads(line), tenant)
-            except (ValueError, KeyError, TypeError):
+            except (ValueError, KeyError, TypeError, RecursionError):
                 raise DumpFault(dump.file, number,
                                 f"no entry of a history: {_start_of(line)}; `arena check` says more") from None
             if type(entry) is Advance and entry.row is None:
@@ -133,8 +140,11 @@ def _entry_of(value: dict, tenant: Tenant) -> Entry:
     step = value["step"]
     if step == "ask":
         request, reply = value["request"], value["reply"]
-        if not isinstance(request["op"], str) or not isinstance(reply, dict):
+        if not isinstance(request["op"], str) or request["op"] not in OPS or not isinstance(reply, dict):
             raise ValueError
+        for name in NUMBERS_OF_REPLIES & reply.keys():
+            if type(reply[name]) is not int:
+                raise ValueError
         return Ask(request, reply)
     slot, moved = value["slot"], value["moved"]
     if type(slot) is not int or not 0 <= slot < tenant.slots:

@@ -93,9 +93,12 @@ class Replay:
         return happening
 
     def _known(self, reply: dict) -> Job:
-        job = self.jobs.get(reply.get("job"))
+        number = reply.get("job")
+        if number is None:
+            raise Impossible("its reply names no job")
+        job = self.jobs.get(number)
         if job is None:
-            raise Impossible(f"there is no job {reply.get('job')}")
+            raise Impossible(f"there is no job {number}")
         return job
 
     def _make_job(self, entry: Ask, happening: Happening) -> None:
