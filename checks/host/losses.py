@@ -5,11 +5,13 @@ import csv
 import fcntl
 import os
 import pathlib
+import re
 import subprocess
 import sys
 import tempfile
 import time
 from collections.abc import Iterator
+from concurrent.futures import ThreadPoolExecutor
 
 from hosts import Host, ask, dumps, event_of, fib, hang_up, rotate, tenant
 from servers import PATIENCE, SEVEN, by_deadline
@@ -181,6 +183,27 @@ def nobody_reads_what_it_reports() -> None:
     assert dumps(host, "acme") == [0, 1, 2]
 
 
+def what_it_could_not_print_is_counted() -> None:
+    """Standard output has no room left, and 64 tenants are closed more often than lines may wait. Whoever reads it in the
+    end gets the first lines, whole, and the host reports how many others were lost."""
+    names, generations = [f"t{number}" for number in range(64)], 10
+    with full_pipe() as (read, write):
+        host = Host([tenant(name, steps=2) for name in names], "--patience", 0, "--connections", 1, stdout=write)
+        os.close(write)
+        for number in range(1, generations):
+            rotate(host, number)
+            by_deadline(lambda: host.told("closed", generation=number - 1))
+        with ThreadPoolExecutor(1) as pool:
+            reading = pool.submit(read_lines, read)
+            [unwritten] = by_deadline(lambda: host.told("unwritten"))
+            assert host.stop() == 0
+            first, *lines = reading.result()
+    assert first == "listening" and unwritten["lines"] > 0
+    assert all(re.fullmatch(r"t[0-9]+\.[0-9]{6}: closed, 0 entries", line) for line in lines), lines
+    assert len(lines) + unwritten["lines"] == len(names) * generations
+    assert lines[0] == "t0.000000: closed, 0 entries" and lines[-1] == f"t63.{generations - 1:06}: closed, 0 entries"
+
+
 def rotate_that_cannot_be_removed_is_obeyed_once() -> None:
     """A folder of the order's name asks for one rotation, until it is gone."""
     host = Host([tenant("acme")], "--patience", 0)
@@ -266,5 +289,6 @@ def dumps_have_their_names_on_the_disk() -> None:
 
 CHECKS = [one_generation_for_a_full_history, job_outlives_its_client_and_a_rotation, lost_jobs_are_counted,
           history_that_is_not_written_is_a_fault, one_tenant_keeps_no_other_from_its_dump, nobody_reads_what_it_reports,
+          what_it_could_not_print_is_counted,
           rotate_that_cannot_be_removed_is_obeyed_once, names_that_no_host_writes, status_under_a_mask, at_most_one_serves,
           the_newest_closed_generations_are_shown, dumps_have_their_names_on_the_disk]

@@ -7,7 +7,7 @@ use std::sync::{Condvar, CondvarTimeouts, Mutex, Wait};
 use std::time::{Clock, Duration};
 
 /// How many lines wait at most, at each of the two.
-const ROOM: usize = 1024;
+const ROOM: usize = 512;
 
 /// What is next to be written.
 #[derive(Drop)]
