@@ -53,8 +53,11 @@ def event_of(line: str) -> dict:
 class Host:
     """A host in a folder of its own, or in the one that another host left."""
 
-    def __init__(self, tenants: list[dict], *words: object, workers: int = 2, after: "Host | None" = None) -> None:
-        """Starts it with these words after the ones that it must have, and waits until it listens."""
+    def __init__(self, tenants: list[dict], *words: object, workers: int = 2, after: "Host | None" = None,
+                 stdout: int = subprocess.PIPE, stderr: int = subprocess.PIPE, preload: str = "") -> None:
+        """Starts it with these words after the ones that it must have, and waits until it listens. What it prints and
+        reports is kept, unless `stdout` or `stderr` is a descriptor of the caller's. `preload` is the path of a library
+        that is loaded before the C library."""
         self.keep = int(words[words.index("--keep") + 1]) if "--keep" in words else KEEP
         self.folder = after.folder if after else tempfile.TemporaryDirectory()
         self.run = os.path.join(self.folder.name, "run")
@@ -62,22 +65,26 @@ class Host:
         self.config = os.path.join(self.folder.name, "config.json")
         self.configure(tenants, workers)
         command = [PROGRAM, "--config", self.config, "--run", self.run, *map(str, words)]
-        self.process = subprocess.Popen(command, stdout=subprocess.PIPE, stderr=subprocess.PIPE, text=True)
-        self.lines, self.events = [], []  # what it printed, and the lines of its events
+        self.process = subprocess.Popen(command, stdout=stdout, stderr=stderr, text=True,
+                                        env={**os.environ, "LD_PRELOAD": preload})
+        # What it printed, the lines of its events, and the fault that it ended with.
+        self.lines, self.events, self.faults = [], [], []
         atexit.register(self.process.kill)  # where a check fails, its host goes too
-        assert select.select([self.process.stdout], [], [], PATIENCE)[0], "it neither listens nor ends"
-        assert self.process.stdout.readline() == "listening\n", self.process.communicate()
-        self.readers = [threading.Thread(target=self.read, args=it, daemon=True) for it in
-                        ((self.process.stdout, self.lines), (self.process.stderr, self.events))]
+        if self.process.stdout:
+            assert select.select([self.process.stdout], [], [], PATIENCE)[0], "it neither listens nor ends"
+            assert self.process.stdout.readline() == "listening\n", self.process.communicate()
+        else:
+            by_deadline(lambda: os.path.exists(self.path("status.json")))
+        streams = [(self.process.stdout, self.lines), (self.process.stderr, self.events)]
+        self.readers = [threading.Thread(target=self.read, args=it, daemon=True) for it in streams if it[0]]
         for reader in self.readers:
             reader.start()
 
-    @staticmethod
-    def read(stream: IO[str], into: list[str]) -> None:
+    def read(self, stream: IO[str], into: list[str]) -> None:
         """Keeps the lines of a stream as they come, until it ends."""
         with stream:
             for line in stream:
-                into.append(line.rstrip("\n"))
+                (self.faults if line.startswith("arena-host: ") else into).append(line.rstrip("\n"))
 
     def path(self, *names: str) -> str:
         """The path of something in the host's folder."""

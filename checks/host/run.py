@@ -9,11 +9,12 @@ import time
 
 import clients
 import ends
+import losses
 import rotations
 import sharing
 import starts
 
-CHECKS = [check for module in (starts, clients, sharing, rotations, ends) for check in module.CHECKS]
+CHECKS = [check for module in (starts, clients, sharing, rotations, losses, ends) for check in module.CHECKS]
 
 
 def main() -> None:

@@ -5,6 +5,7 @@ usage: checks/python/advise.py, at the top of the repository. It needs no built 
 """
 import os
 import re
+import resource
 import sys
 import tempfile
 from unittest import mock
@@ -126,11 +127,28 @@ def words_and_files(it):
         it.call("advise", *(path, *words) if words else (), status=2, err=words[0] if words else "required: CONFIG")
 
 
-CHECKS = [tenants_without_worker_slots, fewer_workers_than_worker_slots, more_history_than_memory,
+def fewer_descriptors_than_a_host_needs(it):
+    """16 generations take a descriptor for each connection and two more, and a host has 32 others."""
+    need = 16 * (64 + 2) + 32
+    assert found(WISE, rotate_at=50, descriptors=need) == found(WISE, descriptors=1) == []
+    assert found(WISE, rotate_at=50, descriptors=need - 1) == [(About.DESCRIPTORS, None)]
+    assert found(WISE, rotate_at=50, connections=1, descriptors=16 * 3 + 32) == []
+    path = it.file("wise.json", {"tenants": WISE, "workers": 2})
+    with mock.patch("arena.command.advise.descriptors", lambda: 1024):
+        it.call("advise", path, "--host", "--memory", "16", status=1, out=f"{path}: all tenants: 16 generations with 64 "
+                "connections take up to 1,088 files, and a process may have 1,024 open here; start the host with `ulimit "
+                "-n 1088` or more\n")
+        it.call("advise", path, "--host", "--memory", "16", "--connections", "32", out=f"{path}: nothing to advise\n")
+        it.call("advise", path, "--memory", "16", out=f"{path}: nothing to advise\n")
+
+
+CHECKS = [fewer_descriptors_than_a_host_needs, tenants_without_worker_slots, fewer_workers_than_worker_slots, more_history_than_memory,
           histories_that_are_short, memory_is_read, words_and_files]
 
 
 def main():
+    _, most = resource.getrlimit(resource.RLIMIT_NOFILE)
+    resource.setrlimit(resource.RLIMIT_NOFILE, (most, most))  # so that nothing is said of it by the machine's own limit
     with tempfile.TemporaryDirectory() as folder:
         it = Calls(folder)
         for check in CHECKS:

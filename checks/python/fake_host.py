@@ -40,9 +40,9 @@ def generation(number: int, state: str = "serving", why: str | None = None, tena
 
 
 def closed(number: int, *tenants: dict, why: str = "history", began: int = 0, ended: int = 0, served: int = 0,
-           ms: int = 0) -> dict:
+           ms: int = 0, lost: int = 0) -> dict:
     """A generation that was closed."""
-    return {"generation": number, "began": began, "ended": ended, "why": why, "served": served, "ms": ms,
+    return {"generation": number, "began": began, "ended": ended, "why": why, "served": served, "lost": lost, "ms": ms,
             "tenants": [*tenants]}
 
 

@@ -60,11 +60,11 @@ def status_of_now_is_done(it, folder):
     places = ("acme", 0), ("beta", 1), ("acme", 1), (None, None)
     workers = [{"worker": number, "tenant": name, "slot": slot} for number, (name, slot) in enumerate(places)]
     now = folder.status(generation(7, tenants=[tenant(steps=200, entries=50), tenant("beta")], workers=workers), closed=[
-        closed(5, closed_tenant(fault=5, dumped=False), closed_tenant("beta", dumped=False)), closed(6)])
+        closed(5, closed_tenant(fault=5, dumped=False), closed_tenant("beta", dumped=False), lost=2), closed(6)])
     folder.write(now)
     rows = re.compile(r"(?s)host: generation 7 serves, .*\nworkers: 3 with a tenant, 1 waiting for a call\n.*"
                       r"\nacme +50 +200 +25\.0 +0 +0 +0 +0 +0 +2\nbeta +0 +10,000 +0\.0 +0 +0 +0 +0 +0 +1\n.*"
-                      r"\n +5 .* 2 +0 +acme: close fault 5; beta: no dump\n +6 .* 0 +0 +all dumped\n")
+                      r"\n +5 .* 2 +0 +2 jobs lost; acme: close fault 5; beta: no dump\n +6 .* 0 +0 +all dumped\n")
     it.call("status", folder.path, out=rows, how=arena_process)
     it.call("status", out=rows, ARENA_RUN=folder.path)
     it.call("status", folder.path, out=rows, ARENA_RUN="/nowhere")

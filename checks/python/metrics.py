@@ -64,6 +64,7 @@ SAMPLES = {
     "arena_rows_waiting": {"generation=122 tenant=acme": 3},
     "arena_workers_at_tenant": {"generation=122 tenant=acme": 1},
     "arena_close_duration_seconds": {"generation=121 why=file": 0.035},
+    "arena_close_lost_jobs": {"generation=121 why=file": 0},
     "arena_close_entries": {"generation=121 tenant=acme": 9000},
     "arena_close_fault": {"generation=121 tenant=acme": 0},
     "arena_close_dumped": {"generation=121 tenant=acme": 1},
@@ -97,13 +98,14 @@ def each_tenant_of_each_generation_has_a_sample():
     with Folder() as folder:
         bad = [closed_tenant("t-1", fault=7, dumped=False), closed_tenant("t-2")]
         found = plain(metrics_of(folder.status(generation(3, "closing", "stop", tenants), generation(4, tenants=tenants),
-                                               closed=[closed(2, *bad, why="stop", ms=1500)])))
+                                               closed=[closed(2, *bad, why="stop", ms=1500, lost=3)])))
     assert found["arena_history_entries"] == {f"generation={number} tenant=t-{it}": it for number in (3, 4)
                                               for it in range(64)}
     assert found["arena_generation_state"]["generation=3 state=closing"] == 1
     assert found["arena_close_fault"] == {"generation=2 tenant=t-1": 7, "generation=2 tenant=t-2": 0}
     assert found["arena_close_dumped"] == {"generation=2 tenant=t-1": 0, "generation=2 tenant=t-2": 1}
     assert found["arena_close_duration_seconds"] == {"generation=2 why=stop": 1.5}
+    assert found["arena_close_lost_jobs"] == {"generation=2 why=stop": 3}
 
 
 def texts_are_escaped():

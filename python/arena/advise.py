@@ -15,6 +15,12 @@ ENTRY_BYTES, SLOT_BYTES, CONNECTION_BYTES = 128, 16, 120
 GENERATIONS_AT_ONCE = 2
 """How many generations a host has open while it rotates: the one that is left, and the next one."""
 
+MOST_GENERATIONS = 16
+"""How many generations a host may have open at once."""
+
+OTHER_DESCRIPTORS = 32
+"""How many files a host may have open beside its connections and the two files of each generation, with some to spare."""
+
 FEWEST_ENTRIES = 1_000
 """How many entries a history should have before it is full or its generation is left. The sixth Fibonacci number, by
 tasks, takes 88."""
@@ -29,6 +35,7 @@ class About(enum.Enum):
     FEW_WORKERS = "few workers"
     MEMORY = "memory"
     SHORT_HISTORY = "short history"
+    DESCRIPTORS = "descriptors"
 
 
 @dataclass(frozen=True, slots=True)
@@ -51,12 +58,14 @@ class Advice:
 
 @dataclass(frozen=True, slots=True)
 class Machine:
-    """How a configuration is to be served: connections at a time, the memory in bytes or None if it is not known, and
-    for arena-host at how many per cent of its steps a history ends a generation; None is for arena-server."""
+    """How a configuration is to be served: connections at a time, the memory in bytes or None if it is not known, for
+    arena-host at how many per cent of its steps a history ends a generation (None is for arena-server), and how many
+    files it may have open, None if there is no limit."""
 
     connections: int = 64
     memory: int | None = None
     rotate_at: int | None = None
+    descriptors: int | None = None
 
 
 def memory_of_machine(path: str = MEMORY_FILE) -> int | None:
@@ -73,7 +82,7 @@ def advice_of(config: Mapping[str, Any], machine: Machine) -> list[Advice]:
     """What is unwise in a valid configuration: first what is so of a tenant, in their order, then what of all."""
     tenants: Sequence[Mapping[str, Any]] = config["tenants"]
     return [*(it for tenant in tenants for it in (*_no_worker_slot(tenant), *_short_history(tenant, machine))),
-            *_few_workers(tenants, config["workers"], machine), *_memory(tenants, machine)]
+            *_few_workers(tenants, config["workers"], machine), *_memory(tenants, machine), *_descriptors(machine)]
 
 
 def _no_worker_slot(tenant: Mapping[str, Any]) -> Iterator[Advice]:
@@ -140,6 +149,17 @@ def _memory(tenants: Sequence[Mapping[str, Any]], machine: Machine) -> Iterator[
     steps = machine.memory // (times * sum(bytes_of({**it, "steps": 1}, machine.connections) for it in tenants))
     yield Advice(About.MEMORY, None, text, f"lower steps, to {steps:,} at most for each tenant, or --connections"
                  if steps else "lower --connections, or have fewer tenants")
+
+
+def _descriptors(machine: Machine) -> Iterator[Advice]:
+    """Fewer descriptors than a host needs while as many generations are open as may be."""
+    if machine.rotate_at is None or machine.descriptors is None:
+        return
+    need = MOST_GENERATIONS * (machine.connections + 2) + OTHER_DESCRIPTORS
+    if need > machine.descriptors:
+        yield Advice(About.DESCRIPTORS, None, f"{MOST_GENERATIONS} generations with "
+                     f"{counted(machine.connections, 'connection')} take up to {need:,} files, and a process may have "
+                     f"{machine.descriptors:,} open here", f"start the host with `ulimit -n {need}` or more")
 
 
 def _gib(count: int) -> str:

@@ -11,7 +11,7 @@ use dump_lines::{DumpFault, write_dump};
 use job_language::{Entry, TenantConfig};
 use std::alloc::{AllocError, Global};
 use std::fs;
-use std::fs::{Files, OpenFile, OpenOptions};
+use std::fs::{File, Files, OpenFile, OpenOptions};
 use std::io::{ErrorKind, Write};
 use std::marker::Model;
 use std::os::unix::fs::OpenOptionsExt;
@@ -81,13 +81,13 @@ impl<F: OpenFile + Write + Drop> Part<F> {
         }
     }
 
-    /// Takes the place of the file at the path for which it was made. `Device` if it can't: it is removed then, and the
-    /// file stays.
+    /// Takes the place of the file at the path for which it was made, and brings that to the disk. `Device` if it can't
+    /// take it: it is removed then, and the file stays. `Device` too if its name may not be on the disk.
     pub fn keep<R: Files>(self, rt: &R, path: &str) -> Result<(), DumpFault>
         ensures { result ≢ Err NoEntry }
     {
         if fs::rename(rt, self.path.as_str(), path).is_ok() {
-            return Ok(());
+            return sync_folder(rt, path);
         }
         // The end is the same if it can't be removed.
         let _ = self.remove(rt);
@@ -102,6 +102,25 @@ impl<F: OpenFile + Write + Drop> Part<F> {
             Ok(()) => Ok(()),
             Err(_) => Err(DumpFault::Device),
         }
+    }
+}
+
+/// Brings the names in the folder of a path to the disk, if its file system can do that for a folder. `Device` if it fails.
+fn sync_folder<R: Files>(rt: &R, path: &str) -> Result<(), DumpFault>
+    ensures { result ≢ Err NoEntry }
+{
+    let folder = match path.rsplit_once('/') {
+        Some(("", _)) => "/",
+        Some((folder, _)) => folder,
+        None => ".",
+    };
+    let Ok(folder) = File::open(rt, folder) else {
+        return Err(DumpFault::Device);
+    };
+    match folder.sync_all() {
+        Ok(()) => Ok(()),
+        Err(fault) if fault.kind() == ErrorKind::InvalidInput => Ok(()),
+        Err(_) => Err(DumpFault::Device),
     }
 }
 

@@ -6,6 +6,7 @@ use Rattle.generation_life.specs.declared.generations.Why.TheVariants.{File, His
 use Rattle.host_agenda.specs.declared.agenda.HostStep.{HostStep}
 use Rattle.host_agenda.specs.declared.agenda.HostStep.TheVariants.{Wait, Open, Hold, Failed, End}
 use Rattle.host_agenda.specs.declared.agenda.TheConstants.{MOST_ALIVE}
+use Rattle.server_io.specs.declared.ends.ServerEnd.{ServerEnd}
 use Rattle.host_agenda.specs.States.{State}
 
 -- The generation to leave is the one that serves, for the reason that was asked for; if none serves, there is none.
@@ -39,7 +40,7 @@ still_asked (Some Stop) = Some Stop
 -- is nothing else to do.
 abbrev pub Takes : State → HostStep → State → Type 0
 Takes old Wait new = HasNothingToDo old × (new ≡ old)
-Takes old (Open left) new =
+Takes old (Open left opening) new =
     (old.is_opening ≡ false) × (old.is_stopping ≡ false) × (old.failed ≡ None) × Leaves old.generations.serving old.wish left
     × (alive old.generations < MOST_ALIVE) × (new ≡ record old { is_opening = true; is_held = false })
 Takes old (Hold left) new =
@@ -81,6 +82,10 @@ pub record Begins (old : State) (number : ℕ) (new : State) : Type 0 where
   pub left : old.generations.next < 18446744073709551615
   pub is_next : number ≡ old.generations.next
   pub begun : new ≡ begun old
+
+-- The generation that was to be opened is not, for that reason.
+abbrev pub given_up : ServerEnd → State → State
+given_up end a = record a { is_opening = false; failed = Some end }
 
 -- The generation that serves, if one does, drains, and the host stops.
 abbrev pub stopped : State → State

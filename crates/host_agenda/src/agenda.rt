@@ -1,4 +1,5 @@
 // What a host has before it: its generations, and what is asked for.
+ghost use Rattle.std.specs.Prelude.{◌≡◌};
 ghost use Rattle.host_agenda.specs.States.{AreFew, State};
 
 mod steps;
@@ -7,13 +8,36 @@ use generation_life::{Generations, LifeStage, Why};
 use server_io::ServerEnd;
 use std::marker::Model;
 
+/// The leave to open a generation. Each `HostStep::Open` has one, and it can't be copied: one generation begins with it, or
+/// it is given up. Without it nobody can give up what has begun.
+#[derive(Debug, Drop)]
+pub struct Opening {
+    _made_here: (),
+}
+
+/// A generation that was begun, and whose tenants are not being closed. It can't be copied or let go: whoever has it
+/// closes the generation.
+#[derive(Debug)]
+pub struct Begun {
+    number: u64,
+}
+
+impl Begun {
+    /// The number of the generation.
+    pub fn number(&self) -> u64
+        ensures { result ≡ self.now.number }
+    {
+        self.number
+    }
+}
+
 /// What the thread that opens generations is to do next.
-#[derive(Clone, Copy, Debug, PartialEq, Eq)]
+#[derive(Debug, Drop)]
 pub enum HostStep {
     /// Nothing but to wait.
     Wait,
     /// Open a generation. The one of that number serves, and is to be left for that reason.
-    Open(Option<(u64, Why)>),
+    Open(Option<(u64, Why)>, Opening),
     /// Say that this has to wait: as many generations are there as may be.
     Hold(Option<(u64, Why)>),
     /// A generation could not be opened.

@@ -4,5 +4,5 @@
 mod agenda;
 mod shares;
 
-pub use agenda::{Agenda, HostStep, Look, MOST_ALIVE};
+pub use agenda::{Agenda, Begun, HostStep, Look, MOST_ALIVE, Opening};
 pub use shares::is_used;

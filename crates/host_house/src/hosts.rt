@@ -2,23 +2,33 @@
 ghost use Rattle.std.specs.Prelude.{◌≡◌, ◌||◌};
 ghost use Rattle.generation_life.specs.Lines.{ended};
 
-use generation_life::{LifeStage, Why};
-use host_agenda::{Agenda, HostStep, Look};
-use host_status::{ClosedGeneration, Generation, HostStatus, status_line};
+use crate::outlet::Outlet;
+use generation_life::Why;
+use host_agenda::{Agenda, Begun, HostStep, Look, Opening};
+use host_status::{ClosedGeneration, Event, Generation, HostStatus, status_line};
 use server_io::ServerEnd;
 use std::alloc::{AllocError, Global};
-use std::sync::{Condvar, CondvarTimeouts, Mutex, Wait};
+use std::sync::{Arc, Condvar, CondvarTimeouts, Mutex, Wait};
 use std::time::{Clock, Duration};
 
 /// How many generations that are closed are shown.
 const SHOWN: usize = 16;
 
+/// What went wrong with the histories of a generation's tenants.
+#[derive(Clone, Copy, Debug, PartialEq, Eq, Default)]
+pub struct Faults {
+    /// Whether some tenant was closed with a fault.
+    pub has_close_fault: bool,
+    /// Whether some history is in no file.
+    pub has_lost_history: bool,
+}
+
 /// What is kept under the lock.
 #[derive(Drop)]
 struct Kept {
     agenda: Agenda,
-    /// Whether some tenant was closed with a fault.
-    has_close_fault: bool,
+    /// What went wrong with histories so far.
+    faults: Faults,
     /// The last report of each generation that is not closed, in the order of their first ones.
     living: Vec<Generation>,
     /// The last ones that were closed, the newest last.
@@ -26,14 +36,18 @@ struct Kept {
 }
 
 impl Kept {
-    /// Notes that a generation is closed, and whether some tenant of it was closed with a fault.
-    fn end(&mut self, closed: ClosedGeneration, has_fault: bool)
-        ensures fault { self.new.has_close_fault ≡ (self.old.has_close_fault || has_fault) }
+    /// Notes that a generation is closed, and what went wrong with its histories.
+    fn end(&mut self, closed: ClosedGeneration, faults: Faults)
+        ensures fault { self.new.faults.has_close_fault
+            ≡ (self.old.faults.has_close_fault || faults.has_close_fault) }
+        ensures lost { self.new.faults.has_lost_history
+            ≡ (self.old.faults.has_lost_history || faults.has_lost_history) }
         ensures agenda { self.new.agenda ≡ record self.old.agenda
             { generations = ended closed.generation self.old.agenda.generations } }
     {
         let number = closed.generation;
-        self.has_close_fault |= has_fault;
+        self.faults.has_close_fault |= faults.has_close_fault;
+        self.faults.has_lost_history |= faults.has_lost_history;
         self.living.retain(|known| known.generation != number);
         if self.closed.len() >= SHOWN {
             self.closed.remove(0);
@@ -42,6 +56,16 @@ impl Kept {
         let _ = self.closed.push(closed);
         self.agenda.end(number);
     }
+
+    /// Tells each generation that is shown how far it is: its own report may be older.
+    fn tell_stages(&mut self) {
+        let Kept { agenda, living, .. } = self;
+        for known in living.iter_mut() {
+            let look = agenda.look(known.generation);
+            known.state = look.stage.unwrap_or(known.state);
+            known.why = look.why;
+        }
+    }
 }
 
 /// What the generations of a host share, and the thread that opens them.
@@ -49,20 +73,33 @@ impl Kept {
 pub struct Host {
     kept: Mutex<Kept>,
     changed: Condvar,
+    outlet: Arc<Outlet>,
 }
 
 impl Host {
-    /// A host without a generation. The first will have that number.
-    pub fn new(alloc: Global, first: u64) -> Host {
+    /// A host without a generation, which reports to that outlet. The first generation will have that number.
+    pub fn new(alloc: Global, first: u64, outlet: Arc<Outlet>) -> Host {
         Host {
             kept: Mutex::new(Kept {
                 agenda: Agenda::new(alloc, first),
-                has_close_fault: false,
+                faults: Faults::default(),
                 living: Vec::new(alloc),
                 closed: Vec::new(alloc),
             }),
             changed: Condvar::new(),
+            outlet,
         }
+    }
+
+    /// Where lines go that are to be written.
+    pub fn outlet(&self) -> &Outlet {
+        &self.outlet
+    }
+
+    /// Reports an event, with the time since 1970. It is lost if the clock can't be read, or no memory or no room is left
+    /// for its line.
+    pub fn say<R: Wait + Clock>(&self, rt: &R, alloc: Global, event: Event) {
+        self.outlet.say(rt, alloc, event);
     }
 
     /// What is to be done next. `Open`, `Hold` and `Failed` come once each: then a generation is being opened, or it is
@@ -77,29 +114,37 @@ impl Host {
         let _waited = self.changed.wait_timeout(rt, kept, most);
     }
 
-    /// The generation that was to be opened serves from now on: its number. The one that served drains. None if the host
-    /// stops, no number is left, or none was to be opened. If an allocation fails, nothing has changed.
-    pub(crate) fn begin<R: Wait>(&self, rt: &R) -> Result<Option<u64>, AllocError> {
-        let begun = self.kept.lock(rt).agenda.begin()?;
-        if begun.is_some() {
-            self.changed.notify_all();
-        }
-        Ok(begun)
+    /// The generation that was to be opened serves from now on. The one that served drains. None if it is given up, since
+    /// the host stops, no number is left, or an allocation fails.
+    pub(crate) fn begin<R: Wait>(&self, rt: &R, opening: Opening) -> Option<Begun> {
+        let begun = self.kept.lock(rt).agenda.begin(opening);
+        self.changed.notify_all();
+        begun
     }
 
     /// The generation that was to be opened can't be, for that reason.
-    pub fn give_up<R: Wait>(&self, rt: &R, end: ServerEnd) {
-        self.kept.lock(rt).agenda.give_up(end);
+    pub fn give_up<R: Wait>(&self, rt: &R, opening: Opening, end: ServerEnd) {
+        self.kept.lock(rt).agenda.give_up(opening, end);
         self.changed.notify_all();
     }
 
-    /// Asks for the generation that serves to be left. It says whether nobody had asked before.
-    pub fn wish<R: Wait>(&self, rt: &R, why: Why) -> bool {
-        let is_new = self.kept.lock(rt).agenda.ask(why);
+    /// Asks for the generation of that number to be left, if it serves.
+    pub(crate) fn wish<R: Wait>(&self, rt: &R, number: u64, why: Why) {
+        if self.kept.lock(rt).agenda.ask(number, why) {
+            self.changed.notify_all();
+        }
+    }
+
+    /// Asks for the generation that serves now to be left, if one does.
+    pub fn wish_now<R: Wait>(&self, rt: &R, why: Why) {
+        let mut kept = self.kept.lock(rt);
+        let is_new = match kept.agenda.serving() {
+            Some(number) => kept.agenda.ask(number, why),
+            None => false,
+        };
         if is_new {
             self.changed.notify_all();
         }
-        is_new
     }
 
     /// Takes back what a file asked for, if it was not begun.
@@ -121,12 +166,12 @@ impl Host {
 
     /// Whether a generation serves.
     pub fn is_serving<R: Wait>(&self, rt: &R) -> bool {
-        self.kept.lock(rt).agenda.is_serving()
+        self.kept.lock(rt).agenda.serving().is_some()
     }
 
-    /// Whether some tenant was closed with a fault.
-    pub fn has_close_fault<R: Wait>(&self, rt: &R) -> bool {
-        self.kept.lock(rt).has_close_fault
+    /// What went wrong with the histories of all generations that are closed.
+    pub fn faults<R: Wait>(&self, rt: &R) -> Faults {
+        self.kept.lock(rt).faults
     }
 
     /// Keeps a generation's report, in place of the one before. If an allocation fails, that one stays.
@@ -149,21 +194,14 @@ impl Host {
         }
     }
 
-    /// The generation of that number is being closed.
-    pub fn close<R: Wait>(&self, rt: &R, number: u64) {
-        let mut kept = self.kept.lock(rt);
-        kept.agenda.close(number);
-        for known in kept.living.iter_mut() {
-            if known.generation == number {
-                known.state = LifeStage::Closing;
-            }
-        }
+    /// A generation is being closed: its number.
+    pub fn close<R: Wait>(&self, rt: &R, begun: Begun) -> u64 {
+        self.kept.lock(rt).agenda.close(begun)
     }
 
-    /// The generation is closed, and some tenant of it was closed with a fault or none was. What it was is shown, unless
-    /// an allocation fails.
-    pub fn end<R: Wait>(&self, rt: &R, closed: ClosedGeneration, has_fault: bool) {
-        self.kept.lock(rt).end(closed, has_fault);
+    /// The generation is closed, and that went wrong with its histories. What it was is shown, unless an allocation fails.
+    pub fn end<R: Wait>(&self, rt: &R, closed: ClosedGeneration, faults: Faults) {
+        self.kept.lock(rt).end(closed, faults);
         self.changed.notify_all();
     }
 
@@ -175,7 +213,8 @@ impl Host {
         alloc: Global,
         status: HostStatus<'_>,
     ) -> Result<String, serde_json::Error> {
-        let kept = self.kept.lock(rt);
+        let mut kept = self.kept.lock(rt);
+        kept.tell_stages();
         let HostStatus {
             time,
             began,

@@ -1,14 +1,12 @@
 // The life of a generation, as the thread sees it that accepts its connections.
 
-use crate::events::say;
 use crate::living::Setting;
 use crate::places::Place;
 use crate::reception::Reception;
-use crate::reports::{Facts, is_one_used, report};
+use crate::reports::{Facts, has_open_work, is_one_used, report};
 use generation_life::{LifeStage, Why};
-use host_agenda::Look;
+use host_agenda::{Begun, Look, Opening};
 use host_status::{Event, Fault};
-use server_io::ServerEnd;
 use std::alloc::Global;
 use std::net::Shutdown;
 use std::sync::Wait;
@@ -25,10 +23,10 @@ const BETWEEN_REPORTS: u64 = 1000;
 const PAUSE: u64 = 20;
 
 /// What a generation was, once its sessions have ended.
-#[derive(Clone, Copy, Debug, PartialEq, Eq)]
+#[derive(Debug)]
 pub struct Lived {
-    /// Its number. A host numbers its generations in the order in which they are opened.
-    pub number: u64,
+    /// The generation, which is to be closed.
+    pub begun: Begun,
     /// When it was opened, in seconds since 1970.
     pub began: u64,
     /// Why it was left.
@@ -53,58 +51,43 @@ pub(crate) struct Life<'s, 'p> {
     setting: Setting<'s>,
     places: &'p [Place],
     reception: Reception<'p>,
-    number: u64,
+    begun: Begun,
     began: u64,
     phase: Phase,
     /// When it last reported, in milliseconds of the monotonic clock.
     reported: u64,
 }
 
-impl<'s, 'p> Drop for Life<'s, 'p> {
-    fn drop(self) {
-        let Life {
-            setting: _setting,
-            places: _places,
-            reception: _reception,
-            number: _number,
-            began: _began,
-            phase: _phase,
-            reported: _reported,
-        } = self;
-    }
-}
-
 impl<'s, 'p> Life<'s, 'p> {
-    /// A generation that serves from now on. `Device` if the host stops.
+    /// A generation that serves from now on. None if it is given up.
     pub(crate) fn begin<R: Wait + Clock>(
         rt: &R,
         setting: Setting<'s>,
         places: &'p [Place],
         reception: Reception<'p>,
-    ) -> Result<Life<'s, 'p>, ServerEnd> {
-        let Some(number) = setting.host.begin(rt)? else {
-            return Err(ServerEnd::Device);
-        };
-        Ok(Life {
+        opening: Opening,
+    ) -> Option<Life<'s, 'p>> {
+        let begun = setting.host.begin(rt, opening)?;
+        Some(Life {
             setting,
             places,
             reception,
-            number,
+            begun,
             began: seconds(rt),
             phase: Phase::Serving,
             reported: 0,
         })
     }
 
-    /// Lives until all sessions have ended.
-    pub(crate) fn pass<R: Wait + Clock + Print + Eprint>(self, rt: &R, alloc: Global) -> Lived {
+    /// Lives until all sessions have ended, and no job is left or the patience with them is over.
+    pub(crate) fn pass<R: Wait + Clock>(self, rt: &R, alloc: Global) -> Lived {
         let mut life = self;
         let Setting { config, asked, .. } = life.setting;
-        say(
+        life.setting.host.say(
             rt,
             alloc,
             Event::Opened {
-                generation: life.number,
+                generation: life.begun.number(),
                 tenants: config.tenants().len(),
                 ms: millis(rt).saturating_sub(asked),
             },
@@ -114,29 +97,43 @@ impl<'s, 'p> Life<'s, 'p> {
                 break;
             }
         }
-        let look = life.setting.host.look(rt, life.number);
+        life.end(rt)
+    }
+
+    /// What the generation was.
+    fn end<R: Wait>(self, rt: &R) -> Lived {
+        let Life {
+            setting,
+            places: _places,
+            reception,
+            begun,
+            began,
+            phase: _phase,
+            reported: _reported,
+        } = self;
+        let look = setting.host.look(rt, begun.number());
         Lived {
-            number: life.number,
-            began: life.began,
+            begun,
+            began,
             why: look.why.unwrap_or(Why::Stop),
-            served: life.reception.served(),
+            served: reception.served(),
         }
     }
 
     /// Looks after the generation for a tick at most. It says whether its life is over.
-    fn take_turn<R: Wait + Clock + Print + Eprint>(&mut self, rt: &R, alloc: Global) -> bool {
-        let look = self.setting.host.look(rt, self.number);
-        let now = millis(rt);
+    fn take_turn<R: Wait + Clock>(&mut self, rt: &R, alloc: Global) -> bool {
         let is_quiet = self.attend(rt);
+        let look = self.setting.host.look(rt, self.begun.number());
+        let now = millis(rt);
         self.grow_older(rt, alloc, look, now, is_quiet);
-        if self.phase != Phase::Serving {
-            if self.reception.guests(rt) == 0 {
-                return true;
-            }
-        } else if self
-            .reception
-            .admit(rt, alloc, self.setting.endpoint)
-            .is_err()
+        if self.is_over(rt) {
+            return true;
+        }
+        if self.phase == Phase::Serving
+            && self
+                .reception
+                .admit(rt, alloc, self.setting.endpoint)
+                .is_err()
         {
             self.say_refused(rt, alloc, now);
         }
@@ -145,6 +142,17 @@ impl<'s, 'p> Life<'s, 'p> {
             self.report(rt, alloc, look);
         }
         false
+    }
+
+    /// Whether nothing is left to wait for: all sessions have ended, and no job may still get its outcome.
+    fn is_over<R: Wait>(&self, rt: &R) -> bool {
+        match self.phase {
+            Phase::Serving => false,
+            Phase::Draining { .. } => {
+                self.reception.guests(rt) == 0 && !has_open_work(rt, self.setting.house)
+            }
+            Phase::Stopping { .. } => self.reception.guests(rt) == 0,
+        }
     }
 
     /// Waits until something happens, for a tick at most. It says whether nothing did.
@@ -159,7 +167,7 @@ impl<'s, 'p> Life<'s, 'p> {
     }
 
     /// Goes on to the next phase, if it is time.
-    fn grow_older<R: Wait + Clock + Print + Eprint>(
+    fn grow_older<R: Wait + Clock>(
         &mut self,
         rt: &R,
         alloc: Global,
@@ -178,16 +186,16 @@ impl<'s, 'p> Life<'s, 'p> {
         match self.phase {
             Phase::Serving if look.stage == Some(LifeStage::Serving) => {
                 if is_one_used(rt, house, config, terms.rotate_at) {
-                    host.wish(rt, Why::History);
+                    host.wish(rt, self.begun.number(), Why::History);
                 }
             }
             Phase::Serving => {
                 self.reception.leave(endpoint);
-                say(
+                host.say(
                     rt,
                     alloc,
                     Event::Draining {
-                        generation: self.number,
+                        generation: self.begun.number(),
                     },
                 );
                 let patience = u64::from(terms.patience).saturating_mul(1000);
@@ -219,7 +227,7 @@ impl<'s, 'p> Life<'s, 'p> {
             ..
         } = self.setting;
         let facts = Facts {
-            number: self.number,
+            number: self.begun.number(),
             stage: look.stage.unwrap_or(LifeStage::Draining),
             why: look.why,
             began: self.began,
@@ -233,14 +241,14 @@ impl<'s, 'p> Life<'s, 'p> {
     }
 
     /// Says that a connection was not accepted, once in a while.
-    fn say_refused<R: Clock + Print + Eprint>(&mut self, rt: &R, alloc: Global, now: u64) {
+    fn say_refused<R: Wait + Clock>(&mut self, rt: &R, alloc: Global, now: u64) {
         if now.saturating_sub(self.reported) >= BETWEEN_REPORTS {
-            say(
+            self.setting.host.say(
                 rt,
                 alloc,
                 Event::Fault {
                     what: Fault::Accept,
-                    generation: Some(self.number),
+                    generation: Some(self.begun.number()),
                 },
             );
         }

@@ -9,6 +9,7 @@ use crate::places::{HeardBell, Place};
 use crate::reception::Reception;
 use crate::seats::SeatsBack;
 use call_queues::QueuePass;
+use host_agenda::Opening;
 use job_language::Config;
 use mio::Waker;
 use server_house::{Client, FreshSeats, House, Post, Posts, serve_calls};
@@ -73,29 +74,97 @@ impl Eyes {
     }
 }
 
-/// Starts a generation's workers and sessions, and serves its clients until it is left and its sessions have ended.
-/// All seats come back. `Device` if a thread can't be started, or a pass or a seat is missing, and `Memory` if an
-/// allocation fails first: nobody was served, and no generation was opened.
-pub fn live<R: Threads + Wait + Clock + Sync + Print + Eprint>(
+/// Starts a generation's workers and sessions, and serves its clients until it is left, its sessions have ended, and its
+/// jobs have their outcomes or its patience is over. Its seats come back. None if it is given up, and nobody was served:
+/// with `Device` if a thread can't be started, a pass or a seat is missing, or the host stops, and with `Memory` if an
+/// allocation fails.
+pub fn live<R: Threads + Wait + Clock + Sync>(
     rt: &R,
     alloc: Global,
     setting: Setting<'_>,
     eyes: Eyes,
     passes: Vec<QueuePass>,
     seats: FreshSeats,
-) -> Result<(Lived, SeatsBack), ServerEnd>
+    opening: Opening,
+) -> Option<(Lived, SeatsBack)>
     requires { ArePassesOf setting.house.now.queues.queues passes.items }
 {
-    let Setting { house, terms, .. } = setting;
-    let mut posts = Posts::new(house, passes);
-    let mut seats = seats;
-    let places = new_places(alloc, setting.config.workers())?;
-    let desks = new_desks(alloc, terms.connections)?;
-    let workers = next_posts(alloc, &mut posts, places.len())?;
-    let Some(clients) = next_clients(alloc, &mut posts, &mut seats, desks.len())? else {
-        return Err(ServerEnd::Device);
-    };
-    let threads = Vec::with_capacity(alloc, desks.len())?;
+    match Staff::gather(alloc, setting, passes, seats) {
+        Ok(staff) => live_with(rt, alloc, setting, eyes, staff, opening),
+        Err(end) => {
+            setting.host.give_up(rt, opening, end);
+            None
+        }
+    }
+}
+
+/// What the threads of a generation are started with.
+#[derive(Drop)]
+struct Staff<'h> {
+    places: Vec<Place>,
+    desks: Vec<Desk>,
+    workers: Vec<Post<'h>>,
+    /// A post and the seats for each desk.
+    clients: Vec<Client<'h>>,
+    /// No threads yet, with room for one of each desk.
+    threads: Vec<JoinHandle<SeatsBack>>,
+    /// The seats that nobody uses, with room for all others.
+    back: SeatsBack,
+}
+
+impl<'h> Staff<'h> {
+    /// All that is needed, with all memory that is. `Device` if a pass or a seat is missing, and `Memory` if an allocation
+    /// fails.
+    fn gather(
+        alloc: Global,
+        setting: Setting<'h>,
+        passes: Vec<QueuePass>,
+        seats: FreshSeats,
+    ) -> Result<Staff<'h>, ServerEnd>
+        requires { ArePassesOf setting.house.now.queues.queues passes.items }
+    {
+        let Setting { house, terms, .. } = setting;
+        let mut posts = Posts::new(house, passes);
+        let mut seats = seats;
+        let places = new_places(alloc, setting.config.workers())?;
+        let desks = new_desks(alloc, terms.connections)?;
+        let workers = next_posts(alloc, &mut posts, places.len())?;
+        let room = seats.len();
+        let Some(clients) = next_clients(alloc, &mut posts, &mut seats, desks.len())? else {
+            return Err(ServerEnd::Device);
+        };
+        let threads = Vec::with_capacity(alloc, desks.len())?;
+        let mut back = SeatsBack::unused(seats);
+        back.reserve(room)?;
+        Ok(Staff {
+            places,
+            desks,
+            workers,
+            clients,
+            threads,
+            back,
+        })
+    }
+}
+
+/// Lets a generation live, as `live` does, with what its threads are started with.
+fn live_with<R: Threads + Wait + Clock + Sync>(
+    rt: &R,
+    alloc: Global,
+    setting: Setting<'_>,
+    eyes: Eyes,
+    staff: Staff<'_>,
+    opening: Opening,
+) -> Option<(Lived, SeatsBack)> {
+    let Setting { host, house, .. } = setting;
+    let Staff {
+        places,
+        desks,
+        workers,
+        clients,
+        threads,
+        back,
+    } = staff;
     let waiting = Mutex::new(clients);
     let Eyes { watch, waker } = eyes;
     let crew = Crew {
@@ -106,20 +175,26 @@ pub fn live<R: Threads + Wait + Clock + Sync + Print + Eprint>(
     };
     let reception = Reception::new(watch, crew.desks);
     thread::scope(thread::scope_env(), rt, move |scope| {
-        let mut back = SeatsBack::unused(seats);
+        let mut back = back;
         let mut threads = threads;
         let ready = match start_workers(scope, rt, house, crew.places, workers) {
             Ok(()) => start_sessions(scope, rt, alloc, crew, &mut threads),
             Err(end) => Err(end),
         };
         let lived = match ready {
-            Ok(()) => pass_life(rt, alloc, setting, crew.places, reception),
-            Err(end) => Err(end),
+            Ok(()) => pass_life(rt, alloc, setting, crew.places, reception, opening),
+            Err(end) => {
+                host.give_up(rt, opening, end);
+                None
+            }
         };
         house.stop(rt);
         close_desks(rt, crew.desks);
-        collect(rt, threads, &mut back)?;
-        Ok((lived?, back))
+        collect(rt, threads, &mut back);
+        match lived {
+            Some(lived) => Some((lived, back)),
+            None => None,
+        }
     })
 }
 
@@ -174,16 +249,17 @@ fn close_desks<R: Wait>(rt: &R, desks: &[Desk]) {
     }
 }
 
-/// Opens the generation, and lets it live.
-fn pass_life<'s, 'p, R: Wait + Clock + Print + Eprint>(
+/// Begins the generation, and lets it live. None if it is given up.
+fn pass_life<'s, 'p, R: Wait + Clock>(
     rt: &R,
     alloc: Global,
     setting: Setting<'s>,
     places: &'p [Place],
     reception: Reception<'p>,
-) -> Result<Lived, ServerEnd> {
-    let life = Life::begin(rt, setting, places, reception)?;
-    Ok(life.pass(rt, alloc))
+    opening: Opening,
+) -> Option<Lived> {
+    let life = Life::begin(rt, setting, places, reception, opening)?;
+    Some(life.pass(rt, alloc))
 }
 
 /// What the threads of a generation share beside its house.
@@ -256,14 +332,10 @@ fn next_clients<'h>(
     Ok(Some(clients))
 }
 
-/// Waits for the threads of sessions, and takes the seats that they give back.
-fn collect<R: Threads>(
-    rt: &R,
-    threads: Vec<JoinHandle<SeatsBack>>,
-    back: &mut SeatsBack,
-) -> Result<(), AllocError> {
+/// Waits for the threads of sessions, and takes the seats that they give back, for which there is room.
+fn collect<R: Threads>(rt: &R, threads: Vec<JoinHandle<SeatsBack>>, back: &mut SeatsBack) {
     for thread in threads {
-        back.add(thread.join(rt))?;
+        // If some were lost, the close would find that they are missing.
+        let _ = back.add(thread.join(rt));
     }
-    Ok(())
 }

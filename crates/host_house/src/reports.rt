@@ -117,3 +117,20 @@ pub(crate) fn is_one_used<R: Wait>(rt: &R, house: &House, config: &Config, perce
         percent,
     ))
 }
+
+/// How many jobs of a house's tenants have no outcome.
+pub fn open_jobs<R: Wait>(rt: &R, house: &House) -> u64 {
+    let mut jobs = 0u64;
+    for door in house.doors() {
+        jobs = jobs.saturating_add(door.tally(rt).jobs.running);
+    }
+    jobs
+}
+
+/// Whether a tenant of a house has an open row, or a job without an outcome.
+pub(crate) fn has_open_work<R: Wait>(rt: &R, house: &House) -> bool {
+    house.doors().iter().any(|door| {
+        let tally = door.tally(rt);
+        tally.open_rows > 0 || tally.jobs.running > 0
+    })
+}

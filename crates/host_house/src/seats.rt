@@ -44,6 +44,13 @@ impl SeatsBack {
         SeatsBack::new(seats.into_seats())
     }
 
+    /// Makes room for that many more seats. If an allocation fails, nothing has changed.
+    pub(crate) fn reserve(&mut self, seats: usize) -> Result<(), AllocError>
+        ensures { self.new ≡ self.old }
+    {
+        self.seats.reserve(seats)
+    }
+
     /// Adds seats that came back as well. Without memory for them they are lost.
     pub(crate) fn add(&mut self, other: SeatsBack) -> Result<(), AllocError>
         ensures { OnOk result (self.new ≡ self.old ++ other) }

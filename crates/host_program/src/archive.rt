@@ -1,6 +1,6 @@
 // Where the thread of a generation leaves what is to be written to files.
 
-use host_house::Lived;
+use generation_life::Why;
 use job_language::Config;
 use std::sync::{Condvar, Mutex, Wait};
 use tenant_lock::{CloseFault, Closed};
@@ -9,11 +9,20 @@ use tenant_lock::{CloseFault, Closed};
 #[derive(Drop)]
 pub(crate) struct Left {
     pub(crate) config: Config,
-    pub(crate) lived: Lived,
+    /// Its number.
+    pub(crate) number: u64,
+    /// When it was opened, in seconds since 1970.
+    pub(crate) began: u64,
+    /// Why it was left.
+    pub(crate) why: Why,
+    /// How many connections it had.
+    pub(crate) served: u64,
+    /// How many of its jobs had no outcome.
+    pub(crate) lost: u64,
     /// When its tenants began to be closed, in milliseconds of the monotonic clock.
     pub(crate) since: u64,
-    /// The end of each tenant, in the order of the configuration. Empty if an allocation failed.
-    pub(crate) ends: Vec<Result<Closed, CloseFault>>,
+    /// The end of each tenant, in the order of the configuration. None if an allocation failed: all histories are lost.
+    pub(crate) ends: Option<Vec<Result<Closed, CloseFault>>>,
 }
 
 /// Holds one generation that was left, until somebody takes it. So no list has to grow when memory is short.

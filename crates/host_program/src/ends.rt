@@ -1,6 +1,8 @@
 // How a host ends.
+ghost use Rattle.std.specs.Prelude.{◌≡◌, true, false};
 
 use dump_lines::DumpFault;
+use host_house::Faults;
 use host_status::Fault;
 use program_words::WordsFault;
 use server_io::ServerEnd;
@@ -13,6 +15,23 @@ pub(crate) fn fault_text(end: ServerEnd) -> Option<&'static str> {
         ServerEnd::Config => Some("arena-host: config"),
         ServerEnd::Device => Some("arena-host: device"),
         ServerEnd::Memory => Some("arena-host: memory"),
+    }
+}
+
+/// How the host ends, if that went wrong with histories.
+pub(crate) fn end_of(faults: Faults) -> ServerEnd
+    ensures lost { faults.has_lost_history ≡ true → result ≡ ServerEnd.Device }
+    ensures fault { faults.has_lost_history ≡ false → faults.has_close_fault ≡ true
+        → result ≡ ServerEnd.Close }
+    ensures done { faults.has_lost_history ≡ false → faults.has_close_fault ≡ false
+        → result ≡ ServerEnd.Done }
+{
+    if faults.has_lost_history {
+        ServerEnd::Device
+    } else if faults.has_close_fault {
+        ServerEnd::Close
+    } else {
+        ServerEnd::Done
     }
 }
 

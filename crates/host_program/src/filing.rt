@@ -1,4 +1,5 @@
 // The histories of a generation become files, one tenant's after another.
+ghost use Rattle.std.specs.Prelude.{◌≡◌, ◌&&◌, ◌||◌, is_none, is_some, not};
 
 use crate::archive::{Archive, Left};
 use crate::ends::event_dump_fault;
@@ -8,7 +9,7 @@ use crate::shelves::Shelves;
 use crate::writing::{Work, Writer};
 use dump_files::{Part, make_part};
 use dump_lines::DumpFault;
-use host_house::{Host, millis, say, seconds};
+use host_house::{Faults, Host, millis, seconds};
 use host_status::{ClosedGeneration, ClosedTenant, Event, Fault};
 use program_words::HostWords;
 use std::alloc::{AllocError, Global};
@@ -38,18 +39,47 @@ enum End {
     Fault(u8),
 }
 
-/// A generation whose histories are being written.
+/// A set of tenants of a generation, by their places in the configuration.
+#[derive(Clone, Copy, Debug, PartialEq, Eq, Default)]
+struct Tenants {
+    bits: u64,
+}
+
+impl Tenants {
+    fn has(self, place: usize) -> bool {
+        self.bits & Tenants::bit(place) != 0
+    }
+
+    fn add(&mut self, place: usize) {
+        self.bits |= Tenants::bit(place);
+    }
+
+    /// The bit of a place: a configuration has no more than 64.
+    fn bit(place: usize) -> u64 {
+        match u32::try_from(place) {
+            Ok(place) => 1u64.checked_shl(place).unwrap_or(0),
+            Err(_) => 0,
+        }
+    }
+}
+
+/// A generation whose histories are being written, each once. Those that could not be written are tried again together,
+/// so that no tenant waits for another one's history.
 #[derive(Drop)]
 pub(crate) struct Filing {
     left: Left,
-    /// How many tenants are done with.
+    /// The place of the next tenant.
     at: usize,
-    /// How often the next one's history could not be written.
-    failures: u32,
-    /// Until when to wait before it is tried again, in milliseconds of the monotonic clock.
+    /// The tenants whose histories could not be written, and are to be tried again.
+    put_off: Tenants,
+    /// Those that are tried in this round. None in the first one, in which all are.
+    again: Option<Tenants>,
+    /// Until when histories are tried again, once one could not be written, in milliseconds of the monotonic clock.
+    until: Option<u64>,
+    /// Until when to wait before the next round, in the same milliseconds.
     rest: u64,
-    /// Whether some tenant was closed with a fault.
-    has_fault: bool,
+    /// What went wrong with the histories.
+    faults: Faults,
     /// What the status will show of the tenants that are done with.
     tenants: Vec<ClosedTenant>,
 }
@@ -58,12 +88,18 @@ impl Filing {
     /// The next generation that was left, if there is one.
     pub(crate) fn next<R: Wait>(rt: &R, alloc: Global, office: Office<'_>) -> Option<Filing> {
         let left = office.archive.take(rt)?;
+        let faults = Faults {
+            has_close_fault: false,
+            has_lost_history: left.ends.is_none(),
+        };
         Some(Filing {
             left,
             at: 0,
-            failures: 0,
+            put_off: Tenants::default(),
+            again: None,
+            until: None,
             rest: 0,
-            has_fault: false,
+            faults,
             tenants: Vec::new(alloc),
         })
     }
@@ -77,19 +113,21 @@ impl Filing {
     /// all is done and the generation has ended.
     pub(crate) fn go_on<R>(self, rt: &R, alloc: Global, office: Office<'_>) -> Option<Filing>
     where
-        R: Files<File = File> + Wait + Clock + Print + Eprint,
+        R: Files<File = File> + Wait + Clock,
     {
         match self.next_end() {
+            Some(_) if self.is_done_with() => Some(self.go_past()),
             Some(End::Closed(entries)) => {
-                if self.failures == 0 {
-                    self.print_closed(rt, entries);
+                if self.again.is_none() {
+                    self.print_closed(rt, alloc, office.host, entries);
                 }
                 self.give(rt, alloc, office)
             }
             Some(End::Fault(code)) => {
-                self.report_fault(rt, alloc, code);
+                self.report_fault(rt, alloc, office.host, code);
                 Some(self.pass_over(alloc, 0, Some(code), false))
             }
+            None if self.put_off != Tenants::default() => Some(self.begin_round(rt)),
             None => {
                 self.end(rt, alloc, office.host);
                 None
@@ -97,19 +135,48 @@ impl Filing {
         }
     }
 
-    /// What the next tenant left. None if all tenants are done with.
+    /// What the next tenant left. None if no more tenants are left in this round.
     fn next_end(&self) -> Option<End> {
-        match self.left.ends.get(self.at) {
+        match self.left.ends.as_ref()?.get(self.at) {
             Some(Ok(closed)) => Some(End::Closed(closed.history.len())),
             Some(Err(fault)) => Some(End::Fault(fault.code())),
             None => None,
         }
     }
 
+    /// Whether the next tenant is done with: it is not one of those that are tried again.
+    fn is_done_with(&self) -> bool {
+        match self.again {
+            Some(again) => !again.has(self.at),
+            None => false,
+        }
+    }
+
+    /// Goes on to the tenant after the next one.
+    fn go_past(self) -> Filing
+        ensures faults { result.faults ≡ self.faults }
+    {
+        let mut filing = self;
+        filing.at = filing.at.saturating_add(1);
+        filing
+    }
+
+    /// Begins with the tenants that were put off, after a rest.
+    fn begin_round<R: Clock>(self, rt: &R) -> Filing
+        ensures faults { result.faults ≡ self.faults }
+    {
+        let mut filing = self;
+        filing.again = Some(filing.put_off);
+        filing.put_off = Tenants::default();
+        filing.at = 0;
+        filing.rest = millis(rt).saturating_add(REST);
+        filing
+    }
+
     /// Gives the next history to be written. What is left, if it could not be given.
     fn give<R>(self, rt: &R, alloc: Global, office: Office<'_>) -> Option<Filing>
     where
-        R: Files<File = File> + Wait + Clock + Eprint,
+        R: Files<File = File> + Wait + Clock,
     {
         match self.make_part(rt, alloc, office.folder) {
             Ok(part) => {
@@ -136,15 +203,17 @@ impl Filing {
 
     /// Writes the next history to a part of its file.
     pub(crate) fn write_to(&self, alloc: Global, part: &mut Part<File>) -> Result<(), DumpFault> {
-        let tenant = self.left.config.tenants().get(self.at);
-        match (tenant, self.left.ends.get(self.at)) {
+        let Some(ends) = &self.left.ends else {
+            return Ok(());
+        };
+        match (self.left.config.tenants().get(self.at), ends.get(self.at)) {
             (Some(tenant), Some(Ok(closed))) => part.fill(alloc, tenant, closed.history.as_slice()),
             _ => Ok(()),
         }
     }
 
     /// Lets what was written take its place, and removes the tenant's dump that is too old then. If that fails, or
-    /// nothing was written, it is tried again each second as long as the host has patience.
+    /// nothing was written, it is tried again as long as the host has patience.
     pub(crate) fn keep<R>(
         rt: &R,
         alloc: Global,
@@ -153,7 +222,7 @@ impl Filing {
         work: Work,
     ) -> Filing
     where
-        R: Files<File = File> + Clock + Print + Eprint,
+        R: Files<File = File> + Wait + Clock,
     {
         let Work {
             filing,
@@ -216,7 +285,7 @@ impl Filing {
             return Ok(());
         };
         let named = tenant.tenant().name;
-        let generation = self.left.lived.number;
+        let generation = self.left.number;
         let Office { folder, words, .. } = office;
         folder.shelve(rt, alloc, shelves, named.as_str(), generation, words.keep)
     }
@@ -226,22 +295,27 @@ impl Filing {
         match self.left.config.tenants().get(self.at) {
             Some(tenant) => {
                 let named = tenant.tenant().name;
-                folder.dump(alloc, named.as_str(), self.left.lived.number)
+                folder.dump(alloc, named.as_str(), self.left.number)
             }
             None => Err(AllocError),
         }
     }
 
-    /// The next history could not be written. It is tried again as long as the host has patience.
-    fn fail<R: Clock + Eprint>(
+    /// The next history could not be written. It is tried again each second, after all others, as long as the host has
+    /// patience with the generation's histories: from the first time on that one of them could not be written.
+    fn fail<R: Wait + Clock>(
         self,
         rt: &R,
         alloc: Global,
         office: Office<'_>,
         fault: DumpFault,
     ) -> Filing {
-        say_fault(rt, alloc, event_dump_fault(fault), self.left.lived.number);
-        if self.failures >= office.words.patience {
+        let number = self.left.number;
+        say_fault(rt, alloc, office.host, event_dump_fault(fault), number);
+        let now = millis(rt);
+        let patience = u64::from(office.words.patience).saturating_mul(1000);
+        let until = self.until.unwrap_or(now.saturating_add(patience));
+        if until <= now {
             let entries = match self.next_end() {
                 Some(End::Closed(entries)) => entries,
                 _ => 0,
@@ -249,21 +323,24 @@ impl Filing {
             return self.pass_over(alloc, entries, None, false);
         }
         let mut filing = self;
-        filing.failures = filing.failures.saturating_add(1);
-        filing.rest = millis(rt).saturating_add(REST);
-        filing
+        filing.until = Some(until);
+        filing.put_off.add(filing.at);
+        filing.go_past()
     }
 
     /// The next tenant is done with.
-    fn pass_over(self, alloc: Global, entries: usize, fault: Option<u8>, dumped: bool) -> Filing {
+    fn pass_over(self, alloc: Global, entries: usize, fault: Option<u8>, dumped: bool) -> Filing
+        ensures close { result.faults.has_close_fault
+            ≡ (self.faults.has_close_fault || is_some fault) }
+        ensures lost { result.faults.has_lost_history
+            ≡ (self.faults.has_lost_history || (is_none fault && not dumped)) }
+    {
         let mut filing = self;
         // It is missing among those that are shown, and nowhere else.
         let _ = filing.note(alloc, entries, fault, dumped);
-        filing.has_fault |= fault.is_some();
-        filing.at = filing.at.saturating_add(1);
-        filing.failures = 0;
-        filing.rest = 0;
-        filing
+        filing.faults.has_close_fault |= fault.is_some();
+        filing.faults.has_lost_history |= fault.is_none() && !dumped;
+        filing.go_past()
     }
 
     /// Keeps what the status will show of the next tenant.
@@ -273,7 +350,9 @@ impl Filing {
         entries: usize,
         fault: Option<u8>,
         dumped: bool,
-    ) -> Result<(), AllocError> {
+    ) -> Result<(), AllocError>
+        ensures faults { self.new.faults ≡ self.old.faults }
+    {
         if let Some(tenant) = self.left.config.tenants().get(self.at) {
             let named = tenant.tenant().name;
             let tenant = String::from_str(alloc, named.as_str())?;
@@ -288,60 +367,72 @@ impl Filing {
     }
 
     /// Prints that the next tenant is closed, with a history of that many entries.
-    fn print_closed<R: Print>(&self, rt: &R, entries: usize) {
+    fn print_closed<R: Wait>(&self, rt: &R, alloc: Global, host: &Host, entries: usize) {
         if let Some(tenant) = self.left.config.tenants().get(self.at) {
-            let generation = self.left.lived.number;
+            let generation = self.left.number;
             let named = tenant.tenant().name;
             let name = named.as_str();
             // Whoever reads it learns the same from the status, so it may be lost.
-            let _ = println!(rt; "{name}.{generation:06}: closed, {entries} entries");
+            let line = format!(in alloc; "{name}.{generation:06}: closed, {entries} entries");
+            host.outlet().print(rt, line.ok());
         }
     }
 
     /// Prints the close fault of the next tenant, and reports it as an event.
-    fn report_fault<R: Clock + Print + Eprint>(&self, rt: &R, alloc: Global, code: u8) {
-        let generation = self.left.lived.number;
+    fn report_fault<R: Wait + Clock>(&self, rt: &R, alloc: Global, host: &Host, code: u8) {
+        let generation = self.left.number;
         if let Some(tenant) = self.left.config.tenants().get(self.at) {
             let named = tenant.tenant().name;
             let name = named.as_str();
             // Whoever reads it learns the same from the status, so it may be lost.
-            let _ = println!(rt; "{name}.{generation:06}: close fault {code}");
+            let line = format!(in alloc; "{name}.{generation:06}: close fault {code}");
+            host.outlet().print(rt, line.ok());
         }
-        say_fault(rt, alloc, Fault::Close, generation);
+        say_fault(rt, alloc, host, Fault::Close, generation);
     }
 
     /// The generation has ended.
-    fn end<R: Wait + Clock + Eprint>(self, rt: &R, alloc: Global, host: &Host) {
+    fn end<R: Wait + Clock>(self, rt: &R, alloc: Global, host: &Host) {
         let Filing {
             left,
-            has_fault,
+            faults,
             tenants,
             ..
         } = self;
-        let Left { lived, since, .. } = left;
+        let Left {
+            number,
+            began,
+            why,
+            served,
+            lost,
+            since,
+            ..
+        } = left;
         let ms = millis(rt).saturating_sub(since);
-        say(
+        host.say(
             rt,
             alloc,
             Event::Closed {
-                generation: lived.number,
-                why: lived.why,
-                served: lived.served,
+                generation: number,
+                why,
+                served,
+                lost,
                 ms,
             },
         );
         host.end(
             rt,
             ClosedGeneration {
-                generation: lived.number,
-                began: lived.began,
+                generation: number,
+                began,
                 ended: seconds(rt),
-                why: lived.why,
-                served: lived.served,
+                why,
+                served,
+                lost,
                 ms,
                 tenants,
             },
-            has_fault,
+            faults,
         );
     }
 }

@@ -1,11 +1,16 @@
 // The folder in which a host works.
 
 use crate::shelves::Shelves;
+use job_language::TenantName;
 use server_io::ServerEnd;
 use std::alloc::{AllocError, Global};
 use std::fs::{DirBuilder, Files};
 use std::os::unix::fs::DirBuilderExt;
 use std::{fs, io};
+
+/// The numbers of generations that a host counts in the names of dumps lie below this one: it has not that many, even if it
+/// opens one each microsecond for thirty years.
+const MOST_GENERATIONS: u64 = 1_000_000_000_000_000;
 
 /// The paths in the folder.
 #[derive(Drop)]
@@ -65,8 +70,7 @@ impl Folder {
                 let _ = fs::remove_file(rt, path);
             }
             if let Some((name, number)) = parts_of(path) {
-                found.next = found.next.max(number.saturating_add(1));
-                self.sort_in(rt, &mut found.shelves, path, name, number, keep)?;
+                self.sort_in(rt, &mut found, path, name, number, keep)?;
             }
         }
         Ok(found)
@@ -76,15 +80,17 @@ impl Folder {
     fn sort_in<R: Files + AllocGlobal>(
         &self,
         rt: &R,
-        shelves: &mut Shelves,
+        found: &mut Found,
         path: &str,
         name: &str,
         number: u64,
         keep: u32,
     ) -> Result<(), AllocError> {
         let dump = self.dump(rt.alloc(), name, number)?;
-        if dump.as_str() == path {
-            self.shelve(rt, rt.alloc(), shelves, name, number, keep)?;
+        let is_dump = dump.as_str() == path && TenantName::new(name).is_some();
+        if is_dump && number < MOST_GENERATIONS {
+            found.next = found.next.max(number.saturating_add(1));
+            self.shelve(rt, rt.alloc(), &mut found.shelves, name, number, keep)?;
         }
         Ok(())
     }
@@ -117,7 +123,7 @@ pub(crate) struct Found {
     pub(crate) shelves: Shelves,
 }
 
-/// The paths of the files in a folder.
+/// The paths of the files in a folder whose names are texts.
 fn listed<R: Files + AllocGlobal + Clone + Drop>(
     rt: &R,
     folder: &str,
@@ -133,8 +139,12 @@ fn list<R: Files + AllocGlobal + Clone + Drop>(rt: &R, folder: &str) -> io::Resu
     let alloc = rt.alloc();
     let mut paths = Vec::new(alloc);
     for entry in fs::read_dir(rt, folder)? {
-        let entry = entry?;
-        paths.push(format!(in alloc; "{folder}/{}", entry.file_name())?)?;
+        match entry {
+            Ok(entry) => paths.push(format!(in alloc; "{folder}/{}", entry.file_name())?)?,
+            // A name that is no text is none of a host's.
+            Err(fault) if fault.kind() == io::ErrorKind::InvalidFilename => {}
+            Err(fault) => return Err(fault),
+        }
     }
     Ok(paths)
 }

@@ -2,13 +2,15 @@
 
 use crate::archive::{Archive, Left};
 use crate::events::say_fault;
-use host_house::{Eyes, Host, Lived, SeatsBack, Setting, Terms, live, millis};
+use host_agenda::Opening;
+use host_house::{Eyes, Host, Lived, SeatsBack, Setting, Terms, live, millis, open_jobs};
 use host_status::Fault;
 use job_language::Config;
 use server_house::{House, Opened};
 use server_io::{Endpoint, ServerEnd};
 use std::alloc::Global;
 use std::sync::Wait;
+use std::sync::atomic::{AtomicBool, Ordering};
 use std::thread::Threads;
 use std::time::Clock;
 
@@ -19,6 +21,8 @@ pub(crate) struct Site<'h> {
     pub(crate) archive: &'h Archive,
     pub(crate) endpoint: &'h Endpoint<'h>,
     pub(crate) terms: Terms,
+    /// Whether no thread could be started for the generation that is being opened.
+    pub(crate) lacks_thread: &'h AtomicBool,
 }
 
 /// What a generation is opened with.
@@ -26,12 +30,14 @@ pub(crate) struct Site<'h> {
 pub(crate) struct Plan {
     pub(crate) config: Config,
     pub(crate) eyes: Eyes,
+    pub(crate) opening: Opening,
 }
 
-/// Opens a generation, lets it live, and closes its tenants. The host learns if it can't be opened.
+/// Opens a generation, lets it live, and closes its tenants. The host learns if it can't be opened, also for lack of a
+/// thread: then this is called without one.
 pub(crate) fn run_generation<'h, R>(rt: &R, alloc: Global, site: Site<'h>, plan: Plan)
 where
-    R: Threads + Wait + Clock + Sync + Print + Eprint,
+    R: Threads + Wait + Clock + Sync,
 {
     let asked = millis(rt);
     let Site {
@@ -40,10 +46,17 @@ where
         terms,
         ..
     } = site;
-    let Plan { config, eyes } = plan;
+    let Plan {
+        config,
+        eyes,
+        opening,
+    } = plan;
+    if site.lacks_thread.load(Ordering::SeqCst) {
+        return host.give_up(rt, opening, ServerEnd::Device);
+    }
     // A host has a place for one connection at least.
     if terms.connections == 0 {
-        return host.give_up(rt, ServerEnd::Words);
+        return host.give_up(rt, opening, ServerEnd::Words);
     }
     let Opened {
         house,
@@ -51,7 +64,7 @@ where
         seats,
     } = match House::open(alloc, &config, terms.connections) {
         Ok(opened) => opened,
-        Err(fault) => return host.give_up(rt, fault.into()),
+        Err(fault) => return host.give_up(rt, opening, fault.into()),
     };
     let setting = Setting {
         host,
@@ -61,14 +74,13 @@ where
         terms,
         asked,
     };
-    match live(rt, alloc, setting, eyes, passes, seats) {
-        Ok((lived, seats)) => close_generation(rt, alloc, site, config, house, lived, seats),
-        Err(end) => host.give_up(rt, end),
+    if let Some((lived, seats)) = live(rt, alloc, setting, eyes, passes, seats, opening) {
+        close_generation(rt, alloc, site, config, house, lived, seats);
     }
 }
 
 /// Closes the tenants of a generation whose sessions have ended, and leaves their histories to be written.
-fn close_generation<R>(
+fn close_generation<R: Wait + Clock>(
     rt: &R,
     alloc: Global,
     site: Site<'_>,
@@ -76,24 +88,30 @@ fn close_generation<R>(
     house: House,
     lived: Lived,
     seats: SeatsBack,
-)
-where
-    R: Wait + Clock + Print + Eprint,
-{
-    site.host.close(rt, lived.number);
+) {
+    let Site { host, archive, .. } = site;
+    let Lived {
+        begun,
+        began,
+        why,
+        served,
+    } = lived;
+    let number = host.close(rt, begun);
     let since = millis(rt);
-    let ends = match seats.close(alloc, house) {
-        Ok(ends) => ends,
-        Err(_) => {
-            say_fault(rt, alloc, Fault::Memory, lived.number);
-            Vec::new(alloc)
-        }
-    };
-    site.archive.put(
+    let lost = open_jobs(rt, &house);
+    let ends = seats.close(alloc, house).ok();
+    if ends.is_none() {
+        say_fault(rt, alloc, host, Fault::Memory, number);
+    }
+    archive.put(
         rt,
         Left {
             config,
-            lived,
+            number,
+            began,
+            why,
+            served,
+            lost,
             since,
             ends,
         },

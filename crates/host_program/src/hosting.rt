@@ -1,7 +1,7 @@
 // The thread that opens generations, and has the files.
 
 use crate::archive::Archive;
-use crate::ends::event_fault;
+use crate::ends::{end_of, event_fault};
 use crate::filing::{Filing, Office};
 use crate::folders::{Folder, Found};
 use crate::generations::{Plan, Site, run_generation};
@@ -10,8 +10,8 @@ use crate::showing::show;
 use crate::system::System;
 use crate::writing::{Writer, write_histories};
 use generation_life::Why;
-use host_agenda::HostStep;
-use host_house::{Eyes, Host, Terms, millis, say, seconds};
+use host_agenda::{HostStep, Opening};
+use host_house::{Eyes, Host, Outlet, Terms, millis, seconds};
 use host_status::Event;
 use job_language::Config;
 use program_words::HostWords;
@@ -20,7 +20,8 @@ use std::alloc::Global;
 use std::fs::{File, Files};
 use std::io::{ErrorKind, Read};
 use std::net::Net;
-use std::sync::Wait;
+use std::sync::atomic::{AtomicBool, Ordering};
+use std::sync::{Arc, Wait};
 use std::thread::Threads;
 use std::time::{Clock, Duration};
 use std::{fs, thread};
@@ -38,6 +39,7 @@ pub(crate) fn host_tenants<'h, R: System>(
     alloc: Global,
     words: HostWords<'h>,
     folder: &'h Folder,
+    outlet: Arc<Outlet>,
 ) -> Result<ServerEnd, ServerEnd> {
     let terms = terms_of(words)?;
     read_config(rt, alloc, words.config)?;
@@ -50,8 +52,8 @@ pub(crate) fn host_tenants<'h, R: System>(
         group: words.group,
     };
     let endpoint = Endpoint::bind(rt, alloc, folder.socket.as_str(), access)?;
-    say(rt, alloc, Event::Start { generation: first });
-    let host = Host::new(alloc, first);
+    let host = Host::new(alloc, first, outlet);
+    host.say(rt, alloc, Event::Start { generation: first });
     let archive = Archive::new();
     let writer = Writer::new();
     let office = Office {
@@ -61,7 +63,15 @@ pub(crate) fn host_tenants<'h, R: System>(
         words,
         folder,
     };
-    let end = keep_hosting(rt, alloc, office, &endpoint, terms, shelves);
+    let lacks_thread = AtomicBool::new(false);
+    let site = Site {
+        host: &host,
+        archive: &archive,
+        endpoint: &endpoint,
+        terms,
+        lacks_thread: &lacks_thread,
+    };
+    let end = keep_hosting(rt, alloc, office, site, shelves);
     endpoint.remove(rt);
     end
 }
@@ -72,25 +82,13 @@ fn keep_hosting<'h, R>(
     rt: &R,
     alloc: Global,
     office: Office<'h>,
-    endpoint: &'h Endpoint<'h>,
-    terms: Terms,
+    site: Site<'h>,
     shelves: Shelves,
 ) -> Result<ServerEnd, ServerEnd>
 where
-    R: Files<File = File> + Net + Threads + Wait + Clock + Sync + Print + Eprint + AllocGlobal,
+    R: Files<File = File> + Net + Threads + Wait + Clock + Sync + AllocGlobal,
 {
-    let Office {
-        host,
-        archive,
-        writer,
-        ..
-    } = office;
-    let site = Site {
-        host,
-        archive,
-        endpoint,
-        terms,
-    };
+    let writer = office.writer;
     thread::scope(thread::scope_env(), rt, move |scope| {
         if scope
             .spawn(move || write_histories(rt, alloc, writer))
@@ -107,8 +105,10 @@ where
                 Next::Stay => {}
                 Next::Open(plan) => {
                     let life = move || run_generation(rt, alloc, site, plan);
-                    if scope.spawn(life).is_err() {
-                        host.give_up(rt, ServerEnd::Device);
+                    if let Err(refused) = scope.spawn(life) {
+                        site.lacks_thread.store(true, Ordering::SeqCst);
+                        (refused.value)();
+                        site.lacks_thread.store(false, Ordering::SeqCst);
                     }
                 }
                 Next::End(how) => {
@@ -116,7 +116,7 @@ where
                     break;
                 }
             }
-            keeper.look(rt, alloc, endpoint);
+            keeper.look(rt, alloc, site.endpoint);
             filing = keeper.file(rt, alloc, &mut shelves, filing);
         }
         writer.close(rt);
@@ -145,6 +145,8 @@ struct Keeper<'h> {
     /// Whether a generation has served, and `listening` was printed.
     has_served: bool,
     is_stopping: bool,
+    /// Whether a file that asked for a rotation is still there though that was begun.
+    is_obeyed: bool,
     /// When the status was last written, and until when nothing is opened, in milliseconds of the monotonic clock.
     shown: u64,
     rest: u64,
@@ -157,6 +159,7 @@ impl<'h> Keeper<'h> {
             began: seconds(rt),
             has_served: false,
             is_stopping: false,
+            is_obeyed: false,
             shown: 0,
             rest: 0,
         }
@@ -173,20 +176,17 @@ impl<'h> Keeper<'h> {
     /// Takes the host's next step, but for starting a thread.
     fn take_step<R>(&mut self, rt: &R, alloc: Global, site: Site<'_>) -> Next
     where
-        R: Files + Net + Wait + Clock + Print + Eprint + AllocGlobal,
+        R: Files + Net + Wait + Clock + AllocGlobal,
     {
         match self.step(rt) {
             HostStep::Wait => Next::Stay,
-            HostStep::Open(left) => match self.prepare(rt, alloc, left, site) {
-                Ok(plan) => Next::Open(plan),
-                Err(fault) => {
-                    site.host.give_up(rt, fault);
-                    Next::Stay
-                }
-            },
+            HostStep::Open(left, opening) => {
+                self.begin_rotation(rt, alloc, left);
+                self.prepare(rt, alloc, site, opening)
+            }
             HostStep::Hold(left) => {
                 if let Some((generation, why)) = left {
-                    say(rt, alloc, Event::Waiting { generation, why });
+                    site.host.say(rt, alloc, Event::Waiting { generation, why });
                 }
                 Next::Stay
             }
@@ -194,32 +194,60 @@ impl<'h> Keeper<'h> {
                 Ok(()) => Next::Stay,
                 Err(end) => Next::End(Err(end)),
             },
-            HostStep::End => Next::End(Ok(self.end(rt))),
+            HostStep::End => Next::End(Ok(end_of(site.host.faults(rt)))),
         }
     }
 
-    /// What the next generation is opened with.
-    fn prepare<R: Files + Net + Clock + Print + Eprint + AllocGlobal>(
-        &self,
+    /// Reports that the generation of that number is to be left, if there is one, and takes the order away.
+    fn begin_rotation<R: Files + Wait + Clock>(
+        &mut self,
         rt: &R,
         alloc: Global,
         left: Option<(u64, Why)>,
-        site: Site<'_>,
-    ) -> Result<Plan, ServerEnd> {
+    ) {
+        let Office { host, folder, .. } = self.office;
         if let Some((generation, why)) = left {
-            say(rt, alloc, Event::Rotation { generation, why });
+            host.say(rt, alloc, Event::Rotation { generation, why });
             if why == Why::File {
-                // If it can't be removed, the next generation is left as well.
-                let _ = fs::remove_file(rt, self.office.folder.rotate.as_str());
+                self.is_obeyed = fs::remove_file(rt, folder.rotate.as_str()).is_err();
             }
         }
+    }
+
+    /// What the next generation is opened with, if it can be.
+    fn prepare<R: Files + Net + Wait + AllocGlobal>(
+        &self,
+        rt: &R,
+        alloc: Global,
+        site: Site<'_>,
+        opening: Opening,
+    ) -> Next {
+        match self.gather(rt, alloc, site) {
+            Ok((config, eyes)) => Next::Open(Plan {
+                config,
+                eyes,
+                opening,
+            }),
+            Err(fault) => {
+                site.host.give_up(rt, opening, fault);
+                Next::Stay
+            }
+        }
+    }
+
+    fn gather<R: Files + Net + AllocGlobal>(
+        &self,
+        rt: &R,
+        alloc: Global,
+        site: Site<'_>,
+    ) -> Result<(Config, Eyes), ServerEnd> {
         let config = read_config(rt, alloc, self.office.words.config)?;
         let eyes = Eyes::open(rt, alloc, site.endpoint, site.terms.connections)?;
-        Ok(Plan { config, eyes })
+        Ok((config, eyes))
     }
 
     /// A generation could not be opened. The host ends if it is the first one.
-    fn note_failure<R: Wait + Clock + Print + Eprint>(
+    fn note_failure<R: Wait + Clock>(
         &mut self,
         rt: &R,
         alloc: Global,
@@ -233,7 +261,7 @@ impl<'h> Keeper<'h> {
             return Err(end);
         }
         self.rest = millis(rt).saturating_add(SECOND);
-        say(
+        self.office.host.say(
             rt,
             alloc,
             Event::Fault {
@@ -247,27 +275,35 @@ impl<'h> Keeper<'h> {
     /// Looks whether somebody asks for a stop or for a rotation, and shows what the host does.
     fn look<R>(&mut self, rt: &R, alloc: Global, endpoint: &Endpoint<'_>)
     where
-        R: Files + Wait + Clock + Print + Eprint + AllocGlobal,
+        R: Files + Wait + Clock + AllocGlobal,
     {
         let Office { host, folder, .. } = self.office;
         if !self.has_served && host.is_serving(rt) {
             self.has_served = true;
-            self.shown = 0;
+            self.show(rt);
             // Whoever waits for it learns the same from the status.
-            let _ = println!(rt; "listening");
+            host.outlet()
+                .print(rt, String::from_str(alloc, "listening").ok());
         }
         if !self.is_stopping && !endpoint.is_there(rt) && host.stop(rt).is_ok() {
             self.is_stopping = true;
-            say(rt, alloc, Event::Stop);
+            host.say(rt, alloc, Event::Stop);
         }
-        if fs::symlink_metadata(rt, folder.rotate.as_str()).is_ok() {
-            host.wish(rt, Why::File);
-        } else {
-            host.take_back(rt);
-        }
-        if millis(rt).saturating_sub(self.shown) >= SECOND {
+        self.look_for_order(rt);
+        if self.has_served && millis(rt).saturating_sub(self.shown) >= SECOND {
             self.shown = millis(rt);
             self.show(rt);
+        }
+    }
+
+    /// Looks whether a file asks for a rotation. One that could not be removed when it was obeyed asks for no other.
+    fn look_for_order<R: Files + Wait>(&mut self, rt: &R) {
+        let Office { host, folder, .. } = self.office;
+        if fs::symlink_metadata(rt, folder.rotate.as_str()).is_err() {
+            self.is_obeyed = false;
+            host.take_back(rt);
+        } else if !self.is_obeyed {
+            host.wish_now(rt, Why::File);
         }
     }
 
@@ -293,7 +329,7 @@ impl<'h> Keeper<'h> {
         filing: Option<Filing>,
     ) -> Option<Filing>
     where
-        R: Files<File = File> + Wait + Clock + Print + Eprint,
+        R: Files<File = File> + Wait + Clock,
     {
         let office = self.office;
         let tick = Duration::from_millis(TICK);
@@ -311,15 +347,6 @@ impl<'h> Keeper<'h> {
                 office.host.wait(rt, tick);
                 resting
             }
-        }
-    }
-
-    /// How the host ends.
-    fn end<R: Wait>(&self, rt: &R) -> ServerEnd {
-        if self.office.host.has_close_fault(rt) {
-            ServerEnd::Close
-        } else {
-            ServerEnd::Done
         }
     }
 }

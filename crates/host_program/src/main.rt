@@ -17,31 +17,75 @@ use crate::ends::{fault_text, words_fault};
 use crate::folders::Folder;
 use crate::hosting::host_tenants;
 use crate::system::System;
+use host_house::{Outlet, write_printed, write_reported};
 use program_words::{HostWords, read_host_words};
 use server_io::ServerEnd;
-use std::alloc::Global;
+use std::alloc::{AllocError, Global};
 use std::env::Env;
 use std::fs::{File, OpenOptions};
 use std::io::ErrorKind;
 use std::os::unix::fs::OpenOptionsExt;
 use std::process::ExitCode;
+use std::sync::{Arc, Wait};
 use std::time::{Clock, Duration};
 use std::{env, io, thread};
 
+/// How long whoever reads what the host writes has for the rest of it once the host ends, in milliseconds.
+const LAST_WORDS: u64 = 2000;
+
 fn main(rt: HostRuntime) -> ExitCode {
-    let end = match words_of(&rt) {
-        Ok(words) => end_of(&rt, words.as_slice()),
-        Err(fault) => match fault.kind() {
-            // A word that is no text.
-            ErrorKind::InvalidData => ServerEnd::Words,
-            _ => ServerEnd::Memory,
-        },
+    let alloc = rt.alloc();
+    let (outlet, printed, reported) = match new_outlet(alloc) {
+        Ok(handles) => handles,
+        Err(_) => return unheard(&rt, ServerEnd::Memory),
     };
+    // These write as long as the process lives, so that nobody else waits for whoever reads the lines.
+    let printer = thread::spawn(&rt, move || write_printed(&rt, alloc, &printed));
+    let reporter = thread::spawn(&rt, move || write_reported(&rt, alloc, &reported));
+    if printer.is_err() || reporter.is_err() {
+        return unheard(&rt, ServerEnd::Device);
+    }
+    let end = run(&rt, &outlet);
+    report_end(&rt, &outlet, end);
+    ExitCode::from(end.status())
+}
+
+/// Three handles on an outlet: the host's, and those of the threads that write.
+fn new_outlet(alloc: Global) -> Result<(Arc<Outlet>, Arc<Outlet>, Arc<Outlet>), AllocError> {
+    let outlet = Arc::new(alloc, Outlet::new(alloc)?)?;
+    let printed = Arc::try_clone(&outlet)?;
+    let reported = Arc::try_clone(&outlet)?;
+    Ok((outlet, printed, reported))
+}
+
+/// Ends a host that has no outlet, for that reason.
+fn unheard<R: Eprint>(rt: &R, end: ServerEnd) -> ExitCode {
     if let Some(fault) = fault_text(end) {
         // The process' status says the same even if standard error takes nothing.
         let _ = rt.eprintln(fault);
     }
     ExitCode::from(end.status())
+}
+
+/// Hosts the tenants that the words name, and tells how that ended.
+fn run<R: System + Env>(rt: &R, outlet: &Arc<Outlet>) -> ServerEnd {
+    match words_of(rt) {
+        Ok(words) => end_of(rt, words.as_slice(), outlet),
+        Err(fault) => match fault.kind() {
+            // A word that is no text.
+            ErrorKind::InvalidData => ServerEnd::Words,
+            _ => ServerEnd::Memory,
+        },
+    }
+}
+
+/// Reports how the host ended, and lets what it reported be written.
+fn report_end<R: Wait + Clock + AllocGlobal>(rt: &R, outlet: &Outlet, end: ServerEnd) {
+    if let Some(fault) = fault_text(end) {
+        // The process' status says the same.
+        outlet.report(rt, String::from_str(rt.alloc(), fault).ok());
+    }
+    outlet.drain(rt, Duration::from_millis(LAST_WORDS));
 }
 
 /// The words that the program was called with, its name first.
@@ -54,7 +98,7 @@ fn words_of<R: Env + AllocGlobal>(rt: &R) -> io::Result<Vec<String>> {
 }
 
 /// How the host ends that is called with these words.
-fn end_of<R: System>(rt: &R, words: &[String]) -> ServerEnd {
+fn end_of<R: System>(rt: &R, words: &[String], outlet: &Arc<Outlet>) -> ServerEnd {
     let mut texts = Vec::new(rt.alloc());
     for word in words {
         if texts.push(word.as_str()).is_err() {
@@ -65,14 +109,18 @@ fn end_of<R: System>(rt: &R, words: &[String]) -> ServerEnd {
         Ok(words) => words,
         Err(fault) => return words_fault(fault),
     };
-    match host_alone(rt, words) {
+    match host_alone(rt, words, outlet) {
         Ok(end) => end,
         Err(end) => end,
     }
 }
 
 /// Hosts the tenants, if no other host works in the folder. `Device` if one does, or the folder's lock can't be opened.
-fn host_alone<R: System>(rt: &R, words: HostWords<'_>) -> Result<ServerEnd, ServerEnd> {
+fn host_alone<R: System>(
+    rt: &R,
+    words: HostWords<'_>,
+    outlet: &Arc<Outlet>,
+) -> Result<ServerEnd, ServerEnd> {
     let alloc = rt.alloc();
     let folder = Folder::new(alloc, words.run)?;
     let Ok(lock) = OpenOptions::new()
@@ -86,7 +134,7 @@ fn host_alone<R: System>(rt: &R, words: HostWords<'_>) -> Result<ServerEnd, Serv
     if !is_locked(rt, &lock) {
         return Err(ServerEnd::Device);
     }
-    let end = host_tenants(rt, alloc, words, &folder);
+    let end = host_tenants(rt, alloc, words, &folder, Arc::try_clone(outlet)?);
     // Another host may work there from now on.
     drop(lock);
     end

@@ -7,9 +7,9 @@ use host_status::HostStatus;
 use program_words::HostWords;
 use server_io::ServerEnd;
 use std::alloc::Global;
-use std::fs::{Files, OpenFile, OpenOptions};
+use std::fs::{Files, OpenFile, OpenOptions, Permissions};
 use std::io::{ErrorKind, Write};
-use std::os::unix::fs::{OpenOptionsExt, chown};
+use std::os::unix::fs::{OpenOptionsExt, PermissionsExt, chown};
 use std::sync::Wait;
 use std::time::Clock;
 use std::{fs, io};
@@ -48,22 +48,19 @@ pub(crate) fn show<R: Files + Wait + Clock + AllocGlobal>(
     fs::rename(rt, part.as_str(), folder.status.as_str())
 }
 
-/// Writes a line to a new file, which those may read who may connect.
+/// Writes a line to a new file, which those may read who may connect, whatever the process' mask is.
 fn write_private<R: Files>(rt: &R, path: &str, words: HostWords<'_>, line: &str) -> io::Result<()> {
     // It is there if the last one could not be renamed.
     let _ = fs::remove_file(rt, path);
     let mut options = OpenOptions::new();
-    options
-        .write(true)
-        .create_new(true)
-        .mode(readers(words.mode));
+    options.write(true).create_new(true).mode(0o600);
     let mut file = options.open(rt, path)?;
     file.write_all(line.as_bytes())?;
     file.write_all(b"\n")?;
     if words.group.is_some() {
         chown(rt, path, None, words.group)?;
     }
-    Ok(())
+    file.set_permissions(Permissions::from_mode(readers(words.mode)))
 }
 
 /// The mode of a file that those may read who may write to one of the other mode.

@@ -13,23 +13,11 @@ pub(crate) trait System: Files<File = File>
     + Wait
     + Clock
     + Sync
-    + Print
-    + Eprint
     + AllocGlobal
     + Clone
     + Drop {}
 
 impl<R> System for R
 where
-    R: Files<File = File>
-        + Net
-        + Threads
-        + Wait
-        + Clock
-        + Sync
-        + Print
-        + Eprint
-        + AllocGlobal
-        + Clone
-        + Drop,
+    R: Files<File = File> + Net + Threads + Wait + Clock + Sync + AllocGlobal + Clone + Drop,
 {}

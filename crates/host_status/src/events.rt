@@ -54,11 +54,12 @@ pub enum Event {
         generation: u64,
     },
     /// A generation that was left for that reason and had `served` connections is closed, which took `ms` milliseconds
-    /// with its dumps.
+    /// with its dumps. `lost` of its jobs had no outcome.
     Closed {
         generation: u64,
         why: Why,
         served: u64,
+        lost: u64,
         ms: u64,
     },
     /// Something failed. There is no generation if none could be opened.
@@ -69,6 +70,10 @@ pub enum Event {
     },
     /// The host is to stop.
     Stop,
+    /// That many lines before this one were not written, since nobody read what the host wrote.
+    Unwritten {
+        lines: u64,
+    },
 }
 
 /// An event with its time, in seconds since 1970.

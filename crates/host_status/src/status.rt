@@ -98,6 +98,8 @@ pub struct ClosedGeneration {
     pub why: Why,
     /// How many connections it had.
     pub served: u64,
+    /// How many of its jobs had no outcome.
+    pub lost: u64,
     /// How many milliseconds closing and dumping took.
     pub ms: u64,
     /// In the order of the configuration. One for which there was no memory is missing.

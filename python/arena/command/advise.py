@@ -1,5 +1,6 @@
 """`arena advise`: what is unwise in a configuration that is valid."""
 import argparse
+import resource
 from collections.abc import Callable
 
 from arena.advise import Machine, advice_of, memory_of_machine
@@ -32,6 +33,12 @@ def gib(text: str) -> int:
     return int(number * GIB)
 
 
+def descriptors() -> int | None:
+    """How many files a process may have open that is started here; None if there is no limit."""
+    limit, _ = resource.getrlimit(resource.RLIMIT_NOFILE)
+    return None if limit == resource.RLIM_INFINITY else limit
+
+
 def advise(call: Call) -> int:
     """Says what is unwise."""
     words, path = call.words, call.words.CONFIG
@@ -42,7 +49,8 @@ def advise(call: Call) -> int:
     memory = words.memory or memory_of_machine()
     if memory is None:
         call.output.complain("arena: the memory of this machine is not known, so --memory has to say it")
-    found = advice_of(config, Machine(words.connections, memory, words.rotate_at if words.host else None))
+    rotate_at = words.rotate_at if words.host else None
+    found = advice_of(config, Machine(words.connections, memory, rotate_at, descriptors()))
     lines = [call.output.paint(f"{path}: {it}", YELLOW) for it in found]
     call.output.say("\n".join(lines) or call.output.paint(f"{path}: nothing to advise", GREEN),
                     {"advice": [it.to_value() for it in found], "file": path})
@@ -54,7 +62,8 @@ COMMANDS = (
             "Says of a configuration: which tenants have no slot for workers, so that what is submitted there never "
             "runs; which can keep all workers of arena-server, since there are fewer of them than worker slots; whether its "
             "histories have more room than the machine has memory; and which histories are so short that they are full, or that "
-            "arena-host rotates, after a few jobs. The status is 1 if there is something to say.",
+            "arena-host rotates, after a few jobs; and whether arena-host, started here, may have too few files open for its "
+            "connections. The status is 1 if there is something to say.",
             "arena advise config.json --host", advise,
             (positional("CONFIG", "a configuration of arena-server or arena-host, in JSON; - is standard input",
                         Completes.CONFIG),

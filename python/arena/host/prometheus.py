@@ -148,6 +148,8 @@ def _closed(status: HostStatus) -> Iterator[Family]:
 
     yield Family("arena_close_duration_seconds", Kind.GAUGE, "How long closing and dumping a generation took.",
                  [Sample(it.ms / 1000, {**_of(it), "why": it.why.value}) for it in status.closed])
+    yield Family("arena_close_lost_jobs", Kind.GAUGE, "How many jobs of a generation had no outcome when it was closed.",
+                 [Sample(it.lost, {**_of(it), "why": it.why.value}) for it in status.closed])
     yield each("arena_close_entries", "How many entries a tenant's history had at the close.",
                lambda it: it.entries)
     yield each("arena_close_fault", "The number of a tenant's close fault, 0 if it had none.", lambda it: it.fault or 0)

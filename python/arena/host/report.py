@@ -93,6 +93,8 @@ def _closed(closed: tuple[ClosedGeneration, ...]) -> Section:
 
 def _faults(closed: ClosedGeneration) -> Iterator[str]:
     """What went wrong when a generation was closed."""
+    if closed.lost:
+        yield f"{closed.lost:,} {'job' if closed.lost == 1 else 'jobs'} lost"
     for it in closed.tenants:
         if it.fault is not None:
             yield f"{it.tenant}: close fault {it.fault}"

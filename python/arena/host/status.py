@@ -117,14 +117,15 @@ class ClosedTenant:
 
 @dataclass(frozen=True, slots=True)
 class ClosedGeneration:
-    """A generation that was closed. `began` and `ended` are in seconds since 1970; `ms` is how many milliseconds
-    closing and dumping took."""
+    """A generation that was closed. `began` and `ended` are in seconds since 1970; `lost` is how many of its jobs had no
+    outcome; `ms` is how many milliseconds closing and dumping took."""
 
     number: int
     began: int
     ended: int
     why: Why
     served: int
+    lost: int
     ms: int
     tenants: tuple[ClosedTenant, ...]
 
@@ -329,7 +330,7 @@ def _rows_now(part: _Part) -> RowsNow:
 def _closed(part: _Part) -> ClosedGeneration:
     closed = ClosedGeneration(
         part.number("generation"), part.number("began"), part.number("ended"), part.one_of("why", Why),
-        part.number("served"), part.number("ms"), tuple(map(_closed_tenant, part.parts("tenants"))))
+        part.number("served"), part.number("lost"), part.number("ms"), tuple(map(_closed_tenant, part.parts("tenants"))))
     part.distinct("tenants", "tenant", [it.tenant for it in closed.tenants])
     return closed
 

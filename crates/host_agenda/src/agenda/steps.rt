@@ -1,11 +1,12 @@
 // What a host is to do next.
-ghost use Rattle.std.specs.Prelude.{◌≡◌, ◌≢◌, ◌↔◌, IfOk, IfSome, IsSome, IsTrue, OnErr, OnOk, None, Ok, Some, true, false, is_some};
+ghost use Rattle.std.specs.Prelude.{◌≡◌, ◌≢◌, ◌↔◌, ◌⊎◌, IfNone, IfSome, IsTrue, OnErr, OnOk, None, Some, true, false};
 ghost use Rattle.generation_life.specs.declared.generations.Why.TheVariants.{File};
 ghost use Rattle.generation_life.specs.Lines.{closing, ended, stage_of, why_of};
-ghost use Rattle.host_agenda.specs.Agendas.{Begins, OpensNone, Takes, new_agenda, stopped};
+ghost use Rattle.host_agenda.specs.Agendas.{Begins, OpensNone, Takes, given_up, new_agenda, stopped};
 ghost use Rattle.host_agenda.specs.declared.agenda.HostStep.TheVariants.{Hold, Wait};
+ghost use Rattle.server_io.specs.declared.ends.ServerEnd.TheVariants.{Device, Memory};
 
-use super::{Agenda, HostStep, Look, MOST_ALIVE};
+use super::{Agenda, Begun, HostStep, Look, MOST_ALIVE, Opening};
 use generation_life::{Generations, Why};
 use server_io::ServerEnd;
 use std::alloc::{AllocError, Global};
@@ -58,7 +59,7 @@ impl Agenda {
         }
         self.is_opening = true;
         self.is_held = false;
-        HostStep::Open(left)
+        HostStep::Open(left, Opening { _made_here: () })
     }
 
     /// The next generation has to wait.
@@ -74,28 +75,34 @@ impl Agenda {
         HostStep::Hold(left)
     }
 
-    /// Notes that the generation that was to be opened serves from now on, and gives its number. The one that served
-    /// drains. None if the host stops, or no number is left, or none was to be opened. If an allocation fails, nothing has
-    /// changed.
-    pub fn begin(&mut self) -> Result<Option<u64>, AllocError>
-        ensures begun { IfOk result (λ number. IfSome number (λ n. Begins self.old n self.new)) }
-        ensures none { result ≡ Ok None → OpensNone self.old × (self.new ≡ self.old) }
-        ensures refused { OnErr result (self.new ≡ self.old) }
+    /// Notes that the generation that was to be opened serves from now on. The one that served drains. None if it is given
+    /// up: with `Device` if the host stops, or no number is left, or none was to be opened, and with `Memory` if an
+    /// allocation fails.
+    pub fn begin(&mut self, opening: Opening) -> Option<Begun>
+        ensures begun { IfSome result (λ begun. Begins self.old begun.number self.new) }
+        ensures none { IfNone result (OpensNone self.old × (self.new ≡ given_up Device self.old)
+            ⊎ (self.new ≡ given_up Memory self.old)) }
     {
         if !self.is_opening || self.is_stopping || self.generations.next() == u64::MAX {
-            return Ok(None);
+            self.give_up(opening, ServerEnd::Device);
+            return None;
         }
         let why = self.wish.unwrap_or(Why::File);
-        let number = self.generations.open(why)?;
+        let Ok(number) = self.generations.open(why) else {
+            self.give_up(opening, ServerEnd::Memory);
+            return None;
+        };
+        let Opening { _made_here } = opening;
         self.wish = None;
         self.is_opening = false;
-        Ok(Some(number))
+        Some(Begun { number })
     }
 
     /// Notes that the generation that was to be opened can't be.
-    pub fn give_up(&mut self, end: ServerEnd)
-        ensures { self.new ≡ record self.old { is_opening = false; failed = Some end } }
+    pub fn give_up(&mut self, opening: Opening, end: ServerEnd)
+        ensures { self.new ≡ given_up end self.old }
     {
+        let Opening { _made_here } = opening;
         self.is_opening = false;
         self.failed = Some(end);
     }
@@ -110,14 +117,15 @@ impl Agenda {
         Ok(())
     }
 
-    /// Asks for the generation that serves to be left. It says whether nobody had asked before.
-    pub fn ask(&mut self, why: Why) -> bool
+    /// Asks for the generation of that number to be left. It says whether that is new: it serves, and nobody had asked
+    /// before. What is asked for about another generation is ignored.
+    pub fn ask(&mut self, number: u64, why: Why) -> bool
         ensures new { IsTrue result ↔ (self.old.wish ≡ None)
-            × (IsSome self.old.generations.serving) }
+            × (self.old.generations.serving ≡ Some number) }
         ensures asked { IsTrue result → self.new ≡ record self.old { wish = Some why } }
         ensures not { result ≡ false → self.new ≡ self.old }
     {
-        let is_new = self.wish.is_none() && self.generations.serving().is_some();
+        let is_new = self.wish.is_none() && self.generations.serving() == Some(number);
         if is_new {
             self.wish = Some(why);
         }
@@ -155,18 +163,22 @@ impl Agenda {
         }
     }
 
-    /// Whether a generation serves.
-    pub fn is_serving(&self) -> bool
-        ensures { result ≡ is_some self.now.generations.serving }
+    /// The number of the generation that serves, if one does.
+    pub fn serving(&self) -> Option<u64>
+        ensures { result ≡ self.now.generations.serving }
     {
-        self.generations.serving().is_some()
+        self.generations.serving()
     }
 
-    /// Notes that the generation of that number is being closed.
-    pub fn close(&mut self, number: u64)
-        ensures { self.new ≡ record self.old { generations = closing number self.old.generations } }
+    /// Notes that a generation is being closed: its number.
+    pub fn close(&mut self, begun: Begun) -> u64
+        ensures number { result ≡ begun.number }
+        ensures closing { self.new
+            ≡ record self.old { generations = closing begun.number self.old.generations } }
     {
+        let Begun { number } = begun;
         self.generations.close(number);
+        number
     }
 
     /// Notes that the generation of that number is closed.

@@ -1,7 +1,7 @@
-use Rattle.std.proofs.Common.{ℕ, ◌≡◌, ◌≤◌, List, Bool, length, not, filter, rules, arith}
+use Rattle.std.proofs.Common.{ℕ, ◌≡◌, ◌≤◌, List, Bool, length, not, filter, arith}
 use Rattle.std.proofs.lemmas.List.Sums.{length-filter, count_by-le-length}
 use Rattle.generation_life.specs.declared.generations.Leaving.{Leaving}
-use Rattle.generation_life.specs.Lines.{Line, alive, ended, has_number}
+use Rattle.generation_life.specs.Lines.{Line, ended, has_number}
 use Rattle.host_agenda.specs.States.{AreFew}
 use Rattle.host_agenda.proofs.agenda.Agenda.end.Goals as goal
 
