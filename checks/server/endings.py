@@ -258,7 +258,8 @@ def server_leaves_a_file_that_is_not_its_own() -> None:
 
 
 def server_starts_after_one_that_was_killed() -> None:
-    """A start that was cut off leaves the folder in which its socket was made."""
+    """A start that was cut off leaves the folder in which its socket was made. It may be that of a server that is starting
+    now, so it stays, and the next socket is made in another one."""
     first = Server([tenant("acme", 1, 1)], 1, 1)
     first.process.kill()
     first.process.communicate()
@@ -269,7 +270,8 @@ def server_starts_after_one_that_was_killed() -> None:
     second = Server([tenant("acme", 1, 1)], 1, 1, beside=first)
     assert second.ask(HELLO) == [{"tenant": "acme"}]
     assert second.end() == (["acme: closed, 0 entries"], "", 0)
-    assert sorted(os.listdir(first.folder.name)) == ["config", "dumps"]
+    assert sorted(os.listdir(first.folder.name)) == ["config", "dumps", "socket.d"]
+    assert os.listdir(first.path + ".d") == ["s"]
 
 
 def steps_of(number: int) -> int:

@@ -10,17 +10,16 @@ import os
 import pathlib
 import select
 import socket
-import subprocess
-import tempfile
 import threading
 from collections.abc import Callable
 
+import binding
 import endings
 import levels
 import requests
 import starts
 from requests import job
-from servers import FIB, HELLO, PATIENCE, SEVEN, Server, dump_lines, side_by_side, tenant
+from servers import FIB, HELLO, PATIENCE, SEVEN, Server, dump_lines, library, side_by_side, tenant
 
 # A library by which no file is brought to the disk.
 UNFLUSHED = pathlib.Path(__file__).with_name("unflushed.c")
@@ -307,10 +306,8 @@ def dump_that_fails_is_left_out() -> None:
 
 def dump_that_is_not_flushed_is_left_out() -> None:
     """A dump takes its name only once the system has said that it is on the disk, which here it never says."""
-    with tempfile.TemporaryDirectory() as folder:
-        library = os.path.join(folder, "unflushed.so")
-        subprocess.run(["cc", "-shared", "-fPIC", "-o", library, UNFLUSHED], check=True, timeout=PATIENCE)
-        server = Server([tenant("acme", 1, 1)], 1, 1, preload=library)
+    with library(UNFLUSHED) as unflushed:
+        server = Server([tenant("acme", 1, 1)], 1, 1, LD_PRELOAD=unflushed)
         server.ask(HELLO)
         out, err = server.process.communicate(timeout=PATIENCE)
     assert (out, err, server.process.returncode) == ("acme: closed, 0 entries\n", "arena-server: device\n", 3)
@@ -332,7 +329,7 @@ CHECKS = [job_is_executed_and_polled, workers_share_a_job, tenants_do_not_see_ea
           dump_has_the_job_that_was_sent,
           waiting_ends_at_a_full_history, executes_end_at_a_full_history, folder_of_dumps_is_missing,
           dump_that_fails_is_left_out, dump_that_is_not_flushed_is_left_out, socket_may_be_gone_at_the_end,
-          *starts.CHECKS, *levels.CHECKS, *endings.CHECKS]
+          *starts.CHECKS, *binding.CHECKS, *levels.CHECKS, *endings.CHECKS]
 
 
 def main() -> None:

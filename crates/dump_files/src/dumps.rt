@@ -8,13 +8,19 @@ use crate::parts::make_part;
 use dump_lines::DumpFault;
 use job_language::{Entry, TenantConfig};
 use std::alloc::Global;
+use std::fs;
 use std::fs::Files;
 
-/// Whether a dump can be written at a path. `Device` if not, and `Memory` if an allocation fails. Nothing is left there.
+/// Whether a dump can be written at a path: a part can be made beside it, and it is not that of a folder. `Device` if
+/// not, and `Memory` if an allocation fails. Nothing is left there.
 pub fn can_dump<R: Files>(rt: &R, alloc: Global, path: &str) -> Result<(), DumpFault>
     ensures { result ≢ Err NoEntry }
 {
-    make_part(rt, alloc, path)?.remove(rt)
+    make_part(rt, alloc, path)?.remove(rt)?;
+    match fs::symlink_metadata(rt, path) {
+        Ok(file) if file.is_dir() => Err(DumpFault::Device),
+        _ => Ok(()),
+    }
 }
 
 /// Writes a history to the file at a path. It is written to a part beside that file, brought to the disk, and then
