@@ -13,8 +13,10 @@ import threading
 from collections.abc import Callable
 
 import binding
+import busy
 import dumps
 import endings
+import gone
 import levels
 import requests
 import starts
@@ -274,7 +276,7 @@ CHECKS = [job_is_executed_and_polled, workers_share_a_job, tenants_do_not_see_ea
           client_that_never_reads, client_that_sends_without_end, clients_that_say_nothing, many_clients_at_once,
           jobs_are_retired_round_after_round, jobs_are_retired_beside_clients_that_run_them,
           waiting_ends_at_a_full_history, executes_end_at_a_full_history, socket_may_be_gone_at_the_end,
-          *dumps.CHECKS, *starts.CHECKS, *binding.CHECKS, *levels.CHECKS, *endings.CHECKS]
+          *dumps.CHECKS, *starts.CHECKS, *binding.CHECKS, *levels.CHECKS, *endings.CHECKS, *gone.CHECKS, *busy.CHECKS]
 
 
 def main() -> None:

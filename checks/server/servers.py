@@ -151,3 +151,10 @@ def dump_lines(folder: str, name: str) -> int:
         assert (done.stdout, done.stderr, done.returncode) == ("yes\n", "", 0), done
         dump.seek(0)
         return sum(1 for _ in dump)
+
+
+def placed_at(folder: str, name: str) -> dict[int, int]:
+    """The slot of each job that the dump of a tenant places on one, by its number."""
+    with open(os.path.join(folder, name + ".jsonl")) as dump:
+        replies = [json.loads(line).get("reply", {}) for line in dump]
+    return {reply["job"]: reply["slot"] for reply in replies if "slot" in reply}
