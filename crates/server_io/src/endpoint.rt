@@ -43,14 +43,14 @@ pub enum BindFault {
 }
 
 impl BindFault {
-    /// What there is to say of it, besides the path.
-    pub fn why(self) -> &'static str {
+    /// What is wrong with the path, if it is the path.
+    pub fn why(self) -> Option<&'static str> {
         match self {
-            BindFault::Taken => "something is there already",
-            BindFault::NoRoom => "something is at each of its paths from .d to .d64 already",
-            BindFault::Replaced => "somebody has put another file there",
-            BindFault::Device => "no socket can be made there",
-            BindFault::Memory => "an allocation failed",
+            BindFault::Taken => Some("something is there already"),
+            BindFault::NoRoom => Some("something is at each of its paths from .d to .d64 already"),
+            BindFault::Replaced => Some("somebody has put another file there"),
+            BindFault::Device => Some("no socket can be made there"),
+            BindFault::Memory => None,
         }
     }
 }

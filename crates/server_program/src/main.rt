@@ -138,7 +138,7 @@ fn try_folder<R: Files>(
     Ok(())
 }
 
-/// Listens at a path, for the server's owner alone. If it can't, standard error has a line that says why.
+/// Listens at a path, for the server's owner alone. If the path is why it can't, standard error has a line of that.
 fn listen<'p, R: Files + Net + Eprint>(
     rt: &R,
     alloc: Global,
@@ -147,8 +147,10 @@ fn listen<'p, R: Files + Net + Eprint>(
     match Endpoint::bind(rt, alloc, path, Access::OWNER) {
         Ok(endpoint) => Ok(endpoint),
         Err(fault) => {
-            // The status tells of the fault even if standard error takes nothing.
-            let _ = eprintln!(rt; "arena-server: {path}: {}", fault.why());
+            if let Some(why) = fault.why() {
+                // The status tells of the fault even if standard error takes nothing.
+                let _ = eprintln!(rt; "arena-server: {path}: {why}");
+            }
             Err(ServerEnd::from(fault))
         }
     }
