@@ -251,7 +251,8 @@ fn report_end<R: Files + Print>(
     let is_printed = print_end(rt, end, config).is_ok();
     if let (Some(folder), Ok(closed)) = (folder, end) {
         let path = dump_path(alloc, folder, config)?;
-        dump_history(rt, alloc, path.as_str(), config, closed.history.as_slice()).map_err(end_at)?;
+        let history = closed.history.as_slice();
+        let _kept = dump_history(rt, alloc, path.as_str(), config, history).map_err(end_at)?;
     }
     if is_printed {
         Ok(())
