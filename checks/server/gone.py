@@ -5,7 +5,7 @@ import time
 
 from endings import greeted, hang_up, is_closed, send
 from levels import bound
-from servers import SEVEN, Bound, Server, by_deadline, placed_at, tenant
+from servers import SEVEN, Bound, Server, placed_at, tenant
 from waits import ask, is_answered
 
 # How long a job of another tenant may take meanwhile, and how long it may take until all jobs have ended, in seconds.
@@ -15,15 +15,15 @@ ROUNDS, CLIENTS = 3, 40
 BETA = {**tenant("beta", 2, 1), "priority": "high"}
 # Five rows, each of which spawns the next one, goes on once a later one runs, and then waits for the one that it spawned:
 # the first on the reserved slot, the next two on the workers', and the fourth on the reserved one, above the first. So the
-# last one, which counts down, runs on a worker's slot, and the session has nothing to run until it ends. By then the rows
-# of both workers wait for the fourth row, which the session alone can continue.
+# last one, which counts down by an entry each time, runs on a worker's slot, and the session has nothing to run until it
+# ends. By then the rows of both workers wait for the fourth row, which the session alone can continue.
 CHAIN = {"args": [0, 0], "fuel": 1_000_000, "procs": [
     [["spawn", 0, 1, 0, 1], ["count", 2, 1], ["jz", 2, 1], ["wait", 3, 4, 0], ["ret", 3]],
     [["spawn", 0, 2, 0, 1], ["store", 1, 0], ["count", 2, 3], ["jz", 2, 2], ["wait", 3, 4, 0], ["ret", 3]],
     [["spawn", 0, 3, 0, 1], ["count", 2, 3], ["jz", 2, 1], ["wait", 3, 4, 0], ["ret", 3]],
     [["store", 3, 0], ["spawn", 0, 4, 0, 1], ["count", 2, 4], ["jz", 2, 2], ["wait", 3, 4, 0], ["ret", 3]],
-    [["store", 4, 0], ["set", 2, 50_000], ["set", 3, 1], ["sub", 2, 2, 3], ["jz", 2, 6], ["jmp", 3], ["set", 2, 5],
-     ["ret", 2]]]}
+    [["store", 4, 0], ["set", 2, 5_000], ["set", 3, 1], ["count", 4, 0], ["sub", 2, 2, 3], ["jz", 2, 7], ["jmp", 3],
+     ["set", 2, 5], ["ret", 2]]]}
 # The eleventh Fibonacci number, by tasks: some thousand entries.
 TASKS = {"args": [11, 0], "fuel": 1_000_000, "procs": [[
     ["set", 2, 2], ["lt", 3, 0, 2], ["jz", 3, 4], ["ret", 0], ["set", 2, 1], ["sub", 3, 0, 2], ["spawn", 0, 0, 3, 1],
@@ -50,9 +50,11 @@ def client_that_goes_while_rows_wait() -> None:
     other, quiet = greeted(server), bound(server, "beta")
     going = greeted(server)
     send(going.client, {"op": "execute", "job": CHAIN})
-    by_deadline(lambda: ask(other, {"op": "cells", "key": 4})["count"])
+    began = time.monotonic()
+    while not ask(other, {"op": "cells", "key": 4})["count"]:  # without a rest: the last row is soon done
+        assert time.monotonic() < began + AT_LAST
     hang_up(going)
-    seven_is_answered(quiet, AT_ONCE)
+    seven_is_answered(quiet, AT_LAST)
     assert outcome(other, 1, AT_LAST) == {"job": 1, "status": "complete", "value": 5}
     assert ask(other, {"op": "retire"}) == {"epoch": 1}
     assert ask(other, {"op": "execute", "job": SEVEN}) == {"job": 2, "status": "complete", "value": 7}
