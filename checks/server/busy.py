@@ -31,7 +31,7 @@ def stop_reaches_a_worker_that_has_work() -> None:
     took = time.monotonic() - began
     assert is_closed(lines) and (err, status) == ("", 0)
     entries = int(lines[0].split()[2])
-    assert took < 2 * SOON and entries < 1000 * JOBS, f"{took:.1f} s and {entries} entries"
+    assert took < 5 * SOON and entries < 1000 * JOBS, f"{took:.1f} s and {entries} entries"
     hang_up(client)
 
 
