@@ -1,11 +1,12 @@
 """Generations that follow one another."""
+import json
 import os
 import time
 from collections.abc import Callable
 
 from hosts import Host, Load, ask, dumps, fib, hang_up, is_at_end, rotate, tenant
 from servers import Bound, by_deadline
-from waits import MEETINGS, is_left, used_while_it_waits
+from sharing import JOBS, SPINNING
 
 DIVIDES = {"args": [0, 0], "fuel": 10, "procs": [[["set", 2, 1], ["div", 2, 2, 3], ["ret", 2]]]}
 
@@ -179,28 +180,27 @@ def what_it_shows() -> None:
     assert closed["why"] == "stop" and closed["served"] == 2 and host.status()["generations"] == []
 
 
-def what_it_shows_of_rows_that_wait() -> None:
-    """A job that its client has left has three rows on slots, none of which waits to be started; the worker is at its
-    slot, and waits there without using a processor. A host at which the threads did not meet in time shows nothing."""
-    for _ in range(MEETINGS):
-        host = Host([tenant("acme", steps=1_000_000, slots=2)], "--connections", 3, "--rotate-at", 100, workers=1)
-        waiting, other = host.connect(), host.connect()
-        if is_left(host.connect(), waiting, other):
-            break
-        hang_up(waiting, other)
-        assert host.stop() == 0
-    else:
-        raise AssertionError("sessions go on though their clients have gone")
-    used = used_while_it_waits(host.process.pid, waiting)
-    assert used < 0.2, f"{used:.2f} s of a processor in a second"
-    [generation] = by_deadline(lambda: host.status()["generations"])
-    assert generation["workers"] == [{"worker": 0, "tenant": "acme", "slot": 1}]
+def is_at_work(host: Host) -> bool:
+    """Whether the status shows acme's only worker at its slot, with a job that it runs and others that wait for it."""
+    [generation] = host.status()["generations"] or [None]
+    if generation is None or generation["workers"] != [{"worker": 0, "tenant": "acme", "slot": 1}]:
+        return False
     [acme] = generation["tenants"]
-    assert acme["rows"] == {"open": 3, "waiting": 0} and acme["jobs_now"]["running"] == 1, acme
-    hang_up(waiting, other)
+    rows = acme["rows"]
+    return 1 < rows["open"] == rows["waiting"] + 1 == acme["jobs_now"]["running"]
+
+
+def what_it_shows_of_a_worker_at_work() -> None:
+    """It is at a slot of acme's, and all rows but the one that it runs wait to be started."""
+    host = Host([tenant("acme", steps=1_000_000, slots=2)], "--connections", 1, "--rotate-at", 100, workers=1)
+    client = host.connect()
+    client.client.sendall((json.dumps({"op": "submit", "job": SPINNING}) + "\n").encode() * JOBS)
+    assert [json.loads(client.replies.readline()) for _ in range(JOBS)] == [{"job": n + 1} for n in range(JOBS)]
+    by_deadline(lambda: is_at_work(host))
+    hang_up(client)
     assert host.stop() == 0
 
 
 CHECKS = [three_by_history, one_by_file, the_old_one_goes_on, a_configuration_that_cannot_be_read,
           the_newest_dumps_are_kept, the_newest_dumps_are_kept_in_any_order, what_it_shows,
-          what_it_shows_of_rows_that_wait]
+          what_it_shows_of_a_worker_at_work]

@@ -10,10 +10,9 @@ import threading
 import time
 from collections.abc import Sequence
 from functools import partial
-from typing import NamedTuple
 
 from servers import FIB, HELLO, PATIENCE, SEVEN, Bound, Server, by_deadline, dump_lines, side_by_side, tenant
-from waits import MEETINGS, ask, is_answered, is_left, used_while_it_waits
+from waits import used_while_it_waits
 
 # How long a session may outlive its client, and a server its stop, in seconds.
 SOON = 2
@@ -159,43 +158,6 @@ def threads_that_wait_use_no_processor() -> None:
     assert server.end() == (["acme: closed, 1 entries"], "", 0)
 
 
-class Left(NamedTuple):
-    """A server with a job that its client has left, a client that collects that job, and one that waits for nothing."""
-
-    server: Server
-    waiting: Bound
-    other: Bound
-
-
-def server_with_a_job_left() -> Left:
-    """Tries it at one server after another."""
-    for _ in range(MEETINGS):
-        server = Server([{**tenant("acme", 2, 1), "steps": 1_000_000}], 1, 3)
-        waiting, other = greeted(server), greeted(server)
-        if is_left(greeted(server), waiting, other):
-            return Left(server, waiting, other)
-        hang_up(waiting, other)
-        server.end()
-    raise AssertionError("sessions go on though their clients have gone")
-
-
-def job_of_a_client_that_has_gone_waits_for_ever() -> None:
-    """What a client executed whose slot has to wait when it has gone stays `running`, even after a cancel, and so nothing
-    is retired. The worker whose slot waits for it, and a session that collects it, use no processor meanwhile."""
-    server, waiting, other = server_with_a_job_left()
-    used = used_while_it_waits(server.process.pid, waiting)
-    assert used < 0.2, f"{used:.2f} s of a processor in a second"
-    assert ask(other, {"op": "cancel", "job": 1}) == {"first": True, "job": 1}
-    assert not is_answered(waiting)
-    assert ask(other, {"op": "poll", "job": 1}) == {"job": 1, "status": "running"}
-    assert ask(other, {"op": "retire"}) == {"code": 12, "error": "busy"}
-    server.stop()
-    assert waiting.replies.readline() == other.replies.readline() == ""
-    lines, err, status = server.end()
-    assert is_closed(lines) and (err, status) == ("", 0)
-    hang_up(waiting, other)
-
-
 def execute_until_stopped(server: Server, name: str, served: threading.Barrier) -> None:
     """Executes jobs at a tenant until the server ends the session. All clients wait for one another after the hello."""
     with server.connect() as client, client.makefile() as replies:
@@ -258,7 +220,8 @@ def server_leaves_a_file_that_is_not_its_own() -> None:
 
 
 def server_starts_after_one_that_was_killed() -> None:
-    """A start that was cut off leaves the folder in which its socket was made."""
+    """A start that was cut off leaves the folder in which its socket was made. It may be that of a server that is starting
+    now, so it stays, and the next socket is made in another one."""
     first = Server([tenant("acme", 1, 1)], 1, 1)
     first.process.kill()
     first.process.communicate()
@@ -269,7 +232,8 @@ def server_starts_after_one_that_was_killed() -> None:
     second = Server([tenant("acme", 1, 1)], 1, 1, beside=first)
     assert second.ask(HELLO) == [{"tenant": "acme"}]
     assert second.end() == (["acme: closed, 0 entries"], "", 0)
-    assert sorted(os.listdir(first.folder.name)) == ["config", "dumps"]
+    assert sorted(os.listdir(first.folder.name)) == ["config", "dumps", "socket.d"]
+    assert os.listdir(first.path + ".d") == ["s"]
 
 
 def steps_of(number: int) -> int:
@@ -348,7 +312,6 @@ def server_starts_while_another_one_dumps() -> None:
 
 CHECKS = [client_that_collects_and_goes, clients_that_execute_at_one_slot_and_go, client_that_goes_leaves_others_waiting,
           session_ends_without_a_reply_at_a_full_history, removal_ends_sessions_that_wait,
-          threads_that_wait_use_no_processor, job_of_a_client_that_has_gone_waits_for_ever,
-          removal_ends_a_server_that_is_busy, server_leaves_the_socket_of_the_next,
+          threads_that_wait_use_no_processor, removal_ends_a_server_that_is_busy, server_leaves_the_socket_of_the_next,
           server_leaves_a_file_that_is_not_its_own, server_starts_after_one_that_was_killed,
           killed_server_leaves_a_whole_dump, server_starts_while_another_one_dumps]

@@ -7,23 +7,21 @@ crates/script_program. It needs `cc` on the path.
 """
 import json
 import os
-import pathlib
 import select
 import socket
-import subprocess
-import tempfile
 import threading
 from collections.abc import Callable
 
+import binding
+import busy
+import dumps
 import endings
+import gone
 import levels
 import requests
 import starts
 from requests import job
-from servers import FIB, HELLO, PATIENCE, SEVEN, Server, dump_lines, side_by_side, tenant
-
-# A library by which no file is brought to the disk.
-UNFLUSHED = pathlib.Path(__file__).with_name("unflushed.c")
+from servers import FIB, HELLO, PATIENCE, SEVEN, Server, side_by_side, tenant
 
 
 def job_is_executed_and_polled() -> None:
@@ -61,6 +59,17 @@ def names_lead_to_their_tenants() -> None:
         assert server.ask({"op": "hello", "tenant": name}, {"op": "arena"}) == [
             {"tenant": name}, {"priority": "normal", "reserved": 1, "slots": slots}]
     assert server.end() == ([f"{name}: closed, 1 entries" for name in names], "", 0)
+
+
+def as_many_tenants_as_there_may_be() -> None:
+    """Each of 64 tenants is known by its own name, and has slots of its own number. One in nine is asked, the last too."""
+    slots = {f"t{number}": 1 + number % 16 for number in range(64)}
+    asked = list(slots)[::9]
+    server = Server([{**tenant(name, slots[name], 1), "steps": 100} for name in slots], 2, len(asked))
+    for name in asked:
+        assert server.ask({"op": "hello", "tenant": name}, {"op": "arena"}) == [
+            {"tenant": name}, {"priority": "normal", "reserved": 1, "slots": slots[name]}]
+    assert server.end() == ([f"{name}: closed, {int(name in asked)} entries" for name in slots], "", 0)
 
 
 def client_that_goes_away_ends_its_session_alone() -> None:
@@ -236,38 +245,6 @@ def jobs_are_retired_beside_clients_that_run_them() -> None:
         assert sum('"reply":{"epoch":' in line for line in dump) == len(epochs)
 
 
-def dump_is_the_history() -> None:
-    """The lines of the dump are those that the formats give for this history, to the byte."""
-    server = Server([{**tenant("acme", 1, 1), "rows": 8, "steps": 100}], 1, 1)
-    server.ask(HELLO, {"op": "execute", "job": SEVEN}, {"op": "poll", "job": 1})
-    assert server.process.wait(PATIENCE) == 0
-    with open(os.path.join(server.dumps, "acme.jsonl")) as dump:
-        assert dump.read().splitlines() == [
-            '{"tenant":{"name":"acme","priority":"normal","reserved":1,"rows":8,"slots":1,"steps":100}}',
-            '{"reply":{"job":1,"slot":0},"request":{"job":{"args":[7,0],"fuel":10,"procs":[[["ret",0]]]},"op":"execute"},"step":"ask"}',
-            '{"moved":"freed","slot":0,"step":"advance"}',
-            '{"reply":{"job":1,"status":"complete","value":7},"request":{"job":1,"op":"collect"},"step":"ask"}',
-            '{"reply":{"job":1,"status":"complete","value":7},"request":{"job":1,"op":"poll"},"step":"ask"}']
-    assert server.end() == (["acme: closed, 4 entries"], "", 0)
-
-
-def dump_has_the_job_that_was_sent() -> None:
-    """A job of all instructions and the tenant's own settings, each at an end of its range, are dumped as they were given."""
-    sent = job([["set", 1, -(2**63)], ["add", 2, 0, 1], ["sub", 3, 0, 1], ["mul", 4, 0, 1], ["div", 5, 0, 1], ["lt", 6, 0, 1],
-                ["jz", 6, 7], ["jmp", 8], ["slot", 7], ["width", 0], ["spawn", 3, 1, 0, 1], ["post", 1, 0, 1],
-                ["wait", 2, 3, 3], ["cancel", 0], ["ask", 1], ["isolate", 2, 1, 0, 1], ["load", 3, 7], ["store", 0, 4],
-                ["sum", 5, 1], ["count", 6, 2], ["ret", 7]], [["ret", 0]], args=(2**63 - 1, -(2**63)), fuel=1000000)
-    config = {"isolation": "within", "name": "a-9", "priority": "high", "reserved": 0, "rows": 4096, "slots": 16, "steps": 1}
-    server = Server([config], 1, 1)
-    request = {"op": "submit", "job": sent}
-    assert server.ask({"op": "hello", "tenant": "a-9"}, request) == [{"tenant": "a-9"}, {"job": 1}]
-    assert server.process.wait(PATIENCE) == 0
-    with open(os.path.join(server.dumps, "a-9.jsonl")) as dump:
-        lines = [{"tenant": config}, {"reply": {"job": 1}, "request": request, "step": "ask"}]
-        assert dump.read().splitlines() == [json.dumps(line, separators=(",", ":"), sort_keys=True) for line in lines]
-    assert server.end() == (["a-9: closed, 1 entries"], "", 0)
-
-
 def waiting_ends_at_a_full_history() -> None:
     server = Server([{**tenant("acme", 1, 0), "steps": 5}], 1, 1)
     assert server.ask(HELLO, {"op": "submit", "job": FIB}, {"op": "collect", "job": 1}) == [
@@ -286,37 +263,6 @@ def executes_end_at_a_full_history() -> None:
         assert server.end() == ([f"acme: closed, {steps} entries"], "", 0)
 
 
-def folder_of_dumps_is_missing() -> None:
-    server = Server([tenant("acme", 1, 1)], 1, 1)
-    os.rmdir(server.dumps)
-    server.ask(HELLO)
-    out, err = server.process.communicate(timeout=PATIENCE)
-    assert (out, err, server.process.returncode) == ("acme: closed, 0 entries\n", "arena-server: device\n", 3)
-
-
-def dump_that_fails_is_left_out() -> None:
-    """A folder stands where acme's dump would be. beta has its dump all the same."""
-    server = Server([tenant("acme", 1, 1), tenant("beta", 1, 1)], 1, 1)
-    os.mkdir(os.path.join(server.dumps, "acme.jsonl"))
-    server.ask(HELLO)
-    out, err = server.process.communicate(timeout=PATIENCE)
-    assert out == "acme: closed, 0 entries\nbeta: closed, 0 entries\n"
-    assert (err, server.process.returncode) == ("arena-server: device\n", 3)
-    assert sorted(os.listdir(server.dumps)) == ["acme.jsonl", "beta.jsonl"] and dump_lines(server.dumps, "beta") == 1
-
-
-def dump_that_is_not_flushed_is_left_out() -> None:
-    """A dump takes its name only once the system has said that it is on the disk, which here it never says."""
-    with tempfile.TemporaryDirectory() as folder:
-        library = os.path.join(folder, "unflushed.so")
-        subprocess.run(["cc", "-shared", "-fPIC", "-o", library, UNFLUSHED], check=True, timeout=PATIENCE)
-        server = Server([tenant("acme", 1, 1)], 1, 1, preload=library)
-        server.ask(HELLO)
-        out, err = server.process.communicate(timeout=PATIENCE)
-    assert (out, err, server.process.returncode) == ("acme: closed, 0 entries\n", "arena-server: device\n", 3)
-    assert os.listdir(server.dumps) == []
-
-
 def socket_may_be_gone_at_the_end() -> None:
     server = Server([tenant("acme", 1, 1)], 1, 1)
     with server.connect():
@@ -325,14 +271,12 @@ def socket_may_be_gone_at_the_end() -> None:
 
 
 CHECKS = [job_is_executed_and_polled, workers_share_a_job, tenants_do_not_see_each_other,
-          names_lead_to_their_tenants, client_that_goes_away_ends_its_session_alone, client_that_goes_away_after_any_byte,
-          job_stands_though_its_reply_is_lost, *requests.CHECKS, client_that_never_reads,
-          client_that_sends_without_end, clients_that_say_nothing, many_clients_at_once,
-          jobs_are_retired_round_after_round, jobs_are_retired_beside_clients_that_run_them, dump_is_the_history,
-          dump_has_the_job_that_was_sent,
-          waiting_ends_at_a_full_history, executes_end_at_a_full_history, folder_of_dumps_is_missing,
-          dump_that_fails_is_left_out, dump_that_is_not_flushed_is_left_out, socket_may_be_gone_at_the_end,
-          *starts.CHECKS, *levels.CHECKS, *endings.CHECKS]
+          names_lead_to_their_tenants, as_many_tenants_as_there_may_be, client_that_goes_away_ends_its_session_alone,
+          client_that_goes_away_after_any_byte, job_stands_though_its_reply_is_lost, *requests.CHECKS,
+          client_that_never_reads, client_that_sends_without_end, clients_that_say_nothing, many_clients_at_once,
+          jobs_are_retired_round_after_round, jobs_are_retired_beside_clients_that_run_them,
+          waiting_ends_at_a_full_history, executes_end_at_a_full_history, socket_may_be_gone_at_the_end,
+          *dumps.CHECKS, *starts.CHECKS, *binding.CHECKS, *levels.CHECKS, *endings.CHECKS, *gone.CHECKS, *busy.CHECKS]
 
 
 def main() -> None:

@@ -2,6 +2,7 @@
 import atexit
 import json
 import os
+import pathlib
 import re
 import resource
 import select
@@ -10,8 +11,9 @@ import stat
 import subprocess
 import tempfile
 import time
-from collections.abc import Callable
+from collections.abc import Callable, Iterator
 from concurrent.futures import FIRST_EXCEPTION, ThreadPoolExecutor, wait
+from contextlib import contextmanager
 from typing import IO, NamedTuple, TypeVar
 
 PROGRAM = os.path.abspath("crates/server_program/out/server_program")
@@ -77,13 +79,22 @@ def by_deadline(what: Callable[[], T], seconds: float = 20) -> T:
     return found
 
 
+@contextmanager
+def library(source: pathlib.Path) -> Iterator[str]:
+    """The path of a library that is made of a C file, to be loaded before the C library."""
+    with tempfile.TemporaryDirectory() as folder:
+        built = os.path.join(folder, source.stem + ".so")
+        subprocess.run(["cc", "-shared", "-fPIC", "-o", built, source], check=True, timeout=PATIENCE)
+        yield built
+
+
 class Server:
     """A server on a socket in a folder of its own, which goes when it ends, or in the folder of another server."""
 
     def __init__(self, tenants: list[dict], workers: int, connections: int, memory: int = resource.RLIM_INFINITY,
-                 beside: "Server | None" = None, preload: str = "") -> None:
-        """Starts it, and waits until it listens. `memory` is what it may map at most, in bytes, and `preload` the path of a
-        library that is loaded before the C library."""
+                 beside: "Server | None" = None, **environment: str) -> None:
+        """Starts it, and waits until it listens. `memory` is what it may map at most, in bytes; what else is named is
+        added to its environment."""
         self.folder = beside.folder if beside else tempfile.TemporaryDirectory()
         self.path = os.path.join(self.folder.name, "socket")
         self.dumps = os.path.join(self.folder.name, "dumps")
@@ -93,7 +104,7 @@ class Server:
             json.dump({"tenants": tenants, "workers": workers}, it)
         words = ["--config", config, "--socket", self.path, "--connections", str(connections), "--dump", self.dumps]
         self.process = subprocess.Popen([PROGRAM, *words], stdout=subprocess.PIPE, stderr=subprocess.PIPE, text=True,
-                                        preexec_fn=limited(memory), env={**os.environ, "LD_PRELOAD": preload})
+                                        preexec_fn=limited(memory), env={**os.environ, **environment})
         atexit.register(self.process.kill)  # where a check fails, its server goes too
         assert select.select([self.process.stdout], [], [], PATIENCE)[0], "it neither listens nor ends"
         assert self.process.stdout.readline() == "listening\n"
@@ -140,3 +151,10 @@ def dump_lines(folder: str, name: str) -> int:
         assert (done.stdout, done.stderr, done.returncode) == ("yes\n", "", 0), done
         dump.seek(0)
         return sum(1 for _ in dump)
+
+
+def placed_at(folder: str, name: str) -> dict[int, int]:
+    """The slot of each job that the dump of a tenant places on one, by its number."""
+    with open(os.path.join(folder, name + ".jsonl")) as dump:
+        replies = [json.loads(line).get("reply", {}) for line in dump]
+    return {reply["job"]: reply["slot"] for reply in replies if "slot" in reply}

@@ -1,6 +1,7 @@
 """How a server starts, and how it refuses to."""
 import json
 import os
+import shutil
 import socket
 import subprocess
 import tempfile
@@ -16,6 +17,11 @@ def run(*words: str, memory: int | None = None) -> tuple[str, str, int]:
     done = subprocess.run([PROGRAM, *words], capture_output=True, text=True, timeout=PATIENCE,
                           preexec_fn=limited(memory) if memory else None)
     return done.stdout, done.stderr, done.returncode
+
+
+def unbound(path: str, why: str) -> tuple[str, str, int]:
+    """How a server ends that can't listen at its path."""
+    return "", f"arena-server: {path}: {why}\narena-server: device\n", 3
 
 
 def wrong_words_are_faults() -> None:
@@ -43,13 +49,30 @@ def wrong_files_are_faults() -> None:
             assert run(*words) == CONFIG
         with open(config, "w") as it:
             json.dump({"tenants": [tenant("acme", 1, 1)], "workers": 1}, it)
-        assert run("--config", config, "--socket", "", "--connections", "1") == DEVICE
+        assert run("--config", config, "--socket", "", "--connections", "1") == unbound("", "no socket can be made there")
         # A folder of dumps that is not there, or is a file, is found out before anything is served.
         for dumps in ("nowhere", config):
             assert run(*words, "--dump", dumps) == DEVICE and not os.path.exists(at), dumps
         with open(at, "w"):
             pass
-        assert run(*words) == DEVICE
+        assert run(*words) == unbound(at, "something is there already")
+
+
+def each_dump_is_tried_at_the_start() -> None:
+    """A tenant other than the first has no place for its dump: a folder is there, or all parts that there may be."""
+    with tempfile.TemporaryDirectory() as folder:
+        config, at, dumps = (os.path.join(folder, name) for name in ("config", "socket", "dumps"))
+        with open(config, "w") as it:
+            json.dump({"tenants": [tenant("acme", 1, 1), tenant("beta", 1, 1)], "workers": 1}, it)
+        words = ["--config", config, "--socket", at, "--connections", "1", "--dump", dumps]
+        parts = ["beta.jsonl.part", *(f"beta.jsonl.part{number}" for number in range(2, 65))]
+        for names in (["beta.jsonl"], parts):
+            os.mkdir(dumps)
+            for name in names:
+                os.mkdir(os.path.join(dumps, name))
+            assert run(*words) == DEVICE
+            assert set(os.listdir(dumps)) == set(names)
+            shutil.rmtree(dumps)
 
 
 def worker_that_cannot_be_started_is_a_fault() -> None:
@@ -83,5 +106,5 @@ def session_that_cannot_be_started_costs_no_history() -> None:
     assert server.end() == ([f"acme: closed, {entries} entries"], "arena-server: device\n", 3)
 
 
-CHECKS = [wrong_words_are_faults, wrong_files_are_faults, worker_that_cannot_be_started_is_a_fault,
-          session_that_cannot_be_started_costs_no_history]
+CHECKS = [wrong_words_are_faults, wrong_files_are_faults, each_dump_is_tried_at_the_start,
+          worker_that_cannot_be_started_is_a_fault, session_that_cannot_be_started_costs_no_history]

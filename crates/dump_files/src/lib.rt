@@ -5,4 +5,4 @@ mod dumps;
 mod parts;
 
 pub use dumps::{can_dump, dump_history};
-pub use parts::{Part, make_part};
+pub use parts::{Broken, Kept, Part, Whole, make_part};

@@ -1,5 +1,5 @@
 // The file that a history is written to before it takes its place.
-ghost use Rattle.std.specs.Prelude.{◌≡◌, ◌≢◌, All, Any, Err, IfOk, None, OnOk, string_bytes};
+ghost use Rattle.std.specs.Prelude.{◌≡◌, ◌≢◌, All, Any, Err, IfErr, IfOk, None, OnOk, string_bytes};
 ghost use Rattle.std.specs.Io.KnownBytes.{Appends};
 ghost use Rattle.dump_files.specs.Paths.{IsPathOfPart, part_path};
 ghost use Rattle.dump_lines.specs.Dumps.{HasLine, ReadsBack, dump_text};
@@ -26,6 +26,25 @@ pub struct Part<F> {
     path: String,
 }
 
+/// A part that has the whole of a history, all of which is on the disk. `Part::fill` alone makes one.
+#[derive(Drop)]
+pub struct Whole<F> {
+    part: Part<F>,
+}
+
+/// A part that has a first piece of a history at most, and why.
+#[derive(Drop)]
+pub struct Broken<F> {
+    pub part: Part<F>,
+    pub fault: DumpFault,
+}
+
+/// A whole part has taken its file's place. `Whole::keep` alone makes one.
+#[derive(Clone, Copy, Debug, PartialEq, Eq)]
+pub struct Kept {
+    _made_here: (),
+}
+
 impl<F> Model for Part<F> {
     ghost use Rattle.std.specs.Prelude.{string_bytes};
     ghost use Rattle.dump_files.specs.Paths.{PartSeen};
@@ -33,6 +52,14 @@ impl<F> Model for Part<F> {
     ghost Value = { PartSeen F };
 
     ghost view = { λ p. record { file = p.file; path = string_bytes p.path } };
+}
+
+impl<F> Model for Whole<F> {
+    ghost use Rattle.dump_files.specs.Paths.{PartSeen};
+
+    ghost Value = { PartSeen F };
+
+    ghost view = { λ w. w.part };
 }
 
 /// Makes a part of the dump at a path, which nobody else has and its owner alone may read: `PATH.part`, or
@@ -59,6 +86,31 @@ impl<F: OpenFile + Write + Drop> Part<F> {
     /// read back. At a fault the part has a first piece of it. `Device` if the file fails, `Memory` if an allocation
     /// fails, and `NoEntry` if no history holds one of the entries.
     pub fn fill(
+        self,
+        alloc: Global,
+        config: &TenantConfig,
+        history: &[Entry],
+    ) -> Result<Whole<F>, Broken<F>>
+        ensures path { IfOk result (λ whole. whole.path ≡ self.path) }
+        ensures written { IfOk result (λ whole. Appends (F.contents self.file)
+            (F.contents whole.file) (dump_text config.now history.now)) }
+        ensures piece { IfErr result (λ broken. AppendsPart (F.contents self.file)
+            (F.contents broken.part.file) (dump_text config.now history.now)) }
+        ensures all { OnOk result (All HasLine history.now) }
+        ensures reads_back { OnOk result
+            (ReadsBack (dump_text config.now history.now) config.now history.now) }
+        ensures entry { IfErr result (λ broken. broken.fault ≡ NoEntry
+            → Any (λ e. entry_data e ≡ None) history.now) }
+    {
+        let mut part = self;
+        match part.write(alloc, config, history) {
+            Ok(()) => Ok(Whole { part }),
+            Err(fault) => Err(Broken { part, fault }),
+        }
+    }
+
+    /// Writes the text, and brings it to the disk.
+    fn write(
         &mut self,
         alloc: Global,
         config: &TenantConfig,
@@ -81,19 +133,6 @@ impl<F: OpenFile + Write + Drop> Part<F> {
         }
     }
 
-    /// Takes the place of the file at the path for which it was made, and brings that to the disk. `Device` if it can't
-    /// take it: it is removed then, and the file stays. `Device` too if its name may not be on the disk.
-    pub fn keep<R: Files>(self, rt: &R, path: &str) -> Result<(), DumpFault>
-        ensures { result ≢ Err NoEntry }
-    {
-        if fs::rename(rt, self.path.as_str(), path).is_ok() {
-            return sync_folder(rt, path);
-        }
-        // The end is the same if it can't be removed.
-        let _ = self.remove(rt);
-        Err(DumpFault::Device)
-    }
-
     /// Removes the part. `Device` if it can't be removed.
     pub fn remove<R: Files>(self, rt: &R) -> Result<(), DumpFault>
         ensures { result ≢ Err NoEntry }
@@ -102,6 +141,30 @@ impl<F: OpenFile + Write + Drop> Part<F> {
             Ok(()) => Ok(()),
             Err(_) => Err(DumpFault::Device),
         }
+    }
+}
+
+impl<F: OpenFile + Write + Drop> Whole<F> {
+    /// Takes the place of the file at the path for which it was made, and brings that to the disk. `Device` if it can't
+    /// take it: it is removed then, and the file stays. `Device` too if its name may not be on the disk.
+    pub fn keep<R: Files>(self, rt: &R, path: &str) -> Result<Kept, DumpFault>
+        ensures { result ≢ Err NoEntry }
+    {
+        if fs::rename(rt, self.part.path.as_str(), path).is_ok() {
+            sync_folder(rt, path)?;
+            return Ok(Kept { _made_here: () });
+        }
+        // The end is the same if it can't be removed.
+        let _ = self.part.remove(rt);
+        Err(DumpFault::Device)
+    }
+
+    /// The part, to be removed.
+    pub fn into_part(self) -> Part<F>
+        ensures { result ≡ self }
+    {
+        let Whole { part } = self;
+        part
     }
 }
 

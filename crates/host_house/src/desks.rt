@@ -144,7 +144,8 @@ fn serve_guests<R: Wait>(
             break;
         };
         let guest = &*stream;
-        serve_next(alloc, &mut &*guest, &mut &*guest, &mut doors);
+        // However it ended, the next guest may come.
+        let _end = serve_next(alloc, &mut &*guest, &mut &*guest, &mut doors);
         // The client may have gone before.
         let _ = guest.shutdown(Shutdown::Both);
         desk.free(rt);

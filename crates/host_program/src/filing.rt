@@ -6,8 +6,8 @@ use crate::ends::event_dump_fault;
 use crate::events::say_fault;
 use crate::folders::Folder;
 use crate::shelves::Shelves;
-use crate::writing::{Work, Writer};
-use dump_files::{Part, make_part};
+use crate::writing::{Done, Work, Writer};
+use dump_files::{Broken, Part, Whole, make_part};
 use dump_lines::DumpFault;
 use host_house::{Faults, Host, millis, seconds};
 use host_status::{ClosedGeneration, ClosedTenant, Event, Fault};
@@ -180,11 +180,7 @@ impl Filing {
     {
         match self.make_part(rt, alloc, office.folder) {
             Ok(part) => {
-                let work = Work {
-                    filing: self,
-                    part,
-                    written: Ok(()),
-                };
+                let work = Work { filing: self, part };
                 office.writer.give(rt, work);
                 None
             }
@@ -202,13 +198,23 @@ impl Filing {
     }
 
     /// Writes the next history to a part of its file.
-    pub(crate) fn write_to(&self, alloc: Global, part: &mut Part<File>) -> Result<(), DumpFault> {
-        let Some(ends) = &self.left.ends else {
-            return Ok(());
+    pub(crate) fn write_to(
+        &self,
+        alloc: Global,
+        part: Part<File>,
+    ) -> Result<Whole<File>, Broken<File>> {
+        let tenant = self.left.config.tenants().get(self.at);
+        let end = match &self.left.ends {
+            Some(ends) => ends.get(self.at),
+            None => None,
         };
-        match (self.left.config.tenants().get(self.at), ends.get(self.at)) {
+        match (tenant, end) {
             (Some(tenant), Some(Ok(closed))) => part.fill(alloc, tenant, closed.history.as_slice()),
-            _ => Ok(()),
+            // It has no history, and so no part is made for it.
+            _ => Err(Broken {
+                part,
+                fault: DumpFault::Device,
+            }),
         }
     }
 
@@ -219,17 +225,13 @@ impl Filing {
         alloc: Global,
         office: Office<'_>,
         shelves: &mut Shelves,
-        work: Work,
+        done: Done,
     ) -> Filing
     where
         R: Files<File = File> + Wait + Clock,
     {
-        let Work {
-            filing,
-            part,
-            written,
-        } = work;
-        match filing.keep_part(rt, alloc, office, shelves, part, written) {
+        let Done { filing, written } = done;
+        match filing.keep_part(rt, alloc, office, shelves, written) {
             Ok(()) => {
                 let entries = match filing.next_end() {
                     Some(End::Closed(entries)) => entries,
@@ -248,26 +250,24 @@ impl Filing {
         alloc: Global,
         office: Office<'_>,
         shelves: &mut Shelves,
-        part: Part<File>,
-        written: Result<(), DumpFault>,
+        written: Result<Whole<File>, Broken<File>>,
     ) -> Result<(), DumpFault>
     where
         R: Files<File = File>,
     {
-        let path = match (written, self.path(alloc, office.folder)) {
-            (Ok(()), Ok(path)) => path,
-            (Err(fault), _) => {
+        let _kept = match (written, self.path(alloc, office.folder)) {
+            (Ok(whole), Ok(path)) => whole.keep(rt, path.as_str())?,
+            (Err(Broken { part, fault }), _) => {
                 // It is removed at the next start if it can't be now.
                 let _ = part.remove(rt);
                 return Err(fault);
             }
-            (Ok(()), Err(_)) => {
+            (Ok(whole), Err(_)) => {
                 // As above.
-                let _ = part.remove(rt);
+                let _ = whole.into_part().remove(rt);
                 return Err(DumpFault::Memory);
             }
         };
-        part.keep(rt, path.as_str())?;
         // What is not known of now is found at the next start.
         let _ = self.shelve(rt, alloc, office, shelves);
         Ok(())

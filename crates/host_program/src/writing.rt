@@ -1,32 +1,32 @@
 // The thread that writes histories, so that the thread that opens generations does not wait for them.
 
 use crate::filing::Filing;
-use dump_files::Part;
-use dump_lines::DumpFault;
+use dump_files::{Broken, Part, Whole};
 use std::alloc::Global;
 use std::fs::File;
 use std::sync::{Condvar, CondvarTimeouts, Mutex, Wait};
 use std::time::{Clock, Duration};
 
-/// The next history of a generation, with the part that it is written to, and how far that is.
+/// The next history of a generation, with the part that it is written to.
 #[derive(Drop)]
 pub(crate) struct Work {
     pub(crate) filing: Filing,
     pub(crate) part: Part<File>,
-    pub(crate) written: Result<(), DumpFault>,
+}
+
+/// The same when it was written, or could not be.
+#[derive(Drop)]
+pub(crate) struct Done {
+    pub(crate) filing: Filing,
+    pub(crate) written: Result<Whole<File>, Broken<File>>,
 }
 
 impl Work {
     /// Writes the history.
-    fn write(self, alloc: Global) -> Work {
-        let Work { filing, part, .. } = self;
-        let mut part = part;
-        let written = filing.write_to(alloc, &mut part);
-        Work {
-            filing,
-            part,
-            written,
-        }
+    fn write(self, alloc: Global) -> Done {
+        let Work { filing, part } = self;
+        let written = filing.write_to(alloc, part);
+        Done { filing, written }
     }
 }
 
@@ -36,7 +36,7 @@ struct Place {
     /// To be written.
     next: Option<Work>,
     /// Written, or found that it can't be.
-    done: Option<Work>,
+    done: Option<Done>,
     /// Whether one was given that was not taken back.
     is_busy: bool,
     /// Whether no more come.
@@ -77,7 +77,7 @@ impl Writer {
     }
 
     /// Waits until the history is written, or for that long, and takes it back.
-    pub(crate) fn take<R: Wait + Clock>(&self, rt: &R, most: Duration) -> Option<Work> {
+    pub(crate) fn take<R: Wait + Clock>(&self, rt: &R, most: Duration) -> Option<Done> {
         let mut place = self.place.lock(rt);
         if place.done.is_none() {
             let (again, _timeout) = self.changed.wait_timeout(rt, place, most);
@@ -103,8 +103,8 @@ impl Writer {
     }
 
     /// Gives a history back.
-    fn put<R: Wait>(&self, rt: &R, work: Work) {
-        self.place.lock(rt).done = Some(work);
+    fn put<R: Wait>(&self, rt: &R, done: Done) {
+        self.place.lock(rt).done = Some(done);
         self.changed.notify_all();
     }
 }

@@ -6,6 +6,8 @@ mod host;
 mod numbers;
 mod options;
 mod server;
+#[cfg(test)]
+mod tests;
 
 pub use faults::WordsFault;
 pub use host::{HostWords, read_host_words};

@@ -12,6 +12,7 @@ use Rattle.server_house.specs.Houses.{AreEnds, IsEnd, is_of}
 use Rattle.server_house.specs.Posts.{ClientSeen, IsClient, IsFresh}
 use Rattle.server_house.specs.Returned.{IsGivenBack, IsAskedBy, AreAskedBy}
 use Rattle.server_house.specs.Sessions.{ServesClient}
+use Rattle.session_core.specs.declared.serving.SessionEnd.{SessionEnd}
 
 -- The seats of tenants that have done nothing are fresh.
 pub fresh_from : (seats n : ℕ) (ts : List Tenant) → All IsFresh (flat_map (λ (t : ℕ × Tenant). first_seats t.0 t.1.steps seats) (enumerate_from n ts))
@@ -24,8 +25,8 @@ fresh_from seats n (t ∷ ts) =
 pub fresh_given_back : (seats : List SeatData) → All IsFresh seats → All IsGivenBack seats
 fresh_given_back seats fresh = All-weaker IsFresh IsGivenBack (λ s is_fresh. inl is_fresh) seats fresh
 
-pub session_given_back : (c : ClientSeen) (bytes left written out : Option (List ℕ)) (seats : List SeatData) → IsClient c → ServesClient c bytes left written out seats → All IsGivenBack seats
-session_given_back c bytes left written out seats begins serves k s low = inr (record {
+pub session_given_back : (c : ClientSeen) (bytes left written out : Option (List ℕ)) (seats : List SeatData) (end : SessionEnd) → IsClient c → ServesClient c bytes left written out seats end → All IsGivenBack seats
+session_given_back c bytes left written out seats end begins serves k s low = inr (record {
   client = c;
   begins = begins;
   bytes = bytes;
@@ -33,6 +34,7 @@ session_given_back c bytes left written out seats begins serves k s low = inr (r
   written = written;
   out = out;
   seats = seats;
+  end = end;
   serves = serves;
   is_one = Contains-get_or seats k s low;
 })

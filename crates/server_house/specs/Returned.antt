@@ -7,6 +7,7 @@ use Rattle.tenant_lock.specs.Doors.{DoorData}
 use Rattle.tenant_lock.specs.declared.doors.Closed.{Closed}
 use Rattle.tenant_lock.specs.declared.faults.CloseFault.{CloseFault}
 use Rattle.tenant_record.specs.SeatData.{SeatData}
+use Rattle.session_core.specs.declared.serving.SessionEnd.{SessionEnd}
 use Rattle.server_house.specs.Posts.{ClientSeen, IsClient, IsFresh}
 use Rattle.server_house.specs.Sessions.{ServesClient}
 
@@ -20,7 +21,8 @@ pub record IsFromSession (s : SeatData) : Type 0 where
   pub written : Option (List ℕ)
   pub out : Option (List ℕ)
   pub seats : List SeatData
-  pub serves : ServesClient client bytes left written out seats
+  pub end : SessionEnd
+  pub serves : ServesClient client bytes left written out seats end
   pub is_one : Contains seats s
 
 -- A seat by which nothing was asked, or one that a session gave back.

@@ -27,9 +27,8 @@ first_session c = record {
 abbrev pub RepliesThere : (text : List ℕ) → Bool × SessionSeen → Option Reply → Bool × SessionSeen → Type 0
 RepliesThere = Replies Finds Binds Asks WaitsFor (Attends (Turn Sees Commits Advances) IsAsHigh Waits 1)
 
--- What was written is what answers the lines that were read, in order, and the seats are as the session's asks have left them.
-pub record ServesClient (c : ClientSeen) (bytes left written out : Option (List ℕ)) (seats : List SeatData) : Type 0 where
-  pub end : SessionEnd
+-- What was written is what answers the lines that were read, in order, up to that end, and the seats are as the session's asks have left them.
+pub record ServesClient (c : ClientSeen) (bytes left written out : Option (List ℕ)) (seats : List SeatData) (end : SessionEnd) : Type 0 where
   pub session : SessionSeen
   pub serves : Serves RepliesThere bytes left written out (false, first_session c) session end
   pub seats_are : seats ≡ session.seats

@@ -11,10 +11,9 @@ use Rattle.server_house.specs.Sessions.{RepliesThere}
 abbrev pub at_no_slot : SessionSeen → SessionSeen
 at_no_slot s = with_thread s (record (s.at) { doors = left s.at.doors })
 
--- The next client was served: what was written is what answers the lines that were read, in order. Then the session is
--- at no slot.
-pub record ServesNext (bytes unread written out : Option (List ℕ)) (old new : SessionSeen) : Type 0 where
-  pub end : SessionEnd
+-- The next client was served: what was written is what answers the lines that were read, in order, up to that end. Then
+-- the session is at no slot.
+pub record ServesNext (bytes unread written out : Option (List ℕ)) (old new : SessionSeen) (end : SessionEnd) : Type 0 where
   pub session : SessionSeen
   pub serves : Serves RepliesThere bytes unread written out (false, old) session end
   pub leaves : new ≡ at_no_slot session
@@ -25,7 +24,8 @@ pub record ServesSome (old new : SessionSeen) : Type 0 where
   pub unread : Option (List ℕ)
   pub written : Option (List ℕ)
   pub out : Option (List ℕ)
-  pub serves : ServesNext bytes unread written out old new
+  pub end : SessionEnd
+  pub serves : ServesNext bytes unread written out old new end
 
 -- A client came and went: it was served, or there was no memory for that and the session only left its slot.
 abbrev pub IsVisit : SessionSeen → SessionSeen → Type 0

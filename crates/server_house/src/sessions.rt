@@ -1,5 +1,8 @@
 // What a thread of the server does.
-ghost use Rattle.std.specs.Prelude.{◌≡◌, ◌⊎◌, All};
+ghost use Rattle.std.specs.Prelude.{◌≡◌, All, IfOk, OnErr};
+ghost use Rattle.request_reader.specs.Calls.{AreCalls};
+ghost use Rattle.request_reader.specs.declared.turns.TheConstants.{MAX_TURNS};
+ghost use Rattle.session_core.specs.Sessions.{HasCause};
 ghost use Rattle.server_house.specs.Returned.{IsGivenBack};
 ghost use Rattle.server_house.specs.Sessions.{ServesClient};
 ghost use Rattle.server_house.specs.Visits.{at_no_slot, IsVisit, ServesNext};
@@ -7,53 +10,60 @@ ghost use Rattle.server_house.specs.Workers.{WorksThere};
 ghost use Rattle.worker_main.specs.Visits.{told};
 
 use crate::posts::{Client, Post};
+use reply_writer::Sink;
+use request_reader::Source;
 use server_doors::{LockedDoors, TenantSlots};
-use session_core::serve;
-use std::alloc::Global;
-use std::io::{Read, Write};
+use session_core::{SessionEnd, serve};
+use std::alloc::{AllocError, Global};
 use std::sync::Wait;
 use tenant_lock::StopFlag;
 use tenant_record::Seat;
 use worker_main::{Bell, Gate, Signal, Visiting, worker};
 
-/// Serves one client, and gives the seats back, however its session ended: with what its asks were answered, or as they
-/// were if there was no memory for a session. It waits for no job once the flag is raised.
-pub fn serve_client<R: Wait, I: Read, O: Write>(
+/// Serves one client, and gives its session's end and the seats back: with what its asks were answered, or as they were
+/// if there was no memory for a session. It waits for no job once the flag is raised.
+pub fn serve_client<R: Wait, I: Source, O: Sink>(
     rt: &R,
     alloc: Global,
     client: Client<'_>,
     is_gone: &StopFlag,
     reader: &mut I,
     writer: &mut O,
-) -> Vec<Seat>
-    ensures served { ServesClient client.entry (I.remaining reader.old) (I.remaining reader.new)
-        (O.contents writer.old) (O.contents writer.new) result.items
-        ⊎ ((reader.new ≡ reader.old) × (writer.new ≡ writer.old)
-        × (result.items ≡ client.entry.seats)) }
-    ensures given_back { All IsGivenBack result.items }
+) -> (Result<SessionEnd, AllocError>, Vec<Seat>)
+    ensures served { IfOk result.0 (λ end. ServesClient client.entry (I.remaining reader.old)
+        (I.remaining reader.new) (O.contents writer.old) (O.contents writer.new) result.1.items
+        end) }
+    ensures cause { IfOk result.0 (λ end. HasCause (I.failed reader.new)
+        (AreCalls I.called MAX_TURNS 0 reader.old reader.new) (O.failed writer.new) end) }
+    ensures refused { OnErr result.0 ((reader.new ≡ reader.old) × (writer.new ≡ writer.old)
+        × (result.1.items ≡ client.entry.seats)) }
+    ensures given_back { All IsGivenBack result.1.items }
 {
     let mut doors = client.into_doors(rt, is_gone);
-    let _end = serve(alloc, reader, writer, &mut doors);
+    let end = serve(alloc, reader, writer, &mut doors);
     let (seats, _ringer) = doors.into_parts();
-    seats
+    (end, seats)
 }
 
-/// Serves one client after another by doors that stay: the next one, however its session ends. Then the doors are at no
-/// slot, and can serve the one after it.
-pub fn serve_next<R: Wait, I: Read, O: Write>(
+/// Serves one client after another by doors that stay: the next one, whose session's end it gives. Then the doors are at
+/// no slot, and can serve the one after it. An error has read and written nothing.
+pub fn serve_next<R: Wait, I: Source, O: Sink>(
     alloc: Global,
     reader: &mut I,
     writer: &mut O,
     doors: &mut LockedDoors<'_, '_, R, Bell>,
-)
-    ensures served { ServesNext (I.remaining reader.old) (I.remaining reader.new)
-        (O.contents writer.old) (O.contents writer.new) doors.old doors.new
-        ⊎ ((reader.new ≡ reader.old) × (writer.new ≡ writer.old)
+) -> Result<SessionEnd, AllocError>
+    ensures served { IfOk result (λ end. ServesNext (I.remaining reader.old) (I.remaining reader.new)
+        (O.contents writer.old) (O.contents writer.new) doors.old doors.new end) }
+    ensures cause { IfOk result (λ end. HasCause (I.failed reader.new)
+        (AreCalls I.called MAX_TURNS 0 reader.old reader.new) (O.failed writer.new) end) }
+    ensures refused { OnErr result ((reader.new ≡ reader.old) × (writer.new ≡ writer.old)
         × (doors.new ≡ at_no_slot doors.old)) }
     ensures visit { IsVisit doors.old doors.new }
 {
-    let _end = serve(alloc, reader, writer, doors);
+    let end = serve(alloc, reader, writer, doors);
     doors.leave();
+    end
 }
 
 /// Serves calls until the signal tells to stop, as a worker of the post's house that visits slots in that way. The gate

@@ -1,11 +1,12 @@
 // The socket of a server, and its file.
+ghost use Rattle.std.specs.Prelude.{◌≡◌};
+ghost use Rattle.server_io.specs.declared.endpoint.BindFault.TheVariants.{Memory};
 
-use crate::ends::ServerEnd;
-use std::alloc::Global;
-use std::fs::{DirBuilder, Files, Permissions};
+use crate::rooms::{FileId, Room};
+use std::alloc::{AllocError, Global};
+use std::fs::Files;
 use std::io::ErrorKind;
 use std::net::Net;
-use std::os::unix::fs::{DirBuilderExt, MetadataExt, PermissionsExt, chown};
 use std::os::unix::net::{UnixListener, UnixStream};
 use std::{fs, io};
 
@@ -26,46 +27,64 @@ impl Access {
     };
 }
 
+/// Why nobody listens at a path.
+#[derive(Clone, Copy, Debug, PartialEq, Eq)]
+pub enum BindFault {
+    /// Something is at the path already.
+    Taken,
+    /// Something is at the path of each folder in which the socket could be made.
+    NoRoom,
+    /// The path does not lead to the socket that was put there: somebody has replaced it.
+    Replaced,
+    /// One of the steps failed.
+    Device,
+    /// An allocation failed.
+    Memory,
+}
+
+impl BindFault {
+    /// What is wrong with the path, if it is the path.
+    pub fn why(self) -> Option<&'static str> {
+        match self {
+            BindFault::Taken => Some("something is there already"),
+            BindFault::NoRoom => Some("something is at each of its paths from .d to .d64 already"),
+            BindFault::Replaced => Some("somebody has put another file there"),
+            BindFault::Device => Some("no socket can be made there"),
+            BindFault::Memory => None,
+        }
+    }
+}
+
+impl From<AllocError> for BindFault {
+    ghost from_gives = { λ _ e. e ≡ Memory };
+
+    fn from(_error: AllocError) -> BindFault {
+        BindFault::Memory
+    }
+}
+
 /// A socket that clients connect to, and the file at which it is found.
 #[derive(Drop)]
 pub struct Endpoint<'p> {
     pub(crate) listener: UnixListener,
     path: &'p str,
-    /// The file that was made: the device that it is on, and its number there.
-    device: u64,
-    inode: u64,
+    file: FileId,
 }
 
 impl<'p> Endpoint<'p> {
-    /// Listens at a path, for those who have access. The socket is made in a folder of its own, which its owner alone
-    /// may enter, and stands at the path once its mode and group are set. `Device` if something is at the path already
-    /// or one of the steps fails, and `Memory` if an allocation fails; then nothing is left behind.
+    /// Listens at a path, for those who have access. The socket is made in a folder that nobody else has made, which its
+    /// owner alone may enter, and stands at the path once its mode and group are set. At a fault nothing of it is left,
+    /// and what else is at the path, or beside it, stays.
     pub fn bind<R: Files + Net>(
         rt: &R,
         alloc: Global,
         path: &'p str,
         access: Access,
-    ) -> Result<Endpoint<'p>, ServerEnd> {
-        let folder = format!(in alloc; "{path}.d")?;
-        let made = format!(in alloc; "{path}.d/s")?;
-        let bound = bind_within(rt, folder.as_str(), made.as_str(), path, access);
-        // They are there, unless a step before has failed.
-        let _ = fs::remove_file(rt, made.as_str());
-        let _ = fs::remove_dir(rt, folder.as_str());
-        let Ok(listener) = bound else {
-            return Err(ServerEnd::Device);
-        };
-        let Ok(file) = fs::symlink_metadata(rt, path) else {
-            // The end is the same if it can't be removed.
-            let _ = fs::remove_file(rt, path);
-            return Err(ServerEnd::Device);
-        };
-        Ok(Endpoint {
-            listener,
-            path,
-            device: file.dev(),
-            inode: file.ino(),
-        })
+    ) -> Result<Endpoint<'p>, BindFault> {
+        let room = Room::make(rt, alloc, path)?;
+        let bound = bind_within(rt, &room, path, access);
+        room.remove(rt);
+        bound
     }
 
     /// Accepts a connection, if one waits. An error if the system fails to.
@@ -81,8 +100,8 @@ impl<'p> Endpoint<'p> {
 
     /// Whether the path leads to this socket, as far as that can be known.
     pub fn is_there<R: Files>(&self, rt: &R) -> bool {
-        match fs::symlink_metadata(rt, self.path) {
-            Ok(file) => file.dev() == self.device && file.ino() == self.inode,
+        match FileId::at(rt, self.path) {
+            Ok(file) => file == self.file,
             Err(fault) => !matches!(fault.kind(), ErrorKind::NotFound | ErrorKind::NotADirectory),
         }
     }
@@ -96,26 +115,25 @@ impl<'p> Endpoint<'p> {
     }
 }
 
-/// Makes a socket in a new folder, and lets the path lead to it too. An error if one of the steps fails: what the steps
-/// before it made is left there.
-fn bind_within<R: Files + Net>(
+/// Makes a socket in a room, and lets the path lead to it too. It is there only if that is the very socket that was made.
+fn bind_within<'p, R: Files + Net>(
     rt: &R,
-    folder: &str,
-    made: &str,
-    path: &str,
+    room: &Room,
+    path: &'p str,
     access: Access,
-) -> io::Result<UnixListener> {
-    // A server that was killed as it started may have left them.
-    let _ = fs::remove_file(rt, made);
-    let _ = fs::remove_dir(rt, folder);
-    DirBuilder::new().mode(0o700).create(rt, folder)?;
-    let listener = UnixListener::bind(rt, made)?;
-    if access.group.is_some() {
-        chown(rt, made, None, access.group)?;
+) -> Result<Endpoint<'p>, BindFault> {
+    let Ok((listener, file)) = room.listen(rt, access) else {
+        return Err(BindFault::Device);
+    };
+    room.link(rt, path)?;
+    let endpoint = Endpoint {
+        listener,
+        path,
+        file,
+    };
+    // Whoever may write in the path's folder could have come between.
+    match FileId::at(rt, path) {
+        Ok(there) if there == endpoint.file => Ok(endpoint),
+        _ => Err(BindFault::Replaced),
     }
-    fs::set_permissions(rt, made, Permissions::from_mode(access.mode))?;
-    listener.set_nonblocking(true)?;
-    // Unlike a rename, it fails if there is something at the path.
-    fs::hard_link(rt, made, path)?;
-    Ok(listener)
 }

@@ -1,8 +1,9 @@
 // How a server ends.
 ghost use Rattle.std.specs.Prelude.{◌≡◌, option_map};
-ghost use Rattle.server_io.specs.Ends.{status_of, fault_of};
+ghost use Rattle.server_io.specs.Ends.{status_of, fault_of, end_of_bind};
 ghost use Rattle.server_io.specs.declared.ends.ServerEnd.TheVariants.{Memory};
 
+use crate::endpoint::BindFault;
 use std::alloc::{AllocError, AllocFailed};
 
 /// How a server ended.
@@ -54,5 +55,17 @@ impl From<AllocError> for ServerEnd {
 
     fn from(_error: AllocError) -> ServerEnd {
         ServerEnd::Memory
+    }
+}
+
+impl From<BindFault> for ServerEnd {
+    ghost from_gives = { λ fault end. end ≡ end_of_bind fault };
+
+    fn from(fault: BindFault) -> ServerEnd {
+        match fault {
+            BindFault::Memory => ServerEnd::Memory,
+            BindFault::Taken | BindFault::NoRoom | BindFault::Replaced | BindFault::Device =>
+                ServerEnd::Device,
+        }
     }
 }

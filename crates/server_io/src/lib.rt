@@ -5,9 +5,10 @@
 mod configs;
 mod endpoint;
 mod ends;
+mod rooms;
 mod watching;
 
 pub use configs::{MAX_CONFIG, config_of};
-pub use endpoint::{Access, Endpoint};
+pub use endpoint::{Access, BindFault, Endpoint};
 pub use ends::ServerEnd;
 pub use watching::Watch;

@@ -50,7 +50,7 @@ fn words_of<R: Env + AllocGlobal>(rt: &R) -> io::Result<Vec<String>> {
 
 fn end_of<R>(rt: &R, words: &[String]) -> ServerEnd
 where
-    R: Files + Net + Threads + Wait + Sync + Print + AllocGlobal,
+    R: Files + Net + Threads + Wait + Sync + Print + Eprint + AllocGlobal,
 {
     match serve_words(rt, words) {
         Ok(end) => end,
@@ -60,7 +60,7 @@ where
 
 fn serve_words<R>(rt: &R, words: &[String]) -> Result<ServerEnd, ServerEnd>
 where
-    R: Files + Net + Threads + Wait + Sync + Print + AllocGlobal,
+    R: Files + Net + Threads + Wait + Sync + Print + Eprint + AllocGlobal,
 {
     let mut texts = Vec::new(rt.alloc());
     for word in words {
@@ -83,7 +83,7 @@ where
 /// Opens the tenants of the configuration, serves them, and closes them.
 fn serve_tenants<R>(rt: &R, words: ServerWords<'_>) -> Result<ServerEnd, ServerEnd>
 where
-    R: Files + Net + Threads + Wait + Sync + Print + AllocGlobal,
+    R: Files + Net + Threads + Wait + Sync + Print + Eprint + AllocGlobal,
     requires { 1 ≤ words.connections }
 {
     let alloc = rt.alloc();
@@ -97,7 +97,7 @@ where
     if let Some(folder) = words.dump {
         try_folder(rt, alloc, folder, config.tenants())?;
     }
-    let endpoint = Endpoint::bind(rt, alloc, words.socket, Access::OWNER)?;
+    let endpoint = listen(rt, alloc, words.socket)?;
     let served = serve_connections(
         rt,
         alloc,
@@ -124,18 +124,36 @@ where
     }
 }
 
-/// Whether a dump can be made in a folder: `Device` if not. Nothing is left there.
+/// Whether the dump of each tenant can be made in a folder: `Device` if not. Nothing is left there.
 fn try_folder<R: Files>(
     rt: &R,
     alloc: Global,
     folder: &str,
     configs: &[TenantConfig],
 ) -> Result<(), ServerEnd> {
-    let Some(config) = configs.first() else {
-        return Ok(());
-    };
-    let path = dump_path(alloc, folder, config)?;
-    can_dump(rt, alloc, path.as_str()).map_err(end_at)
+    for config in configs {
+        let path = dump_path(alloc, folder, config)?;
+        can_dump(rt, alloc, path.as_str()).map_err(end_at)?;
+    }
+    Ok(())
+}
+
+/// Listens at a path, for the server's owner alone. If the path is why it can't, standard error has a line of that.
+fn listen<'p, R: Files + Net + Eprint>(
+    rt: &R,
+    alloc: Global,
+    path: &'p str,
+) -> Result<Endpoint<'p>, ServerEnd> {
+    match Endpoint::bind(rt, alloc, path, Access::OWNER) {
+        Ok(endpoint) => Ok(endpoint),
+        Err(fault) => {
+            if let Some(why) = fault.why() {
+                // The status tells of the fault even if standard error takes nothing.
+                let _ = eprintln!(rt; "arena-server: {path}: {why}");
+            }
+            Err(ServerEnd::from(fault))
+        }
+    }
 }
 
 /// The file of a tenant's history in a folder.
@@ -233,7 +251,8 @@ fn report_end<R: Files + Print>(
     let is_printed = print_end(rt, end, config).is_ok();
     if let (Some(folder), Ok(closed)) = (folder, end) {
         let path = dump_path(alloc, folder, config)?;
-        dump_history(rt, alloc, path.as_str(), config, closed.history.as_slice()).map_err(end_at)?;
+        let history = closed.history.as_slice();
+        let _kept = dump_history(rt, alloc, path.as_str(), config, history).map_err(end_at)?;
     }
     if is_printed {
         Ok(())

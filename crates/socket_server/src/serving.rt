@@ -184,7 +184,8 @@ fn serve_waiting<R: Wait>(
     let client = desk.lock(rt).pop();
     if let Some(client) = client {
         let stream = &connection.stream;
-        let seats = serve_client(
+        // However it ended, its seats come back, and the connection ends.
+        let (_end, seats) = serve_client(
             rt,
             alloc,
             client,

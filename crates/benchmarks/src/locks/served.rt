@@ -92,7 +92,7 @@ fn serve_lines<R: Wait>(
     let mut reader = lines.as_bytes();
     let mut replies = Vec::new(alloc);
     let never = StopFlag::new();
-    let seats = serve_client(rt, alloc, client, &never, &mut reader, &mut replies);
+    let (_end, seats) = serve_client(rt, alloc, client, &never, &mut reader, &mut replies);
     house.stop(rt);
     Session { replies, seats }
 }

@@ -8,4 +8,4 @@ pub loop-guest-init : goal.loop-guest-init
 loop-guest-init g c = (0, c.into_doors-doors.ensures.session)
 
 pub loop-guest-preserved : goal.loop-guest-preserved
-loop-guest-preserved g c = let so_far = c.loop-guest.invariant in (suc so_far.0, (c.loop-guest.doors, (so_far.1, c.serve_next.ensures.visit)))
+loop-guest-preserved g c = let so_far = c.loop-guest.invariant in (suc so_far.0, (c.loop-guest.doors, (so_far.1, c.serve_next-end.ensures.visit)))
