@@ -103,6 +103,7 @@ fn give_home<R: Wait>(rt: &R, door: &TenantDoor, pass: Pass) {
             return door.give_home(rt, pass);
         }
     }
+    unreachable!()
 }
 
 /// Asks for what brings the job, again if it was refused for lack of memory.

@@ -169,21 +169,29 @@ fn moved_beside<R: Wait>(
     let (here, there) = (StopFlag::new(), StopFlag::new());
     let one = counted_at(rt, alloc, door, first, &here)?;
     match counted_at(rt, alloc, door, second, &there) {
-        Ok(two) => Ok(move_both(one, two, moves)),
+        Ok(two) => Ok(move_both(rt, door, one, two, moves)),
         Err(fail) => {
+            door.stop(rt);
             let _moved = one.end();
             Err(fail)
         }
     }
 }
 
-/// Moves two doors at a slot each so often, and then at once.
-fn move_both<R: Wait>(one: Counted<'_, R>, two: Counted<'_, R>, moves: u32) -> Beside {
+/// Moves two doors at a slot each so often, and then at once. The slots are left once the tenant's door is told to stop.
+fn move_both<R: Wait>(
+    rt: &R,
+    door: &TenantDoor,
+    one: Counted<'_, R>,
+    two: Counted<'_, R>,
+    moves: u32,
+) -> Beside {
     let (mut one, mut two) = (one, two);
     one.move_on(moves);
     two.move_on(moves);
     let moved = [(one.commits, one.advances), (two.commits, two.advances)];
     let at_once = move_at_once(&mut one, &mut two);
+    door.stop(rt);
     let _moved = (one.end(), two.end());
     (moved, at_once)
 }

@@ -119,6 +119,7 @@ fn end<R: Wait>(rt: &R, mut cell: TenantCell, pass: Option<Pass>) {
             return cell.give_home(pass);
         }
     }
+    unreachable!()
 }
 
 /// Lets a worker arrive: the answer, and the pass if a row was found.
@@ -345,8 +346,9 @@ fn submit_and_arrive<R: Wait>(
 #[test]
 fn a_pass_that_is_kept_is_missed(rt: HostRuntime) -> Result<(), Fail> {
     let (door, mut seats) = TenantDoor::new(rt.alloc(), 0, two_slots()?, 1)?;
+    let cell = TenantCell::new(rt.alloc(), 0, two_slots()?)?;
     let pass = submit_and_arrive(&rt, rt.alloc(), &door, seats.as_mut_slice());
-    end(&rt, TenantCell::new(rt.alloc(), 0, two_slots()?)?, pass);
+    end(&rt, cell, pass);
     let fault = door.close(seats).err();
     assert_same(&rt, &fault, &Some(CloseFault::PassLost(1)));
     Ok(())

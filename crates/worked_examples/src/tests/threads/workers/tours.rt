@@ -15,7 +15,7 @@ use worker_main::{Bell, CallDoors, DueDoor};
 pub(super) type Row = (usize, Moved, Option<u8>);
 
 /// Slots of one tenant that go through the rows of a table. An arrival finds a row unless the table
-/// is at its end. After some arrivals the bell tells to stop.
+/// is at its end. After some calls were served the bell tells to stop.
 #[derive(Drop)]
 pub(super) struct Tour<'t, R> {
     pub rt: &'t R,
@@ -25,8 +25,8 @@ pub(super) struct Tour<'t, R> {
     pub place: usize,
     /// The slot that it leads to.
     pub at: Option<u8>,
-    /// Arrivals until the bell tells to stop.
-    pub arrivals: u32,
+    /// How many calls are served until the bell tells to stop.
+    pub calls: u32,
     /// How many commits were made.
     pub commits: &'t Cell<u32>,
     pub advances: u32,
@@ -34,14 +34,14 @@ pub(super) struct Tour<'t, R> {
     pub homes: u32,
 }
 
-impl<'t, R> Tour<'t, R> {
+impl<'t, R: Wait> Tour<'t, R> {
     pub(super) fn new(
         program: Program,
         rt: &'t R,
         bell: &'t Bell,
         commits: &'t Cell<u32>,
         rows: &'t [Row],
-        arrivals: u32,
+        calls: u32,
     ) -> Self {
         Tour {
             rt,
@@ -50,7 +50,7 @@ impl<'t, R> Tour<'t, R> {
             rows,
             place: 0,
             at: None,
-            arrivals,
+            calls,
             commits,
             advances: 0,
             pauses: 0,
@@ -68,9 +68,23 @@ impl<'t, R> Tour<'t, R> {
             .unwrap_or((0, Moved::Idle, None));
         self.place = self.place.wrapping_add(1);
         if moved == Moved::Left {
-            self.at = None;
+            self.leave();
         }
         (moved, due_of(due))
+    }
+
+    /// Ends a visit.
+    fn leave(&mut self) {
+        self.at = None;
+        self.end_call();
+    }
+
+    /// Counts a call that was served, and tells to stop after the last.
+    fn end_call(&mut self) {
+        self.calls = self.calls.saturating_sub(1);
+        if self.calls == 0 {
+            self.bell.stop(self.rt);
+        }
     }
 }
 
@@ -172,7 +186,7 @@ impl<R: Wait> DueDoor for Tour<'_, R> {
     fn give_home(&mut self) {
         if self.at.is_some() {
             self.homes = self.homes.wrapping_add(1);
-            self.at = None;
+            self.leave();
         }
     }
 
@@ -186,14 +200,11 @@ impl<R: Wait> CallDoors for Tour<'_, R> {
     ghost arrives = { λ _ _ _ _ _. Unit {0} };
 
     fn arrive(&mut self, call: Call) -> (Came, Option<Call>) {
-        self.arrivals = self.arrivals.saturating_sub(1);
-        if self.arrivals == 0 {
-            self.bell.stop(self.rt);
-        }
         if self.place < self.rows.len() {
             self.at = Some(call.slot);
             (Came::At(1), None)
         } else {
+            self.end_call();
             (Came::Nothing, None)
         }
     }

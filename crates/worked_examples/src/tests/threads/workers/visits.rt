@@ -33,7 +33,7 @@ struct Counts {
     left: Option<Call>,
 }
 
-/// A worker is called twice, and told to stop with the second arrival.
+/// A worker is called twice, and told to stop once both calls are served.
 fn counts_of<R: Wait>(rt: &R, alloc: Global, rows: &[Row]) -> Result<Counts, Fail> {
     let program = returns_its_slot(alloc)?;
     let (queues, mut passes) = CallQueues::new(alloc, one_tenant(alloc)?, 1)?;
