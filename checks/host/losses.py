@@ -24,8 +24,12 @@ SHOWN = 16
 PIPE = 4096
 
 
+# How many rounds a job that counts down makes at most, by its fuel, and how many such jobs wait at once.
+MOST_ROUNDS, MOST_JOBS = 330_000, 150
+
+
 def counts_down(rounds: int) -> dict:
-    """A job of two instructions for each round, and some more."""
+    """A job of three instructions for each round, and some more."""
     return {"args": [rounds, 7], "fuel": 1_000_000, "procs": [[
         ["set", 2, 1], ["sub", 0, 0, 2], ["jz", 0, 4], ["jmp", 1], ["ret", 1]]]}
 
@@ -61,27 +65,28 @@ def rounds_a_second(host: Host) -> int:
         began = time.monotonic()
         assert ask(client, {"op": "execute", "job": counts_down(rounds)})["value"] == 7
         took = time.monotonic() - began
-        if took > 0.1 or rounds > 200_000:
+        if took > 0.1 or rounds == MOST_ROUNDS:
             hang_up(client)
             return int(rounds / took)
-        rounds *= 3
+        rounds = min(3 * rounds, MOST_ROUNDS)
 
 
 def job_outlives_its_client_and_a_rotation() -> None:
     """A job waits behind others for the only worker. Its client hangs up, and so does the other one, and a rotation comes:
     the generation is closed once all jobs have their outcomes."""
-    host = Host([tenant("noisy", steps=100_000, slots=2), tenant("quiet", steps=100_000, slots=2)], workers=1)
-    rounds = min(rounds_a_second(host) // 8, 330_000)
+    host = Host([tenant("noisy", steps=1_000_000, slots=2), tenant("quiet", steps=100_000, slots=2)], workers=1)
+    speed = rounds_a_second(host)
+    rounds = min(speed // 8, MOST_ROUNDS)
+    jobs = min(max(12, 3 * speed // (2 * rounds)), MOST_JOBS)
     noisy, quiet = host.connect("noisy"), host.connect("quiet")
-    for number in range(12):
+    for number in range(jobs):
         assert ask(noisy, {"op": "submit", "job": counts_down(rounds)}) == {"job": number + 1}
     made = ask(quiet, {"op": "submit", "job": SEVEN})["job"]
-    assert ask(quiet, {"op": "poll", "job": made})["status"] == "running"
     hang_up(noisy, quiet)
     rotate(host, 1)
     by_deadline(lambda: host.told("closed", generation=0), PATIENCE)
     assert host.stop() == 0
-    assert ended(host, "noisy", 0) == {"7": 12}
+    assert ended(host, "noisy", 0) == {"7": jobs}
     assert ended(host, "quiet", 0) == {"7": made}
     assert host.told("closed", generation=0)[0]["lost"] == 0
 

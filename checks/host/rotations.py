@@ -5,7 +5,7 @@ import time
 from collections.abc import Callable
 
 from hosts import Host, Load, ask, dumps, fib, hang_up, is_at_end, rotate, tenant
-from servers import Bound, by_deadline
+from servers import PATIENCE, Bound, by_deadline
 from sharing import JOBS, SPINNING
 
 DIVIDES = {"args": [0, 0], "fuel": 10, "procs": [[["set", 2, 1], ["div", 2, 2, 3], ["ret", 2]]]}
@@ -191,12 +191,20 @@ def is_at_work(host: Host) -> bool:
 
 
 def what_it_shows_of_a_worker_at_work() -> None:
-    """It is at a slot of acme's, and all rows but the one that it runs wait to be started."""
+    """It is at a slot of acme's, and all rows but the one that it runs wait to be started. The status is a second old at
+    most, so jobs are submitted again as long as it shows none."""
     host = Host([tenant("acme", steps=1_000_000, slots=2)], "--connections", 1, "--rotate-at", 100, workers=1)
-    client = host.connect()
-    client.client.sendall((json.dumps({"op": "submit", "job": SPINNING}) + "\n").encode() * JOBS)
-    assert [json.loads(client.replies.readline()) for _ in range(JOBS)] == [{"job": n + 1} for n in range(JOBS)]
-    by_deadline(lambda: is_at_work(host))
+    client, last, end = host.connect(), 0, time.monotonic() + PATIENCE
+    while not is_at_work(host):
+        assert time.monotonic() < end, host.status()
+        if last == 0 or ask(client, {"op": "poll", "job": last})["status"] != "running":
+            if last:
+                assert "epoch" in ask(client, {"op": "retire"})
+            client.client.sendall((json.dumps({"op": "submit", "job": SPINNING}) + "\n").encode() * JOBS)
+            made = [json.loads(client.replies.readline()) for _ in range(JOBS)]
+            assert made == [{"job": last + n + 1} for n in range(JOBS)], made
+            last += JOBS
+        time.sleep(0.02)
     hang_up(client)
     assert host.stop() == 0
 

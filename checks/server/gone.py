@@ -46,13 +46,14 @@ def seven_is_answered(connection: Bound, seconds: float) -> None:
 def client_that_goes_while_rows_wait() -> None:
     """Both workers' rows wait for one that only the session can continue, and its client has gone. A job of another tenant
     is answered all the same, and this one completes; its slot is free then."""
-    server = Server([{**tenant("acme", 3, 1), "steps": 100_000}, BETA], 2, 3)
+    server = Server([{**tenant("acme", 3, 1), "steps": 1_000_000}, BETA], 2, 3)
     other, quiet = greeted(server), bound(server, "beta")
     going = greeted(server)
     send(going.client, {"op": "execute", "job": CHAIN})
     began = time.monotonic()
-    while not ask(other, {"op": "cells", "key": 4})["count"]:  # without a rest: the last row is soon done
+    while not ask(other, {"op": "cells", "key": 4})["count"]:
         assert time.monotonic() < began + AT_LAST
+        time.sleep(0.0005)  # no longer: the last row is soon done
     hang_up(going)
     seven_is_answered(quiet, AT_LAST)
     assert outcome(other, 1, AT_LAST) == {"job": 1, "status": "complete", "value": 5}
