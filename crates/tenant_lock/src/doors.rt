@@ -337,7 +337,7 @@ impl TenantDoor {
     {
         for _ in rt.forever() {
             let held = self.wait_for_lock(rt);
-            if held.cell().tenant() == self.tenant {
+            if held.tenant() == self.tenant {
                 return held;
             }
         }

@@ -439,6 +439,13 @@ impl Held {
         self.waiting.waits()
     }
 
+    /// The number of the cell's tenant.
+    pub(crate) fn tenant(&self) -> usize
+        ensures { result ≡ self.now.cell.tenant }
+    {
+        self.cell.tenant()
+    }
+
     /// What is seen of a pass's slot, and how many rows are on it, are the cell's.
     pub(crate) fn cell(&self) -> &TenantCell
         ensures value { result.now ≡ self.now.cell }
