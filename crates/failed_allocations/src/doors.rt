@@ -92,8 +92,8 @@ fn reply_of<R: Wait>(rt: &R, door: &TenantDoor, asked: AskOutcome) -> Reply {
     reply
 }
 
-/// Gives a pass home. It is of the door's tenant, or this does not return. If rows are on its slot, the door is told to
-/// stop first.
+/// Gives a pass home. It is of the door's tenant, or this does not return. If rows are on its slot, the door is stopped
+/// first.
 fn give_home<R: Wait>(rt: &R, door: &TenantDoor, pass: Pass) {
     for _ in rt.forever() {
         if pass.tenant() == door.tenant() {

@@ -19,7 +19,7 @@ const SHOWN: usize = 16;
 pub struct Faults {
     /// Whether some tenant was closed with a fault.
     pub has_close_fault: bool,
-    /// Whether some history is in no file.
+    /// Whether some history could not be brought to the disk.
     pub has_lost_history: bool,
 }
 

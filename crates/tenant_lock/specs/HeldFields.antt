@@ -9,7 +9,8 @@ use Rattle.tenant_lock.specs.declared.held.Held.TheInside.{Inside}
 abbrev pub held_data : Inside → HeldData
 held_data h = record { cell = h.cell; is_stopped = h.is_stopped; noted = marks h.waiting.noted; awaited = h.awaited }
 
--- Nobody sleeps at a slot at which there is something to do, or for a job that is noted and has its outcome, and each slot with rows on it has somebody who moves it.
+-- Nobody sleeps at a slot at which there is something to do, or for a job that is noted and has its outcome, and a slot with
+-- rows on it is not left to itself.
 pub record IsWatched (h : Inside) : Type 0 where
   pub slots : (slot : ℕ) → is_in (marks h.waiting.noted) slot ≡ true → IsIdle h.cell (has_to_stop h.is_stopped h.cell) slot
   pub jobs : are_open h.cell (has_to_stop h.is_stopped h.cell) h.awaited ≡ true

@@ -1,5 +1,5 @@
 // What a tenant's lock keeps, and the calls to which it is lent.
-ghost use Rattle.std.specs.Prelude.{◌≡◌, ◌≢◌, ◌<◌, ◌≤◌, true, false, IfSome, IsSome, None, count_by, replicate};
+ghost use Rattle.std.specs.Prelude.{◌≡◌, ◌≢◌, ◌<◌, ◌≤◌, ◌↔◌, true, false, IfSome, IsSome, IsTrue, None, count_by, replicate};
 ghost use Rattle.job_language.specs.Brought.{job_of};
 ghost use Rattle.job_language.specs.Recorded.{is_entry, is_recorded_reply};
 ghost use Rattle.job_language.specs.declared.answers.Moved.{Moved};
@@ -288,7 +288,7 @@ impl Held {
 
     /// Whether the slot of a pass may be left: nothing is on it, or those who wait for the tenant have to stop.
     pub(crate) fn may_leave(&self, pass: &Pass) -> bool
-        ensures { result ≡ true → MayLeave self.now pass.now }
+        ensures { IsTrue result ↔ MayLeave self.now pass.now }
     {
         self.cell.has_slot_of(pass) && (self.is_over() || self.cell.height(pass) == 0)
     }

@@ -12,7 +12,7 @@ use Rattle.worker_main.specs.declared.visiting.Visiting.{Visiting}
 use Rattle.worker_main.specs.declared.visiting.Visiting.TheVariants.{Sharing}
 use Rattle.worker_main.specs.Slots.{SlotSeen, Ways, TakesOne, advances_of, heights_of, pauses_of, Homes, HandsOver, Arrives}
 
--- what workers are told: that they must stop, or at the look of some number that they may go on
+-- what workers hear: that they must stop, or at the look of some number that they may go on
 pub record Told : Type 1 where
   pub stops : Type 0
   pub goes : ℕ → Type 0

@@ -178,7 +178,7 @@ fn moved_beside<R: Wait>(
     }
 }
 
-/// Moves two doors at a slot each so often, and then at once. The slots are left once the tenant's door is told to stop.
+/// Moves two doors at a slot each so often, and then at once. The slots are left once the tenant's door is stopped.
 fn move_both<R: Wait>(
     rt: &R,
     door: &TenantDoor,

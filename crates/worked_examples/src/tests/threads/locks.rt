@@ -86,7 +86,7 @@ pub(super) fn poll<R: Wait>(rt: &R, door: &TenantDoor, seat: &mut Seat, job: u64
     Some(reply)
 }
 
-/// Gives a pass home, if there is one. If rows are on its slot, the door is told to stop first.
+/// Gives a pass home, if there is one. If rows are on its slot, the door is stopped first.
 pub(super) fn give_home<R: Wait>(rt: &R, door: &TenantDoor, pass: Option<Pass>) {
     if let Some(pass) = own(rt, door, pass) {
         if door.height(rt, &pass) > 0 {
