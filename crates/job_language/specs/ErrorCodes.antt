@@ -1,7 +1,7 @@
 -- The codes and names of errors, and the codes of job faults.
 use Rattle.std.specs.Prelude.{ℕ, List, codes}
 use Rattle.job_language.specs.declared.errors.Error.{Error}
-use Rattle.job_language.specs.declared.errors.Error.TheVariants.{LineTooLong, BadJson, BadRequest, BadProgram, UnknownTenant, UnknownJob, JobLimit, HistoryFull, NoMemory, TaskLimit, NoTenant, Busy}
+use Rattle.job_language.specs.declared.errors.Error.TheVariants.{LineTooLong, BadJson, BadRequest, BadProgram, UnknownTenant, UnknownJob, JobLimit, HistoryFull, NoMemory, TaskLimit, NoTenant, Busy, ConnectionLimit}
 use Rattle.job_language.specs.declared.errors.JobFault.{JobFault}
 use Rattle.job_language.specs.declared.errors.JobFault.TheVariants as fault
 
@@ -19,6 +19,7 @@ code_and_name NoMemory = (9, codes "no_memory")
 code_and_name TaskLimit = (10, codes "task_limit")
 code_and_name NoTenant = (11, codes "no_tenant")
 code_and_name Busy = (12, codes "busy")
+code_and_name ConnectionLimit = (13, codes "connection_limit")
 
 abbrev pub code_of : Error → ℕ
 code_of error = (code_and_name error).0

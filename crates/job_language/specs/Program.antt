@@ -3,7 +3,7 @@ use Rattle.std.specs.Prelude.{ℕ, ◌-◌, ◌<◌, ◌≤◌, List, length, Bo
 use Rattle.std.specs.Int.{w64}
 use Rattle.job_language.specs.declared.instructions.TheConstants.{REGISTERS, GROUPS, KEYS}
 use Rattle.job_language.specs.declared.instructions.Instr.{Instr}
-use Rattle.job_language.specs.declared.instructions.Instr.TheVariants.{Set, Add, Sub, Mul, Div, Lt, Jz, Jmp, Slot, Width, Spawn, Post, Wait, Cancel, Ask, Isolate, Load, Store, Sum, Count, Ret}
+use Rattle.job_language.specs.declared.instructions.Instr.TheVariants.{Set, Add, Sub, Mul, Div, Lt, Rem, And, Or, Xor, Shl, Shr, Eq, Le, Jz, Jmp, Slot, Width, Spawn, Post, Wait, Cancel, Ask, Isolate, Load, Store, Sum, Count, Ret}
 use Rattle.job_language.specs.declared.programs.TheConstants.{MAX_PROCS, MAX_INSTRS}
 
 abbrev pub IsRegister : ℕ → Type 0
@@ -23,6 +23,14 @@ IsInRange instrs (Sub d a b) = IsRegister d × IsRegister a × IsRegister b
 IsInRange instrs (Mul d a b) = IsRegister d × IsRegister a × IsRegister b
 IsInRange instrs (Div d a b) = IsRegister d × IsRegister a × IsRegister b
 IsInRange instrs (Lt d a b) = IsRegister d × IsRegister a × IsRegister b
+IsInRange instrs (Rem d a b) = IsRegister d × IsRegister a × IsRegister b
+IsInRange instrs (And d a b) = IsRegister d × IsRegister a × IsRegister b
+IsInRange instrs (Or d a b) = IsRegister d × IsRegister a × IsRegister b
+IsInRange instrs (Xor d a b) = IsRegister d × IsRegister a × IsRegister b
+IsInRange instrs (Shl d a b) = IsRegister d × IsRegister a × IsRegister b
+IsInRange instrs (Shr d a b) = IsRegister d × IsRegister a × IsRegister b
+IsInRange instrs (Eq d a b) = IsRegister d × IsRegister a × IsRegister b
+IsInRange instrs (Le d a b) = IsRegister d × IsRegister a × IsRegister b
 IsInRange instrs (Jz a t) = IsRegister a × (t < instrs)
 IsInRange instrs (Jmp t) = t < instrs
 IsInRange instrs (Slot d) = IsRegister d

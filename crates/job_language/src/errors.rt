@@ -33,10 +33,12 @@ pub enum Error {
     NoTenant,
     /// A job still runs, so nothing can be retired.
     Busy,
+    /// The tenant has as many connections as it may.
+    ConnectionLimit,
 }
 
 impl Error {
-    /// Its number in a reply, from 1 to 12.
+    /// Its number in a reply, from 1 to 13.
     pub fn code(self) -> u8
         ensures { result ≡ code_of self }
     {
@@ -53,6 +55,7 @@ impl Error {
             Error::TaskLimit => 10,
             Error::NoTenant => 11,
             Error::Busy => 12,
+            Error::ConnectionLimit => 13,
         }
     }
 
@@ -83,6 +86,7 @@ impl Error {
             Error::TaskLimit => "task_limit",
             Error::NoTenant => "no_tenant",
             Error::Busy => "busy",
+            Error::ConnectionLimit => "connection_limit",
         }
     }
 }

@@ -119,7 +119,7 @@ impl Key {
 
 /// An instruction. Numbers are 64 bits wide and wrap. Its operands stand in the order of its text.
 ///
-/// The first ten are private to a frame; the others are shared: they reach the tenant's groups,
+/// The first eighteen are private to a frame; the others are shared: they reach the tenant's groups,
 /// rows, cells and contexts, and `ret` ends the frame.
 #[derive(Clone, Copy)]
 pub enum Instr {
@@ -135,6 +135,22 @@ pub enum Instr {
     Div(Register, Register, Register),
     /// `["lt",d,a,b]`: d becomes 1 if a < b, else 0.
     Lt(Register, Register, Register),
+    /// `["rem",d,a,b]`: d becomes what a / b leaves, with the sign of a. A divisor of 0 is a fault.
+    Rem(Register, Register, Register),
+    /// `["and",d,a,b]`: d becomes the bits that a and b both have, in two's complement.
+    And(Register, Register, Register),
+    /// `["or",d,a,b]`: d becomes the bits that a or b has.
+    Or(Register, Register, Register),
+    /// `["xor",d,a,b]`: d becomes the bits that only one of a and b has.
+    Xor(Register, Register, Register),
+    /// `["shl",d,a,b]`: d becomes a, shifted left by the lowest six bits of b.
+    Shl(Register, Register, Register),
+    /// `["shr",d,a,b]`: d becomes a, shifted right by the lowest six bits of b; it keeps its sign.
+    Shr(Register, Register, Register),
+    /// `["eq",d,a,b]`: d becomes 1 if a = b, else 0.
+    Eq(Register, Register, Register),
+    /// `["le",d,a,b]`: d becomes 1 if a <= b, else 0.
+    Le(Register, Register, Register),
     /// `["jz",a,t]`: goes on at instruction t if a is 0.
     Jz(Register, u8),
     /// `["jmp",t]`: goes on at instruction t.
