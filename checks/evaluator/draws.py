@@ -3,14 +3,16 @@ import json
 from collections.abc import Iterator, Sequence
 from random import Random
 
+from private import OF_TWO
 from world import REFUSED, World
 
-MIXED = """set set set add add sub mul div lt jz jmp slot width spawn spawn spawn spawn spawn spawn spawn spawn wait wait
+MIXED = """set set set add add sub mul div rem and or xor shl shr lt le eq jz jmp slot width
+spawn spawn spawn spawn spawn spawn spawn spawn wait wait
 isolate isolate isolate isolate isolate isolate post cancel cancel cancel ask ask load store store sum count""".split()
 # Instructions of one group, in a row.
 GROUPED = [["spawn", "set", "cancel", "wait"], ["spawn", "spawn", "set", "wait"], ["spawn", "wait", "spawn", "wait"]]
-SERIAL = "set set add sub mul div lt jz spawn spawn spawn isolate wait".split()
-VALUES = {"number": [0, 1, -1, 2, 3, 2**63 - 1, -2**63], "register": range(8), "key": range(3)}
+SERIAL = "set set add sub mul div rem and or xor shl shr lt le eq jz spawn spawn spawn spawn isolate wait".split()
+VALUES = {"number": [0, 1, -1, 2, 3, 63, 64, -2, 2**63 - 1, -2**63], "register": range(8), "key": range(3)}
 
 
 class Draws:
@@ -173,7 +175,7 @@ class Draws:
 
 OPERANDS = {
     "set": ["register", "number"], "jz": ["register", "target"], "jmp": ["target"],
-    **{name: ["register"] * 3 for name in ("add", "sub", "mul", "div", "lt")},
+    **{name: ["register"] * 3 for name in OF_TWO},
     **{name: ["register"] for name in ("slot", "width", "ask", "ret")},
     **{name: ["register", "key"] for name in ("load", "sum", "count")},
     "spawn": ["group", "proc", "register", "register"], "post": ["proc", "register", "register"],

@@ -1,7 +1,9 @@
 """Numbers, and what private instructions make of registers, as `docs/PROTOCOL.md` describes them."""
 from typing import Protocol
 
-PRIVATE = {"set", "add", "sub", "mul", "div", "lt", "jz", "jmp", "slot", "width"}
+# Those that make a number of those in two registers.
+OF_TWO = {"add", "sub", "mul", "div", "rem", "and", "or", "xor", "shl", "shr", "lt", "le", "eq"}
+PRIVATE = OF_TWO | {"set", "jz", "jmp", "slot", "width"}
 RUN = 1000
 ZERO = 1  # the fault
 
@@ -14,6 +16,45 @@ def wrapped(number: int) -> int:
 def quotient(a: int, b: int) -> int:
     """The quotient rounded toward zero."""
     return wrapped(abs(a) // abs(b) if (a < 0) == (b < 0) else -(abs(a) // abs(b)))
+
+
+def remainder(a: int, b: int) -> int:
+    """What the division of a by b leaves, with the sign of a."""
+    return abs(a) % abs(b) if a >= 0 else -(abs(a) % abs(b))
+
+
+def made_of_two(name: str, a: int, b: int) -> int | None:
+    """What an instruction makes of two numbers; none if it divides by zero."""
+    match name:
+        case "div" | "rem" if b == 0:
+            return None
+        case "add":
+            return wrapped(a + b)
+        case "sub":
+            return wrapped(a - b)
+        case "mul":
+            return wrapped(a * b)
+        case "div":
+            return quotient(a, b)
+        case "rem":
+            return remainder(a, b)
+        case "and":
+            return a & b
+        case "or":
+            return a | b
+        case "xor":
+            return a ^ b
+        case "shl":
+            return wrapped(a * 2 ** (b % 64))
+        case "shr":
+            return a // 2 ** (b % 64)
+        case "lt":
+            return int(a < b)
+        case "le":
+            return int(a <= b)
+        case "eq":
+            return int(a == b)
+    raise ValueError(name)
 
 
 class Runs(Protocol):
@@ -42,22 +83,15 @@ class PrivateRun:
 
     def execute(self, name: str, first: int, *others: int, slot: int, width: int) -> None:
         registers = self.registers
-        values = [registers[it] for it in others] if name in ("add", "sub", "mul", "div", "lt") else others
-        match name, *values:
+        match name, *others:
+            case _, a, b if name in OF_TWO:
+                made = made_of_two(name, registers[a], registers[b])
+                if made is None:
+                    self.fault = ZERO
+                else:
+                    registers[first] = made
             case "set", number:
                 registers[first] = number
-            case "add", a, b:
-                registers[first] = wrapped(a + b)
-            case "sub", a, b:
-                registers[first] = wrapped(a - b)
-            case "mul", a, b:
-                registers[first] = wrapped(a * b)
-            case "div", _, 0:
-                self.fault = ZERO
-            case "div", a, b:
-                registers[first] = quotient(a, b)
-            case "lt", a, b:
-                registers[first] = int(a < b)
             case "jz", target if registers[first] == 0:
                 self.at = target
             case ("jmp",):

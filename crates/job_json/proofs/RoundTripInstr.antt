@@ -5,7 +5,7 @@ use Rattle.std.specs.Int.{w64}
 use Rattle.std.proofs.lemmas.Bool.{lt-ltb}
 use Rattle.std.proofs.lemmas.Int.{ints}
 use Rattle.job_language.specs.declared.instructions.Instr.{Instr}
-use Rattle.job_language.specs.declared.instructions.Instr.TheVariants.{Set, Add, Sub, Mul, Div, Lt, Jz, Jmp, Slot, Width, Spawn, Post, Wait, Cancel, Ask, Isolate, Load, Store, Sum, Count, Ret}
+use Rattle.job_language.specs.declared.instructions.Instr.TheVariants.{Set, Add, Sub, Mul, Div, Lt, Rem, And, Or, Xor, Shl, Shr, Eq, Le, Jz, Jmp, Slot, Width, Spawn, Post, Wait, Cancel, Ask, Isolate, Load, Store, Sum, Count, Ret}
 use Rattle.job_language.specs.Program.{IsInRange, Calls}
 use Rattle.job_json.specs.Json.{integer}
 use Rattle.job_json.specs.Instruction.{one, two, three, four, instr_from, instr_of}
@@ -26,6 +26,14 @@ instr_of-instr_data procs instrs (Sub d a b) h calls = simp (lt-ltb d 8 h.0, lt-
 instr_of-instr_data procs instrs (Mul d a b) h calls = simp (lt-ltb d 8 h.0, lt-ltb a 8 h.1, lt-ltb b 8 h.2)
 instr_of-instr_data procs instrs (Div d a b) h calls = simp (lt-ltb d 8 h.0, lt-ltb a 8 h.1, lt-ltb b 8 h.2)
 instr_of-instr_data procs instrs (Lt d a b) h calls = simp (lt-ltb d 8 h.0, lt-ltb a 8 h.1, lt-ltb b 8 h.2)
+instr_of-instr_data procs instrs (Rem d a b) h calls = simp (lt-ltb d 8 h.0, lt-ltb a 8 h.1, lt-ltb b 8 h.2)
+instr_of-instr_data procs instrs (And d a b) h calls = simp (lt-ltb d 8 h.0, lt-ltb a 8 h.1, lt-ltb b 8 h.2)
+instr_of-instr_data procs instrs (Or d a b) h calls = simp (lt-ltb d 8 h.0, lt-ltb a 8 h.1, lt-ltb b 8 h.2)
+instr_of-instr_data procs instrs (Xor d a b) h calls = simp (lt-ltb d 8 h.0, lt-ltb a 8 h.1, lt-ltb b 8 h.2)
+instr_of-instr_data procs instrs (Shl d a b) h calls = simp (lt-ltb d 8 h.0, lt-ltb a 8 h.1, lt-ltb b 8 h.2)
+instr_of-instr_data procs instrs (Shr d a b) h calls = simp (lt-ltb d 8 h.0, lt-ltb a 8 h.1, lt-ltb b 8 h.2)
+instr_of-instr_data procs instrs (Eq d a b) h calls = simp (lt-ltb d 8 h.0, lt-ltb a 8 h.1, lt-ltb b 8 h.2)
+instr_of-instr_data procs instrs (Le d a b) h calls = simp (lt-ltb d 8 h.0, lt-ltb a 8 h.1, lt-ltb b 8 h.2)
 instr_of-instr_data procs instrs (Jz a t) h calls = simp (lt-ltb a 8 h.0, lt-ltb t instrs h.1)
 instr_of-instr_data procs instrs (Jmp t) h calls = simp (lt-ltb t instrs h)
 instr_of-instr_data procs instrs (Slot d) h calls = simp (lt-ltb d 8 h)

@@ -5,7 +5,7 @@ use Rattle.serde_json.specs.Data.{Data}
 use Rattle.job_language.specs.declared.instructions.Instr.{Instr}
 use Rattle.job_language.specs.declared.instructions.Instr.TheVariants as instr
 use Rattle.job_json.specs.declared.operations.Operation.{Operation}
-use Rattle.job_json.specs.declared.operations.Operation.TheVariants.{Set, Add, Sub, Mul, Div, Lt, Jz, Jmp, Slot, Width, Spawn, Post, Wait, Cancel, Ask, Isolate, Load, Store, Sum, Count, Ret}
+use Rattle.job_json.specs.declared.operations.Operation.TheVariants.{Set, Add, Sub, Mul, Div, Lt, Rem, And, Or, Xor, Shl, Shr, Eq, Le, Jz, Jmp, Slot, Width, Spawn, Post, Wait, Cancel, Ask, Isolate, Load, Store, Sum, Count, Ret}
 use Rattle.job_json.specs.Instruction.{register, group, key, below, one, two, three, four}
 use Rattle.job_json.specs.Json.{integer}
 
@@ -17,6 +17,14 @@ operation_named name =
     else if bytes_eq name (codes "mul") then Some Mul
     else if bytes_eq name (codes "div") then Some Div
     else if bytes_eq name (codes "lt") then Some Lt
+    else if bytes_eq name (codes "rem") then Some Rem
+    else if bytes_eq name (codes "and") then Some And
+    else if bytes_eq name (codes "or") then Some Or
+    else if bytes_eq name (codes "xor") then Some Xor
+    else if bytes_eq name (codes "shl") then Some Shl
+    else if bytes_eq name (codes "shr") then Some Shr
+    else if bytes_eq name (codes "eq") then Some Eq
+    else if bytes_eq name (codes "le") then Some Le
     else if bytes_eq name (codes "jz") then Some Jz
     else if bytes_eq name (codes "jmp") then Some Jmp
     else if bytes_eq name (codes "slot") then Some Slot
@@ -42,6 +50,14 @@ made_of Sub procs instrs ds = three register register register instr.Sub ds
 made_of Mul procs instrs ds = three register register register instr.Mul ds
 made_of Div procs instrs ds = three register register register instr.Div ds
 made_of Lt procs instrs ds = three register register register instr.Lt ds
+made_of Rem procs instrs ds = three register register register instr.Rem ds
+made_of And procs instrs ds = three register register register instr.And ds
+made_of Or procs instrs ds = three register register register instr.Or ds
+made_of Xor procs instrs ds = three register register register instr.Xor ds
+made_of Shl procs instrs ds = three register register register instr.Shl ds
+made_of Shr procs instrs ds = three register register register instr.Shr ds
+made_of Eq procs instrs ds = three register register register instr.Eq ds
+made_of Le procs instrs ds = three register register register instr.Le ds
 made_of Jz procs instrs ds = two register (below instrs) instr.Jz ds
 made_of Jmp procs instrs ds = one (below instrs) instr.Jmp ds
 made_of Slot procs instrs ds = one register instr.Slot ds

@@ -50,6 +50,14 @@ instr_from name procs instrs ds =
     else if bytes_eq name (codes "mul") then three register register register instr.Mul ds
     else if bytes_eq name (codes "div") then three register register register instr.Div ds
     else if bytes_eq name (codes "lt") then three register register register instr.Lt ds
+    else if bytes_eq name (codes "rem") then three register register register instr.Rem ds
+    else if bytes_eq name (codes "and") then three register register register instr.And ds
+    else if bytes_eq name (codes "or") then three register register register instr.Or ds
+    else if bytes_eq name (codes "xor") then three register register register instr.Xor ds
+    else if bytes_eq name (codes "shl") then three register register register instr.Shl ds
+    else if bytes_eq name (codes "shr") then three register register register instr.Shr ds
+    else if bytes_eq name (codes "eq") then three register register register instr.Eq ds
+    else if bytes_eq name (codes "le") then three register register register instr.Le ds
     else if bytes_eq name (codes "jz") then two register (below instrs) instr.Jz ds
     else if bytes_eq name (codes "jmp") then one (below instrs) instr.Jmp ds
     else if bytes_eq name (codes "slot") then one register instr.Slot ds

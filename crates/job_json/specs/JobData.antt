@@ -7,7 +7,7 @@ use Rattle.job_language.specs.declared.instructions.Instr.{Instr}
 use Rattle.job_language.specs.declared.instructions.Instr.TheVariants as instr
 use Rattle.job_language.specs.declared.jobs.Job.{Job}
 use Rattle.job_json.specs.declared.operations.Operation.{Operation}
-use Rattle.job_json.specs.declared.operations.Operation.TheVariants.{Set, Add, Sub, Mul, Div, Lt, Jz, Jmp, Slot, Width, Spawn, Post, Wait, Cancel, Ask, Isolate, Load, Store, Sum, Count, Ret}
+use Rattle.job_json.specs.declared.operations.Operation.TheVariants.{Set, Add, Sub, Mul, Div, Lt, Rem, And, Or, Xor, Shl, Shr, Eq, Le, Jz, Jmp, Slot, Width, Spawn, Post, Wait, Cancel, Ask, Isolate, Load, Store, Sum, Count, Ret}
 use Rattle.job_json.specs.Operation.{name_of}
 
 abbrev pub operation_of : Instr → Operation
@@ -17,6 +17,14 @@ operation_of (instr.Sub d a b) = Sub
 operation_of (instr.Mul d a b) = Mul
 operation_of (instr.Div d a b) = Div
 operation_of (instr.Lt d a b) = Lt
+operation_of (instr.Rem d a b) = Rem
+operation_of (instr.And d a b) = And
+operation_of (instr.Or d a b) = Or
+operation_of (instr.Xor d a b) = Xor
+operation_of (instr.Shl d a b) = Shl
+operation_of (instr.Shr d a b) = Shr
+operation_of (instr.Eq d a b) = Eq
+operation_of (instr.Le d a b) = Le
 operation_of (instr.Jz a t) = Jz
 operation_of (instr.Jmp t) = Jmp
 operation_of (instr.Slot d) = Slot
@@ -41,6 +49,14 @@ operands_of (instr.Sub d a b) = pos d ∷ pos a ∷ pos b ∷ []
 operands_of (instr.Mul d a b) = pos d ∷ pos a ∷ pos b ∷ []
 operands_of (instr.Div d a b) = pos d ∷ pos a ∷ pos b ∷ []
 operands_of (instr.Lt d a b) = pos d ∷ pos a ∷ pos b ∷ []
+operands_of (instr.Rem d a b) = pos d ∷ pos a ∷ pos b ∷ []
+operands_of (instr.And d a b) = pos d ∷ pos a ∷ pos b ∷ []
+operands_of (instr.Or d a b) = pos d ∷ pos a ∷ pos b ∷ []
+operands_of (instr.Xor d a b) = pos d ∷ pos a ∷ pos b ∷ []
+operands_of (instr.Shl d a b) = pos d ∷ pos a ∷ pos b ∷ []
+operands_of (instr.Shr d a b) = pos d ∷ pos a ∷ pos b ∷ []
+operands_of (instr.Eq d a b) = pos d ∷ pos a ∷ pos b ∷ []
+operands_of (instr.Le d a b) = pos d ∷ pos a ∷ pos b ∷ []
 operands_of (instr.Jz a t) = pos a ∷ pos t ∷ []
 operands_of (instr.Jmp t) = pos t ∷ []
 operands_of (instr.Slot d) = pos d ∷ []
