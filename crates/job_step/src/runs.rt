@@ -4,9 +4,9 @@ ghost use Rattle.job_language.specs.declared.instructions.Instr.{Instr};
 ghost use Rattle.job_language.specs.Program.{IsValidProc, IsInRange, is_last};
 ghost use Rattle.job_language.specs.declared.programs.TheConstants.{MAX_INSTRS};
 ghost use Rattle.job_step.specs.declared.frames.TheConstants.{LAST_PLACE};
-ghost use Rattle.job_step.specs.Frame.{effect};
+ghost use Rattle.job_step.specs.Frame.{effect, shift_count};
 ghost use Rattle.job_step.specs.Run.{run_of};
-ghost use Rattle.job_step.specs.InsideRun.{frame_of, effect_of, GoesWithin};
+ghost use Rattle.job_step.specs.InsideRun.{frame_of, effect_of, is_arithmetic_or_jump, GoesWithin};
 
 use crate::frames::Frame;
 use job_language::{Instr, Program, REGISTERS};
@@ -151,8 +151,11 @@ pub(crate) fn execute(
             }
             registers[d.index()] = registers[a.index()].wrapping_div(registers[b.index()]);
         }
-        Instr::Lt(d, a, b) => {
-            registers[d.index()] = i64::from(registers[a.index()] < registers[b.index()]);
+        Instr::Rem(d, a, b) => {
+            if registers[b.index()] == 0 {
+                return Next::DividesByZero;
+            }
+            registers[d.index()] = registers[a.index()].wrapping_rem(registers[b.index()]);
         }
         Instr::Jz(a, t) => {
             return Next::Place(if registers[a.index()] == 0 {
@@ -164,7 +167,63 @@ pub(crate) fn execute(
         Instr::Jmp(t) => return Next::Place(usize::from(t)),
         Instr::Slot(d) => registers[d.index()] = i64::from(slot),
         Instr::Width(d) => registers[d.index()] = i64::from(width),
+        _ => return execute_on_bits(instr, slot, width, procedure, place, registers),
+    }
+    Next::Place(place + 1)
+}
+
+/// Executes an instruction that combines the bits of two numbers, or compares them. Any other that
+/// comes here is shared.
+#[inline(always)]
+fn execute_on_bits(
+    instr: &Instr,
+    slot: u8,
+    width: u8,
+    procedure: u8,
+    place: usize,
+    registers: &mut [i64; REGISTERS],
+) -> Next
+    requires left { is_arithmetic_or_jump instr.now ≡ false }
+    requires next { is_last instr.now ≡ false → place + 1 < MAX_INSTRS }
+    ensures effect { effect instr.now slot width (frame_of procedure place registers.old)
+        ≡ effect_of procedure result registers.new }
+    ensures shared { result ≡ Next.IsShared → registers.new ≡ registers.old }
+    ensures divides { result ≡ Next.DividesByZero → registers.new ≡ registers.old }
+    ensures fits { (k : ℕ) → result ≡ Next.Place k → k ≤ LAST_PLACE }
+    ensures within { (instrs : ℕ) → IsInRange instrs instr.now
+        → (is_last instr.now ≡ false → place + 1 < instrs)
+        → GoesWithin instrs result }
+{
+    match *instr {
+        Instr::And(d, a, b) => registers[d.index()] = registers[a.index()] & registers[b.index()],
+        Instr::Or(d, a, b) => registers[d.index()] = registers[a.index()] | registers[b.index()],
+        Instr::Xor(d, a, b) => registers[d.index()] = registers[a.index()] ^ registers[b.index()],
+        Instr::Shl(d, a, b) => {
+            let count = shift_count(registers[b.index()]);
+            registers[d.index()] = registers[a.index()].wrapping_shl(count);
+        }
+        Instr::Shr(d, a, b) => {
+            let count = shift_count(registers[b.index()]);
+            registers[d.index()] = registers[a.index()].wrapping_shr(count);
+        }
+        Instr::Lt(d, a, b) => {
+            registers[d.index()] = i64::from(registers[a.index()] < registers[b.index()]);
+        }
+        Instr::Le(d, a, b) => {
+            registers[d.index()] = i64::from(registers[a.index()] <= registers[b.index()]);
+        }
+        Instr::Eq(d, a, b) => {
+            registers[d.index()] = i64::from(registers[a.index()] == registers[b.index()]);
+        }
         _ => return Next::IsShared,
     }
     Next::Place(place + 1)
+}
+
+/// By how many bits a number shifts another: its lowest six bits.
+#[inline(always)]
+fn shift_count(number: i64) -> u32
+    ensures { result ≡ shift_count number }
+{
+    (number.cast_unsigned() % 64) as u32
 }

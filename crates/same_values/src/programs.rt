@@ -18,6 +18,19 @@ fn is_same_instr(instr: &Instr, other: &Instr) -> bool
         Instr::Div(to, a, b) =>
             matches!(*other, Instr::Div(t, c, d) if t == to && c == a && d == b),
         Instr::Lt(to, a, b) => matches!(*other, Instr::Lt(t, c, d) if t == to && c == a && d == b),
+        Instr::Rem(to, a, b) =>
+            matches!(*other, Instr::Rem(t, c, d) if t == to && c == a && d == b),
+        Instr::And(to, a, b) =>
+            matches!(*other, Instr::And(t, c, d) if t == to && c == a && d == b),
+        Instr::Or(to, a, b) => matches!(*other, Instr::Or(t, c, d) if t == to && c == a && d == b),
+        Instr::Xor(to, a, b) =>
+            matches!(*other, Instr::Xor(t, c, d) if t == to && c == a && d == b),
+        Instr::Shl(to, a, b) =>
+            matches!(*other, Instr::Shl(t, c, d) if t == to && c == a && d == b),
+        Instr::Shr(to, a, b) =>
+            matches!(*other, Instr::Shr(t, c, d) if t == to && c == a && d == b),
+        Instr::Eq(to, a, b) => matches!(*other, Instr::Eq(t, c, d) if t == to && c == a && d == b),
+        Instr::Le(to, a, b) => matches!(*other, Instr::Le(t, c, d) if t == to && c == a && d == b),
         Instr::Jz(a, at) => matches!(*other, Instr::Jz(b, t) if b == a && t == at),
         Instr::Jmp(at) => matches!(*other, Instr::Jmp(t) if t == at),
         Instr::Slot(to) => matches!(*other, Instr::Slot(t) if t == to),
