@@ -7,7 +7,7 @@ use Rattle.std.proofs.lemmas.Bool.{cond_both}
 use Rattle.job_language.specs.declared.errors.JobFault.{JobFault}
 use Rattle.job_language.specs.declared.errors.JobFault.TheVariants as fault
 use Rattle.job_language.specs.declared.instructions.Instr.{Instr}
-use Rattle.job_language.specs.declared.instructions.Instr.TheVariants.{Set, Add, Sub, Mul, Div, Lt, Jz, Jmp, Slot, Width, Spawn, Post, Wait, Cancel, Ask, Isolate, Load, Store, Sum, Count, Ret}
+use Rattle.job_language.specs.declared.instructions.Instr.TheVariants.{Set, Add, Sub, Mul, Div, Lt, Rem, And, Or, Xor, Shl, Shr, Eq, Le, Jz, Jmp, Slot, Width, Spawn, Post, Wait, Cancel, Ask, Isolate, Load, Store, Sum, Count, Ret}
 use Rattle.job_language.specs.declared.answers.Moved.{Moved}
 use Rattle.job_language.specs.declared.answers.Came.{Came}
 use Rattle.job_language.specs.declared.answers.Reply.{Reply}
@@ -130,6 +130,14 @@ module _ (P K J : State → Type 0) (slot : ℕ) (keeps : KeepsAdvances P K J sl
     execute_keeps f (Mul d a b) same here ready = moved_keeps f same
     execute_keeps f (Div d a b) same here ready = moved_keeps f same
     execute_keeps f (Lt d a b) same here ready = moved_keeps f same
+    execute_keeps f (Rem d a b) same here ready = moved_keeps f same
+    execute_keeps f (And d a b) same here ready = moved_keeps f same
+    execute_keeps f (Or d a b) same here ready = moved_keeps f same
+    execute_keeps f (Xor d a b) same here ready = moved_keeps f same
+    execute_keeps f (Shl d a b) same here ready = moved_keeps f same
+    execute_keeps f (Shr d a b) same here ready = moved_keeps f same
+    execute_keeps f (Eq d a b) same here ready = moved_keeps f same
+    execute_keeps f (Le d a b) same here ready = moved_keeps f same
     execute_keeps f (Jz a t) same here ready = moved_keeps f same
     execute_keeps f (Jmp t) same here ready = moved_keeps f same
     execute_keeps f (Slot d) same here ready = moved_keeps f same

@@ -6,7 +6,7 @@ use Rattle.std.proofs.lemmas.Option.{IfSome_then}
 use Rattle.job_language.specs.declared.errors.JobFault.{JobFault}
 use Rattle.job_language.specs.declared.errors.JobFault.TheVariants as fault
 use Rattle.job_language.specs.declared.instructions.Instr.{Instr}
-use Rattle.job_language.specs.declared.instructions.Instr.TheVariants.{Set, Add, Sub, Mul, Div, Lt, Jz, Jmp, Slot, Width, Spawn, Post, Wait, Cancel, Ask, Isolate, Load, Store, Sum, Count, Ret}
+use Rattle.job_language.specs.declared.instructions.Instr.TheVariants.{Set, Add, Sub, Mul, Div, Lt, Rem, And, Or, Xor, Shl, Shr, Eq, Le, Jz, Jmp, Slot, Width, Spawn, Post, Wait, Cancel, Ask, Isolate, Load, Store, Sum, Count, Ret}
 use Rattle.job_language.specs.declared.answers.Moved.{Moved}
 use Rattle.job_language.specs.declared.answers.Came.{Came}
 use Rattle.job_language.specs.declared.steps.Step.{Step}
@@ -141,6 +141,14 @@ module _ (s : State) (slot n : ℕ) (is : IsWellFormed s) (top : IsTop s slot n)
   execute_kept f (Mul d a b) = ran_kept slot _ (moved_kept f)
   execute_kept f (Div d a b) = ran_kept slot _ (moved_kept f)
   execute_kept f (Lt d a b) = ran_kept slot _ (moved_kept f)
+  execute_kept f (Rem d a b) = ran_kept slot _ (moved_kept f)
+  execute_kept f (And d a b) = ran_kept slot _ (moved_kept f)
+  execute_kept f (Or d a b) = ran_kept slot _ (moved_kept f)
+  execute_kept f (Xor d a b) = ran_kept slot _ (moved_kept f)
+  execute_kept f (Shl d a b) = ran_kept slot _ (moved_kept f)
+  execute_kept f (Shr d a b) = ran_kept slot _ (moved_kept f)
+  execute_kept f (Eq d a b) = ran_kept slot _ (moved_kept f)
+  execute_kept f (Le d a b) = ran_kept slot _ (moved_kept f)
   execute_kept f (Jz a t) = ran_kept slot _ (moved_kept f)
   execute_kept f (Jmp t) = ran_kept slot _ (moved_kept f)
   execute_kept f (Slot d) = ran_kept slot _ (moved_kept f)

@@ -1,7 +1,8 @@
 -- The end of a private run: it has as many registers as at its start, and is at the instruction that stops it. What an instruction of a valid program names.
 use Rattle.std.proofs.Common.{◌≡◌, ℕ, zero, suc, ◌+◌, ◌<◌, List, [], length, get_or, inl, inr, arith, unwrap_or, Option, Some, None, refl, sym, ap, ◌∙◌, length-set, ℤ, pos}
-use Rattle.std.specs.Prelude.{int_lt, if◌then◌else◌, is_some, slice_index_or, IfSome}
-use Rattle.std.specs.Int.{int_wrapping_add, int_wrapping_sub, int_wrapping_mul, int_wrapping_div, w64}
+use Rattle.std.specs.Prelude.{int_lt, int_le, int_rem, if◌then◌else◌, is_some, slice_index_or, IfSome}
+use Rattle.std.specs.Int.{int_wrapping_add, int_wrapping_sub, int_wrapping_mul, int_wrapping_div, int_bit_and, int_bit_or, int_bit_xor, int_shl, int_shr, w64}
+use Rattle.std.specs.Ordering.{int_eq}
 use Rattle.std.proofs.lemmas.Bool.{cond_both, cases_lt}
 use Rattle.std.proofs.lemmas.Option.{slice_get-get_or, slice_get_within}
 use Rattle.job_language.proofs.Groups.{group_of, group-in_range}
@@ -9,14 +10,14 @@ use Rattle.job_language.specs.Program.{IsValidProgram, IsInRange}
 use Rattle.job_language.specs.declared.instructions.TheConstants.{GROUPS}
 use Rattle.job_step.proofs.RunSteps.{instr_at-past_procs}
 use Rattle.job_language.specs.declared.instructions.Instr.{Instr}
-use Rattle.job_language.specs.declared.instructions.Instr.TheVariants.{Set, Add, Sub, Mul, Div, Lt, Jz, Jmp, Slot, Width, Spawn, Post, Wait, Cancel, Ask, Isolate, Load, Store, Sum, Count, Ret}
+use Rattle.job_language.specs.declared.instructions.Instr.TheVariants.{Set, Add, Sub, Mul, Div, Lt, Rem, And, Or, Xor, Shl, Shr, Eq, Le, Jz, Jmp, Slot, Width, Spawn, Post, Wait, Cancel, Ask, Isolate, Load, Store, Sum, Count, Ret}
 use Rattle.job_step.specs.declared.effects.Effect.{Effect}
 use Rattle.job_step.specs.declared.effects.Effect.TheVariants.{Moves, DividesByZero, IsShared}
 use Rattle.job_step.specs.declared.frames.Frame.{Frame}
 use Rattle.job_step.specs.declared.runs.Run.{Run}
 use Rattle.job_step.specs.declared.runs.Stop.{Stop}
 use Rattle.job_step.specs.declared.runs.Stop.TheVariants.{Shared}
-use Rattle.job_step.specs.Frame.{instr_at, write_and_step, register, is_zero, effect}
+use Rattle.job_step.specs.Frame.{instr_at, write_and_step, register, is_zero, shift_count, effect}
 use Rattle.job_step.specs.Run.{effect_at, stop_at, run_on, run_for, run_of}
 
 -- the frames have as many registers
@@ -38,6 +39,14 @@ moves_so (Sub d a b) slot width f = written_same f d (int_wrapping_sub w64 (regi
 moves_so (Mul d a b) slot width f = written_same f d (int_wrapping_mul w64 (register f a) (register f b))
 moves_so (Div d a b) slot width f = cond_both (is_zero (register f b)) _ _ (MovesSo f) (λ _. tt) (λ _. written_same f d (int_wrapping_div w64 (register f a) (register f b)))
 moves_so (Lt d a b) slot width f = written_same f d (if int_lt (register f a) (register f b) then pos 1 else pos 0)
+moves_so (Rem d a b) slot width f = cond_both (is_zero (register f b)) _ _ (MovesSo f) (λ _. tt) (λ _. written_same f d (int_rem (register f a) (register f b)))
+moves_so (And d a b) slot width f = written_same f d (int_bit_and w64 (register f a) (register f b))
+moves_so (Or d a b) slot width f = written_same f d (int_bit_or w64 (register f a) (register f b))
+moves_so (Xor d a b) slot width f = written_same f d (int_bit_xor w64 (register f a) (register f b))
+moves_so (Shl d a b) slot width f = written_same f d (int_shl w64 (register f a) (shift_count (register f b)))
+moves_so (Shr d a b) slot width f = written_same f d (int_shr (register f a) (shift_count (register f b)))
+moves_so (Eq d a b) slot width f = written_same f d (if int_eq (register f a) (register f b) then pos 1 else pos 0)
+moves_so (Le d a b) slot width f = written_same f d (if int_le (register f a) (register f b) then pos 1 else pos 0)
 moves_so (Jz a t) slot width f = refl
 moves_so (Jmp t) slot width f = refl
 moves_so (Slot d) slot width f = written_same f d (pos slot)

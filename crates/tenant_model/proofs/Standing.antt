@@ -4,7 +4,7 @@ use Rattle.std.specs.Prelude.{if◌then◌else◌, slice_index_or, unwrap_or, �
 use Rattle.std.proofs.lemmas.List.{get_or_default}
 use Rattle.std.proofs.lemmas.Option.{slice_get-get_or}
 use Rattle.job_language.specs.declared.instructions.Instr.{Instr}
-use Rattle.job_language.specs.declared.instructions.Instr.TheVariants.{Set, Add, Sub, Mul, Div, Lt, Jz, Jmp, Slot, Width, Spawn, Post, Wait, Cancel, Ask, Isolate, Load, Store, Sum, Count, Ret}
+use Rattle.job_language.specs.declared.instructions.Instr.TheVariants.{Set, Add, Sub, Mul, Div, Lt, Rem, And, Or, Xor, Shl, Shr, Eq, Le, Jz, Jmp, Slot, Width, Spawn, Post, Wait, Cancel, Ask, Isolate, Load, Store, Sum, Count, Ret}
 use Rattle.job_language.specs.Program.{IsValidProc, IsInRange, IsValidProgram, Calls, is_last}
 use Rattle.job_step.specs.declared.frames.Frame.{Frame}
 use Rattle.job_step.specs.declared.runs.Run.{Run}
@@ -79,6 +79,14 @@ module _ (procs : List (List Instr)) (valid : IsValidProgram procs) where
   effect_stands f (Mul d a b) slot width stands at = stands_next f (Mul d a b) d _ stands at refl
   effect_stands f (Div d a b) slot width stands at = zero_or_not (is_zero (register f b)) _ (stands_next f (Div d a b) d _ stands at refl)
   effect_stands f (Lt d a b) slot width stands at = stands_next f (Lt d a b) d _ stands at refl
+  effect_stands f (Rem d a b) slot width stands at = zero_or_not (is_zero (register f b)) _ (stands_next f (Rem d a b) d _ stands at refl)
+  effect_stands f (And d a b) slot width stands at = stands_next f (And d a b) d _ stands at refl
+  effect_stands f (Or d a b) slot width stands at = stands_next f (Or d a b) d _ stands at refl
+  effect_stands f (Xor d a b) slot width stands at = stands_next f (Xor d a b) d _ stands at refl
+  effect_stands f (Shl d a b) slot width stands at = stands_next f (Shl d a b) d _ stands at refl
+  effect_stands f (Shr d a b) slot width stands at = stands_next f (Shr d a b) d _ stands at refl
+  effect_stands f (Eq d a b) slot width stands at = stands_next f (Eq d a b) d _ stands at refl
+  effect_stands f (Le d a b) slot width stands at = stands_next f (Le d a b) d _ stands at refl
   effect_stands f (Jz a t) slot width stands at =
       let its = in_range f (Jz a t) stands at in
       jumped f (is_zero (register f a)) t stands its.0.1 (its.2 refl)

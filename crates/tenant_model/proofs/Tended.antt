@@ -7,7 +7,7 @@ use Rattle.std.proofs.lemmas.Bool.{cases_eq, cases_lt}
 use Rattle.std.proofs.lemmas.List.{length_push, length-map}
 use Rattle.std.proofs.lemmas.Option.{slice_get-map}
 use Rattle.job_language.specs.declared.instructions.Instr.{Instr}
-use Rattle.job_language.specs.declared.instructions.Instr.TheVariants.{Set, Add, Sub, Mul, Div, Lt, Jz, Jmp, Slot, Width, Spawn, Post, Wait, Cancel, Ask, Isolate, Load, Store, Sum, Count, Ret}
+use Rattle.job_language.specs.declared.instructions.Instr.TheVariants.{Set, Add, Sub, Mul, Div, Lt, Rem, And, Or, Xor, Shl, Shr, Eq, Le, Jz, Jmp, Slot, Width, Spawn, Post, Wait, Cancel, Ask, Isolate, Load, Store, Sum, Count, Ret}
 use Rattle.job_language.specs.declared.jobs.Job.{Job}
 use Rattle.job_language.specs.declared.tenants.Tenant.{Tenant}
 use Rattle.job_step.specs.declared.frames.Frame.{Frame}
@@ -186,6 +186,14 @@ handed_registers (Some (Sub d a b)) v f = refl
 handed_registers (Some (Mul d a b)) v f = refl
 handed_registers (Some (Div d a b)) v f = refl
 handed_registers (Some (Lt d a b)) v f = refl
+handed_registers (Some (Rem d a b)) v f = refl
+handed_registers (Some (And d a b)) v f = refl
+handed_registers (Some (Or d a b)) v f = refl
+handed_registers (Some (Xor d a b)) v f = refl
+handed_registers (Some (Shl d a b)) v f = refl
+handed_registers (Some (Shr d a b)) v f = refl
+handed_registers (Some (Eq d a b)) v f = refl
+handed_registers (Some (Le d a b)) v f = refl
 handed_registers (Some (Jz a t)) v f = refl
 handed_registers (Some (Jmp t)) v f = refl
 handed_registers (Some (Slot d)) v f = refl

@@ -6,7 +6,7 @@ use Rattle.std.proofs.lemmas.Bool.{cond_both}
 use Rattle.std.proofs.lemmas.List.{set-get_or}
 use Rattle.job_language.specs.declared.errors.JobFault.TheVariants as fault
 use Rattle.job_language.specs.declared.instructions.Instr.{Instr}
-use Rattle.job_language.specs.declared.instructions.Instr.TheVariants.{Set, Add, Sub, Mul, Div, Lt, Jz, Jmp, Slot, Width, Spawn, Post, Wait, Cancel, Ask, Isolate, Load, Store, Sum, Count, Ret}
+use Rattle.job_language.specs.declared.instructions.Instr.TheVariants.{Set, Add, Sub, Mul, Div, Lt, Rem, And, Or, Xor, Shl, Shr, Eq, Le, Jz, Jmp, Slot, Width, Spawn, Post, Wait, Cancel, Ask, Isolate, Load, Store, Sum, Count, Ret}
 use Rattle.job_language.specs.declared.answers.Moved.{Moved}
 use Rattle.job_step.specs.declared.frames.Frame.{Frame}
 use Rattle.job_step.specs.Frame.{register}
@@ -79,6 +79,14 @@ execute_cells s slot n f (Sub d a b) = refl
 execute_cells s slot n f (Mul d a b) = refl
 execute_cells s slot n f (Div d a b) = refl
 execute_cells s slot n f (Lt d a b) = refl
+execute_cells s slot n f (Rem d a b) = refl
+execute_cells s slot n f (And d a b) = refl
+execute_cells s slot n f (Or d a b) = refl
+execute_cells s slot n f (Xor d a b) = refl
+execute_cells s slot n f (Shl d a b) = refl
+execute_cells s slot n f (Shr d a b) = refl
+execute_cells s slot n f (Eq d a b) = refl
+execute_cells s slot n f (Le d a b) = refl
 execute_cells s slot n f (Jz a t) = refl
 execute_cells s slot n f (Jmp t) = refl
 execute_cells s slot n f (Slot d) = refl

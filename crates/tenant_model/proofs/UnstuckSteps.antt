@@ -10,7 +10,7 @@ use Rattle.job_language.specs.Program.{IsValidProgram, Calls, is_last}
 use Rattle.job_language.specs.declared.errors.JobFault.{JobFault}
 use Rattle.job_language.specs.declared.errors.JobFault.TheVariants as fault
 use Rattle.job_language.specs.declared.instructions.Instr.{Instr}
-use Rattle.job_language.specs.declared.instructions.Instr.TheVariants.{Set, Add, Sub, Mul, Div, Lt, Jz, Jmp, Slot, Width, Spawn, Post, Wait, Cancel, Ask, Isolate, Load, Store, Sum, Count, Ret}
+use Rattle.job_language.specs.declared.instructions.Instr.TheVariants.{Set, Add, Sub, Mul, Div, Lt, Rem, And, Or, Xor, Shl, Shr, Eq, Le, Jz, Jmp, Slot, Width, Spawn, Post, Wait, Cancel, Ask, Isolate, Load, Store, Sum, Count, Ret}
 use Rattle.job_language.specs.declared.jobs.Job.{Job}
 use Rattle.job_language.specs.declared.requests.Request.{Request}
 use Rattle.job_language.specs.declared.requests.Request.TheVariants as request
@@ -99,6 +99,14 @@ handed_stands procs valid f (Sub d a b) v stands at = stands
 handed_stands procs valid f (Mul d a b) v stands at = stands
 handed_stands procs valid f (Div d a b) v stands at = stands
 handed_stands procs valid f (Lt d a b) v stands at = stands
+handed_stands procs valid f (Rem d a b) v stands at = stands
+handed_stands procs valid f (And d a b) v stands at = stands
+handed_stands procs valid f (Or d a b) v stands at = stands
+handed_stands procs valid f (Xor d a b) v stands at = stands
+handed_stands procs valid f (Shl d a b) v stands at = stands
+handed_stands procs valid f (Shr d a b) v stands at = stands
+handed_stands procs valid f (Eq d a b) v stands at = stands
+handed_stands procs valid f (Le d a b) v stands at = stands
 handed_stands procs valid f (Jz a t) v stands at = stands
 handed_stands procs valid f (Jmp t) v stands at = stands
 handed_stands procs valid f (Slot d) v stands at = stands
@@ -185,6 +193,14 @@ module _ (s : State) (n : ℕ) (there : IsThere s n) (is : IsUnstuck s) where
   execute_unstuck slot f (Mul d a b) stands at = learned slot f stands
   execute_unstuck slot f (Div d a b) stands at = learned slot f stands
   execute_unstuck slot f (Lt d a b) stands at = learned slot f stands
+  execute_unstuck slot f (Rem d a b) stands at = learned slot f stands
+  execute_unstuck slot f (And d a b) stands at = learned slot f stands
+  execute_unstuck slot f (Or d a b) stands at = learned slot f stands
+  execute_unstuck slot f (Xor d a b) stands at = learned slot f stands
+  execute_unstuck slot f (Shl d a b) stands at = learned slot f stands
+  execute_unstuck slot f (Shr d a b) stands at = learned slot f stands
+  execute_unstuck slot f (Eq d a b) stands at = learned slot f stands
+  execute_unstuck slot f (Le d a b) stands at = learned slot f stands
   execute_unstuck slot f (Jz a t) stands at = learned slot f stands
   execute_unstuck slot f (Jmp t) stands at = learned slot f stands
   execute_unstuck slot f (Slot d) stands at = learned slot f stands
