@@ -1,7 +1,7 @@
 -- Executing an instruction that is not shared.
 use Rattle.std.proofs.Common.{◌≡◌, ℕ, refl}
 use Rattle.job_language.specs.declared.instructions.Instr.{Instr}
-use Rattle.job_language.specs.declared.instructions.Instr.TheVariants.{Set, Add, Sub, Mul, Div, Lt, Jz, Jmp, Slot, Width, Spawn, Post, Wait, Cancel, Ask, Isolate, Load, Store, Sum, Count, Ret}
+use Rattle.job_language.specs.declared.instructions.Instr.TheVariants.{Set, Add, Sub, Mul, Div, Lt, Rem, And, Or, Xor, Shl, Shr, Eq, Le, Jz, Jmp, Slot, Width, Spawn, Post, Wait, Cancel, Ask, Isolate, Load, Store, Sum, Count, Ret}
 use Rattle.job_step.specs.declared.frames.Frame.{Frame}
 use Rattle.tenant_model.specs.State.{State}
 use Rattle.tenant_model.specs.Changes.{finish_step, with_frame}
@@ -15,6 +15,14 @@ private_runs s slot n f (Sub d a b) no_spawn no_post no_isolate no_wait no_cance
 private_runs s slot n f (Mul d a b) no_spawn no_post no_isolate no_wait no_cancel no_ask no_load no_store no_sum no_count no_ret = refl
 private_runs s slot n f (Div d a b) no_spawn no_post no_isolate no_wait no_cancel no_ask no_load no_store no_sum no_count no_ret = refl
 private_runs s slot n f (Lt d a b) no_spawn no_post no_isolate no_wait no_cancel no_ask no_load no_store no_sum no_count no_ret = refl
+private_runs s slot n f (Rem d a b) no_spawn no_post no_isolate no_wait no_cancel no_ask no_load no_store no_sum no_count no_ret = refl
+private_runs s slot n f (And d a b) no_spawn no_post no_isolate no_wait no_cancel no_ask no_load no_store no_sum no_count no_ret = refl
+private_runs s slot n f (Or d a b) no_spawn no_post no_isolate no_wait no_cancel no_ask no_load no_store no_sum no_count no_ret = refl
+private_runs s slot n f (Xor d a b) no_spawn no_post no_isolate no_wait no_cancel no_ask no_load no_store no_sum no_count no_ret = refl
+private_runs s slot n f (Shl d a b) no_spawn no_post no_isolate no_wait no_cancel no_ask no_load no_store no_sum no_count no_ret = refl
+private_runs s slot n f (Shr d a b) no_spawn no_post no_isolate no_wait no_cancel no_ask no_load no_store no_sum no_count no_ret = refl
+private_runs s slot n f (Eq d a b) no_spawn no_post no_isolate no_wait no_cancel no_ask no_load no_store no_sum no_count no_ret = refl
+private_runs s slot n f (Le d a b) no_spawn no_post no_isolate no_wait no_cancel no_ask no_load no_store no_sum no_count no_ret = refl
 private_runs s slot n f (Jz a t) no_spawn no_post no_isolate no_wait no_cancel no_ask no_load no_store no_sum no_count no_ret = refl
 private_runs s slot n f (Jmp t) no_spawn no_post no_isolate no_wait no_cancel no_ask no_load no_store no_sum no_count no_ret = refl
 private_runs s slot n f (Slot d) no_spawn no_post no_isolate no_wait no_cancel no_ask no_load no_store no_sum no_count no_ret = refl

@@ -22,6 +22,7 @@ not_memory want takes error.HistoryFull other h = sym h
 not_memory want takes error.TaskLimit other h = sym h
 not_memory want takes error.NoTenant other h = sym h
 not_memory want takes error.Busy other h = sym h
+not_memory want takes error.ConnectionLimit other h = sym h
 
 -- So is one of the job of what a value asks.
 pub refused_read : (asked : Option AskedData) (a : AskedData) (takes : Type 0) (e : Error) → Ok a ≡ ok_or asked error.BadRequest → e ≢ error.NoMemory → Refuses takes e (ready_of a) → Err e ≡ option_map_or ready_of asked (Err error.BadRequest)

@@ -11,7 +11,7 @@ use Rattle.job_language.specs.declared.answers.Reply.{Reply}
 use Rattle.job_language.specs.declared.answers.Reply.TheVariants.{Bound, Made, Placed, Job, Cancelled, Cells, Arena, Epoch, Refused, Pending}
 use Rattle.job_language.specs.declared.answers.Status.TheVariants as status
 use Rattle.job_language.specs.declared.errors.Error.{Error}
-use Rattle.job_language.specs.declared.errors.Error.TheVariants.{LineTooLong, BadJson, BadRequest, BadProgram, UnknownTenant, UnknownJob, JobLimit, HistoryFull, NoMemory, TaskLimit, NoTenant, Busy}
+use Rattle.job_language.specs.declared.errors.Error.TheVariants.{LineTooLong, BadJson, BadRequest, BadProgram, UnknownTenant, UnknownJob, JobLimit, HistoryFull, NoMemory, TaskLimit, NoTenant, Busy, ConnectionLimit}
 use Rattle.job_language.specs.declared.tenants.Level.TheVariants.{Low, Normal, High}
 use Rattle.reply_writer.specs.ReplyText.{reply_text}
 use Rattle.dump_lines.specs.Written.{reply_data, refusal_data}
@@ -43,6 +43,7 @@ refusal_text NoMemory = parted NoMemory
 refusal_text TaskLimit = parted TaskLimit
 refusal_text NoTenant = parted NoTenant
 refusal_text Busy = parted Busy
+refusal_text ConnectionLimit = parted ConnectionLimit
 
 pub reply_texts : (r : Reply) → is_recorded_reply r ≡ true → reply_text r ≡ compact_text (reply_data r)
 unfolding escape_byte

@@ -11,7 +11,7 @@ use Rattle.job_language.specs.declared.answers.Reply.TheVariants as reply
 use Rattle.job_language.specs.declared.answers.Status.{Status}
 use Rattle.job_language.specs.declared.answers.Status.TheVariants.{Running, Cancelled, Complete, Fault}
 use Rattle.job_language.specs.declared.errors.Error.{Error}
-use Rattle.job_language.specs.declared.errors.Error.TheVariants.{LineTooLong, BadJson, BadRequest, BadProgram, UnknownTenant, UnknownJob, JobLimit, HistoryFull, NoMemory, TaskLimit, NoTenant, Busy}
+use Rattle.job_language.specs.declared.errors.Error.TheVariants.{LineTooLong, BadJson, BadRequest, BadProgram, UnknownTenant, UnknownJob, JobLimit, HistoryFull, NoMemory, TaskLimit, NoTenant, Busy, ConnectionLimit}
 use Rattle.job_language.specs.declared.errors.JobFault.{JobFault}
 use Rattle.job_language.specs.declared.errors.JobFault.TheVariants as fault
 use Rattle.job_language.specs.ErrorCodes.{code_of, name_of, fault_code_of}
@@ -47,7 +47,7 @@ abbrev pub three : {A B C D : Type 0} → (A → B → C → D) → Option A →
 three make a b c = a >>= λ x. two (make x) b c
 
 abbrev pub errors : List Error
-errors = LineTooLong ∷ BadJson ∷ BadRequest ∷ BadProgram ∷ UnknownTenant ∷ UnknownJob ∷ JobLimit ∷ HistoryFull ∷ NoMemory ∷ TaskLimit ∷ NoTenant ∷ Busy ∷ []
+errors = LineTooLong ∷ BadJson ∷ BadRequest ∷ BadProgram ∷ UnknownTenant ∷ UnknownJob ∷ JobLimit ∷ HistoryFull ∷ NoMemory ∷ TaskLimit ∷ NoTenant ∷ Busy ∷ ConnectionLimit ∷ []
 
 -- the error whose code and name stand there
 abbrev pub error_in : Data → Option Error

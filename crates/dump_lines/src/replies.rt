@@ -207,6 +207,7 @@ fn error_coded(code: u64) -> Option<Error>
         10 => Some(Error::TaskLimit),
         11 => Some(Error::NoTenant),
         12 => Some(Error::Busy),
+        13 => Some(Error::ConnectionLimit),
         _ => None,
     }
 }

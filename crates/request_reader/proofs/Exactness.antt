@@ -24,6 +24,7 @@ module _ {B C : Type 0} (takes takes' : Type 0) (want : Result B Error) (want' :
   Refuses-same error.TaskLimit same h = same h
   Refuses-same error.NoTenant same h = same h
   Refuses-same error.Busy same h = same h
+  Refuses-same error.ConnectionLimit same h = same h
 
 refused-wanted : {B : Type 0} (takes : Type 0) (want : Result B Error) → takes → (e : Error) → want ≡ Err e → Refuses takes e want
 refused-wanted takes want t error.NoMemory h = t
@@ -38,6 +39,7 @@ refused-wanted takes want t error.HistoryFull h = h
 refused-wanted takes want t error.TaskLimit h = h
 refused-wanted takes want t error.NoTenant h = h
 refused-wanted takes want t error.Busy h = h
+refused-wanted takes want t error.ConnectionLimit h = h
 
 -- An answer that is the wanted one is exact.
 pub Exact-wanted : {A B : Type 0} (view : A → B) (takes : Type 0) (want : Result B Error) → takes → (answer : Result A Error) → result_map view answer ≡ want → ExactOrNoMemory view takes answer want

@@ -2,7 +2,7 @@
 use Rattle.std.proofs.Common.{◌≡◌, Option, Some, None, arith}
 use Rattle.std.proofs.lemmas.Bool.{cond_both}
 use Rattle.job_language.specs.declared.instructions.Instr.{Instr}
-use Rattle.job_language.specs.declared.instructions.Instr.TheVariants.{Set, Add, Sub, Mul, Div, Lt, Jz, Jmp, Slot, Width, Spawn, Post, Wait, Cancel, Ask, Isolate, Load, Store, Sum, Count, Ret}
+use Rattle.job_language.specs.declared.instructions.Instr.TheVariants.{Set, Add, Sub, Mul, Div, Lt, Rem, And, Or, Xor, Shl, Shr, Eq, Le, Jz, Jmp, Slot, Width, Spawn, Post, Wait, Cancel, Ask, Isolate, Load, Store, Sum, Count, Ret}
 use Rattle.job_step.specs.declared.effects.Effect.{Effect}
 use Rattle.job_step.specs.declared.effects.Effect.TheVariants.{Moves, DividesByZero, IsShared}
 use Rattle.job_step.specs.Frame.{register, effect}
@@ -30,6 +30,14 @@ module _ (t u : SerialTask) (m : SerialMaker) where
   by_instr (Mul d a b) is = alone (effect (Mul d a b) 0 0 t.frame) is
   by_instr (Div d a b) is = alone (effect (Div d a b) 0 0 t.frame) is
   by_instr (Lt d a b) is = alone (effect (Lt d a b) 0 0 t.frame) is
+  by_instr (Rem d a b) is = alone (effect (Rem d a b) 0 0 t.frame) is
+  by_instr (And d a b) is = alone (effect (And d a b) 0 0 t.frame) is
+  by_instr (Or d a b) is = alone (effect (Or d a b) 0 0 t.frame) is
+  by_instr (Xor d a b) is = alone (effect (Xor d a b) 0 0 t.frame) is
+  by_instr (Shl d a b) is = alone (effect (Shl d a b) 0 0 t.frame) is
+  by_instr (Shr d a b) is = alone (effect (Shr d a b) 0 0 t.frame) is
+  by_instr (Eq d a b) is = alone (effect (Eq d a b) 0 0 t.frame) is
+  by_instr (Le d a b) is = alone (effect (Le d a b) 0 0 t.frame) is
   by_instr (Jz a q) is = alone (effect (Jz a q) 0 0 t.frame) is
   by_instr (Jmp q) is = alone (effect (Jmp q) 0 0 t.frame) is
   by_instr (Slot d) is = alone (effect (Slot d) 0 0 t.frame) is

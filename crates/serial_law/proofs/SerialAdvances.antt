@@ -7,7 +7,7 @@ use Rattle.job_language.specs.Serial.{is_serial_instr, is_serial}
 use Rattle.job_language.specs.declared.errors.JobFault.{JobFault}
 use Rattle.job_language.specs.declared.errors.JobFault.TheVariants as fault
 use Rattle.job_language.specs.declared.instructions.Instr.{Instr}
-use Rattle.job_language.specs.declared.instructions.Instr.TheVariants.{Set, Add, Sub, Mul, Div, Lt, Jz, Jmp, Slot, Width, Spawn, Post, Wait, Cancel, Ask, Isolate, Load, Store, Sum, Count, Ret}
+use Rattle.job_language.specs.declared.instructions.Instr.TheVariants.{Set, Add, Sub, Mul, Div, Lt, Rem, And, Or, Xor, Shl, Shr, Eq, Le, Jz, Jmp, Slot, Width, Spawn, Post, Wait, Cancel, Ask, Isolate, Load, Store, Sum, Count, Ret}
 use Rattle.job_language.specs.declared.instructions.TheConstants.{GROUPS}
 use Rattle.job_language.specs.declared.answers.Moved.{Moved}
 use Rattle.job_language.specs.declared.answers.Came.{Came}
@@ -81,6 +81,14 @@ module _ (o : Origin) (serial : is_serial o.program ≡ true) (s : State) (slot 
   execute_own (Mul d a b) at low open_way = own_moved
   execute_own (Div d a b) at low open_way = own_moved
   execute_own (Lt d a b) at low open_way = own_moved
+  execute_own (Rem d a b) at low open_way = own_moved
+  execute_own (And d a b) at low open_way = own_moved
+  execute_own (Or d a b) at low open_way = own_moved
+  execute_own (Xor d a b) at low open_way = own_moved
+  execute_own (Shl d a b) at low open_way = own_moved
+  execute_own (Shr d a b) at low open_way = own_moved
+  execute_own (Eq d a b) at low open_way = own_moved
+  execute_own (Le d a b) at low open_way = own_moved
   execute_own (Jz a t) at low open_way = own_moved
   execute_own (Jmp t) at low open_way = own_moved
   execute_own (Slot d) at low open_way = own_moved
@@ -180,6 +188,14 @@ module _ (o : Origin) (serial : is_serial o.program ≡ true) (s : State) (slot 
       same_blocked (Mul d a b) free = refl
       same_blocked (Div d a b) free = refl
       same_blocked (Lt d a b) free = refl
+      same_blocked (Rem d a b) free = refl
+      same_blocked (And d a b) free = refl
+      same_blocked (Or d a b) free = refl
+      same_blocked (Xor d a b) free = refl
+      same_blocked (Shl d a b) free = refl
+      same_blocked (Shr d a b) free = refl
+      same_blocked (Eq d a b) free = refl
+      same_blocked (Le d a b) free = refl
       same_blocked (Jz a t) free = refl
       same_blocked (Jmp t) free = refl
       same_blocked (Slot d) free = refl

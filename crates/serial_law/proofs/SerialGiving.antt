@@ -3,7 +3,7 @@ use Rattle.std.proofs.Common.{◌≡◌, ℕ, zero, suc, ◌+◌, List, [], ◌�
 use Rattle.std.specs.Prelude.{slice_get, slice_index_or, is_some}
 use Rattle.std.specs.List.{list_all}
 use Rattle.job_language.specs.declared.instructions.Instr.{Instr}
-use Rattle.job_language.specs.declared.instructions.Instr.TheVariants.{Set, Add, Sub, Mul, Div, Lt, Jz, Jmp, Slot, Width, Spawn, Post, Wait, Cancel, Ask, Isolate, Load, Store, Sum, Count, Ret}
+use Rattle.job_language.specs.declared.instructions.Instr.TheVariants.{Set, Add, Sub, Mul, Div, Lt, Rem, And, Or, Xor, Shl, Shr, Eq, Le, Jz, Jmp, Slot, Width, Spawn, Post, Wait, Cancel, Ask, Isolate, Load, Store, Sum, Count, Ret}
 use Rattle.job_language.specs.Serial.{is_serial_instr, is_serial}
 use Rattle.job_step.specs.declared.frames.Frame.{Frame}
 use Rattle.job_step.specs.declared.runs.Run.{Run}
@@ -82,6 +82,14 @@ effect_turn (Sub d a b) t slot width g serial moves = ap (turn_by t) moves
 effect_turn (Mul d a b) t slot width g serial moves = ap (turn_by t) moves
 effect_turn (Div d a b) t slot width g serial moves = ap (turn_by t) moves
 effect_turn (Lt d a b) t slot width g serial moves = ap (turn_by t) moves
+effect_turn (Rem d a b) t slot width g serial moves = ap (turn_by t) moves
+effect_turn (And d a b) t slot width g serial moves = ap (turn_by t) moves
+effect_turn (Or d a b) t slot width g serial moves = ap (turn_by t) moves
+effect_turn (Xor d a b) t slot width g serial moves = ap (turn_by t) moves
+effect_turn (Shl d a b) t slot width g serial moves = ap (turn_by t) moves
+effect_turn (Shr d a b) t slot width g serial moves = ap (turn_by t) moves
+effect_turn (Eq d a b) t slot width g serial moves = ap (turn_by t) moves
+effect_turn (Le d a b) t slot width g serial moves = ap (turn_by t) moves
 effect_turn (Jz a k) t slot width g serial moves = ap (turn_by t) moves
 effect_turn (Jmp k) t slot width g serial moves = ap (turn_by t) moves
 effect_turn (Slot d) t slot width g serial moves = absurd (grind (arith, serial))

@@ -6,7 +6,7 @@ use Rattle.std.proofs.lemmas.Option.{IfSome_then}
 use Rattle.job_language.specs.declared.errors.JobFault.{JobFault}
 use Rattle.job_language.specs.declared.errors.JobFault.TheVariants as fault
 use Rattle.job_language.specs.declared.instructions.Instr.{Instr}
-use Rattle.job_language.specs.declared.instructions.Instr.TheVariants.{Set, Add, Sub, Mul, Div, Lt, Jz, Jmp, Slot, Width, Spawn, Post, Wait, Cancel, Ask, Isolate, Load, Store, Sum, Count, Ret}
+use Rattle.job_language.specs.declared.instructions.Instr.TheVariants.{Set, Add, Sub, Mul, Div, Lt, Rem, And, Or, Xor, Shl, Shr, Eq, Le, Jz, Jmp, Slot, Width, Spawn, Post, Wait, Cancel, Ask, Isolate, Load, Store, Sum, Count, Ret}
 use Rattle.job_language.specs.declared.answers.Moved.{Moved}
 use Rattle.job_step.specs.declared.frames.Frame.{Frame}
 use Rattle.job_step.specs.Frame.{register, write_and_step, instr_at}
@@ -126,6 +126,14 @@ module _ (o : Origin) (s : State) (slot n : ℕ) (top : OnTop s.rows slot n) (is
     execute_other f (Mul d a b) = entry_good o _ 0 (moved_other f)
     execute_other f (Div d a b) = entry_good o _ 0 (moved_other f)
     execute_other f (Lt d a b) = entry_good o _ 0 (moved_other f)
+    execute_other f (Rem d a b) = entry_good o _ 0 (moved_other f)
+    execute_other f (And d a b) = entry_good o _ 0 (moved_other f)
+    execute_other f (Or d a b) = entry_good o _ 0 (moved_other f)
+    execute_other f (Xor d a b) = entry_good o _ 0 (moved_other f)
+    execute_other f (Shl d a b) = entry_good o _ 0 (moved_other f)
+    execute_other f (Shr d a b) = entry_good o _ 0 (moved_other f)
+    execute_other f (Eq d a b) = entry_good o _ 0 (moved_other f)
+    execute_other f (Le d a b) = entry_good o _ 0 (moved_other f)
     execute_other f (Jz a t) = entry_good o _ 0 (moved_other f)
     execute_other f (Jmp t) = entry_good o _ 0 (moved_other f)
     execute_other f (Slot d) = entry_good o _ 0 (moved_other f)

@@ -5,7 +5,7 @@ use Rattle.std.proofs.lemmas.Bool.{cond_both}
 use Rattle.job_language.specs.declared.errors.JobFault.{JobFault}
 use Rattle.job_language.specs.declared.errors.JobFault.TheVariants as fault
 use Rattle.job_language.specs.declared.instructions.Instr.{Instr}
-use Rattle.job_language.specs.declared.instructions.Instr.TheVariants.{Set, Add, Sub, Mul, Div, Lt, Jz, Jmp, Slot, Width, Spawn, Post, Wait, Cancel, Ask, Isolate, Load, Store, Sum, Count, Ret}
+use Rattle.job_language.specs.declared.instructions.Instr.TheVariants.{Set, Add, Sub, Mul, Div, Lt, Rem, And, Or, Xor, Shl, Shr, Eq, Le, Jz, Jmp, Slot, Width, Spawn, Post, Wait, Cancel, Ask, Isolate, Load, Store, Sum, Count, Ret}
 use Rattle.job_language.specs.declared.answers.Answer.TheVariants as answer
 use Rattle.job_language.specs.declared.answers.Moved.{Moved}
 use Rattle.job_language.specs.declared.answers.Moved.TheVariants as moved
@@ -78,6 +78,14 @@ executed s slot n f (Sub d a b) is = ran_only (nat_lt slot s.config.reserved) _ 
 executed s slot n f (Mul d a b) is = ran_only (nat_lt slot s.config.reserved) _ is
 executed s slot n f (Div d a b) is = ran_only (nat_lt slot s.config.reserved) _ is
 executed s slot n f (Lt d a b) is = ran_only (nat_lt slot s.config.reserved) _ is
+executed s slot n f (Rem d a b) is = ran_only (nat_lt slot s.config.reserved) _ is
+executed s slot n f (And d a b) is = ran_only (nat_lt slot s.config.reserved) _ is
+executed s slot n f (Or d a b) is = ran_only (nat_lt slot s.config.reserved) _ is
+executed s slot n f (Xor d a b) is = ran_only (nat_lt slot s.config.reserved) _ is
+executed s slot n f (Shl d a b) is = ran_only (nat_lt slot s.config.reserved) _ is
+executed s slot n f (Shr d a b) is = ran_only (nat_lt slot s.config.reserved) _ is
+executed s slot n f (Eq d a b) is = ran_only (nat_lt slot s.config.reserved) _ is
+executed s slot n f (Le d a b) is = ran_only (nat_lt slot s.config.reserved) _ is
 executed s slot n f (Jz a t) is = ran_only (nat_lt slot s.config.reserved) _ is
 executed s slot n f (Jmp t) is = ran_only (nat_lt slot s.config.reserved) _ is
 executed s slot n f (Slot d) is = ran_only (nat_lt slot s.config.reserved) _ is
