@@ -19,6 +19,8 @@ LEAST, GREATEST = -(2**63), 2**63 - 1
 NONE = {"serial": "none"}
 BAD = {"code": 4, "error": "bad_program"}
 RETURN = ["ret", 0]
+# The instructions that make a number of two.
+OF_TWO = ["add", "sub", "mul", "div", "rem", "and", "or", "xor", "shl", "shr", "lt", "le", "eq"]
 
 
 def job(procs: list | None = None, args: Sequence[object] = (0, 0), fuel: object = 1, **more: object) -> str:
@@ -29,6 +31,11 @@ def job(procs: list | None = None, args: Sequence[object] = (0, 0), fuel: object
 def procedure(*instructions: object) -> str:
     """A job of one procedure."""
     return job(procs=[list(instructions)])
+
+
+def of_two(name: str, a: int, b: int) -> str:
+    """A job of one instruction that makes a number of two numbers."""
+    return job(procs=[[[name, 7, 0, 1], ["ret", 7]]], args=(a, b), fuel=2)
 
 
 # Each job with what `arena-script serial` answers. `ret` alone executes one instruction.
@@ -92,11 +99,47 @@ JOBS = [
     (procedure(["load", 0, 8], RETURN), BAD),
     (procedure(["store", 8, 0], RETURN), BAD),
     (procedure(["sum", 0, 8], RETURN), BAD),
+    # numbers that are made of two, at the ends of their range; a shift is by the lowest six bits
+    (of_two("div", LEAST, -1), {"serial": LEAST}),
+    (of_two("rem", LEAST, -1), {"serial": 0}),
+    (of_two("rem", LEAST, GREATEST), {"serial": -1}),
+    (of_two("rem", GREATEST, LEAST), {"serial": GREATEST}),
+    (of_two("rem", LEAST, 10), {"serial": -8}),
+    (of_two("rem", GREATEST, -10), {"serial": 7}),
+    (of_two("rem", LEAST, 0), NONE),
+    (of_two("and", LEAST, GREATEST), {"serial": 0}),
+    (of_two("and", LEAST, -1), {"serial": LEAST}),
+    (of_two("or", LEAST, GREATEST), {"serial": -1}),
+    (of_two("or", LEAST, 1), {"serial": LEAST + 1}),
+    (of_two("xor", LEAST, GREATEST), {"serial": -1}),
+    (of_two("xor", LEAST, -1), {"serial": GREATEST}),
+    (of_two("shl", 1, 63), {"serial": LEAST}),
+    (of_two("shl", 2, 63), {"serial": 0}),
+    (of_two("shl", 1, 64), {"serial": 1}),
+    (of_two("shl", 1, -1), {"serial": LEAST}),
+    (of_two("shl", GREATEST, 1), {"serial": -2}),
+    (of_two("shl", 3, LEAST), {"serial": 3}),
+    (of_two("shr", LEAST, 63), {"serial": -1}),
+    (of_two("shr", LEAST, 64), {"serial": LEAST}),
+    (of_two("shr", LEAST, 65), {"serial": -(2**62)}),
+    (of_two("shr", GREATEST, 62), {"serial": 1}),
+    (of_two("shr", GREATEST, GREATEST), {"serial": 0}),
+    (of_two("shr", -1, -1), {"serial": -1}),
+    (of_two("lt", LEAST, GREATEST), {"serial": 1}),
+    (of_two("lt", LEAST, LEAST), {"serial": 0}),
+    (of_two("le", LEAST, LEAST), {"serial": 1}),
+    (of_two("le", GREATEST, LEAST), {"serial": 0}),
+    (of_two("eq", LEAST, LEAST), {"serial": 1}),
+    (of_two("eq", LEAST, GREATEST), {"serial": 0}),
+    *((procedure([name, 0, 1, 8], RETURN), BAD) for name in OF_TWO),
+    *((procedure([name, 8, 0, 1], RETURN), BAD) for name in OF_TWO),
+    *((procedure([name, 0, 1], RETURN), BAD) for name in OF_TWO),
     # instructions: their names, with as many operands as each has; the last is `ret` or `jmp`
     (procedure(["set", 2, 1]), BAD),
     (procedure(["ret"]), BAD),
     (procedure(["ret", 0, 0]), BAD),
     (procedure(["Ret", 0]), BAD),
+    (procedure(["not", 0, 0, 1], RETURN), BAD),
     (procedure([0, "ret"]), BAD),
     (procedure([]), BAD),
     (procedure(5), BAD),

@@ -88,6 +88,7 @@ NO_REPLIES = [
     '{"priority":"normal","reserved":1,"slots":2,"x":1}',
     '{"code":3,"error":"bad_json"}',
     '{"code":13,"error":"bad_json"}',
+    '{"code":14,"error":"connection_limit"}',
     '{"code":2,"error":"bad json"}',
     '{"code":-2,"error":"bad_json"}',
 ]
@@ -117,6 +118,7 @@ OTHER_REPLIES = [
     '{"code":3,"error":"bad_request"}',
     '{"code":8,"error":"history_full"}',
     '{"code":12,"error":"busy"}',
+    '{"code":13,"error":"connection_limit"}',
     '{"epoch":1}',
 ]
 

@@ -30,7 +30,8 @@ def dump_is_the_history() -> None:
 def dump_has_the_job_that_was_sent() -> None:
     """A job of all instructions and the tenant's own settings, each at an end of its range, are dumped as they were given."""
     sent = job([["set", 1, -(2**63)], ["add", 2, 0, 1], ["sub", 3, 0, 1], ["mul", 4, 0, 1], ["div", 5, 0, 1], ["lt", 6, 0, 1],
-                ["jz", 6, 7], ["jmp", 8], ["slot", 7], ["width", 0], ["spawn", 3, 1, 0, 1], ["post", 1, 0, 1],
+                ["rem", 7, 0, 1], ["and", 0, 7, 6], ["or", 1, 6, 5], ["xor", 2, 5, 4], ["shl", 3, 4, 3], ["shr", 4, 3, 2],
+                ["eq", 5, 2, 1], ["le", 6, 1, 0], ["jz", 6, 15], ["jmp", 16], ["slot", 7], ["width", 0], ["spawn", 3, 1, 0, 1], ["post", 1, 0, 1],
                 ["wait", 2, 3, 3], ["cancel", 0], ["ask", 1], ["isolate", 2, 1, 0, 1], ["load", 3, 7], ["store", 0, 4],
                 ["sum", 5, 1], ["count", 6, 2], ["ret", 7]], [["ret", 0]], args=(2**63 - 1, -(2**63)), fuel=1000000)
     config = {"isolation": "within", "name": "a-9", "priority": "high", "reserved": 0, "rows": 4096, "slots": 16, "steps": 1}
