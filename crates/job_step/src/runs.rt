@@ -1,15 +1,16 @@
 // Private runs: what a frame executes before it meets a shared instruction.
-ghost use Rattle.std.specs.Prelude.{◌≡◌, ◌+◌, ◌<◌, ◌≤◌, [], ℕ, List, length, false, slice_index_or};
+ghost use Rattle.std.specs.Prelude.{◌≡◌, ◌+◌, ◌<◌, ◌≤◌, [], ℕ, pos, List, length, false, slice_index_or, slice_set};
+ghost use Rattle.std.specs.Int.{int_shl, int_shr, w64};
 ghost use Rattle.job_language.specs.declared.instructions.Instr.{Instr};
 ghost use Rattle.job_language.specs.Program.{IsValidProc, IsInRange, is_last};
 ghost use Rattle.job_language.specs.declared.programs.TheConstants.{MAX_INSTRS};
 ghost use Rattle.job_step.specs.declared.frames.TheConstants.{LAST_PLACE};
 ghost use Rattle.job_step.specs.Frame.{effect, shift_count};
 ghost use Rattle.job_step.specs.Run.{run_of};
-ghost use Rattle.job_step.specs.InsideRun.{frame_of, effect_of, is_arithmetic_or_jump, GoesWithin};
+ghost use Rattle.job_step.specs.InsideRun.{frame_of, effect_of, GoesWithin};
 
 use crate::frames::Frame;
-use job_language::{Instr, Program, REGISTERS};
+use job_language::{Instr, Program, REGISTERS, Register};
 
 /// How many instructions a run executes at most.
 pub const RUN_LIMIT: u32 = 1_000;
@@ -122,102 +123,85 @@ pub(crate) fn execute(
     width: u8,
     procedure: u8,
     place: usize,
-    registers: &mut [i64; REGISTERS],
+    values: &mut [i64; REGISTERS],
 ) -> Next
     requires { is_last instr.now ≡ false → place + 1 < MAX_INSTRS }
-    ensures effect { effect instr.now slot width (frame_of procedure place registers.old)
-        ≡ effect_of procedure result registers.new }
-    ensures shared { result ≡ Next.IsShared → registers.new ≡ registers.old }
-    ensures divides { result ≡ Next.DividesByZero → registers.new ≡ registers.old }
+    ensures effect { effect instr.now slot width (frame_of procedure place values.old)
+        ≡ effect_of procedure result values.new }
+    ensures shared { result ≡ Next.IsShared → values.new ≡ values.old }
+    ensures divides { result ≡ Next.DividesByZero → values.new ≡ values.old }
     ensures fits { (k : ℕ) → result ≡ Next.Place k → k ≤ LAST_PLACE }
     ensures within { (instrs : ℕ) → IsInRange instrs instr.now
         → (is_last instr.now ≡ false → place + 1 < instrs)
         → GoesWithin instrs result }
 {
     match *instr {
-        Instr::Set(d, n) => registers[d.index()] = n,
-        Instr::Add(d, a, b) => {
-            registers[d.index()] = registers[a.index()].wrapping_add(registers[b.index()]);
-        }
-        Instr::Sub(d, a, b) => {
-            registers[d.index()] = registers[a.index()].wrapping_sub(registers[b.index()]);
-        }
-        Instr::Mul(d, a, b) => {
-            registers[d.index()] = registers[a.index()].wrapping_mul(registers[b.index()]);
-        }
+        Instr::Set(d, n) => write(d, n, place, values),
+        Instr::Add(d, a, b) => write(d, at(values, a).wrapping_add(at(values, b)), place, values),
+        Instr::Sub(d, a, b) => write(d, at(values, a).wrapping_sub(at(values, b)), place, values),
+        Instr::Mul(d, a, b) => write(d, at(values, a).wrapping_mul(at(values, b)), place, values),
         Instr::Div(d, a, b) => {
-            if registers[b.index()] == 0 {
+            if at(values, b) == 0 {
                 return Next::DividesByZero;
             }
-            registers[d.index()] = registers[a.index()].wrapping_div(registers[b.index()]);
+            write(d, at(values, a).wrapping_div(at(values, b)), place, values)
         }
+        Instr::Lt(d, a, b) => write(d, i64::from(at(values, a) < at(values, b)), place, values),
         Instr::Rem(d, a, b) => {
-            if registers[b.index()] == 0 {
+            if at(values, b) == 0 {
                 return Next::DividesByZero;
             }
-            registers[d.index()] = registers[a.index()].wrapping_rem(registers[b.index()]);
+            write(d, at(values, a).wrapping_rem(at(values, b)), place, values)
         }
-        Instr::Jz(a, t) => {
-            return Next::Place(if registers[a.index()] == 0 {
-                usize::from(t)
-            } else {
-                place + 1
-            });
-        }
-        Instr::Jmp(t) => return Next::Place(usize::from(t)),
-        Instr::Slot(d) => registers[d.index()] = i64::from(slot),
-        Instr::Width(d) => registers[d.index()] = i64::from(width),
-        _ => return execute_on_bits(instr, slot, width, procedure, place, registers),
+        Instr::And(d, a, b) => write(d, at(values, a) & at(values, b), place, values),
+        Instr::Or(d, a, b) => write(d, at(values, a) | at(values, b), place, values),
+        Instr::Xor(d, a, b) => write(d, at(values, a) ^ at(values, b), place, values),
+        Instr::Shl(d, a, b) => write(d, shl(at(values, a), at(values, b)), place, values),
+        Instr::Shr(d, a, b) => write(d, shr(at(values, a), at(values, b)), place, values),
+        Instr::Eq(d, a, b) => write(d, i64::from(at(values, a) == at(values, b)), place, values),
+        Instr::Le(d, a, b) => write(d, i64::from(at(values, a) <= at(values, b)), place, values),
+        Instr::Jz(a, t) if at(values, a) == 0 => Next::Place(usize::from(t)),
+        Instr::Jz(_, _) => Next::Place(place + 1),
+        Instr::Jmp(t) => Next::Place(usize::from(t)),
+        Instr::Slot(d) => write(d, i64::from(slot), place, values),
+        Instr::Width(d) => write(d, i64::from(width), place, values),
+        _ => Next::IsShared,
     }
+}
+
+/// The value of a register.
+#[inline(always)]
+fn at(values: &[i64; REGISTERS], register: Register) -> i64
+    ensures { result ≡ slice_index_or values.now register (pos 0) }
+{
+    values[register.index()]
+}
+
+/// Gives a register a value, and goes on at the next place.
+#[inline(always)]
+fn write(register: Register, value: i64, place: usize, values: &mut [i64; REGISTERS]) -> Next
+    requires { place + 1 < MAX_INSTRS }
+    ensures next { result ≡ Next.Place (place + 1) }
+    ensures written { values.new ≡ slice_set values.old register value }
+{
+    values[register.index()] = value;
     Next::Place(place + 1)
 }
 
-/// Executes an instruction that combines the bits of two numbers, or compares them. Any other that
-/// comes here is shared.
+/// A number, shifted left by the lowest six bits of another.
 #[inline(always)]
-fn execute_on_bits(
-    instr: &Instr,
-    slot: u8,
-    width: u8,
-    procedure: u8,
-    place: usize,
-    registers: &mut [i64; REGISTERS],
-) -> Next
-    requires left { is_arithmetic_or_jump instr.now ≡ false }
-    requires next { is_last instr.now ≡ false → place + 1 < MAX_INSTRS }
-    ensures effect { effect instr.now slot width (frame_of procedure place registers.old)
-        ≡ effect_of procedure result registers.new }
-    ensures shared { result ≡ Next.IsShared → registers.new ≡ registers.old }
-    ensures divides { result ≡ Next.DividesByZero → registers.new ≡ registers.old }
-    ensures fits { (k : ℕ) → result ≡ Next.Place k → k ≤ LAST_PLACE }
-    ensures within { (instrs : ℕ) → IsInRange instrs instr.now
-        → (is_last instr.now ≡ false → place + 1 < instrs)
-        → GoesWithin instrs result }
+fn shl(number: i64, by: i64) -> i64
+    ensures { result ≡ int_shl w64 number (shift_count by) }
 {
-    match *instr {
-        Instr::And(d, a, b) => registers[d.index()] = registers[a.index()] & registers[b.index()],
-        Instr::Or(d, a, b) => registers[d.index()] = registers[a.index()] | registers[b.index()],
-        Instr::Xor(d, a, b) => registers[d.index()] = registers[a.index()] ^ registers[b.index()],
-        Instr::Shl(d, a, b) => {
-            let count = shift_count(registers[b.index()]);
-            registers[d.index()] = registers[a.index()].wrapping_shl(count);
-        }
-        Instr::Shr(d, a, b) => {
-            let count = shift_count(registers[b.index()]);
-            registers[d.index()] = registers[a.index()].wrapping_shr(count);
-        }
-        Instr::Lt(d, a, b) => {
-            registers[d.index()] = i64::from(registers[a.index()] < registers[b.index()]);
-        }
-        Instr::Le(d, a, b) => {
-            registers[d.index()] = i64::from(registers[a.index()] <= registers[b.index()]);
-        }
-        Instr::Eq(d, a, b) => {
-            registers[d.index()] = i64::from(registers[a.index()] == registers[b.index()]);
-        }
-        _ => return Next::IsShared,
-    }
-    Next::Place(place + 1)
+    number.wrapping_shl(shift_count(by))
+}
+
+/// A number, shifted right by the lowest six bits of another; it keeps its sign.
+#[inline(always)]
+fn shr(number: i64, by: i64) -> i64
+    ensures { result ≡ int_shr number (shift_count by) }
+{
+    number.wrapping_shr(shift_count(by))
 }
 
 /// By how many bits a number shifts another: its lowest six bits.
