@@ -256,12 +256,24 @@ ROWS = [
     ]),
 ]
 
+# 7 has no remainder by 0.
+REM_BY_ZERO = {"args": [7, 0], "fuel": 10, "procs": [[["rem", 2, 0, 1], ["ret", 2]]]}
+
+
+def published() -> list[tuple[dict, int]]:
+    """The jobs of an example that compute what others have published, with its values."""
+    jobs, values = ((ROOT / f"examples/serial/published.{it}").read_text().splitlines() for it in ("jsonl", "out"))
+    return [(json.loads(job), json.loads(value)["serial"]) for job, value in zip(jobs, values, strict=True)]
+
+
 # A job, how many advances it is given, and the line that reports it, on a reserved slot and by an arrival.
 OUTCOMES = [
     (WRAP, 1, complete(1, -(2**63))),
     (LEAST_BY_MINUS_ONE, 1, complete(1, -(2**63))),
     (ZERO_DIVISOR, 1, fault(1, 1)),
     ({**ZERO_DIVISOR, "fuel": 1}, 1, fault(1, 2)),
+    (REM_BY_ZERO, 1, fault(1, 1)),
+    ({**REM_BY_ZERO, "args": [7, 4]}, 1, complete(1, 3)),
     (HALF, 1, complete(1, -3)),
     (UNUSED, 20, complete(1, 1)),
     (CLASSIC, 20, complete(1, 9)),
@@ -273,6 +285,7 @@ OUTCOMES = [
     (FIB, 100, complete(1, 8)),
     ({**FIB, "fuel": 172}, 100, complete(1, 8)),
     ({**FIB, "fuel": 171}, 100, fault(1, 2)),
+    *((job, 20, complete(1, value)) for job, value in published()),
 ]
 
 # A way to start it, a job, how many advances it is given, and how often lines of a kind are printed.
@@ -291,6 +304,7 @@ SERIAL = [
     (UNUSED, {"serial": 1}),
     (UNWAITED, {"serial": "none"}),
     (ZERO_DIVISOR, {"serial": "none"}),
+    (REM_BY_ZERO, {"serial": "none"}),
     (SPIN, {"serial": "none"}),
     (ISOLATED, {"serial": "not_serial"}),
     (NOT_VALID, {"code": 4, "error": "bad_program"}),
