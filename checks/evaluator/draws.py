@@ -97,9 +97,12 @@ class Draws:
 
     def request(self, made: int) -> dict:
         """A request to a tenant that has made that number of jobs."""
-        op = self.random.choice(["poll", "collect", "cancel", "cells", "arena", "retire", "hello"])
+        op = self.random.choice(["poll", "collect", "cancel", "cells", "arena", "retire", "release", "hello"])
         own = {"cells": {"key": self.random.randrange(3)}, "arena": {}, "retire": {}, "hello": {"tenant": "acme"}}
-        return {"op": op, **own.get(op, {"job": self.random.randint(0, made + 1)})}
+        request = {"op": op, **own.get(op, {"job": self.random.randint(0, made + 1)})}
+        if op == "collect" and self.random.random() < 0.6:
+            request["release"] = self.random.random() < 0.7
+        return request
 
     def steps(self, slots: int) -> Iterator[dict]:
         """Steps of a script: jobs that come between arrivals and advances, and then moves alone."""

@@ -18,7 +18,7 @@ class Job:
     fuel: int
     number: int
     is_cancelled: bool = False
-    is_retired: bool = False
+    is_retired: bool = False  # or released
     fault: int | None = None
 
 
@@ -163,7 +163,7 @@ class Tenant:
         return {**reply, "slot": free[0]}
 
     def known(self, number: int) -> Job | None:
-        """The job of a number, if it is there and not retired."""
+        """The job of a number, if it is there and neither retired nor released."""
         job = self.jobs[number - 1] if 0 < number <= len(self.jobs) else None
         return job if job and not job.is_retired else None
 
@@ -173,7 +173,20 @@ class Tenant:
 
     def ask_collect(self, request: dict) -> dict | None:
         reply = self.ask_poll(request)
-        return None if reply.get("status") == "running" else reply
+        if reply.get("status") == "running":
+            return None
+        if request.get("release") and "error" not in reply:
+            self.known(request["job"]).is_retired = True
+        return reply
+
+    def ask_release(self, request: dict) -> dict:
+        job = self.known(request["job"])
+        if not job:
+            return error(6)
+        if self.status(job)["status"] == "running":
+            return error(12)
+        job.is_retired = True
+        return {"released": job.number}
 
     def ask_cancel(self, request: dict) -> dict:
         job = self.known(request["job"])

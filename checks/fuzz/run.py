@@ -35,7 +35,7 @@ REGIONS = {"args": [3, 4], "fuel": 1000,
 KINDS = [
     *(f"advance: {it}" for it in ("ran", "nested", "freed", "left", "idle", "stale", "full")),
     *(f"arrive: {it}" for it in ("arrived", "none", "full")),
-    *(f"ask: {it}" for it in ("made", "placed", "pending", "cells", "no cells", "arena", "epoch")),
+    *(f"ask: {it}" for it in ("made", "placed", "pending", "cells", "no cells", "arena", "epoch", "released")),
     *(f"ask: cancelled {it}" for it in ("first", "again")),
     *(f"status: {it}" for it in ("running", "cancelled", "complete")),
     *(f"status: fault {number}" for number in (1, 2, 3, 4, 5)),

@@ -206,6 +206,35 @@ ROWS = [
         (poll(2), complete(2, 7)),
         (RETIRE, epoch(2)),
     ]),
+    ("a released job is gone, and its cells stay", tenant(1, 0), [
+        (submit(NINE), made(1)),
+        (release(1), BUSY),
+        (take(1), PENDING),
+        (arrive(0), arrived(1)),
+        (advance(0), RAN),
+        (advance(0), RAN),
+        (release(1), released(1)),
+        (poll(1), UNKNOWN_JOB),
+        (release(1), UNKNOWN_JOB),
+        (cells(0), cell(0, 1, 9)),
+        (submit(FIRST), made(2)),
+        (advance(0), nested(2)),
+        (advance(0), RAN),
+        (take(2), complete(2, 7)),
+        (collect(2), UNKNOWN_JOB),
+        (RETIRE, epoch(1)),
+    ]),
+    ("a job that was released counts no more", tenant(1, 1, rows=1), [
+        step for job in range(1, 300) for step in [
+            (execute(FIRST), placed(job, 0)), (advance(0), FREED), (take(job), complete(job, 7))]
+    ]),
+    ("a full history refuses to release", tenant(1, 0, steps=3), [
+        (submit(FIRST), made(1)),
+        (arrive(0), arrived(1)),
+        (advance(0), RAN),
+        (release(1), HISTORY_FULL),
+        (take(1), HISTORY_FULL),
+    ]),
     ("a full history refuses to retire", tenant(1, 0, steps=5), [
         (submit(NINE), made(1)),
         (arrive(0), arrived(1)),

@@ -83,6 +83,15 @@ def collect(job: int) -> str:
     return ask("collect", job=job)
 
 
+def take(job: int) -> str:
+    """A collect that releases the job."""
+    return ask("collect", job=job, release=True)
+
+
+def release(job: int) -> str:
+    return ask("release", job=job)
+
+
 def cancel(job: int) -> str:
     return ask("cancel", job=job)
 
@@ -123,6 +132,10 @@ def made(job: int) -> str:
 def placed(job: int, slot: int) -> str:
     """The reply to a job that is on a slot."""
     return line_of({"job": job, "slot": slot})
+
+
+def released(job: int) -> str:
+    return line_of({"released": job})
 
 
 def first(job: int, is_first: bool) -> str:

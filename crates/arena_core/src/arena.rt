@@ -1,5 +1,5 @@
 // The arena of one tenant, and its steps.
-ghost use Rattle.std.specs.Prelude.{◌≡◌, ◌≢◌, ◌≤◌, [], ◌∷◌, true, false, IfOk, count_by, length};
+ghost use Rattle.std.specs.Prelude.{◌≡◌, ◌≢◌, ◌≤◌, [], ◌∷◌, true, false, IfOk, count_by, length, ◌<◌, ℕ, Some, IfSome, IsSome};
 ghost use Rattle.std.specs.Option.{option_map};
 ghost use Rattle.job_language.specs.declared.answers.Moved.TheVariants as moved;
 ghost use Rattle.job_language.specs.declared.steps.Step.{Step};
@@ -119,7 +119,17 @@ impl Arena {
         self.parts.job_count()
     }
 
-    /// How far a job is, if it was made and is not retired.
+    /// The least number above another one of a job that is neither retired nor released.
+    pub fn next_job(&self, after: u64) -> Option<u64>
+        ensures known { (s : State) → StandsFor self.now s
+            → IfSome result (λ n. (after < n) × IsSome (known_job s n)) }
+        ensures least { (s : State) (j : ℕ) → StandsFor self.now s → after < j
+            → IsSome (known_job s j) → (n : ℕ) × (result ≡ Some n) × (n ≤ j) }
+    {
+        self.parts.next_job(after)
+    }
+
+    /// How far a job is, if it was made and is neither retired nor released.
     pub fn status(&self, job: u64) -> Option<Status>
         ensures { (s : State) → StandsFor self.now s
             → result ≡ option_map (status s.rows job) (known_job s job) }

@@ -29,6 +29,8 @@ pub(crate) fn ask(parts: &mut Parts, request: Request) -> Reply
         Request::Cells(key) => cells_of(parts, key),
         Request::Arena => arena(parts),
         Request::Retire => retire(parts),
+        Request::Release(job) => release(parts, job),
+        Request::Take(job) => take_outcome(parts, job),
     }
 }
 
@@ -174,4 +176,38 @@ fn retire(parts: &mut Parts) -> Reply
     }
     parts.retire();
     Reply::Epoch(parts.epoch())
+}
+
+/// Releases a job, unless it still runs.
+fn release(parts: &mut Parts, number: u64) -> Reply
+    requires some { IsOfSomeState parts.old }
+    requires room { parts.old.entries < parts.old.config.steps }
+    ensures { (s : State) → Rests parts.old s
+        → Gives parts.new result (reply_to s (Request.Release number)) }
+{
+    let Some(status) = parts.status(number) else {
+        return refuse(parts, Error::UnknownJob);
+    };
+    if let Status::Running = status {
+        return refuse(parts, Error::Busy);
+    }
+    parts.release(number);
+    Reply::Released(number)
+}
+
+/// The outcome of a job, which is released with it.
+fn take_outcome(parts: &mut Parts, number: u64) -> Reply
+    requires some { IsOfSomeState parts.old }
+    requires room { parts.old.entries < parts.old.config.steps }
+    ensures { (s : State) → Rests parts.old s
+        → Gives parts.new result (reply_to s (Request.Take number)) }
+{
+    let Some(status) = parts.status(number) else {
+        return refuse(parts, Error::UnknownJob);
+    };
+    if let Status::Running = status {
+        return Reply::Pending;
+    }
+    parts.release(number);
+    Reply::Job(number, status)
 }

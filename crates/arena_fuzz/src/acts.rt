@@ -75,7 +75,9 @@ fn draw_question(draws: &mut Pcg32, made: u64) -> Request {
     let job = draws.random_range(0..=made.saturating_add(1));
     match draws.random_range(0u8..16) {
         0..=4 => Request::Poll(job),
-        5..=8 => Request::Collect(job),
+        5..=6 => Request::Collect(job),
+        7 => Request::Take(job),
+        8 => Request::Release(job),
         9..=10 => Request::Cancel(job),
         11..=12 => draw_cells(draws),
         13 => Request::Arena,

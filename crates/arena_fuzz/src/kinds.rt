@@ -36,6 +36,7 @@ fn kind_of_reply(reply: &Reply) -> &'static str {
         Reply::Cells(_, _, _) => "ask: cells",
         Reply::Arena(_, _, _) => "ask: arena",
         Reply::Epoch(_) => "ask: epoch",
+        Reply::Released(_) => "ask: released",
         Reply::Refused(error) => kind_of_error(error),
         Reply::Pending => "ask: pending",
     }

@@ -22,7 +22,7 @@ more_contexts cs g c within none =
     let before : one_if (is_some (slice_index_or cs g None)) ≡ 0 = rw none refl in
     omega (arith, change, before)
 
-module _ (s : State) (retired current : ℕ) (table : List (Option OpenRow)) (forest : Forest) (at : Assigned) (are : AreContexts s retired current table forest at) (n g c p : ℕ) (e : OpenRow) (few : g < GROUPS) (opened : is_open (row s.rows n).phase ≡ true) (started : is_unstarted (row s.rows n).phase ≡ false)
+module _ (s : State) (current : ℕ) (table : List (Option OpenRow)) (forest : Forest) (at : Assigned) (are : AreContexts s current table forest at) (n g c p : ℕ) (e : OpenRow) (few : g < GROUPS) (opened : is_open (row s.rows n).phase ≡ true) (started : is_unstarted (row s.rows n).phase ≡ false)
     (within : p < length table) (there : at_place table p ≡ Some e) (number : e.number ≡ n) (only_place : (q : ℕ) (x : OpenRow) → at_place table q ≡ Some x → x.number ≡ n → q ≡ p) (no_context : at.of_group n g ≡ None) (long : length e.group_contexts ≡ GROUPS) (free : binding forest c ≡ None) (room : c < length forest) (context : ℕ) (context_is : context ≡ at.of_row n) where
   abbrev pub group_forest : Forest
   group_forest = with_bound forest c (Some context)
@@ -89,7 +89,7 @@ module _ (s : State) (retired current : ℕ) (table : List (Option OpenRow)) (fo
   group_still x h None is = is
   group_still x h (Some d) is = let other = not_new d _ is.1 in (owner_old d other ∙ is.0, binding_old d other ∙ is.1)
 
-  owned_still : (d : ℕ) (o : Owner) → IsOwned s retired at d o → IsOwned s retired with_group_at d o
+  owned_still : (d : ℕ) (o : Owner) → IsOwned s at d o → IsOwned s with_group_at d o
   owned_still d Nobody is = is
   owned_still d (OfJob j) is = is
   owned_still d (OfRow x) is = is
@@ -108,7 +108,7 @@ module _ (s : State) (retired current : ℕ) (table : List (Option OpenRow)) (fo
       let more = more_contexts e.group_contexts g c (omega (arith, few, long)) none in
       omega (arith, more)
 
-  pub AreContexts-bound : held_count group_forest ≡ held_count forest + 1 → AreContexts s retired current (slice_set table p (Some (with_group g c e))) group_forest with_group_at
+  pub AreContexts-bound : held_count group_forest ≡ held_count forest + 1 → AreContexts s current (slice_set table p (Some (with_group g c e))) group_forest with_group_at
   AreContexts-bound count = record {
     of_jobs = λ j above most. let its = are.of_jobs j above most in let other = not_new _ _ its.1 in (owner_old _ other ∙ its.0, binding_old _ other ∙ its.1);
     of_rows = λ x opened_x. context_still x (row s.rows x).kind (are.of_rows x opened_x);

@@ -16,6 +16,7 @@ cells_hold a s t table is = record {
   places = is.places;
   assigned = is.assigned;
   made = is.made;
+  made_jobs = is.made_jobs;
   table = is.table;
   free = is.free;
   nests = is.nests;
@@ -23,7 +24,7 @@ cells_hold a s t table is = record {
   waiting = is.waiting;
   contexts = record { of_jobs = is.contexts.of_jobs; of_rows = is.contexts.of_rows; of_groups = is.contexts.of_groups; bare = is.contexts.bare; owned = is.contexts.owned; in_table = is.contexts.in_table; count = is.contexts.count };
   room = is.room;
-  jobs = record { past = is.jobs.past; many = is.jobs.many; gone = is.jobs.gone; all = is.jobs.all; each = is.jobs.each; later = is.jobs.later; few = is.jobs.few };
+  jobs = record { order = is.jobs.order; there = is.jobs.there; works = is.jobs.works; each = is.jobs.each; all = is.jobs.all; later = is.jobs.later; many = is.jobs.many; few = is.jobs.few };
   cells = refl;
   entries = is.entries;
   epoch = is.epoch;

@@ -128,13 +128,13 @@ module _ (a : Held) (s : State) (is : Holds a s) (r : Row) (closed : is_open r.p
   group_context x h None old is_o its =
       (used_other s.rows r x h old (after.joins x h is_o) ∙ its.0, ap (λ (k : Mark). k.cancelled) (mark_push s r precede precede' x h old) ∙ its.1)
 
-  owned : (d : ℕ) (o : Owner) → IsOwned s a.retired is.assigned d o → IsOwned t a.retired is.assigned d o
+  owned : (d : ℕ) (o : Owner) → IsOwned s is.assigned d o → IsOwned t is.assigned d o
   owned d Nobody its = its
   owned d (OfJob j) its = its
   owned d (OfRow x) its = (its.0, still s r x its.1, (its.2.0, its.2.1, ap (λ (q : Row). q.kind) (row-push_old s.rows x r (open_there s.rows x its.1).1) ∙ its.2.2))
   owned d (OfGroup x h) its = (its.0, still s r x its.1, its.2)
 
-  contexts : AreContexts t a.retired (length a.jobs) table a.contexts is.assigned
+  contexts : AreContexts t (length a.jobs) table a.contexts is.assigned
   contexts = record {
     of_jobs = is.contexts.of_jobs;
     of_rows = λ x opened.
@@ -163,13 +163,14 @@ module _ (a : Held) (s : State) (is : Holds a s) (r : Row) (closed : is_open r.p
     context = its.context;
   }
 
-  jobs : AreJobs t is.assigned a.retired a.jobs
+  jobs : AreJobs t is.assigned a.jobs
   jobs = record {
-    past = is.jobs.past;
-    many = is.jobs.many;
-    gone = is.jobs.gone;
+    order = is.jobs.order;
+    there = is.jobs.there;
+    works = is.jobs.works;
     all = is.jobs.all;
-    each = λ i d below. its_job (a.retired + i + 1) (get_or a.jobs i d) (is.jobs.each i d below);
+    many = is.jobs.many;
+    each = λ i d below. its_job (get_or a.jobs i d).number (get_or a.jobs i d) (is.jobs.each i d below);
     later = λ x opened. let old = was s r closed x opened in let same = row-push_old s.rows x r old.1 in rw same (is.jobs.later x old.2);
     few = is.jobs.few;
   }
@@ -180,6 +181,7 @@ module _ (a : Held) (s : State) (is : Holds a s) (r : Row) (closed : is_open r.p
     places = is.places;
     assigned = is.assigned;
     made = ap (λ k. k + 1) is.made ∙ sym (length_push s.rows r);
+    made_jobs = is.made_jobs;
     table = after.rows;
     free = free;
     nests = nests;

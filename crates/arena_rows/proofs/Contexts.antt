@@ -15,7 +15,7 @@ use Rattle.tenant_model.specs.Linked.{MakersPrecede}
 use Rattle.tenant_model.specs.Sound.{IsSteady}
 use Rattle.tenant_model.proofs.Chains.{chain_goes_on, chain_ends}
 use Rattle.arena_rows.specs.declared.rows.OpenRow.{OpenRow}
-use Rattle.arena_rows.specs.Represents.{Assigned, IsRowContext, IsGroupContext, AreContexts}
+use Rattle.arena_rows.specs.Represents.{IsKept, Assigned, IsRowContext, IsGroupContext, AreContexts}
 
 pub has_fault : (o : Option JobFault) → IsSome o → is_some o ≡ true
 has_fault None some = grind (arith, some)
@@ -37,7 +37,7 @@ module _ (forest : Forest) (is : IsForest forest) where
   by_binding : (c : ℕ) (b : Binding) → binding forest c ≡ Some b → is_cancelled forest c ≡ (asks_in (Some b) || option_map_or (is_cancelled forest) b.parent false)
   by_binding c b there = is.walk c ∙ rw there refl
 
-module _ (s : State) (retired current : ℕ) (table : List (Option OpenRow)) (forest : Forest) (at : Assigned) (steady : IsSteady s) (later : (n : ℕ) → is_open (row s.rows n).phase ≡ true → retired < (row s.rows n).job) (are : AreContexts s retired current table forest at) (is : IsForest forest) where
+module _ (s : State) (current : ℕ) (table : List (Option OpenRow)) (forest : Forest) (at : Assigned) (steady : IsSteady s) (later : (n : ℕ) → is_open (row s.rows n).phase ≡ true → IsKept s.jobs (row s.rows n).job) (are : AreContexts s current table forest at) (is : IsForest forest) where
   precede : MakersPrecede s.rows
   precede = steady.formed.linked.makers
 

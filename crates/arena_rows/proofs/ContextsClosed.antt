@@ -28,7 +28,7 @@ IsOf at spawned n d = ((g : ℕ) × (g < GROUPS) × (at.of_group n g ≡ Some d)
 abbrev pub IsSpawned : Kind → Type 0
 IsSpawned k = (m : ℕ) × (g : ℕ) × (k ≡ Spawned m g)
 
-module _ (s : State) (retired current : ℕ) (table table' : List (Option OpenRow)) (forest forest' : Forest) (at : Assigned) (are : AreContexts s retired current table forest at) (steady : IsSteady s)
+module _ (s : State) (current : ℕ) (table table' : List (Option OpenRow)) (forest forest' : Forest) (at : Assigned) (are : AreContexts s current table forest at) (steady : IsSteady s)
     (n : ℕ) (r : Row) (from : 1 ≤ n) (to : n ≤ length s.rows) (kind : r.kind ≡ (row s.rows n).kind) (same_job : r.job ≡ (row s.rows n).job) (marks : r.marks ≡ (row s.rows n).marks) (opened : is_open (row s.rows n).phase ≡ true) (closed : is_open r.phase ≡ false)
     (cs : List ℕ) (left : Left forest forest' cs) (whose : (d : ℕ) → is_in d cs ≡ true → IsOf at (IsSpawned (row s.rows n).kind) n d) (all : (d : ℕ) → IsOf at (IsSpawned (row s.rows n).kind) n d → is_in d cs ≡ true)
     (unshared : (x : ℕ) → is_open (row s.rows x).phase ≡ true → x ≢ n → is_in (at.of_row x) cs ≡ false) where
@@ -98,7 +98,7 @@ module _ (s : State) (retired current : ℕ) (table table' : List (Option OpenRo
       let marked = mark_same s.rows n r from to kind same_job marks x h in
       (is.0, left.kept d fine (λ p its. let p_is : p ≡ at.of_row x = some_is p (at.of_row x) (sym its ∙ ap parent_in is.1) in ap (λ i. is_in i cs) p_is ∙ unshared x opened_x other) ∙ is.1 ∙ ap (λ m. Some (bound (at.of_row x) m.cancelled)) (sym marked))
 
-  owned_there : (d : ℕ) (o : Owner) → is_in d cs ≡ false → IsOwned s retired at d o → IsOwned t retired at d o
+  owned_there : (d : ℕ) (o : Owner) → is_in d cs ≡ false → IsOwned s at d o → IsOwned t at d o
   owned_there d Nobody out is = is
   owned_there d (OfJob j) out is = is
   owned_there d (OfRow x) out is =
@@ -114,7 +114,7 @@ module _ (s : State) (retired current : ℕ) (table table' : List (Option OpenRo
       (is.0, ap (λ (q : Row). is_open q.phase) (old x other) ∙ is.1, is.2)
 
   pub AreContexts-closed : ((p : ℕ) (e : OpenRow) → at_place table' p ≡ Some e → (e.context ≡ at.of_row e.number) × ((g : ℕ) → g < GROUPS → slice_index_or e.group_contexts g None ≡ at.of_group e.number g)) →
-      sum_by held_by table' + length cs ≡ sum_by held_by table → AreContexts t retired current table' forest' at
+      sum_by held_by table' + length cs ≡ sum_by held_by table → AreContexts t current table' forest' at
   AreContexts-closed in_table held = record {
     of_jobs = λ j above most. job_there j (are.of_jobs j above most);
     of_rows = λ x opened_x. let it = stays x opened_x in rw (kinds_same s.rows n r from to kind same_job marks x) (row_there x (row s.rows x).kind it.0 refl (are.of_rows x it.1));

@@ -17,7 +17,7 @@ use Rattle.arena_rows.specs.Represents.{IsGroupContext, IsRow, Holds}
 use Rattle.arena_rows.proofs.Alike.{count_cons}
 use Rattle.arena_rows.proofs.Contexts.{context_is, group_is}
 use Rattle.arena_rows.proofs.Grouped.{IsEntry}
-use Rattle.arena_rows.proofs.JobChanged.{work_is}
+use Rattle.arena_rows.proofs.JobPlaces.{held_work}
 use Rattle.arena_rows.proofs.RowHeld.{row_held}
 use Rattle.arena_rows.proofs.TopRows.{top_job}
 use Rattle.tenant_model.proofs.AttendedSteps.{open_there}
@@ -69,14 +69,14 @@ module _ (a : Held) (s : State) (is : Holds a s) (n : ℕ) (e : OpenRow) (entry 
     own : is_cancelled a.contexts (is.assigned.of_row n) ≡ is_context_cancelled s n
     own =
         let there = open_there s.rows n entry.opened in
-        context_is s a.retired (length a.jobs) a.table a.contexts is.assigned is.steady is.jobs.later is.contexts forest n there.0 there.1 entry.opened
+        context_is s (length a.jobs) a.table a.contexts is.assigned is.steady is.jobs.later is.contexts forest n there.0 there.1 entry.opened
 
     pub own_told : is_cancelled a.contexts e.context ≡ is_context_cancelled s n
     own_told = ap (is_cancelled a.contexts) context_of_entry ∙ own
 
     pub given_told : (g c : ℕ) → g < GROUPS → slice_index_or e.group_contexts g None ≡ Some c → is_cancelled a.contexts c ≡ ((mark s.rows n g).cancelled || is_context_cancelled s n)
     given_told g c few some =
-        group_is s a.retired (length a.jobs) a.table a.contexts is.assigned is.steady is.jobs.later is.contexts forest n g c entry.opened few (group_of_entry g few ∙ some) own
+        group_is s (length a.jobs) a.table a.contexts is.assigned is.steady is.jobs.later is.contexts forest n g c entry.opened few (group_of_entry g few ∙ some) own
 
     pub bare_told : (g : ℕ) → g < GROUPS → slice_index_or e.group_contexts g None ≡ None → is_cancelled a.contexts e.context ≡ ((mark s.rows n g).cancelled || is_context_cancelled s n)
     bare_told g few none =
@@ -88,7 +88,4 @@ module _ (a : Held) (s : State) (is : Holds a s) (n : ℕ) (e : OpenRow) (entry 
 -- The work of the topmost row's job.
 pub work_told : (a : Held) (s : State) (is : Holds a s) (slot n : ℕ) → top s.rows slot ≡ Some n → (d : CurrentJob) → (slice_index_or a.jobs (index_of a (row s.rows n).job) d).work ≡ job s.jobs (row s.rows n).job
 work_told a s is slot n on_top d =
-    let current = top_job a s is slot n on_top in
-    let number : a.retired + index_of a (row s.rows n).job + 1 ≡ (row s.rows n).job = omega (arith, current.0) in
-    let its = work_is s is.assigned a.retired a.jobs is.jobs (index_of a (row s.rows n).job) d (omega (arith, current)) in
-    sym its ∙ ap (job s.jobs) number
+    sym (held_work a s is (row s.rows n).job (top_job a s is slot n on_top) d)

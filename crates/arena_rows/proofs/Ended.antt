@@ -24,13 +24,13 @@ use Rattle.arena_rows.proofs.Closed.{row_new, row_old}
 use Rattle.arena_rows.proofs.ContextsClosed.{IsOf, IsSpawned, AreContexts-closed}
 use Rattle.arena_rows.proofs.Ends.{not_group}
 use Rattle.arena_rows.proofs.Grouped.{IsEntry}
-use Rattle.arena_rows.proofs.JobChanged.{work_is}
 use Rattle.arena_rows.proofs.Left.{below_is, is_below, below_long, one_of, some_long, some_in, in_some}
 use Rattle.arena_rows.proofs.Parting.{PartedAs, parted_as}
 use Rattle.arena_rows.proofs.Started.{at_same, at_other, some_is, some_none}
 use Rattle.arena_rows.proofs.TableClosed.{AreRows-closed, AreFree-closed, AreTagged-closed, AreJobs-closed}
-use Rattle.arena_rows.proofs.TopRows.{job_count}
 use Rattle.tenant_model.proofs.Changed.{length-with}
+use Rattle.arena_rows.specs.HeldJobs.{IsCurrent}
+use Rattle.arena_rows.proofs.JobPlaces.{current_told, numbers-apart}
 
 pub spawned_is : (k : Kind) (places : ℕ → ℕ) → is_spawned (source_of places k) ≡ true → IsSpawned k
 spawned_is Root places is = absurd (grind (arith, is))
@@ -86,7 +86,7 @@ module _ (a b : Held) (s : State) (is : Holds a s) (n : ℕ) (e : OpenRow) (entr
       | inl of_group ↦
           let its : IsGroupContext s a.contexts at n of_group.0 (Some (at.of_row x)) = rw of_group.2 at (is.contexts.of_groups n of_group.0 entry.opened of_group.1) in
           let place = open_there s.rows x opened_x in
-          absurd (not_group s a.retired (length a.jobs) a.table a.contexts at is.steady is.jobs.later is.contexts x n of_group.0 place.0 place.1 opened_x its.0)
+          absurd (not_group s (length a.jobs) a.table a.contexts at is.steady is.jobs.later is.contexts x n of_group.0 place.0 place.1 opened_x its.0)
       | inr own ↦ absurd (loose.alone own.1.0 own.1.1 x own.1.2 opened_x other (sym own.0))
     ]
     | inr fine ↦ fine
@@ -116,20 +116,17 @@ module _ (a b : Held) (s : State) (is : Holds a s) (n : ℕ) (e : OpenRow) (entr
   abbrev j : ℕ
   j = (row s.rows n).job
 
-  current : (a.retired < j) × (j ≤ length s.jobs) × (j - a.retired ≤ length a.jobs)
-  current =
-      let above = is.jobs.later n entry.opened in
-      let its = is.steady.formed.linked.jobs n there.0 there.1 in
-      (above, its.1, omega (arith, its, job_count a s is))
+  current : IsCurrent a.jobs j
+  current = current_told a s is j (is.jobs.later n entry.opened) (is.steady.formed.linked.jobs n there.0 there.1).1
 
   abbrev i : ℕ
   i = index_of a j
 
-  number : j ≡ a.retired + i + 1
-  number = omega (arith, current.0)
+  number : (c : CurrentJob) → j ≡ (get_or a.jobs i c).number
+  number c = sym (current.number c)
 
   low : i < length a.jobs
-  low = omega (arith, current)
+  low = current.within
 
   abbrev it : CurrentJob
   it = get_or a.jobs i no_job
@@ -149,11 +146,13 @@ module _ (a b : Held) (s : State) (is : Holds a s) (n : ℕ) (e : OpenRow) (entr
 
   roots : (k : ℕ) (c : CurrentJob) → k < length a.jobs → k ≢ i → (get_or a.jobs k c).work.root ≢ n
   roots k c below other same =
-      let work = work_is s at a.retired a.jobs is.jobs k c below in
-      let its = is.steady.tended.roots (a.retired + k + 1) (omega arith) (omega (arith, below, job_count a s is)) in
-      let root : (job s.jobs (a.retired + k + 1)).root ≡ n = ap (λ w. w.root) work ∙ same in
-      let job_n : j ≡ a.retired + k + 1 = ap (λ q. (row s.rows q).job) (sym root) ∙ its.job in
-      other (omega (arith, job_n, number))
+      let m = (get_or a.jobs k c).number in
+      let work = is.jobs.works k c below in
+      let known = is.jobs.there k c below in
+      let its = is.steady.tended.roots m known.0 known.1 in
+      let root : (job s.jobs m).root ≡ n = ap (λ w. w.root) work ∙ same in
+      let job_n : j ≡ m = ap (λ q. (row s.rows q).job) (sym root) ∙ its.job in
+      numbers-apart a.jobs k i c is.jobs.order below low other (sym job_n ∙ number c)
 
   abbrev held : Held
   held = record (ended a (id_of is.places n) e v) { contexts = b.contexts }
@@ -172,19 +171,20 @@ module _ (a b : Held) (s : State) (is : Holds a s) (n : ℕ) (e : OpenRow) (entr
         places = is.places;
         assigned = at;
         made = is.made ∙ sym (length-with s.rows n r);
+        made_jobs = is.made_jobs;
         table = AreRows-closed s.rows is.places n r there.0 there.1 kind same_job marks entry.opened closed a.table table1 e entry.within part.parted;
         free = AreFree-closed s.rows is.places n r there.0 there.1 kind same_job marks entry.opened closed a.table table1 e entry.within part.parted a.config.rows is.free;
         nests = are_nests;
         tags = AreTagged-closed s.rows is.places n r there.0 there.1 kind same_job marks entry.opened closed a.table table1 e entry.within part.parted a.regions is.tags;
         waiting = are_waiting;
-        contexts = rw jobs_long (AreContexts-closed s a.retired (length a.jobs) a.table table' a.contexts b.contexts at is.contexts is.steady n r there.0 there.1 kind same_job marks entry.opened closed cs over.left whose all unshared
+        contexts = rw jobs_long (AreContexts-closed s (length a.jobs) a.table table' a.contexts b.contexts at is.contexts is.steady n r there.0 there.1 kind same_job marks entry.opened closed cs over.left whose all unshared
             (λ q x here. elim (cases_eq q p) [
               | inl same ↦ absurd (some_none x (sym here ∙ ap (at_place table') same ∙ at_same table1 p None inside))
               | inr other ↦ part.in_table q x (sym (at_other table1 p None inside q other) ∙ here)
             ])
             (omega (arith, sum_by-set held_by table1 p None None inside, ap held_by part.parted.there, part.sum, owned_long)));
         room = over.left.long ∙ is.room;
-        jobs = rw jobs_is (AreJobs-closed s.rows is.places n r there.0 there.1 kind same_job marks entry.opened closed s refl at a.retired i a.jobs no_job number low value' value_is roots is.jobs);
+        jobs = rw jobs_is (AreJobs-closed s.rows is.places n r there.0 there.1 kind same_job marks entry.opened closed s refl at i a.jobs no_job number low value' value_is roots is.jobs);
         cells = is.cells;
         entries = is.entries;
         epoch = is.epoch;

@@ -29,7 +29,8 @@ use Rattle.arena_rows.proofs.Left.{below_is, is_below}
 use Rattle.arena_rows.proofs.RowHeld.{row_held}
 use Rattle.arena_rows.proofs.Started.{some_is, some_none}
 use Rattle.arena_rows.proofs.Sums.{pending-done}
-use Rattle.arena_rows.proofs.TopRows.{job_count}
+use Rattle.arena_rows.specs.HeldJobs.{IsCurrent}
+use Rattle.arena_rows.proofs.JobPlaces.{current_told, held_is}
 
 module _ (a : Held) (s : State) (is : Holds a s) (n : ℕ) (e : OpenRow) (entry : IsEntry a s is n e) where
   there : (1 ≤ n) × (n ≤ length s.rows)
@@ -51,12 +52,12 @@ module _ (a : Held) (s : State) (is : Holds a s) (n : ℕ) (e : OpenRow) (entry 
   own_kind spawned = spawned_is (row s.rows n).kind is.places (rw (← entry.its.source) spawned)
 
   -- what is bound to its own context is of one of its groups
-  bound_to_own : (m g : ℕ) → (row s.rows n).kind ≡ Spawned m g → IsLoose a s is.assigned n → (d : ℕ) (o : Owner) → parent a.contexts d ≡ Some (is.assigned.of_row n) → IsOwned s a.retired is.assigned d o → (h : ℕ) × (h < GROUPS) × (is.assigned.of_group n h ≡ Some d)
+  bound_to_own : (m g : ℕ) → (row s.rows n).kind ≡ Spawned m g → IsLoose a s is.assigned n → (d : ℕ) (o : Owner) → parent a.contexts d ≡ Some (is.assigned.of_row n) → IsOwned s is.assigned d o → (h : ℕ) × (h < GROUPS) × (is.assigned.of_group n h ≡ Some d)
   bound_to_own m g made loose d Nobody bound_to owned = absurd owned
   bound_to_own m g made loose d (OfJob j) bound_to owned =
       let its = (is.contexts.of_jobs j owned.1 owned.2).1 in
       let its_d : binding a.contexts d ≡ Some (record { parent = None; is_asked = is_job_cancelled (job s.jobs j); is_orphan = false }) = rw (← owned.0) its in
-      absurd (grind (arith, ap is_some (sym (parent_of s a.retired (length a.jobs) a.table a.contexts is.assigned is.steady is.jobs.later is.contexts d _ its_d) ∙ bound_to)))
+      absurd (grind (arith, ap is_some (sym (parent_of s (length a.jobs) a.table a.contexts is.assigned is.steady is.jobs.later is.contexts d _ its_d) ∙ bound_to)))
   bound_to_own m g made loose d (OfRow x) bound_to owned =
       let its_x : IsRowContext s a.contexts is.assigned x (Spawned owned.2.0 owned.2.1) = rw owned.2.2 at (is.contexts.of_rows x owned.1) in
       let own : IsRowContext s a.contexts is.assigned n (Spawned m g) = rw made at (is.contexts.of_rows n entry.opened) in
@@ -64,16 +65,16 @@ module _ (a : Held) (s : State) (is : Holds a s) (n : ℕ) (e : OpenRow) (entry 
         | inl held ↦
             let gc = held.1.0 in
             let its_d : binding a.contexts d ≡ Some (bound gc false) = rw (← owned.0) held.1.2 in
-            let same : gc ≡ is.assigned.of_row n = ap (λ o. unwrap_or o gc) (sym (parent_of s a.retired (length a.jobs) a.table a.contexts is.assigned is.steady is.jobs.later is.contexts d (bound gc false) its_d) ∙ bound_to) in
+            let same : gc ≡ is.assigned.of_row n = ap (λ o. unwrap_or o gc) (sym (parent_of s (length a.jobs) a.table a.contexts is.assigned is.steady is.jobs.later is.contexts d (bound gc false) its_d) ∙ bound_to) in
             let its_group : IsGroupContext s a.contexts is.assigned owned.2.0 owned.2.1 (Some gc) = rw held.1.1 at (is.contexts.of_groups owned.2.0 owned.2.1 held.0 (is.steady.stay.groups x owned.2.0 owned.2.1 owned.2.2)) in
             absurd (grind (arith, ap is_group (sym its_group.0 ∙ ap is.assigned.owner same ∙ own.0)))
         | inr gone ↦
             let its_d : binding a.contexts d ≡ Some orphan = rw (← owned.0) gone.1 in
-            absurd (grind (arith, ap is_some (sym (parent_of s a.retired (length a.jobs) a.table a.contexts is.assigned is.steady is.jobs.later is.contexts d orphan its_d) ∙ bound_to)))
+            absurd (grind (arith, ap is_some (sym (parent_of s (length a.jobs) a.table a.contexts is.assigned is.steady is.jobs.later is.contexts d orphan its_d) ∙ bound_to)))
       ]
   bound_to_own m g made loose d (OfGroup x h) bound_to owned =
       let its_group : IsGroupContext s a.contexts is.assigned x h (Some d) = rw owned.0 at (is.contexts.of_groups x h owned.1 owned.2) in
-      let same : is.assigned.of_row x ≡ is.assigned.of_row n = ap (λ o. unwrap_or o (is.assigned.of_row x)) (sym (parent_of s a.retired (length a.jobs) a.table a.contexts is.assigned is.steady is.jobs.later is.contexts d _ its_group.1) ∙ bound_to) in
+      let same : is.assigned.of_row x ≡ is.assigned.of_row n = ap (λ o. unwrap_or o (is.assigned.of_row x)) (sym (parent_of s (length a.jobs) a.table a.contexts is.assigned is.steady is.jobs.later is.contexts d _ its_group.1) ∙ bound_to) in
       elim (cases_eq x n) [
         | inl here ↦ (h, owned.2, ap (λ k. is.assigned.of_group k h) (sym here) ∙ owned.0)
         | inr other ↦ absurd (loose.alone m g x made owned.1 other same)
@@ -92,14 +93,14 @@ module _ (a : Held) (s : State) (is : Holds a s) (n : ℕ) (e : OpenRow) (entry 
       | inl found ↦
           let its = below_is e.group_contexts GROUPS c found in
           let owner = (group_of its.0 c its.1 (given its.0 c its.1 its.2)).0 in
-          absurd (not_group s a.retired (length a.jobs) a.table a.contexts is.assigned is.steady is.jobs.later is.contexts n n its.0 there.0 there.1 entry.opened (ap is.assigned.owner (sym (own_is c own).1) ∙ owner))
+          absurd (not_group s (length a.jobs) a.table a.contexts is.assigned is.steady is.jobs.later is.contexts n n its.0 there.0 there.1 entry.opened (ap is.assigned.owner (sym (own_is c own).1) ∙ owner))
       | inr out ↦ out
     ];
     alone = λ c d own bound_to.
         let its = own_is c own in
         let kind = own_kind its.0 in
         let bound_here = bound_to ∙ ap Some its.1 in
-        let found = bound_to_own kind.0 kind.1 kind.2 loose d (is.assigned.owner d) bound_here (is.contexts.owned d (held_child s a.retired (length a.jobs) a.table a.contexts is.assigned is.steady is.jobs.later is.contexts d (is.assigned.of_row n) bound_here)) in
+        let found = bound_to_own kind.0 kind.1 kind.2 loose d (is.assigned.owner d) bound_here (is.contexts.owned d (held_child s (length a.jobs) a.table a.contexts is.assigned is.steady is.jobs.later is.contexts d (is.assigned.of_row n) bound_here)) in
         is_below e.group_contexts GROUPS found.0 d found.1 ((is.contexts.in_table (is.places n) e entry.there).1 found.0 found.1 ∙ ap (λ k. is.assigned.of_group k found.0) entry.its.number ∙ found.2);
   }
 
@@ -158,17 +159,12 @@ module _ (a : Held) (s : State) (is : Holds a s) (n : ℕ) (e : OpenRow) (entry 
   pub can_leave : (p : ℕ × ℕ) → open_maker a.table e.source ≡ Some p → CanLeave p
   can_leave p found = by_kind (row s.rows n).kind refl p (ap (open_maker a.table) (sym entry.its.source) ∙ found)
 
-  pub its_job : (a.retired < e.job) × (e.job - a.retired ≤ length a.jobs)
-  its_job =
-      let above = is.jobs.later n entry.opened in
-      let most = is.steady.formed.linked.jobs n there.0 there.1 in
-      (omega (arith, above, entry.its.job), omega (arith, most, entry.its.job, job_count a s is))
+  pub its_job : IsCurrent a.jobs e.job
+  its_job = subst (IsCurrent a.jobs) (sym entry.its.job) (current_told a s is (row s.rows n).job (is.jobs.later n entry.opened) (is.steady.formed.linked.jobs n there.0 there.1).1)
 
   pub some_open : (d : CurrentJob) → 0 < (slice_index_or a.jobs (index_of a e.job) d).open_rows
   some_open d =
-      let number : a.retired + index_of a e.job + 1 ≡ e.job = omega (arith, its_job) in
-      let low : index_of a e.job < length a.jobs = omega (arith, its_job) in
-      let counted = (is.jobs.each (index_of a e.job) d low).opened in
+      let counted = (held_is a s is e.job its_job d).opened in
       let fewer = open_of_fewer s.rows n over there.0 there.1 refl refl refl entry.opened refl in
-      let same : open_of s.rows (a.retired + index_of a e.job + 1) ≡ open_of s.rows (row s.rows n).job = ap (open_of s.rows) (number ∙ entry.its.job) in
+      let same : open_of s.rows e.job ≡ open_of s.rows (row s.rows n).job = ap (open_of s.rows) entry.its.job in
       omega (arith, counted, fewer, same)

@@ -8,7 +8,7 @@ use Rattle.tenant_model.specs.State.{State, row, job}
 use Rattle.tenant_model.specs.Walks.{maker_of, is_open, is_unstarted, is_job_cancelled}
 use Rattle.tenant_model.specs.Sound.{IsSteady}
 use Rattle.arena_rows.specs.declared.rows.OpenRow.{OpenRow}
-use Rattle.arena_rows.specs.Represents.{Assigned, Owner, Nobody, OfJob, OfRow, OfGroup, bound, orphan, IsRowContext, IsGroupContext, IsOwned, AreContexts}
+use Rattle.arena_rows.specs.Represents.{IsKept, Assigned, Owner, Nobody, OfJob, OfRow, OfGroup, bound, orphan, IsRowContext, IsGroupContext, IsOwned, AreContexts}
 use Rattle.arena_rows.proofs.Contexts.{live_open}
 
 abbrev pub is_job : Owner → Bool
@@ -32,7 +32,7 @@ pub has_some : (o : Option Binding) (gc : ℕ) → parent_in o ≡ Some gc → i
 has_some None gc is = absurd (grind (arith, ap is_some is))
 has_some (Some b) gc is = refl
 
-module _ (s : State) (retired current : ℕ) (table : List (Option OpenRow)) (forest : Forest) (at : Assigned) (steady : IsSteady s) (later : (n : ℕ) → is_open (row s.rows n).phase ≡ true → retired < (row s.rows n).job) (are : AreContexts s retired current table forest at) where
+module _ (s : State) (current : ℕ) (table : List (Option OpenRow)) (forest : Forest) (at : Assigned) (steady : IsSteady s) (later : (n : ℕ) → is_open (row s.rows n).phase ≡ true → IsKept s.jobs (row s.rows n).job) (are : AreContexts s current table forest at) where
   -- who holds the context of an open row: its job, or a row that has started, or itself
   abbrev pub HasContext : ℕ → Type 0
   HasContext n = ((j : ℕ) × (at.owner (at.of_row n) ≡ OfJob j)) ⊎ ((x : ℕ) × (at.owner (at.of_row n) ≡ OfRow x) × ((x ≡ n) ⊎ (is_unstarted (row s.rows x).phase ≡ false)))
@@ -80,7 +80,7 @@ module _ (s : State) (retired current : ℕ) (table : List (Option OpenRow)) (fo
 
   -- Where no member of a group is open, nothing is bound to its context.
   by_owner : (there : (n : ℕ) → is_open (row s.rows n).phase ≡ true → (1 ≤ n) × (n ≤ length s.rows)) → (m g gc d : ℕ) (o : Owner) → at.owner gc ≡ OfGroup m g →
-      ((n : ℕ) → (row s.rows n).kind ≡ Spawned m g → is_open (row s.rows n).phase ≡ true → ⊥) → parent forest d ≡ Some gc → IsOwned s retired at d o → ⊥
+      ((n : ℕ) → (row s.rows n).kind ≡ Spawned m g → is_open (row s.rows n).phase ≡ true → ⊥) → parent forest d ≡ Some gc → IsOwned s at d o → ⊥
   by_owner there m g gc d Nobody owner none bound_to is = is
   by_owner there m g gc d (OfJob j) owner none bound_to is =
       let its = are.of_jobs j is.1 is.2 in

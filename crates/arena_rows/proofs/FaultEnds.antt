@@ -13,6 +13,7 @@ use Rattle.arena_rows.specs.Represents.{Holds}
 use Rattle.arena_rows.specs.Endings.{HasFaulty, faulted_rows}
 use Rattle.arena_rows.proofs.Tops.{height_is}
 use Rattle.arena_rows.proofs.TopRows.{top_job, on_slot}
+use Rattle.arena_rows.proofs.JobPlaces.{held_there}
 
 pub some_fault : (o : Option JobFault) (fault : JobFault) → is_some (first_fault o fault) ≡ true
 some_fault None fault = refl
@@ -24,9 +25,9 @@ module _ (a : Held) (s : State) (is : Holds a s) (slot n : ℕ) (on_top : top s.
 
   pub now_faulty : IsSome (job faulty.jobs (row s.rows n).job).fault
   now_faulty =
-      let current = top_job a s is slot n on_top in
       let j = (row s.rows n).job in
-      ap (λ w. is_some w.fault) (at_number-with_same s.jobs _ j (with_fault fault (job s.jobs j)) (omega (arith, current)) current.1) ∙ some_fault (job s.jobs j).fault fault
+      let there = held_there a s is j (top_job a s is slot n on_top) in
+      ap (λ w. is_some w.fault) (at_number-with_same s.jobs _ j (with_fault fault (job s.jobs j)) there.0 there.1) ∙ some_fault (job s.jobs j).fault fault
 
   pub has_faulty : (b : Held) → Holds b faulty → HasFaulty b slot
   has_faulty b holds = (faulty, n, holds, on_top, now_faulty)

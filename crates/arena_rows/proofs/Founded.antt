@@ -57,6 +57,7 @@ module _ (c : Tenant) where
       places = λ n. 0;
       assigned = record { of_row = λ n. 0; of_group = λ n g. None; of_job = λ j. 0; owner = λ d. Nobody };
       made = refl;
+      made_jobs = refl;
       table = record { each = λ n opened. absurd (none_there n opened); only = λ p e here. absurd (no_entry p e here) };
       free = record {
         long = length-replicate c.rows None;
@@ -73,7 +74,7 @@ module _ (c : Tenant) where
       };
       waiting = refl;
       contexts = record {
-        of_jobs = λ j above to. absurd (omega (arith, above, to));
+        of_jobs = λ j kept to. absurd (let from = kept.from in omega (arith, from, to));
         of_rows = λ n opened. absurd (none_there n opened);
         of_groups = λ n g opened few. absurd (none_there n opened);
         bare = λ n g waits. refl;
@@ -83,10 +84,11 @@ module _ (c : Tenant) where
       };
       room = length-replicate (BASE_CONTEXTS + CONTEXTS_PER_ROW * c.rows) None;
       jobs = record {
-        past = [];
+        order = λ i k d low below. absurd (omega (arith, below));
+        there = λ i d below. absurd (omega (arith, below));
+        works = λ i d below. absurd (omega (arith, below));
+        all = λ j kept to. absurd (let from = kept.from in omega (arith, from, to));
         many = refl;
-        gone = λ k d below. absurd (omega (arith, below));
-        all = refl;
         each = λ i d below. absurd (omega (arith, below));
         later = λ n opened. absurd (none_there n opened);
         few = omega arith;

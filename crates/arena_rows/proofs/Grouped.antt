@@ -1,5 +1,5 @@
 -- What is held stands for the same state where a group has a context from now on.
-use Rattle.std.proofs.Common.{◌≡◌, ℕ, ◌+◌, ◌<◌, List, length, Some, None, true, false, refl, sym, ap, ◌∙◌, length-set, subst}
+use Rattle.std.proofs.Common.{◌≡◌, ℕ, ◌+◌, ◌<◌, List, length, Some, None, true, false, refl, sym, ap, ◌∙◌, length-set, subst, get_or}
 use Rattle.std.specs.Prelude.{slice_index_or, slice_set}
 use Rattle.job_language.specs.declared.instructions.TheConstants.{GROUPS}
 use Rattle.cancel_context.specs.Forest.{Forest, binding, held_count, with_bound}
@@ -45,7 +45,7 @@ module _ (a : Held) (s : State) (is : Holds a s) (n : ℕ) where
 
   -- An entry changed that is still the row's, with the contexts.
   pub holds_entry : (e e' : OpenRow) (forest : Forest) (at : Assigned) → IsEntry a s is n e → IsRow s.rows is.places n e' → length forest ≡ length a.contexts →
-      ((j : ℕ) → at.of_job j ≡ is.assigned.of_job j) → AreContexts s a.retired (length a.jobs) (slice_set a.table (is.places n) (Some e')) forest at → Holds (record (with_entry a (is.places n) e') { contexts = forest }) s
+      ((j : ℕ) → at.of_job j ≡ is.assigned.of_job j) → AreContexts s (length a.jobs) (slice_set a.table (is.places n) (Some e')) forest at → Holds (record (with_entry a (is.places n) e') { contexts = forest }) s
   holds_entry e e' forest at entry its long of_jobs contexts =
       let same = alike_same s.rows in
       record {
@@ -53,6 +53,7 @@ module _ (a : Held) (s : State) (is : Holds a s) (n : ℕ) where
         places = is.places;
         assigned = at;
         made = is.made;
+        made_jobs = is.made_jobs;
         table = AreRows-set s.rows s.rows is.places a.table n e e' same entry.opened is.table entry.there its.number its (λ m other. refl);
         free = AreFree-set s.rows s.rows is.places a.table n e e' same entry.opened is.table entry.there its.number its (λ m other. refl) a.config.rows is.free;
         nests = is.nests;
@@ -61,11 +62,12 @@ module _ (a : Held) (s : State) (is : Holds a s) (n : ℕ) where
         contexts = contexts;
         room = long ∙ is.room;
         jobs = record {
-          past = is.jobs.past;
-          many = is.jobs.many;
-          gone = is.jobs.gone;
+          order = is.jobs.order;
+          there = is.jobs.there;
+          works = is.jobs.works;
+          each = λ i d below. let its_job = is.jobs.each i d below in record { current = its_job.current; value = its_job.value; opened = its_job.opened; context = its_job.context ∙ sym (of_jobs (get_or a.jobs i d).number) };
           all = is.jobs.all;
-          each = λ i d below. let its_job = is.jobs.each i d below in record { current = its_job.current; value = its_job.value; opened = its_job.opened; context = its_job.context ∙ sym (of_jobs (a.retired + i + 1)) };
+          many = is.jobs.many;
           later = is.jobs.later;
           few = is.jobs.few;
         };
@@ -89,8 +91,8 @@ group_bound a s is n g c e entry started few none free room count =
     let its = is.contexts.in_table (is.places n) e entry.there in
     let context : e.context ≡ is.assigned.of_row n = its.0 ∙ ap is.assigned.of_row entry.its.number in
     let no_context : is.assigned.of_group n g ≡ None = ap (λ k. is.assigned.of_group k g) (sym entry.its.number) ∙ sym (its.1 g few) ∙ none in
-    let at = with_group_at s a.retired (length a.jobs) a.table a.contexts is.assigned is.contexts n g c (is.places n) e few entry.opened started entry.within entry.there entry.its.number (only_place a s is n e entry) no_context entry.its.all_contexts free room e.context context in
-    let are = AreContexts-bound s a.retired (length a.jobs) a.table a.contexts is.assigned is.contexts n g c (is.places n) e few entry.opened started entry.within entry.there entry.its.number (only_place a s is n e entry) no_context entry.its.all_contexts free room e.context context count in
+    let at = with_group_at s (length a.jobs) a.table a.contexts is.assigned is.contexts n g c (is.places n) e few entry.opened started entry.within entry.there entry.its.number (only_place a s is n e entry) no_context entry.its.all_contexts free room e.context context in
+    let are = AreContexts-bound s (length a.jobs) a.table a.contexts is.assigned is.contexts n g c (is.places n) e few entry.opened started entry.within entry.there entry.its.number (only_place a s is n e entry) no_context entry.its.all_contexts free room e.context context count in
     let new_row : IsRow s.rows is.places n (with_group g c e) = record {
       number = entry.its.number;
       source = entry.its.source;
@@ -104,5 +106,5 @@ group_bound a s is n g c e entry started few none free room count =
     record {
       holds = holds_entry a s is n e (with_group g c e) (with_bound a.contexts c (Some e.context)) at entry new_row (length-set a.contexts c _) (λ j. refl) are;
       places = refl;
-      given = group_here s a.retired (length a.jobs) a.table a.contexts is.assigned is.contexts n g c (is.places n) e few entry.opened started entry.within entry.there entry.its.number (only_place a s is n e entry) no_context entry.its.all_contexts free room e.context context;
+      given = group_here s (length a.jobs) a.table a.contexts is.assigned is.contexts n g c (is.places n) e few entry.opened started entry.within entry.there entry.its.number (only_place a s is n e entry) no_context entry.its.all_contexts free room e.context context;
     }

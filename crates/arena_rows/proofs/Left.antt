@@ -33,7 +33,7 @@ no_parent b c (Some p) none = let other : (p == c) ≡ false = elim (cases_eq p 
   | inr apart ↦ grind (arith, apart)
 ] in rw other refl
 
-kept_in : (c : ℕ) (o : Option Binding) → (parent_in o ≡ Some c → ⊥) → without_parent c o ≡ o
+pub kept_in : (c : ℕ) (o : Option Binding) → (parent_in o ≡ Some c → ⊥) → without_parent c o ≡ o
 kept_in c None none = refl
 kept_in c (Some b) none = ap Some (no_parent b c b.parent none)
 

@@ -23,6 +23,7 @@ pub mod Bound
 pub mod Grouped
 pub mod Making
 pub mod Made
+pub mod JobPlaces
 pub mod JobChanged
 pub mod TopRows
 pub mod OneJob
@@ -60,11 +61,13 @@ pub mod PostDropped
 pub mod FaultedRows
 pub mod Told
 pub mod JobsTold
+pub mod NextJob
 pub mod NewJob
 pub mod Submitted
 pub mod NewSettled
 pub mod Begun
 pub mod Retired
+pub mod Released
 pub mod Founded
 pub mod FaultSteps
 pub mod FaultEnds

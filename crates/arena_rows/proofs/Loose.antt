@@ -1,5 +1,5 @@
 -- Which rows' contexts can be released.
-use Rattle.std.proofs.Common.{◌≡◌, ◌≢◌, ℕ, zero, suc, ◌-◌, ◌<◌, ◌≤◌, length, Some, true, false, refl, sym, ap, ◌∙◌, arith, inl, inr}
+use Rattle.std.proofs.Common.{◌≡◌, ◌≢◌, ℕ, zero, suc, ◌-◌, ◌<◌, ◌≤◌, length, Some, true, false, refl, sym, ap, ◌∙◌, arith, inl, inr, Bool, ◌||◌}
 use Rattle.std.specs.Prelude.{IfSome, IsSome}
 use Rattle.std.proofs.lemmas.Bool.{cases_eq, cases_lt}
 use Rattle.job_language.specs.declared.instructions.TheConstants.{GROUPS}
@@ -23,6 +23,10 @@ use Rattle.arena_rows.proofs.Ends.{is_job, row_in, HasContext, go, nothing_bound
 use Rattle.arena_rows.proofs.Started.{some_none}
 use Rattle.arena_rows.proofs.TopRows.{top_open}
 
+or_true : (b : Bool) → (b || true) ≡ true
+or_true true = refl
+or_true false = refl
+
 module _ (a : Held) (s : State) (is : Holds a s) where
   there : (n : ℕ) → is_open (row s.rows n).phase ≡ true → (1 ≤ n) × (n ≤ length s.rows)
   there n opened = open_there s.rows n opened
@@ -35,7 +39,7 @@ module _ (a : Held) (s : State) (is : Holds a s) where
   alone_waiting n m g x waits opened kind opened_x other same =
       let owner_x : is.assigned.owner (is.assigned.of_row x) ≡ OfRow n = ap is.assigned.owner same ∙ own_owner n m g kind opened in
       let place = there x opened_x in
-      let all : HasContext s a.retired (length a.jobs) a.table a.contexts is.assigned is.steady is.jobs.later is.contexts x = go s a.retired (length a.jobs) a.table a.contexts is.assigned is.steady is.jobs.later is.contexts x x (omega arith) place.0 place.1 opened_x in
+      let all : HasContext s (length a.jobs) a.table a.contexts is.assigned is.steady is.jobs.later is.contexts x = go s (length a.jobs) a.table a.contexts is.assigned is.steady is.jobs.later is.contexts x x (omega arith) place.0 place.1 opened_x in
       elim all [
         | inl of_job ↦ grind (arith, ap is_job (sym owner_x ∙ of_job.1))
         | inr held ↦
@@ -111,7 +115,7 @@ module _ (a : Held) (s : State) (is : Holds a s) where
     loose_unused unused = record {
       ends = λ g c d few given bound_to.
           let its : IsGroupContext s a.contexts is.assigned n g (Some c) = rw given at (is.contexts.of_groups n g opened few) in
-          absurd (nothing_bound s a.retired (length a.jobs) a.table a.contexts is.assigned is.steady is.jobs.later is.contexts there n g c its.0
+          absurd (nothing_bound s (length a.jobs) a.table a.contexts is.assigned is.steady is.jobs.later is.contexts there n g c its.0
           (λ x kind opened_x.
           let place = there x opened_x in
           let since : (mark s.rows n g).rows < x = elim (cases_lt (mark s.rows n g).rows x) [
@@ -129,10 +133,11 @@ module _ (a : Held) (s : State) (is : Holds a s) where
     loose_faulted forest fault = record {
       ends = λ g c d few given bound_to.
           let place = there n opened in
-          let agrees = context_is s a.retired (length a.jobs) a.table a.contexts is.assigned is.steady is.jobs.later is.contexts forest n place.0 place.1 opened in
-          let job_cancelled : is_job_cancelled (job s.jobs (row s.rows n).job) ≡ true = rw (has_fault _ fault) (grind arith) in
+          let agrees = context_is s (length a.jobs) a.table a.contexts is.assigned is.steady is.jobs.later is.contexts forest n place.0 place.1 opened in
+          let w = job s.jobs (row s.rows n).job in
+          let job_cancelled : is_job_cancelled w ≡ true = ap (λ b. w.cancelled || b) (has_fault w.fault fault) ∙ or_true w.cancelled in
           let row_cancelled : is_context_cancelled s n ≡ true = rw job_cancelled refl in
-          let group = group_is s a.retired (length a.jobs) a.table a.contexts is.assigned is.steady is.jobs.later is.contexts forest n g c opened few given agrees in
+          let group = group_is s (length a.jobs) a.table a.contexts is.assigned is.steady is.jobs.later is.contexts forest n g c opened few given agrees in
           group ∙ rw row_cancelled (grind arith);
       alone = alone_top;
     }

@@ -1,5 +1,5 @@
 -- What is held stands for the state with one row more.
-use Rattle.std.proofs.Common.{◌≡◌, ℕ, zero, suc, ◌+◌, ◌<◌, ◌≤◌, List, [], ◌∷◌, ◌++◌, length, Option, Some, None, true, false, refl, sym, ap, ◌∙◌, arith, map, length-set, pos, subst}
+use Rattle.std.proofs.Common.{◌≡◌, ℕ, zero, suc, ◌+◌, ◌<◌, ◌≤◌, List, [], ◌∷◌, ◌++◌, length, Option, Some, None, true, false, refl, sym, ap, ◌∙◌, arith, map, length-set, pos, subst, get_or}
 use Rattle.std.specs.Prelude.{IfSome, count_by, slice_index_or, slice_set, is_some, replicate}
 use Rattle.std.specs.Option.{option_map}
 use Rattle.std.proofs.lemmas.List.{length_push}
@@ -116,9 +116,9 @@ module _ (a : Held) (s : State) (is : Holds a s) (place : ℕ) (r : Row) (e : Op
     nests = nests;
   }
 
-  pub made_holds : (forest : Forest) (at : Assigned) (d : CurrentJob) (i : ℕ) (pool : Ready) (nests : List (List Nested)) → r.job ≡ a.retired + i + 1 → i < length a.jobs → length forest ≡ length a.contexts → ((j : ℕ) → at.of_job j ≡ is.assigned.of_job j) →
+  pub made_holds : (forest : Forest) (at : Assigned) (d : CurrentJob) (i : ℕ) (pool : Ready) (nests : List (List Nested)) → ((c : CurrentJob) → r.job ≡ (get_or a.jobs i c).number) → i < length a.jobs → length forest ≡ length a.contexts → ((j : ℕ) → at.of_job j ≡ is.assigned.of_job j) →
       IfSome (maker_of r.kind) (λ m. (m ≤ length s.rows) × (outer_of a.regions e.source ≡ tag_of s.rows is.places m)) → (maker_of r.kind ≡ None → outer_of a.regions e.source ≡ None) →
-      AreContexts (add_row s r) a.retired (length a.jobs) (slice_set table place (Some e)) forest at → AreNests rows' is.places a.config.slots nests →
+      AreContexts (add_row s r) (length a.jobs) (slice_set table place (Some e)) forest at → AreNests rows' is.places a.config.slots nests →
       pool ≡ record { isolation = a.config.isolation; limit = a.config.rows; slots = a.config.slots; rows = map (waiting_of rows' is.places) (waiting rows') } →
       Holds (made_held forest d i pool nests) (add_row s r)
   made_holds forest at d i pool nests its_job below long of_jobs maker no_maker contexts are_nests are_waiting =
@@ -134,6 +134,7 @@ module _ (a : Held) (s : State) (is : Holds a s) (place : ℕ) (r : Row) (e : Op
         places = is.places;
         assigned = at;
         made = ap (λ k. k + 1) is.made ∙ sym (length_push s.rows r);
+        made_jobs = is.made_jobs;
         table = AreRows-pushed s.rows r precede precede' is.places table place e joined.each joined.only placed now_free.vacant now_free.within opened number_is is_row;
         free = AreFree-pushed s.rows r precede precede' is.places a.config.rows a.table (slice_set table place (Some e)) (length-set table place (Some e) ∙ joined.long) (one_taken table place e now_free ∙ ap (λ k. k + 1) joined.taken) opened is.free;
         nests = are_nests;
@@ -141,7 +142,7 @@ module _ (a : Held) (s : State) (is : Holds a s) (place : ℕ) (r : Row) (e : Op
         waiting = are_waiting;
         contexts = rw jobs_long contexts;
         room = long ∙ is.room;
-        jobs = AreJobs-pushed s.rows r precede precede' is.places s refl is.assigned at of_jobs a.retired i a.jobs d its_job below opened none is.jobs;
+        jobs = AreJobs-pushed s.rows r precede precede' is.places s refl is.assigned at of_jobs i a.jobs d its_job below opened none is.jobs;
         cells = is.cells;
         entries = is.entries;
         epoch = is.epoch;

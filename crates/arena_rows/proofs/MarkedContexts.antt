@@ -36,7 +36,7 @@ module _ (s : State) (n g : ℕ) (m : Mark) (from : 1 ≤ n) (to : n ≤ length 
   still_open : (x : ℕ) → is_open (row s.rows x).phase ≡ true → is_open (row t.rows x).phase ≡ true
   still_open x is = opens s.rows n g m from to few x ∙ is
 
-  module _ (retired current : ℕ) (table : List (Option OpenRow)) (forest forest' : Forest) (at : Assigned) (are : AreContexts s retired current table forest at) (asked : IsRequested forest forest' at n g m) where
+  module _ (current : ℕ) (table : List (Option OpenRow)) (forest forest' : Forest) (at : Assigned) (are : AreContexts s current table forest at) (asked : IsRequested forest forest' at n g m) where
     -- what is of no group
     rest : (d : ℕ) → is_group (at.owner d) ≡ false → binding forest' d ≡ binding forest d
     rest d none = asked.others d (λ same. let no : is_group (at.owner d) ≡ true = ap is_group same in grind (arith, no, none))
@@ -66,14 +66,14 @@ module _ (s : State) (n g : ℕ) (m : Mark) (from : 1 ≤ n) (to : n ≤ length 
     own_context None given unused is = (unused refl, ap (λ (k : Mark). k.cancelled) (mark_here s.rows n g m from to few) ∙ asked.none given)
     own_context (Some c) given unused is = (is.0, asked.here c given ∙ ap (λ (k : Mark). Some (bound (at.of_row n) k.cancelled)) (sym (mark_here s.rows n g m from to few)))
 
-    owned_still : (d : ℕ) (o : Owner) → IsOwned s retired at d o → IsOwned t retired at d o
+    owned_still : (d : ℕ) (o : Owner) → IsOwned s at d o → IsOwned t at d o
     owned_still d Nobody is = is
     owned_still d (OfJob j) is = is
     owned_still d (OfRow x) is = (is.0, still_open x is.1, (is.2.0, is.2.1, kinds s.rows n g m from to few x ∙ is.2.2))
     owned_still d (OfGroup x h) is = (is.0, still_open x is.1, is.2)
 
     pub AreContexts-marked : (table' : List (Option OpenRow)) → ((p : ℕ) (e : OpenRow) → at_place table' p ≡ Some e → (e.context ≡ at.of_row e.number) × ((h : ℕ) → h < GROUPS → slice_index_or e.group_contexts h None ≡ at.of_group e.number h)) → sum_by held_by table' ≡ sum_by held_by table →
-        (at.of_group n g ≡ None → is_used t.rows n g ≡ false) → AreContexts t retired current table' forest' at
+        (at.of_group n g ≡ None → is_used t.rows n g ≡ false) → AreContexts t current table' forest' at
     AreContexts-marked table' in_table held unused = record {
       of_jobs = λ j above most. let its = are.of_jobs j above most in (its.0, rest (at.of_job j) (ap is_group its.0) ∙ its.1);
       of_rows = λ x is. let kind = kinds s.rows n g m from to few x in rw kind (row_context x (row s.rows x).kind (are.of_rows x (opened x is)));
@@ -97,13 +97,14 @@ module _ (s : State) (n g : ℕ) (m : Mark) (from : 1 ≤ n) (to : n ≤ length 
     context = is.context;
   }
 
-  pub AreJobs-marked : (at : Assigned) (retired : ℕ) (jobs : List CurrentJob) → AreJobs s at retired jobs → AreJobs t at retired jobs
-  AreJobs-marked at retired jobs are = record {
-    past = are.past;
-    many = are.many;
-    gone = are.gone;
+  pub AreJobs-marked : (at : Assigned) (jobs : List CurrentJob) → AreJobs s at jobs → AreJobs t at jobs
+  AreJobs-marked at jobs are = record {
+    order = are.order;
+    there = are.there;
+    works = are.works;
+    each = λ i d below. IsJob-marked at (get_or jobs i d).number (get_or jobs i d) (are.each i d below);
     all = are.all;
-    each = λ i d below. IsJob-marked at (retired + i + 1) (get_or jobs i d) (are.each i d below);
+    many = are.many;
     later = λ x is. let same = (sources s.rows n g m from to few).jobs x in rw same (are.later x (opened x is));
     few = are.few;
   }

@@ -125,14 +125,15 @@ module _ (a : Held) (s : State) (is : Holds a s) (n g : ℕ) (m : Mark) (e e' : 
           places = is.places;
           assigned = is.assigned;
           made = is.made ∙ sym (sources s.rows n g m from to few).long;
+          made_jobs = is.made_jobs;
           table = rows;
           free = free;
           nests = nests;
           tags = tags;
           waiting = is.waiting ∙ ap (λ ws. let r : Ready = record { isolation = a.config.isolation; limit = a.config.rows; slots = a.config.slots; rows = ws } in r) (waiting-marked s.rows n g m from to few is.places started);
-          contexts = AreContexts-marked s n g m from to few a.retired (length a.jobs) a.table a.contexts forest is.assigned is.contexts asked table' entry_contexts (omega (arith, sum_by-set held_by a.table p (Some e') None entry.within, ap held_by entry.there, held)) unused;
+          contexts = AreContexts-marked s n g m from to few (length a.jobs) a.table a.contexts forest is.assigned is.contexts asked table' entry_contexts (omega (arith, sum_by-set held_by a.table p (Some e') None entry.within, ap held_by entry.there, held)) unused;
           room = long ∙ is.room;
-          jobs = AreJobs-marked s n g m from to few is.assigned a.retired a.jobs is.jobs;
+          jobs = AreJobs-marked s n g m from to few is.assigned a.jobs is.jobs;
           cells = is.cells;
           entries = is.entries;
           epoch = is.epoch;

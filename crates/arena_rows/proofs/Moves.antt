@@ -91,15 +91,16 @@ module _ (a : Held) (s : State) (is : Holds a s) (slot n : ℕ) (f : Frame) (wit
     places = is.places;
     assigned = is.assigned;
     made = is.made ∙ sym alike.contexts.sources.long;
+    made_jobs = is.made_jobs;
     table = AreRows-alike s.rows rows' is.places a.table alike stages is.table;
     free = record { long = is.free.long; count = open_rows-alike s.rows rows' alike ∙ is.free.count };
     nests = AreNests-framed s.rows rows' is.places a.config.slots a.nests is.steady.formed.stacked n slot f is.nests within on_top phases here others;
     tags = record { long = is.tags.long; each = λ p. is.tags.each p ∙ sym (option-same (tagged_of rows' is.places) (tagged_of s.rows is.places) (at_place a.table p) (λ x. rw (tag_of-alike s.rows rows' alike is.places x.number, around_of-alike s.rows rows' alike is.places x.number) refl)) };
     waiting = is.waiting ∙ ap (λ ws. let p : Ready = record { isolation = a.config.isolation; limit = a.config.rows; slots = a.config.slots; rows = ws } in p)
         (map-same (waiting_of s.rows is.places) (waiting_of rows' is.places) (waiting s.rows) (λ p. rw (tag_of-alike s.rows rows' alike is.places p.0) refl) ∙ ap (map (waiting_of rows' is.places)) (sym same_waiting));
-    contexts = AreContexts-alike s (with_frame s n f) alike refl fewer a.retired (length a.jobs) a.table a.table a.contexts is.assigned is.contexts.in_table refl is.contexts;
+    contexts = AreContexts-alike s (with_frame s n f) alike refl fewer (length a.jobs) a.table a.table a.contexts is.assigned is.contexts.in_table refl is.contexts;
     room = is.room;
-    jobs = AreJobs-alike s (with_frame s n f) alike refl is.assigned a.retired a.jobs is.jobs;
+    jobs = AreJobs-alike s (with_frame s n f) alike refl is.assigned a.jobs is.jobs;
     cells = is.cells;
     entries = is.entries;
     epoch = is.epoch;

@@ -26,7 +26,6 @@ use Rattle.arena_rows.specs.HeldChanges.{root_frame}
 use Rattle.arena_rows.specs.Represents.{Holds}
 use Rattle.arena_rows.proofs.Alike.{count_cons}
 use Rattle.arena_rows.proofs.Picking.{unstarted_open}
-use Rattle.arena_rows.proofs.TopRows.{job_count}
 
 module _ (s : State) (j : Job) (p : Phase) (linked : IsLinked s) where
   abbrev t : State
@@ -134,7 +133,7 @@ module _ (rows : List Row) where
       let one = counted_there (λ (r : Row). r.job == suc k) rows (n - 1) d (omega (arith, root.1, root.2)) its in
       omega (arith, rest, one, count-split (λ (r : Row). nat_le r.job (suc k)) (λ (r : Row). nat_le r.job k) (λ (r : Row). r.job == suc k) (λ x. one_more k x.job) rows)
 
-pub jobs_most : (a : Held) (s : State) (is : Holds a s) → a.retired + length a.jobs ≤ a.made
+pub jobs_most : (a : Held) (s : State) (is : Holds a s) → a.made_jobs ≤ a.made
 jobs_most a s is =
     let most = rooted s.rows (length s.jobs) (λ j from to. let root = is.steady.tended.roots j from to in ((job s.jobs j).root, root.from, root.to, root.job)) in
-    omega (arith, most, count_by-le-length (λ (r : Row). nat_le r.job (length s.jobs)) s.rows, is.made, job_count a s is)
+    omega (arith, most, count_by-le-length (λ (r : Row). nat_le r.job (length s.jobs)) s.rows, is.made, is.made_jobs)

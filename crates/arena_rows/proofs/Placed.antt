@@ -134,6 +134,7 @@ module _ (a : Held) (s : State) (is : Holds a s) (place : ℕ) where
         places = places';
         assigned = is.assigned;
         made = is.made;
+        made_jobs = is.made_jobs;
         table = AreRows-placed s.rows precede is.places places' same_before a.table is.table;
         free = is.free;
         nests = AreNests-placed s.rows precede is.places places' same_before a.config.slots a.nests is.nests;

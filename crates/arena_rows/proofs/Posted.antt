@@ -28,6 +28,8 @@ use Rattle.arena_rows.proofs.Making.{IsNext, is_next}
 use Rattle.arena_rows.proofs.Made.{IsFresh, IsJoined, IsJoined-alone, made_holds}
 use Rattle.arena_rows.proofs.Pushing.{AreNests-waiting, waiting-one}
 use Rattle.arena_rows.proofs.Spawned.{joined, AreContexts-joined}
+use Rattle.arena_rows.specs.HeldJobs.{IsCurrent}
+use Rattle.arena_rows.proofs.JobPlaces.{held_is}
 
 abbrev no_group_contexts : List (Option ℕ)
 no_group_contexts = replicate GROUPS None
@@ -39,7 +41,7 @@ no_contexts (suc (suc zero)) = refl
 no_contexts (suc (suc (suc zero))) = refl
 no_contexts (suc (suc (suc (suc h)))) = refl
 
-module _ (a : Held) (s : State) (is : Holds a s) (place : ℕ) (placed : is.places (length s.rows + 1) ≡ place) (j ctx : ℕ) (f : Frame) (kept : IsSteady (add_row s (new_row kind.Posted j None f Unstarted))) (vacant : IsFree a.table place) (above : a.retired < j) (below : j - a.retired ≤ length a.jobs) (context : ctx ≡ is.assigned.of_job j) where
+module _ (a : Held) (s : State) (is : Holds a s) (place : ℕ) (placed : is.places (length s.rows + 1) ≡ place) (j ctx : ℕ) (f : Frame) (kept : IsSteady (add_row s (new_row kind.Posted j None f Unstarted))) (vacant : IsFree a.table place) (current : IsCurrent a.jobs j) (context : ctx ≡ is.assigned.of_job j) where
   abbrev r : Row
   r = new_row kind.Posted j None f Unstarted
 
@@ -62,7 +64,7 @@ module _ (a : Held) (s : State) (is : Holds a s) (place : ℕ) (placed : is.plac
   table_joined = IsJoined-alone a s is r precede precede' (λ m g few. refl)
 
   abbrev at : Assigned
-  at = joined s a.retired (length a.jobs) a.table a.contexts is.assigned ctx place r e precede precede' is.contexts refl refl (λ m h. refl)
+  at = joined s (length a.jobs) a.table a.contexts is.assigned ctx place r e precede precede' is.contexts refl refl (λ m h. refl)
 
   new_context : IsRowContext (add_row s r) a.contexts at (length s.rows + 1) (row (add_row s r).rows (length s.rows + 1)).kind
   new_context =
@@ -72,8 +74,8 @@ module _ (a : Held) (s : State) (is : Holds a s) (place : ℕ) (placed : is.plac
       let its : at.of_row N ≡ at.of_job (row (add_row s r).rows N).job = rw it (context ∙ ap is.assigned.of_job (sym (ap (λ (q : Row). q.job) here))) in
       subst (λ k. IsRowContext (add_row s r) a.contexts at N k) (sym (ap (λ (q : Row). q.kind) here)) its
 
-  contexts : AreContexts (add_row s r) a.retired (length a.jobs) (slice_set a.table place (Some e)) a.contexts at
-  contexts = AreContexts-joined s a.retired (length a.jobs) a.table a.contexts is.assigned ctx place r e precede precede' is.contexts refl refl (λ m h. refl) new_context
+  contexts : AreContexts (add_row s r) (length a.jobs) (slice_set a.table place (Some e)) a.contexts at
+  contexts = AreContexts-joined s (length a.jobs) a.table a.contexts is.assigned ctx place r e precede precede' is.contexts refl refl (λ m h. refl) new_context
       (λ q x here. (open_there s.rows x.number (is.table.only q x here).0).1) refl (ap (λ k. k + 1) is.made) no_contexts refl next.within next.vacant
 
   abbrev w : Waiting
@@ -92,7 +94,7 @@ module _ (a : Held) (s : State) (is : Holds a s) (place : ℕ) (placed : is.plac
       ap (λ q. with_row q w) is.waiting ∙ ap p (ap (λ v. map (waiting_of s.rows is.places) (waiting s.rows) ++ v ∷ []) w_is ∙ sym (waiting-one s.rows r precede precede' is.places refl))
 
   pub posted_holds : (d : CurrentJob) → Holds (put (job_counted (entered a place e) j d) w) (add_row s r)
-  posted_holds d = made_holds a s is place r e kept vacant placed refl refl fresh a.table table_joined a.contexts at d (index_of a j) (with_row a.pool w) a.nests (omega (arith, above)) (omega (arith, above, below)) refl (λ k. refl) tt (λ none. refl) contexts (AreNests-waiting s.rows r precede precede' is.places a.config.slots a.nests refl is.nests) pool
+  posted_holds d = made_holds a s is place r e kept vacant placed refl refl fresh a.table table_joined a.contexts at d (index_of a j) (with_row a.pool w) a.nests (λ c. sym (current.number c)) current.within refl (λ k. refl) tt (λ none. refl) contexts (AreNests-waiting s.rows r precede precede' is.places a.config.slots a.nests refl is.nests) pool
 
 one_both : (p q : Bool) → one_if (p && q) ≤ one_if q
 one_both true q = omega arith
@@ -103,8 +105,7 @@ open_of_le j [] = omega arith
 open_of_le j (x ∷ rows) = omega (arith, open_of_le j rows, one_both (x.job == j) (is_open x.phase), count-cons (λ (r : Row). (r.job == j) && is_open r.phase) x rows, count-cons (λ (r : Row). is_open r.phase) x rows)
 
 -- While a place is free, a job has fewer open rows than there are places.
-pub few_open : (a : Held) (s : State) (is : Holds a s) (j : ℕ) → a.retired < j → j - a.retired ≤ length a.jobs → HasFreePlace a → (d : CurrentJob) → (slice_index_or a.jobs (index_of a j) d).open_rows < length a.table
-few_open a s is j above below some d =
-    let number : a.retired + index_of a j + 1 ≡ j = omega (arith, above) in
-    let its = (is.jobs.each (index_of a j) d (omega (arith, above, below))).opened in
-    omega (arith, its, open_of_le (a.retired + index_of a j + 1) s.rows, is.free.count, is.free.long, some)
+pub few_open : (a : Held) (s : State) (is : Holds a s) (j : ℕ) → IsCurrent a.jobs j → HasFreePlace a → (d : CurrentJob) → (slice_index_or a.jobs (index_of a j) d).open_rows < length a.table
+few_open a s is j current some d =
+    let its = (held_is a s is j current d).opened in
+    omega (arith, its, open_of_le j s.rows, is.free.count, is.free.long, some)

@@ -1,5 +1,5 @@
 -- What is held with one row more.
-use Rattle.std.proofs.Common.{◌≡◌, ◌≢◌, ℕ, zero, suc, ◌+◌, ◌==◌, ◌<◌, ◌≤◌, List, [], ◌∷◌, ◌++◌, length, Option, Some, None, Bool, true, false, ◌&&◌, refl, sym, ap, ◌∙◌, arith, inl, inr, ◌⊎◌, get_or, map, length-set, pos}
+use Rattle.std.proofs.Common.{◌≡◌, ◌≢◌, ℕ, zero, suc, ◌+◌, ◌==◌, ◌<◌, ◌≤◌, List, [], ◌∷◌, ◌++◌, length, Option, Some, None, Bool, true, false, ◌&&◌, refl, sym, ap, ◌∙◌, arith, inl, inr, ◌⊎◌, get_or, map, length-set, pos, subst}
 use Rattle.std.specs.Prelude.{IfSome, slice_index_or, slice_set, filter, count_by, is_some, All}
 use Rattle.std.specs.Option.{option_map}
 use Rattle.std.proofs.lemmas.Bool.{cases_eq, cases_lt}
@@ -16,7 +16,7 @@ use Rattle.tenant_model.specs.declared.rows.Kind.{Kind}
 use Rattle.tenant_model.specs.declared.rows.Kind.TheVariants.{Root, Posted, Spawned, Region}
 use Rattle.tenant_model.specs.declared.rows.Row.{Row}
 use Rattle.tenant_model.specs.declared.works.Work.{Work}
-use Rattle.tenant_model.specs.State.{State, row}
+use Rattle.tenant_model.specs.State.{State, row, job}
 use Rattle.tenant_model.specs.Walks.{NumberedRow, numbered_rows, maker_of, is_open, is_unstarted, is_region, is_spawned_by, region_of, value_in}
 use Rattle.tenant_model.specs.Changes.{add_row}
 use Rattle.tenant_model.specs.Linked.{MakersPrecede}
@@ -27,10 +27,12 @@ use Rattle.tenant_model.proofs.AttendedSteps.{open_there}
 use Rattle.tenant_model.proofs.Picks.{IsNumbered, numbered_all}
 use Rattle.arena_rows.specs.declared.rows.OpenRow.{OpenRow}
 use Rattle.arena_rows.specs.declared.rows.CurrentJob.{CurrentJob}
-use Rattle.arena_rows.specs.Represents.{Places, id_of, at_place, source_of, stage_of, tag_of, around_of, tagged_of, nested_of, waiting, waiting_of, IsRow, Stands, AreRows, AreFree, AreNests, AreTagged, open_of, Assigned, IsJob, AreJobs}
+use Rattle.arena_rows.specs.Represents.{Places, id_of, at_place, source_of, stage_of, tag_of, around_of, tagged_of, nested_of, waiting, waiting_of, IsRow, Stands, AreRows, AreFree, AreNests, AreTagged, open_of, Assigned, IsJob, AreJobs, IsKept}
 use Rattle.arena_rows.proofs.Started.{some_is, some_none}
 use Rattle.arena_rows.proofs.PushedRows.{tag_of-push, region_of-push, IsGroup-same}
 use Rattle.arena_rows.proofs.Spawned.{append_none, numbered_push}
+use Rattle.arena_rows.proofs.JobPlaces.{numbers-apart, rise-set, number-set, has-set}
+use Rattle.arena_rows.specs.Held.{NumbersRise}
 
 nothing_valued : (n : ℕ) → value_in (row [] n).phase ≡ pos 0
 nothing_valued zero = refl
@@ -225,67 +227,84 @@ module _ (rows : List Row) (r : Row) (precede : MakersPrecede rows) (precede' : 
   open_more j = count-push (λ (q : Row). (q.job == j) && is_open q.phase) rows r
 
   -- The jobs, with one more open row of the new row's.
-  module _ (s : State) (here : s.rows ≡ rows) (at at' : Assigned) (of_jobs : (j : ℕ) → at'.of_job j ≡ at.of_job j) (retired i : ℕ) (jobs : List CurrentJob) (d : CurrentJob) (its_job : r.job ≡ retired + i + 1) (below : i < length jobs) (opened : is_open r.phase ≡ true) (none : value_in r.phase ≡ pos 0) where
+  module _ (s : State) (here : s.rows ≡ rows) (at at' : Assigned) (of_jobs : (j : ℕ) → at'.of_job j ≡ at.of_job j) (i : ℕ) (jobs : List CurrentJob) (d : CurrentJob) (its_job : (c : CurrentJob) → r.job ≡ (get_or jobs i c).number) (below : i < length jobs) (opened : is_open r.phase ≡ true) (none : value_in r.phase ≡ pos 0) where
     abbrev it : CurrentJob
     it = get_or jobs i d
 
     abbrev it' : CurrentJob
     it' = record it { open_rows = it.open_rows + 1 }
 
-    same_works : map (λ (j : CurrentJob). j.work) (slice_set jobs i it') ≡ map (λ (j : CurrentJob). j.work) jobs
-    same_works =
-        let work : CurrentJob → Work = λ j. j.work in
-        map-set work jobs i it' ∙ ap (slice_set (map work jobs) i) (sym (get_or-map work jobs i d (work d) below)) ∙ set-get_or (map work jobs) i (work d)
+    same_it : (c : CurrentJob) → it ≡ get_or jobs i c
+    same_it c = get_or_default jobs i d c below
 
-    job_at : (k : ℕ) (c : CurrentJob) → k < length jobs → IsJob rows at (retired + k + 1) (get_or jobs k c) → IsJob rows' at' (retired + k + 1) (get_or (slice_set jobs i it') k c)
-    job_at k c within is = elim (cases_eq k i) [
+    same_number : (c : CurrentJob) → it'.number ≡ (get_or jobs i c).number
+    same_number c = ap (λ (x : CurrentJob). x.number) (same_it c)
+
+    same_work : (k : ℕ) (c : CurrentJob) → (get_or (slice_set jobs i it') k c).work ≡ (get_or jobs k c).work
+    same_work k c = elim (cases_eq k i) [
+      | inl same ↦ ap (λ n. (get_or (slice_set jobs i it') n c).work) same ∙ ap (λ (x : CurrentJob). x.work) (get_or-set_same jobs i it' c below) ∙ ap (λ (x : CurrentJob). x.work) (same_it c) ∙ ap (λ n. (get_or jobs n c).work) (sym same)
+      | inr other ↦ ap (λ (x : CurrentJob). x.work) (get_or-set_other jobs i k it' c other)
+    ]
+
+    job_at : (k : ℕ) (c : CurrentJob) → k < length jobs → NumbersRise jobs → IsJob rows at (get_or jobs k c).number (get_or jobs k c) → IsJob rows' at' (get_or jobs k c).number (get_or (slice_set jobs i it') k c)
+    job_at k c within rise is = elim (cases_eq k i) [
       | inl same ↦
           let item : get_or (slice_set jobs i it') k c ≡ it' = ap (λ n. get_or (slice_set jobs i it') n c) same ∙ get_or-set_same jobs i it' c below in
           let before : get_or jobs k c ≡ it = ap (λ n. get_or jobs n c) same ∙ get_or_default jobs i c d below in
-          let was : IsJob rows at (retired + k + 1) it = rw before at is in
-          let number : (r.job == (retired + k + 1)) ≡ true = grind (arith, its_job, same) in
-          let one : one_if ((r.job == (retired + k + 1)) && is_open r.phase) ≡ 1 = rw (number, opened) refl in
+          let j = (get_or jobs k c).number in
+          let was : IsJob rows at j it = subst (IsJob rows at j) before is in
+          let own : r.job ≡ j = its_job c ∙ ap (λ n. (get_or jobs n c).number) (sym same) in
+          let number : (r.job == j) ≡ true = grind (arith, own) in
+          let one : one_if ((r.job == j) && is_open r.phase) ≡ 1 = rw (number, opened) refl in
           rw item (record {
             current = was.current;
             value = was.value ∙ sym (value_same none it.work.root);
-            opened = ap (λ n. n + 1) was.opened ∙ sym (open_more (retired + k + 1) ∙ ap (λ n. open_of rows (retired + k + 1) + n) one);
-            context = was.context ∙ sym (of_jobs (retired + k + 1));
+            opened = ap (λ n. n + 1) was.opened ∙ sym (open_more j ∙ ap (λ n. open_of rows j + n) one);
+            context = was.context ∙ sym (of_jobs j);
           })
       | inr other ↦
           let item : get_or (slice_set jobs i it') k c ≡ get_or jobs k c = get_or-set_other jobs i k it' c other in
-          let number : (r.job == (retired + k + 1)) ≡ false = grind (arith, its_job, other) in
-          let nothing : one_if ((r.job == (retired + k + 1)) && is_open r.phase) ≡ 0 = rw number refl in
+          let j = (get_or jobs k c).number in
+          let apart : r.job ≢ j = λ own. numbers-apart jobs k i c rise within below other (sym own ∙ its_job c) in
+          let number : (r.job == j) ≡ false = grind (arith, apart) in
+          let nothing : one_if ((r.job == j) && is_open r.phase) ≡ 0 = rw number refl in
           rw item (record {
             current = is.current;
             value = is.value ∙ sym (value_same none (get_or jobs k c).work.root);
-            opened = is.opened ∙ sym (open_more (retired + k + 1) ∙ ap (λ n. open_of rows (retired + k + 1) + n) nothing ∙ omega arith);
-            context = is.context ∙ sym (of_jobs (retired + k + 1));
+            opened = is.opened ∙ sym (open_more j ∙ ap (λ n. open_of rows j + n) nothing ∙ omega arith);
+            context = is.context ∙ sym (of_jobs j);
           })
     ]
 
-    pub AreJobs-pushed : AreJobs s at retired jobs → AreJobs (add_row s r) at' retired (slice_set jobs i it')
+    pub AreJobs-pushed : AreJobs s at jobs → AreJobs (add_row s r) at' (slice_set jobs i it')
     AreJobs-pushed are = record {
-      past = are.past;
-      many = are.many;
-      gone = are.gone;
-      all = are.all ∙ ap (λ ws. are.past ++ ws) (sym same_works);
+      order = rise-set jobs i it' below same_number are.order;
+      there = λ k c within.
+          let number = number-set jobs i it' below same_number k c in
+          let its = are.there k c (omega (arith, within, length-set jobs i it')) in
+          (omega (arith, number, its), omega (arith, number, its));
+      works = λ k c within. ap (job s.jobs) (number-set jobs i it' below same_number k c) ∙ are.works k c (omega (arith, within, length-set jobs i it')) ∙ sym (same_work k c);
+      all = λ j kept to. has-set jobs i it' below same_number j (are.all j kept to);
+      many = are.many ∙ sym (length-set jobs i it');
       each = λ k c within.
           let low : k < length jobs = omega (arith, within, length-set jobs i it') in
-          let was : IsJob rows at (retired + k + 1) (get_or jobs k c) = rw here at (are.each k c low) in
-          let now : IsJob rows' at' (retired + k + 1) (get_or (slice_set jobs i it') k c) = job_at k c low was in
-          rw here now;
+          let j = (get_or jobs k c).number in
+          let was : IsJob rows at j (get_or jobs k c) = rw here at (are.each k c low) in
+          let now : IsJob rows' at' j (get_or (slice_set jobs i it') k c) = job_at k c low are.order was in
+          let same : j ≡ (get_or (slice_set jobs i it') k c).number = sym (number-set jobs i it' below same_number k c) in
+          rw here (subst (λ n. IsJob rows' at' n (get_or (slice_set jobs i it') k c)) same now);
       later = λ n opened_n.
           let open_now : is_open (row rows' n).phase ≡ true = rw here at opened_n in
-          let above : retired < (row rows' n).job = elim (by_age n open_now) [
+          let kept : IsKept s.jobs (row rows' n).job = elim (by_age n open_now) [
             | inl before ↦
                 let open_then : is_open (row s.rows n).phase ≡ true = rw here before.1 in
-                let was : retired < (row rows n).job = rw here at (are.later n open_then) in
-                let same : (row rows' n).job ≡ (row rows n).job = ap (λ (q : Row). q.job) (old n before.0) in
-                omega (arith, was, same)
+                let was : IsKept s.jobs (row rows n).job = rw here at (are.later n open_then) in
+                subst (IsKept s.jobs) (sym (ap (λ (q : Row). q.job) (old n before.0))) was
             | inr same ↦
-                let its : (row rows' n).job ≡ r.job = ap (λ k. (row rows' k).job) same ∙ ap (λ (q : Row). q.job) new in
-                omega (arith, its, its_job)
+                let its : (row rows' n).job ≡ (get_or jobs i d).number = ap (λ k. (row rows' k).job) same ∙ ap (λ (q : Row). q.job) new ∙ its_job d in
+                let known = are.there i d below in
+                subst (IsKept s.jobs) (sym its) (record { from = known.0; kept = ap (λ (w : Work). w.retired) (are.works i d below) ∙ (are.each i d below).current })
           ] in
-          rw here above;
+          rw here kept;
       few = omega (arith, are.few, length-set jobs i it');
     }

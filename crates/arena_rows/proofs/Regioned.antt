@@ -31,6 +31,7 @@ use Rattle.arena_rows.proofs.Tops.{height_is}
 use Rattle.arena_rows.proofs.TopRows.{top_open, top_there, on_slot, top_job}
 use Rattle.arena_rows.proofs.Spawned.{joined, AreContexts-joined}
 use Rattle.arena_rows.proofs.Posted.{no_contexts}
+use Rattle.arena_rows.specs.HeldJobs.{IsCurrent}
 
 module _ (a : Held) (s : State) (is : Holds a s) (place : ℕ) (placed : is.places (length s.rows + 1) ≡ place) (slot n ctx : ℕ) (f : Frame) (on_top : top s.rows slot ≡ Some n)
     (kept : IsSteady (add_row s (new_row (kind.Region n) (row s.rows n).job (Some slot) f (Live slot (height s.rows slot + 1))))) (vacant : IsFree a.table place) (context : ctx ≡ is.assigned.of_row n) where
@@ -64,7 +65,7 @@ module _ (a : Held) (s : State) (is : Holds a s) (place : ℕ) (placed : is.plac
   maker_open : is_open (row s.rows n).phase ≡ true
   maker_open = top_open a s is slot n on_top
 
-  current : (a.retired < (row s.rows n).job) × ((row s.rows n).job ≤ length s.jobs) × ((row s.rows n).job - a.retired ≤ length a.jobs)
+  current : IsCurrent a.jobs (row s.rows n).job
   current = top_job a s is slot n on_top
 
   fresh : IsFresh a is.places r e
@@ -83,7 +84,7 @@ module _ (a : Held) (s : State) (is : Holds a s) (place : ℕ) (placed : is.plac
   table_joined = IsJoined-alone a s is r precede precede' (λ m g few. refl)
 
   abbrev at : Assigned
-  at = joined s a.retired (length a.jobs) a.table a.contexts is.assigned ctx place r e precede precede' is.contexts refl refl (λ m h. refl)
+  at = joined s (length a.jobs) a.table a.contexts is.assigned ctx place r e precede precede' is.contexts refl refl (λ m h. refl)
 
   new_context : IsRowContext (add_row s r) a.contexts at N (row (add_row s r).rows N).kind
   new_context =
@@ -92,8 +93,8 @@ module _ (a : Held) (s : State) (is : Holds a s) (place : ℕ) (placed : is.plac
       let its : at.of_row N ≡ at.of_row n = rw (it, older) context in
       subst (λ k. IsRowContext (add_row s r) a.contexts at N k) (sym (ap (λ (q : Row). q.kind) here)) its
 
-  contexts : AreContexts (add_row s r) a.retired (length a.jobs) (slice_set a.table place (Some e)) a.contexts at
-  contexts = AreContexts-joined s a.retired (length a.jobs) a.table a.contexts is.assigned ctx place r e precede precede' is.contexts refl refl (λ m h. refl) new_context
+  contexts : AreContexts (add_row s r) (length a.jobs) (slice_set a.table place (Some e)) a.contexts at
+  contexts = AreContexts-joined s (length a.jobs) a.table a.contexts is.assigned ctx place r e precede precede' is.contexts refl refl (λ m h. refl) new_context
       (λ q x there. (open_there s.rows x.number (is.table.only q x there).0).1) refl (ap (λ k. k + 1) is.made) no_contexts refl next.within next.vacant
 
   nested_is : nested_of rows' is.places N ≡ record { frame = f; row = next_id a place; is_region = true }
@@ -113,5 +114,5 @@ module _ (a : Held) (s : State) (is : Holds a s) (place : ℕ) (placed : is.plac
   outer_is = tag_there a s is n maker_open
 
   pub region_holds : (d : CurrentJob) → Holds (region_pushed (job_counted (entered a place e) (row s.rows n).job d) slot f (next_id a place)) (add_row s r)
-  region_holds d = made_holds a s is place r e kept vacant placed refl refl fresh a.table table_joined a.contexts at d (index_of a (row s.rows n).job) a.pool (region_pushed a slot f (next_id a place)).nests (omega (arith, current)) (omega (arith, current)) refl (λ k. refl)
+  region_holds d = made_holds a s is place r e kept vacant placed refl refl fresh a.table table_joined a.contexts at d (index_of a (row s.rows n).job) a.pool (region_pushed a slot f (next_id a place)).nests (λ c. sym (current.number c)) current.within refl (λ k. refl)
       (maker_there.1, outer_is) (λ none. absurd (some_none n none)) contexts nests pool

@@ -1,35 +1,35 @@
 -- All jobs retired, where no row is open.
-use Rattle.std.proofs.Common.{◌≡◌, ◌≢◌, ℕ, zero, suc, ◌+◌, ◌-◌, ◌<◌, nat_lt, List, [], ◌∷◌, length, Option, Some, None, true, false, refl, sym, ap, ◌∙◌, arith, inl, inr, get_or, map}
+use Rattle.std.proofs.Common.{◌≡◌, ◌≢◌, ℕ, zero, suc, ◌+◌, ◌-◌, ◌<◌, nat_lt, List, [], ◌∷◌, length, Option, Some, None, true, false, refl, sym, ap, ◌∙◌, arith, inl, inr, get_or, map, not, ◌≤◌}
 use Rattle.std.specs.Prelude.{All, count_by, is_some, sum_by}
 use Rattle.std.proofs.Math.ListN.{get_or-map}
 use Rattle.std.proofs.lemmas.Bool.{cases_eq}
-use Rattle.std.proofs.lemmas.List.{append-nil, length-map, get_or-set_other, get_or_default}
+use Rattle.std.proofs.lemmas.List.{length-map, get_or-set_other, get_or_default}
 use Rattle.std.proofs.lemmas.List.Sums.{sum_by-cons}
 use Rattle.cancel_context.specs.Forest.{Forest, Binding, binding, parent_in, parent, IsHeld, held_count, leaving, without_parent, without}
 use Rattle.cancel_context.proofs.Chains.{IsHeld-within}
 use Rattle.cancel_context.proofs.Released.{binding-without}
 use Rattle.tenant_model.specs.declared.rows.Row.{Row}
 use Rattle.tenant_model.specs.declared.works.Work.{Work}
-use Rattle.tenant_model.specs.State.{State, row}
+use Rattle.tenant_model.specs.State.{State, row, job}
 use Rattle.thread_cells.specs.Cells.{no_cells}
-use Rattle.tenant_model.specs.Walks.{is_open}
+use Rattle.tenant_model.specs.Walks.{is_open, is_job_cancelled}
 use Rattle.tenant_model.specs.Changes.{open_rows, entry}
 use Rattle.tenant_model.specs.Asks.{retired_work}
 use Rattle.tenant_model.specs.Sound.{IsSettled}
 use Rattle.tenant_model.proofs.AttendedSteps.{open_there}
-use Rattle.tenant_model.proofs.Changed.{row-get_or}
+use Rattle.tenant_model.proofs.Changed.{row-get_or, numbered_or}
 use Rattle.tenant_model.proofs.Steady.{steady_retired}
 use Rattle.arena_rows.specs.declared.rows.OpenRow.{OpenRow}
 use Rattle.arena_rows.specs.declared.rows.CurrentJob.{CurrentJob}
 use Rattle.arena_rows.specs.Held.{Held}
-use Rattle.arena_rows.specs.Represents.{Owner, Nobody, OfJob, OfRow, OfGroup, at_place, held_by, IsOwned, Holds, Rests}
+use Rattle.arena_rows.specs.Represents.{Owner, Nobody, OfJob, OfRow, OfGroup, at_place, held_by, IsOwned, Holds, Rests, IsKept}
 use Rattle.arena_rows.specs.Retiring.{HoldJobs, all_retired, IsIdle}
 use Rattle.arena_rows.proofs.NewSettled.{counted_there}
 use Rattle.arena_rows.proofs.Picking.{unstarted_open}
 use Rattle.arena_rows.proofs.Started.{some_none}
 use Rattle.arena_rows.proofs.Starts.{settled_entry}
 use Rattle.arena_rows.proofs.Counters.{any_counted}
-use Rattle.arena_rows.proofs.TopRows.{job_count}
+use Rattle.arena_rows.proofs.JobPlaces.{numbers-apart}
 
 pub nothing_summed : {A : Type 0} (f : A → ℕ) (xs : List A) (d : A) → ((i : ℕ) → i < length xs → f (get_or xs i d) ≡ 0) → sum_by f xs ≡ 0
 nothing_summed f [] d each = refl
@@ -42,7 +42,11 @@ all_gone [] k d below = absurd (omega (arith, below))
 all_gone (w ∷ ws) zero d below = refl
 all_gone (w ∷ ws) (suc k) d below = all_gone ws k d (omega (arith, below))
 
-abbrev job_in : Owner → ℕ
+nothing_current : (ws : List Work) → count_by (λ (w : Work). not w.retired) (map retired_work ws) ≡ 0
+nothing_current [] = refl
+nothing_current (w ∷ ws) = nothing_current ws
+
+abbrev pub job_in : Owner → ℕ
 job_in Nobody = 0
 job_in (OfJob j) = j
 job_in (OfRow n) = 0
@@ -102,13 +106,15 @@ module _ (a : Held) (s : State) (is : Holds a s) (idle : count_by is_some a.tabl
   no_held : sum_by held_by a.table ≡ 0
   no_held = nothing_summed held_by a.table None (λ i below. by_entry i (at_place a.table i) refl)
 
-  told : (i : ℕ) (d : CurrentJob) → i < length a.jobs → (get_or a.jobs i d).context ≡ is.assigned.of_job (a.retired + i + 1)
+  told : (i : ℕ) (d : CurrentJob) → i < length a.jobs → (get_or a.jobs i d).context ≡ is.assigned.of_job (get_or a.jobs i d).number
   told i d below = (is.jobs.each i d below).context
 
-  owner : (i : ℕ) → i < length a.jobs → is.assigned.owner (is.assigned.of_job (a.retired + i + 1)) ≡ OfJob (a.retired + i + 1)
-  owner i below = (is.contexts.of_jobs (a.retired + i + 1) (omega arith) (omega (arith, below, job_count a s is))).0
+  its_context : (i : ℕ) (d : CurrentJob) → i < length a.jobs → let j = (get_or a.jobs i d).number in (is.assigned.owner (is.assigned.of_job j) ≡ OfJob j) × (binding a.contexts (is.assigned.of_job j) ≡ Some (record { parent = None; is_asked = is_job_cancelled (job s.jobs j); is_orphan = false }))
+  its_context i d below =
+      let known = is.jobs.there i d below in
+      is.contexts.of_jobs (get_or a.jobs i d).number (record { from = known.0; kept = ap (λ (w : Work). w.retired) (is.jobs.works i d below) ∙ (is.jobs.each i d below).current }) known.1
 
-  by_owner : (c p : ℕ) (o : Owner) → IsOwned s a.retired is.assigned c o → parent a.contexts c ≡ Some p → ⊥
+  by_owner : (c p : ℕ) (o : Owner) → IsOwned s is.assigned c o → parent a.contexts c ≡ Some p → ⊥
   by_owner c p Nobody owned bound = owned
   by_owner c p (OfJob j) owned bound =
       let there = (is.contexts.of_jobs j owned.1 owned.2).1 in
@@ -124,12 +130,12 @@ module _ (a : Held) (s : State) (is : Holds a s) (idle : count_by is_some a.tabl
   pub hold_jobs : HoldJobs a.contexts a.jobs 0
   hold_jobs = record {
     each = λ i d from below.
-        let there = (is.contexts.of_jobs (a.retired + i + 1) (omega arith) (omega (arith, below, job_count a s is))).1 in
+        let there = (its_context i d below).1 in
         ap is_some (ap (binding a.contexts) (told i d below) ∙ there);
     apart = λ i k d from order below same.
         let low : i < length a.jobs = omega (arith, order, below) in
-        let one : a.retired + i + 1 ≡ a.retired + k + 1 = ap job_in (sym (owner i low) ∙ ap is.assigned.owner (sym (told i d low) ∙ same ∙ told k d below) ∙ owner k below) in
-        omega (arith, one, order);
+        let one : (get_or a.jobs i d).number ≡ (get_or a.jobs k d).number = ap job_in (sym (its_context i d low).0 ∙ ap is.assigned.owner (sym (told i d low) ∙ same ∙ told k d below) ∙ (its_context k d below).0) in
+        numbers-apart a.jobs i k d is.jobs.order low below (omega (arith, order)) one;
     bare = λ c p bound. by_owner c p (is.assigned.owner c) (is.contexts.owned c (bound_held c p (binding a.contexts c) refl bound)) bound;
     count = omega (arith, is.contexts.count, no_held);
   }
@@ -144,8 +150,19 @@ module _ (a : Held) (s : State) (is : Holds a s) (idle : count_by is_some a.tabl
     settled : IsSettled more
     settled n waits = absurd (none_open n (unstarted_open (row s.rows n).phase waits))
 
-    as_many : length (map retired_work s.jobs) ≡ a.retired + length a.jobs
-    as_many = length-map s.jobs retired_work ∙ job_count a s is
+    none_kept : (j : ℕ) → IsKept (map retired_work s.jobs) j → j ≤ length (map retired_work s.jobs) → ⊥
+    none_kept j kept to =
+        let d : Work = job [] 0 in
+        let from = kept.from in
+        let within : j - 1 < length (map retired_work s.jobs) = omega (arith, from, to) in
+        let here : job (map retired_work s.jobs) j ≡ get_or (map retired_work s.jobs) (j - 1) d = numbered_or (map retired_work s.jobs) d j from in
+        let gone : (get_or (map retired_work s.jobs) (j - 1) d).retired ≡ true = all_gone s.jobs (j - 1) d within in
+        let its = kept.kept in
+        let both : true ≡ false = sym gone ∙ ap (λ (w : Work). w.retired) (sym here) ∙ its in
+        grind (arith, both)
+
+    none_current : count_by (λ (w : Work). not w.retired) (map retired_work s.jobs) ≡ 0
+    none_current = nothing_current s.jobs
 
     pub ended_holds : Holds (all_retired a forest) (record more { entries = s.entries + 1 })
     ended_holds = record {
@@ -153,13 +170,14 @@ module _ (a : Held) (s : State) (is : Holds a s) (idle : count_by is_some a.tabl
       places = is.places;
       assigned = is.assigned;
       made = is.made;
+      made_jobs = is.made_jobs ∙ sym (length-map s.jobs retired_work);
       table = is.table;
       free = is.free;
       nests = is.nests;
       tags = is.tags;
       waiting = is.waiting;
       contexts = record {
-        of_jobs = λ j above to. absurd (omega (arith, above, to, as_many));
+        of_jobs = λ j kept to. absurd (none_kept j kept to);
         of_rows = λ n opened. absurd (none_open n opened);
         of_groups = λ n g opened few. absurd (none_open n opened);
         bare = λ n g waits. absurd (none_open n (unstarted_open (row s.rows n).phase waits));
@@ -169,10 +187,11 @@ module _ (a : Held) (s : State) (is : Holds a s) (idle : count_by is_some a.tabl
       };
       room = long ∙ is.room;
       jobs = record {
-        past = map retired_work s.jobs;
-        many = as_many;
-        gone = all_gone s.jobs;
-        all = sym (append-nil (map retired_work s.jobs));
+        order = λ i k d low below. absurd (omega (arith, below));
+        there = λ i d below. absurd (omega (arith, below));
+        works = λ i d below. absurd (omega (arith, below));
+        all = λ j kept to. absurd (none_kept j kept to);
+        many = none_current;
         each = λ i d below. absurd (omega (arith, below));
         later = λ n opened. absurd (none_open n opened);
         few = omega arith;

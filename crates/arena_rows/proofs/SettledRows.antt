@@ -46,7 +46,7 @@ module _ (a : Held) (t : State) (is : Holds a t) (p : ℕ) (e : OpenRow) (there 
   pub cancelled_told : IsForest a.contexts → is_cancelled a.contexts e.context ≡ is_context_cancelled t e.number
   cancelled_told forest =
       let place = open_there t.rows e.number opened in
-      rw context_told (context_is t a.retired (length a.jobs) a.table a.contexts is.assigned is.steady is.jobs.later is.contexts forest e.number place.0 place.1 opened)
+      rw context_told (context_is t (length a.jobs) a.table a.contexts is.assigned is.steady is.jobs.later is.contexts forest e.number place.0 place.1 opened)
 
   pub waits_by_stage : (f : Frame) → e.stage ≡ stage.Waiting f → is_unstarted (row t.rows e.number).phase ≡ true
   waits_by_stage f waits = elim (either_way (is_unstarted (row t.rows e.number).phase)) [

@@ -67,7 +67,7 @@ not_marked (suc (suc (suc zero))) = refl
 not_marked (suc (suc (suc (suc h)))) = refl
 
 -- a row more, whose context is ctx
-module _ (s : State) (retired current : ℕ) (table : List (Option OpenRow)) (forest forest' : Forest) (at : Assigned) (owner' : ℕ → Owner) (ctx p : ℕ) (r : Row) (e : OpenRow) (precede : MakersPrecede s.rows) (precede' : MakersPrecede (s.rows ++ r ∷ [])) (are : AreContexts s retired current table forest at)
+module _ (s : State) (current : ℕ) (table : List (Option OpenRow)) (forest forest' : Forest) (at : Assigned) (owner' : ℕ → Owner) (ctx p : ℕ) (r : Row) (e : OpenRow) (precede : MakersPrecede s.rows) (precede' : MakersPrecede (s.rows ++ r ∷ [])) (are : AreContexts s current table forest at)
     (opened : is_open r.phase ≡ true) (none_marked : r.marks ≡ no_marks) (kept : (d : ℕ) (b : Binding) → binding forest d ≡ Some b → (binding forest' d ≡ Some b) × (owner' d ≡ at.owner d))
     (joins_given : (m h : ℕ) → m ≤ length s.rows → at.of_group m h ≡ None → is_spawned_by m h r.kind ≡ false) where
   abbrev pub new_number : ℕ
@@ -146,7 +146,7 @@ module _ (s : State) (retired current : ℕ) (table : List (Option OpenRow)) (fo
       let marks : (row more.rows new_number).marks ≡ no_marks = rw row_new none_marked in
       (ap (λ ms. nat_lt 0 (length ms)) nobody, ap (λ ms. (slice_index_or {A = Mark} ms h (record { rows = 0; cancelled = false })).cancelled) marks ∙ not_marked h)
 
-  owned_still : (d : ℕ) (o : Owner) → IsOwned s retired at d o → IsOwned more retired assigned' d o
+  owned_still : (d : ℕ) (o : Owner) → IsOwned s at d o → IsOwned more assigned' d o
   owned_still d Nobody is = is
   owned_still d (OfJob j) is = is
   owned_still d (OfRow m) is = let old = (open_there s.rows m is.1).1 in (of_row_old m old ∙ is.0, rw (row_old m old) is.1, (is.2.0, is.2.1, rw (row_old m old) is.2.2))
@@ -166,9 +166,9 @@ module _ (s : State) (retired current : ℕ) (table : List (Option OpenRow)) (fo
   held_some d (Some b) is held = (b, is)
 
   -- The contexts with the new row.
-  pub AreContexts-pushed : (held : ℕ) → IsRowContext more forest' assigned' new_number (row more.rows new_number).kind → ((d : ℕ) → IsHeld forest' d → IsHeld forest d ⊎ IsOwned more retired assigned' d (owner' d)) →
+  pub AreContexts-pushed : (held : ℕ) → IsRowContext more forest' assigned' new_number (row more.rows new_number).kind → ((d : ℕ) → IsHeld forest' d → IsHeld forest d ⊎ IsOwned more assigned' d (owner' d)) →
       ((q : ℕ) (x : OpenRow) → at_place table q ≡ Some x → x.number ≤ length s.rows) → e.context ≡ ctx → e.number ≡ new_number → ((h : ℕ) → slice_index_or e.group_contexts h None ≡ None) → held_by (Some e) ≡ held → p < length table → at_place table p ≡ None → held_count forest' ≡ held_count forest + held →
-      AreContexts more retired current (slice_set table p (Some e)) forest' assigned'
+      AreContexts more current (slice_set table p (Some e)) forest' assigned'
   AreContexts-pushed held new_context owned_new numbers context number no_groups its_own within vacant count = record {
     of_jobs = λ j above most.
         let its = are.of_jobs j above most in
@@ -197,19 +197,19 @@ module _ (s : State) (retired current : ℕ) (table : List (Option OpenRow)) (fo
   }
 
 -- A new row of a job, or a region, has the context of its job or of its maker.
-module _ (s : State) (retired current : ℕ) (table : List (Option OpenRow)) (forest : Forest) (at : Assigned) (ctx p : ℕ) (r : Row) (e : OpenRow) (precede : MakersPrecede s.rows) (precede' : MakersPrecede (s.rows ++ r ∷ [])) (are : AreContexts s retired current table forest at)
+module _ (s : State) (current : ℕ) (table : List (Option OpenRow)) (forest : Forest) (at : Assigned) (ctx p : ℕ) (r : Row) (e : OpenRow) (precede : MakersPrecede s.rows) (precede' : MakersPrecede (s.rows ++ r ∷ [])) (are : AreContexts s current table forest at)
     (opened : is_open r.phase ≡ true) (none_marked : r.marks ≡ no_marks) (not_spawned : (m h : ℕ) → is_spawned_by m h r.kind ≡ false) where
   abbrev pub joined : Assigned
-  joined = assigned' s retired current table forest forest at at.owner ctx p r e precede precede' are opened none_marked (λ d b is. (is, refl)) (λ m h old none. not_spawned m h)
+  joined = assigned' s current table forest forest at at.owner ctx p r e precede precede' are opened none_marked (λ d b is. (is, refl)) (λ m h old none. not_spawned m h)
 
   pub AreContexts-joined : IsRowContext (add_row s r) forest joined (length s.rows + 1) (row (add_row s r).rows (length s.rows + 1)).kind →
       ((q : ℕ) (x : OpenRow) → at_place table q ≡ Some x → x.number ≤ length s.rows) → e.context ≡ ctx → e.number ≡ length s.rows + 1 → ((h : ℕ) → slice_index_or e.group_contexts h None ≡ None) → held_by (Some e) ≡ 0 → p < length table → at_place table p ≡ None →
-      AreContexts (add_row s r) retired current (slice_set table p (Some e)) forest joined
+      AreContexts (add_row s r) current (slice_set table p (Some e)) forest joined
   AreContexts-joined new_context numbers context number no_groups none within vacant =
-      AreContexts-pushed s retired current table forest forest at at.owner ctx p r e precede precede' are opened none_marked (λ d b is. (is, refl)) (λ m h old none. not_spawned m h) 0 new_context (λ d held. inl held) numbers context number no_groups none within vacant (omega arith)
+      AreContexts-pushed s current table forest forest at at.owner ctx p r e precede precede' are opened none_marked (λ d b is. (is, refl)) (λ m h old none. not_spawned m h) 0 new_context (λ d held. inl held) numbers context number no_groups none within vacant (omega arith)
 
 -- A new row that was spawned into group g of row n has a context of its own, bound to the group's context gc.
-module _ (s : State) (retired current : ℕ) (table : List (Option OpenRow)) (forest : Forest) (at : Assigned) (c p n g gc : ℕ) (r : Row) (e : OpenRow) (precede : MakersPrecede s.rows) (precede' : MakersPrecede (s.rows ++ r ∷ [])) (are : AreContexts s retired current table forest at)
+module _ (s : State) (current : ℕ) (table : List (Option OpenRow)) (forest : Forest) (at : Assigned) (c p n g gc : ℕ) (r : Row) (e : OpenRow) (precede : MakersPrecede s.rows) (precede' : MakersPrecede (s.rows ++ r ∷ [])) (are : AreContexts s current table forest at)
     (opened : is_open r.phase ≡ true) (none_marked : r.marks ≡ no_marks) (to : n ≤ length s.rows) (maker_open : is_open (row s.rows n).phase ≡ true) (kind : r.kind ≡ Spawned n g) (given : at.of_group n g ≡ Some gc) (free : binding forest c ≡ None) (room : c < length forest) where
   abbrev pub bound_forest : Forest
   bound_forest = with_bound forest c (Some gc)
@@ -242,10 +242,10 @@ module _ (s : State) (retired current : ℕ) (table : List (Option OpenRow)) (fo
   ]
 
   abbrev pub spawned : Assigned
-  spawned = assigned' s retired current table forest bound_forest at spawned_owner c p r e precede precede' are opened none_marked still joins_only
+  spawned = assigned' s current table forest bound_forest at spawned_owner c p r e precede precede' are opened none_marked still joins_only
 
   pub AreContexts-spawned : ((q : ℕ) (x : OpenRow) → at_place table q ≡ Some x → x.number ≤ length s.rows) → e.context ≡ c → e.number ≡ length s.rows + 1 → ((h : ℕ) → slice_index_or e.group_contexts h None ≡ None) → held_by (Some e) ≡ 1 → p < length table → at_place table p ≡ None → held_count bound_forest ≡ held_count forest + 1 →
-      AreContexts (add_row s r) retired current (slice_set table p (Some e)) bound_forest spawned
+      AreContexts (add_row s r) current (slice_set table p (Some e)) bound_forest spawned
   AreContexts-spawned numbers context number no_groups one within vacant count =
       let N = length s.rows + 1 in
       let old_n : (n == N) ≡ false = grind (arith, to) in
@@ -254,7 +254,7 @@ module _ (s : State) (retired current : ℕ) (table : List (Option OpenRow)) (fo
       let new_kind : (row (add_row s r).rows N).kind ≡ Spawned n g = ap (λ (x : Row). x.kind) here ∙ kind in
       let bound_new : binding bound_forest c ≡ Some (bound gc false) = get_or-set_same forest c (Some (bound gc false)) None room in
       let context_new : IsRowContext (add_row s r) bound_forest spawned N (Spawned n g) = rw (it, owner_new, row-push_old s.rows n r to, old_n) (refl, inl (maker_open, (gc, given, bound_new))) in
-      AreContexts-pushed s retired current table forest bound_forest at spawned_owner c p r e precede precede' are opened none_marked still joins_only 1
+      AreContexts-pushed s current table forest bound_forest at spawned_owner c p r e precede precede' are opened none_marked still joins_only 1
       (subst (λ k. IsRowContext (add_row s r) bound_forest spawned N k) (sym new_kind) context_new)
       (λ d held. elim (cases_eq d c) [
         | inl same ↦ inr (rw (same, owner_new) (rw it refl, rw here opened, (n, g, new_kind)))

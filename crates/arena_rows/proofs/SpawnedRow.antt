@@ -38,6 +38,7 @@ use Rattle.arena_rows.proofs.TopRows.{top_there, top_job}
 use Rattle.arena_rows.proofs.Grouped.{IsEntry}
 use Rattle.arena_rows.proofs.Spawned.{spawned, AreContexts-spawned}
 use Rattle.arena_rows.proofs.Posted.{no_contexts}
+use Rattle.arena_rows.specs.HeldJobs.{IsCurrent}
 
 module _ (a : Held) (s : State) (is : Holds a s) (place : ℕ) (placed : is.places (length s.rows + 1) ≡ place) (slot n g gc c : ℕ) (f : Frame) (me : OpenRow) (on_top : top s.rows slot ≡ Some n) (entry : IsEntry a s is n me)
     (kept : IsSteady (add_row s (new_row (kind.Spawned n g) (row s.rows n).job (Some slot) f Unstarted))) (vacant : IsFree a.table place) (few : g < GROUPS) (given : is.assigned.of_group n g ≡ Some gc) (free : binding a.contexts c ≡ None) (room : c < length a.contexts)
@@ -75,7 +76,7 @@ module _ (a : Held) (s : State) (is : Holds a s) (place : ℕ) (placed : is.plac
   maker_there : (1 ≤ n) × (n ≤ length s.rows)
   maker_there = top_there a s is slot n on_top
 
-  current : (a.retired < (row s.rows n).job) × ((row s.rows n).job ≤ length s.jobs) × ((row s.rows n).job - a.retired ≤ length a.jobs)
+  current : IsCurrent a.jobs (row s.rows n).job
   current = top_job a s is slot n on_top
 
   fresh : IsFresh a is.places r e
@@ -154,7 +155,7 @@ module _ (a : Held) (s : State) (is : Holds a s) (place : ℕ) (placed : is.plac
     taken = same_taken a.table p me me' entry.within entry.there;
   }
 
-  contexts_joined : AreContexts s a.retired (length a.jobs) table a.contexts is.assigned
+  contexts_joined : AreContexts s (length a.jobs) table a.contexts is.assigned
   contexts_joined = record {
     of_jobs = is.contexts.of_jobs;
     of_rows = is.contexts.of_rows;
@@ -172,10 +173,10 @@ module _ (a : Held) (s : State) (is : Holds a s) (place : ℕ) (placed : is.plac
   kind_is = refl
 
   abbrev at : Assigned
-  at = spawned s a.retired (length a.jobs) table a.contexts is.assigned c place n g gc r e precede precede' contexts_joined refl refl maker_there.1 entry.opened kind_is given free room
+  at = spawned s (length a.jobs) table a.contexts is.assigned c place n g gc r e precede precede' contexts_joined refl refl maker_there.1 entry.opened kind_is given free room
 
-  contexts : AreContexts (add_row s r) a.retired (length a.jobs) (slice_set table place (Some e)) (with_bound a.contexts c (Some gc)) at
-  contexts = AreContexts-spawned s a.retired (length a.jobs) table a.contexts is.assigned c place n g gc r e precede precede' contexts_joined refl refl maker_there.1 entry.opened kind_is given free room
+  contexts : AreContexts (add_row s r) (length a.jobs) (slice_set table place (Some e)) (with_bound a.contexts c (Some gc)) at
+  contexts = AreContexts-spawned s (length a.jobs) table a.contexts is.assigned c place n g gc r e precede precede' contexts_joined refl refl maker_there.1 entry.opened kind_is given free room
       (λ q x there. (open_there s.rows x.number (table_joined.only q x there).0).1) refl (ap (λ k. k + 1) is.made) no_contexts refl (omega (arith, next.within, table_joined.long)) (table_joined.vacant place next.vacant) count
 
   outer_is : outer_of a.regions e.source ≡ tag_of s.rows is.places n
@@ -195,5 +196,5 @@ module _ (a : Held) (s : State) (is : Holds a s) (place : ℕ) (placed : is.plac
       ap (λ q. with_row q w) is.waiting ∙ ap p (ap (λ v. map (waiting_of s.rows is.places) (waiting s.rows) ++ v ∷ []) w_is ∙ sym (waiting-one s.rows r precede precede' is.places refl))
 
   pub spawned_holds : (d : CurrentJob) → Holds (put (job_counted (entered (record (with_entry a p me') { contexts = with_bound a.contexts c (Some gc) }) place e) (row s.rows n).job d) w) (add_row s r)
-  spawned_holds d = made_holds a s is place r e kept vacant placed refl refl fresh table table_joined (with_bound a.contexts c (Some gc)) at d (index_of a (row s.rows n).job) (with_row a.pool w) a.nests (omega (arith, current)) (omega (arith, current)) (length-set a.contexts c _) (λ k. refl)
+  spawned_holds d = made_holds a s is place r e kept vacant placed refl refl fresh table table_joined (with_bound a.contexts c (Some gc)) at d (index_of a (row s.rows n).job) (with_row a.pool w) a.nests (λ c. sym (current.number c)) current.within (length-set a.contexts c _) (λ k. refl)
       (maker_there.1, outer_is) (λ none. absurd (some_none n none)) contexts (AreNests-waiting s.rows r precede precede' is.places a.config.slots a.nests refl is.nests) pool

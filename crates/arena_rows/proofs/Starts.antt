@@ -119,19 +119,20 @@ module _ (a : Held) (s : State) (is : Holds a s) (slot n : ℕ) (e : OpenRow) (f
     places = is.places;
     assigned = is.assigned;
     made = is.made ∙ sym alike.contexts.sources.long;
+    made_jobs = is.made_jobs;
     table = AreRows-set s.rows (with_at_number s.rows n r) is.places a.table n e e' alike opened is.table there is_row.number is_row' (λ m other. rw (others m other) refl);
     free = AreFree-set s.rows (with_at_number s.rows n r) is.places a.table n e e' alike opened is.table there is_row.number is_row' (λ m other. rw (others m other) refl) a.config.rows is.free;
     nests = rw (← pushed_is) (AreNests-pushed s.rows (with_at_number s.rows n r) is.places a.config.slots a.nests n slot is.nests within (λ t h live. absurd (let started : is_unstarted (row s.rows n).phase ≡ false = rw live refl in grind (arith, started, off))) (rw (here, high) refl) others);
     tags = AreTagged-set s.rows (with_at_number s.rows n r) is.places a.table n e e' alike opened is.table there is_row.number is_row' (λ m other. rw (others m other) refl) a.regions is.tags;
     waiting = rw is.waiting (ap (λ rows. let p : Ready = record { isolation = a.config.isolation; limit = a.config.rows; slots = a.config.slots; rows = rows } in p) (pool-without s.rows (with_at_number s.rows n r) is.places n alike (waiting-with s.rows n r from to started_phase)));
-    contexts = AreContexts-alike s (nest s slot n) alike refl fewer a.retired (length a.jobs) a.table _ a.contexts is.assigned
+    contexts = AreContexts-alike s (nest s slot n) alike refl fewer (length a.jobs) a.table _ a.contexts is.assigned
         (λ p x at_p. elim (cases_eq p (is.places n)) [
           | inl same ↦ let x_is : e' ≡ x = some_is e' x (sym (at_same a.table (is.places n) (Some e') its.within) ∙ (rw same at at_p)) in rw (← x_is) (is.contexts.in_table (is.places n) e there)
           | inr other ↦ is.contexts.in_table p x (sym (at_other a.table (is.places n) (Some e') its.within p other) ∙ at_p)
         ])
         (omega (arith, sum_by-set held_by a.table (is.places n) (Some e') None its.within, ap held_by there)) is.contexts;
     room = is.room;
-    jobs = AreJobs-alike s (nest s slot n) alike refl is.assigned a.retired a.jobs is.jobs;
+    jobs = AreJobs-alike s (nest s slot n) alike refl is.assigned a.jobs is.jobs;
     cells = is.cells;
     entries = is.entries;
     epoch = is.epoch;
@@ -164,6 +165,7 @@ counted_holds a s is = record {
   places = is.places;
   assigned = is.assigned;
   made = is.made;
+  made_jobs = is.made_jobs;
   table = is.table;
   free = is.free;
   nests = is.nests;
@@ -171,7 +173,7 @@ counted_holds a s is = record {
   waiting = is.waiting;
   contexts = record { of_jobs = is.contexts.of_jobs; of_rows = is.contexts.of_rows; of_groups = is.contexts.of_groups; bare = is.contexts.bare; owned = is.contexts.owned; in_table = is.contexts.in_table; count = is.contexts.count };
   room = is.room;
-  jobs = record { past = is.jobs.past; many = is.jobs.many; gone = is.jobs.gone; all = is.jobs.all; each = is.jobs.each; later = is.jobs.later; few = is.jobs.few };
+  jobs = record { order = is.jobs.order; there = is.jobs.there; works = is.jobs.works; each = is.jobs.each; all = is.jobs.all; later = is.jobs.later; many = is.jobs.many; few = is.jobs.few };
   cells = is.cells;
   entries = ap (λ k. k + 1) is.entries;
   epoch = is.epoch;

@@ -35,7 +35,6 @@ use Rattle.arena_rows.proofs.Posted.{no_contexts}
 use Rattle.arena_rows.proofs.Pushing.{IsRow-pushed, AreRows-pushed, AreFree-pushed, AreTagged-pushed, AreJobs-pushed}
 use Rattle.arena_rows.proofs.PushedRows.{IsGroup-new}
 use Rattle.arena_rows.proofs.Spawned.{joined, AreContexts-joined}
-use Rattle.arena_rows.proofs.TopRows.{job_count}
 
 module _ (a : Held) (s : State) (is : Holds a s) (place : ℕ) (placed : is.places (length s.rows + 1) ≡ place) (j : Job) (p : Phase) (st : Stage) (c : ℕ) (staged : st ≡ stage_of (root_frame j) p) (opened : is_open p ≡ true) (none : value_in p ≡ pos 0) (kept : IsSteady (add_job s j p))
     (vacant : IsFree a.table place) (room : length a.jobs < MAX_JOBS) (free : binding a.contexts c ≡ None) (inside : c < length a.contexts) (count : held_count (with_bound a.contexts c None) ≡ held_count a.contexts + 1) where
@@ -69,9 +68,6 @@ module _ (a : Held) (s : State) (is : Holds a s) (place : ℕ) (placed : is.plac
   next : IsNext a place
   next = is_next a s is place vacant
 
-  many : length s.jobs ≡ a.retired + length a.jobs
-  many = job_count a s is
-
   here : row rows' N ≡ r
   here = row-push_new s.rows N r refl
 
@@ -79,7 +75,7 @@ module _ (a : Held) (s : State) (is : Holds a s) (place : ℕ) (placed : is.plac
   number = ap (λ k. k + 1) is.made
 
   its_job : e.job ≡ r.job
-  its_job = ap (λ k. k + 1) (sym many)
+  its_job = ap (λ k. k + 1) is.made_jobs
 
   is_row : IsRow rows' is.places N e
   is_row = record {
@@ -115,35 +111,35 @@ module _ (a : Held) (s : State) (is : Holds a s) (place : ℕ) (placed : is.plac
       (AreTagged-pushed s.rows r precede precede' is.places a.table a.table a.regions place e None is.table is.tags next.within placed number refl (λ q. refl)
       (λ q x there. open_there s.rows x.number (is.table.only q x there).0) tt (λ nothing. refl))
 
-  contexts1 : AreContexts s1 a.retired (length a.jobs + 1) a.table forest (with_job s is.assigned w c is.steady.formed.linked.jobs)
-  contexts1 = AreContexts-job s is.assigned w c is.steady.formed.linked.jobs a.retired (length a.jobs) a.table a.contexts is.contexts (omega (arith, many)) refl free inside count
+  contexts1 : AreContexts s1 (length a.jobs + 1) a.table forest (with_job s is.assigned w c is.steady.formed.linked.jobs)
+  contexts1 = AreContexts-job s is.assigned w c is.steady.formed.linked.jobs (length a.jobs) a.table a.contexts is.contexts refl refl free inside count
 
   abbrev at : Assigned
-  at = joined s1 a.retired (length a.jobs + 1) a.table forest (with_job s is.assigned w c is.steady.formed.linked.jobs) c place r e precede precede' contexts1 opened refl (λ m h. refl)
+  at = joined s1 (length a.jobs + 1) a.table forest (with_job s is.assigned w c is.steady.formed.linked.jobs) c place r e precede precede' contexts1 opened refl (λ m h. refl)
 
-  contexts_are : AreContexts (add_job s j p) a.retired (length a.jobs + 1) table forest at
+  contexts_are : AreContexts (add_job s j p) (length a.jobs + 1) table forest at
   contexts_are =
       let it : (N == N) ≡ true = grind arith in
       let job : ((length s.jobs + 1) == (length s.jobs + 1)) ≡ true = grind arith in
       let its : at.of_row N ≡ at.of_job (row rows' N).job = rw (it, here, job) refl in
       let new_context : IsRowContext (add_job s j p) forest at N (row rows' N).kind = subst (λ k. IsRowContext (add_job s j p) forest at N k) (sym (ap (λ (q : Row). q.kind) here)) its in
-      AreContexts-joined s1 a.retired (length a.jobs + 1) a.table forest (with_job s is.assigned w c is.steady.formed.linked.jobs) c place r e precede precede' contexts1 opened refl (λ m h. refl) new_context
+      AreContexts-joined s1 (length a.jobs + 1) a.table forest (with_job s is.assigned w c is.steady.formed.linked.jobs) c place r e precede precede' contexts1 opened refl (λ m h. refl) new_context
       (λ q x there. (open_there s.rows x.number (is.table.only q x there).0).1) refl number no_contexts refl next.within next.vacant
 
   abbrev unopened : CurrentJob
   unopened = new_current a j c 0
 
-  jobs_are : AreJobs (add_job s j p) at a.retired (job_begun a place j st c).jobs
+  jobs_are : AreJobs (add_job s j p) at (job_begun a place j st c).jobs
   jobs_are =
       let linked = is.steady.formed.linked.jobs in
       let f : ℕ → Work = λ k. record { program = j.program; fuel = j.fuel; root = k; cancelled = false; fault = None; retired = false } in
       let work : unopened.work ≡ w = ap f number in
-      let before : AreJobs s1 (with_job s is.assigned w c linked) a.retired (a.jobs ++ unopened ∷ []) = AreJobs-job s is.assigned w c linked a.retired a.jobs is.jobs unopened work refl refl refl refl refl room many in
+      let before : AreJobs s1 (with_job s is.assigned w c linked) (a.jobs ++ unopened ∷ []) = AreJobs-job s is.assigned w c linked a.jobs is.jobs unopened its_job work refl refl refl refl refl room in
       let below : length a.jobs < length (a.jobs ++ unopened ∷ []) = omega (arith, length_push a.jobs unopened) in
-      let after = AreJobs-pushed s.rows r precede precede' is.places s1 refl (with_job s is.assigned w c linked) at (λ k. refl) a.retired (length a.jobs) (a.jobs ++ unopened ∷ []) unopened (ap (λ k. k + 1) many) below opened none before in
+      let after = AreJobs-pushed s.rows r precede precede' is.places s1 refl (with_job s is.assigned w c linked) at (λ k. refl) (length a.jobs) (a.jobs ++ unopened ∷ []) unopened (λ d. sym its_job ∙ sym (ap (λ (x : CurrentJob). x.number) (get_or_push a.jobs unopened d (length a.jobs) refl))) below opened none before in
       let last : get_or (a.jobs ++ unopened ∷ []) (length a.jobs) unopened ≡ unopened = get_or_push a.jobs unopened unopened (length a.jobs) refl in
       let set : slice_set (a.jobs ++ unopened ∷ []) (length a.jobs) (new_current a j c 1) ≡ a.jobs ++ new_current a j c 1 ∷ [] = set_at a.jobs unopened [] (new_current a j c 1) (length a.jobs) refl in
-      subst (AreJobs (add_job s j p) at a.retired) (ap (λ x. slice_set (a.jobs ++ unopened ∷ []) (length a.jobs) (with_open x)) last ∙ set) after
+      subst (AreJobs (add_job s j p) at) (ap (λ x. slice_set (a.jobs ++ unopened ∷ []) (length a.jobs) (with_open x)) last ∙ set) after
 
   pub begun_holds : (pool : Ready) (nests : List (List Nested)) → AreNests rows' is.places a.config.slots nests →
       pool ≡ record { isolation = a.config.isolation; limit = a.config.rows; slots = a.config.slots; rows = map (waiting_of rows' is.places) (waiting rows') } →
@@ -155,6 +151,7 @@ module _ (a : Held) (s : State) (is : Holds a s) (place : ℕ) (placed : is.plac
         places = is.places;
         assigned = at;
         made = ap (λ k. k + 1) is.made ∙ sym (length_push s.rows r);
+        made_jobs = its_job ∙ sym (length_push s.jobs w);
         table = rows_are;
         free = free_are;
         nests = are_nests;

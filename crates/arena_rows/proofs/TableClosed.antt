@@ -1,5 +1,5 @@
 -- The table, the free places, the tags and the jobs after a row has ended.
-use Rattle.std.proofs.Common.{◌≡◌, ◌≢◌, ℕ, zero, suc, ◌+◌, ◌-◌, ◌==◌, ◌<◌, ◌≤◌, ℤ, List, [], ◌∷◌, ◌++◌, length, Option, Some, None, Bool, true, false, not, refl, sym, ap, ◌∙◌, arith, inl, inr, get_or, map, length-set}
+use Rattle.std.proofs.Common.{◌≡◌, ◌≢◌, ℕ, zero, suc, ◌+◌, ◌-◌, ◌==◌, ◌<◌, ◌≤◌, ℤ, List, [], ◌∷◌, ◌++◌, length, Option, Some, None, Bool, true, false, not, refl, sym, ap, ◌∙◌, arith, inl, inr, get_or, map, length-set, subst}
 use Rattle.std.specs.Prelude.{filter, slice_index_or, slice_set, count_by, is_some}
 use Rattle.std.specs.List.{enumerate_from}
 use Rattle.std.specs.Option.{option_map}
@@ -9,18 +9,20 @@ use Rattle.region_tag.specs.declared.regions.Tagged.{Tagged}
 use Rattle.ready_pool.specs.Ready as ready
 use Rattle.tenant_model.specs.declared.rows.Row.{Row}
 use Rattle.tenant_model.specs.declared.works.Work.{Work}
-use Rattle.tenant_model.specs.State.{State, row, with_at_number}
+use Rattle.tenant_model.specs.State.{State, row, with_at_number, job}
 use Rattle.tenant_model.specs.Walks.{NumberedRow, is_open, is_unstarted, value_in}
 use Rattle.tenant_model.proofs.Changed.{row-get_or, with_at_number-from}
 use Rattle.tenant_model.proofs.Tended.{unstarted_open}
 use Rattle.tenant_model.proofs.Within.{either_way}
 use Rattle.arena_rows.specs.declared.rows.OpenRow.{OpenRow}
 use Rattle.arena_rows.specs.declared.rows.CurrentJob.{CurrentJob}
-use Rattle.arena_rows.specs.Represents.{Places, id_of, at_place, tagged_of, waiting, waiting_of, Stands, AreRows, AreFree, AreTagged, Assigned, IsJob, AreJobs, open_of}
+use Rattle.arena_rows.specs.Represents.{Places, id_of, at_place, tagged_of, waiting, waiting_of, Stands, AreRows, AreFree, AreTagged, Assigned, IsJob, AreJobs, open_of, IsKept}
 use Rattle.arena_rows.proofs.FreePlaces.{one_freed}
 use Rattle.arena_rows.proofs.Closed.{row_old, tag_same, around_same, still, open_fewer, open_of_fewer, open_of_other}
 use Rattle.arena_rows.proofs.Picked.{filter-map, filter-same}
 use Rattle.arena_rows.proofs.Started.{at_same, at_other, some_is, some_none, option-same, map-same, same_id, waits, waiting-with}
+use Rattle.arena_rows.proofs.JobPlaces.{numbers-apart, rise-set, number-set, has-set}
+use Rattle.arena_rows.specs.Held.{NumbersRise}
 
 -- the table before the entry is taken out: the other rows in it are those that stay open
 pub record IsParted (rows rows' : List Row) (places : Places) (n : ℕ) (e : OpenRow) (table table1 : List (Option OpenRow)) : Type 0 where
@@ -126,7 +128,7 @@ module _ (rows : List Row) (places : Places) (n : ℕ) (r : Row) (from : 1 ≤ n
       sym (ap (map (waiting_of rows' places)) (waiting-with rows n r from to never_waits) ∙ map-same (waiting_of rows' places) (waiting_of rows places) (filter (is_other n) (waiting rows)) waiting_same)
 
   -- The jobs, with one open row less of the row's.
-  module _ (s : State) (here : s.rows ≡ rows) (at : Assigned) (retired i : ℕ) (jobs : List CurrentJob) (d : CurrentJob) (its_job : (row rows n).job ≡ retired + i + 1) (below : i < length jobs) (v : ℤ)
+  module _ (s : State) (here : s.rows ≡ rows) (at : Assigned) (i : ℕ) (jobs : List CurrentJob) (d : CurrentJob) (its_job : (c : CurrentJob) → (row rows n).job ≡ (get_or jobs i c).number) (below : i < length jobs) (v : ℤ)
       (value : v ≡ value_in (row rows' (get_or jobs i d).work.root).phase) (roots : (k : ℕ) (c : CurrentJob) → k < length jobs → k ≢ i → (get_or jobs k c).work.root ≢ n) where
     abbrev it : CurrentJob
     it = get_or jobs i d
@@ -134,19 +136,27 @@ module _ (rows : List Row) (places : Places) (n : ℕ) (r : Row) (from : 1 ≤ n
     abbrev pub it' : CurrentJob
     it' = record it { value = v; open_rows = it.open_rows - 1 }
 
-    same_works : map (λ (j : CurrentJob). j.work) (slice_set jobs i it') ≡ map (λ (j : CurrentJob). j.work) jobs
-    same_works =
-        let work : CurrentJob → Work = λ j. j.work in
-        map-set work jobs i it' ∙ ap (slice_set (map work jobs) i) (sym (get_or-map work jobs i d (work d) below)) ∙ set-get_or (map work jobs) i (work d)
+    same_it : (c : CurrentJob) → it ≡ get_or jobs i c
+    same_it c = get_or_default jobs i d c below
 
-    job_at : (k : ℕ) (c : CurrentJob) → k < length jobs → IsJob rows at (retired + k + 1) (get_or jobs k c) → IsJob rows' at (retired + k + 1) (get_or (slice_set jobs i it') k c)
-    job_at k c within is = elim (cases_eq k i) [
+    same_number : (c : CurrentJob) → it'.number ≡ (get_or jobs i c).number
+    same_number c = ap (λ (x : CurrentJob). x.number) (same_it c)
+
+    same_work : (k : ℕ) (c : CurrentJob) → (get_or (slice_set jobs i it') k c).work ≡ (get_or jobs k c).work
+    same_work k c = elim (cases_eq k i) [
+      | inl same ↦ ap (λ m. (get_or (slice_set jobs i it') m c).work) same ∙ ap (λ (x : CurrentJob). x.work) (get_or-set_same jobs i it' c below) ∙ ap (λ (x : CurrentJob). x.work) (same_it c) ∙ ap (λ m. (get_or jobs m c).work) (sym same)
+      | inr other ↦ ap (λ (x : CurrentJob). x.work) (get_or-set_other jobs i k it' c other)
+    ]
+
+    job_at : (k : ℕ) (c : CurrentJob) → k < length jobs → NumbersRise jobs → IsJob rows at (get_or jobs k c).number (get_or jobs k c) → IsJob rows' at (get_or jobs k c).number (get_or (slice_set jobs i it') k c)
+    job_at k c within rise is = elim (cases_eq k i) [
       | inl same ↦
           let item : get_or (slice_set jobs i it') k c ≡ it' = ap (λ m. get_or (slice_set jobs i it') m c) same ∙ get_or-set_same jobs i it' c below in
           let before : get_or jobs k c ≡ it = ap (λ m. get_or jobs m c) same ∙ get_or_default jobs i c d below in
-          let was : IsJob rows at (retired + k + 1) it = rw before at is in
-          let number : (row rows n).job ≡ retired + k + 1 = its_job ∙ omega (arith, same) in
-          let fewer : open_of rows' (retired + k + 1) + 1 ≡ open_of rows (retired + k + 1) = rw number at (open_of_fewer rows n r from to kind same_job marks opened closed) in
+          let j = (get_or jobs k c).number in
+          let was : IsJob rows at j it = subst (IsJob rows at j) before is in
+          let number : (row rows n).job ≡ j = its_job c ∙ ap (λ m. (get_or jobs m c).number) (sym same) in
+          let fewer : open_of rows' j + 1 ≡ open_of rows j = rw number at (open_of_fewer rows n r from to kind same_job marks opened closed) in
           rw item (record {
             current = was.current;
             value = value;
@@ -155,29 +165,36 @@ module _ (rows : List Row) (places : Places) (n : ℕ) (r : Row) (from : 1 ≤ n
           })
       | inr other ↦
           let item : get_or (slice_set jobs i it') k c ≡ get_or jobs k c = get_or-set_other jobs i k it' c other in
-          let number : (row rows n).job ≢ retired + k + 1 = λ same. other (omega (arith, same, its_job)) in
+          let j = (get_or jobs k c).number in
+          let number : (row rows n).job ≢ j = λ own. numbers-apart jobs k i c rise within below other (sym own ∙ its_job c) in
           rw item (record {
             current = is.current;
             value = is.value ∙ sym (ap (λ (q : Row). value_in q.phase) (old (get_or jobs k c).work.root (roots k c within other)));
-            opened = is.opened ∙ sym (open_of_other rows n r from to kind same_job marks opened closed (retired + k + 1) number);
+            opened = is.opened ∙ sym (open_of_other rows n r from to kind same_job marks opened closed j number);
             context = is.context;
           })
     ]
 
-    pub AreJobs-closed : AreJobs s at retired jobs → AreJobs (record s { rows = rows' }) at retired (slice_set jobs i it')
+    pub AreJobs-closed : AreJobs s at jobs → AreJobs (record s { rows = rows' }) at (slice_set jobs i it')
     AreJobs-closed are = record {
-      past = are.past;
-      many = are.many;
-      gone = are.gone;
-      all = are.all ∙ ap (λ ws. are.past ++ ws) (sym same_works);
+      order = rise-set jobs i it' below same_number are.order;
+      there = λ k c within.
+          let number = number-set jobs i it' below same_number k c in
+          let its = are.there k c (omega (arith, within, length-set jobs i it')) in
+          (omega (arith, number, its), omega (arith, number, its));
+      works = λ k c within. ap (job s.jobs) (number-set jobs i it' below same_number k c) ∙ are.works k c (omega (arith, within, length-set jobs i it')) ∙ sym (same_work k c);
+      all = λ j kept to. has-set jobs i it' below same_number j (are.all j kept to);
+      many = are.many ∙ sym (length-set jobs i it');
       each = λ k c within.
           let low : k < length jobs = omega (arith, within, length-set jobs i it') in
-          let was : IsJob rows at (retired + k + 1) (get_or jobs k c) = rw here at (are.each k c low) in
-          job_at k c low was;
+          let j = (get_or jobs k c).number in
+          let was : IsJob rows at j (get_or jobs k c) = rw here at (are.each k c low) in
+          let same : j ≡ (get_or (slice_set jobs i it') k c).number = sym (number-set jobs i it' below same_number k c) in
+          subst (λ m. IsJob rows' at m (get_or (slice_set jobs i it') k c)) same (job_at k c low are.order was);
       later = λ m opened_m.
           let it_m = stays m opened_m in
           let then : is_open (row s.rows m).phase ≡ true = rw here it_m.1 in
-          let was : retired < (row rows m).job = rw here at (are.later m then) in
-          omega (arith, was, ap (λ (q : Row). q.job) (old m it_m.0));
+          let was : IsKept s.jobs (row rows m).job = rw here at (are.later m then) in
+          subst (IsKept s.jobs) (sym (ap (λ (q : Row). q.job) (old m it_m.0))) was;
       few = omega (arith, are.few, length-set jobs i it');
     }

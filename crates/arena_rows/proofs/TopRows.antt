@@ -1,6 +1,5 @@
 -- The topmost row of a slot among what is held.
 use Rattle.std.proofs.Common.{◌≡◌, ℕ, ◌+◌, ◌-◌, ◌<◌, ◌≤◌, length, Option, Some, None, true, refl, sym, ap, ◌∙◌, arith, map}
-use Rattle.std.proofs.lemmas.List.{length-append, length-map}
 use Rattle.nest_stack.specs.Nest as nest
 use Rattle.nest_stack.specs.Nest.{stack}
 use Rattle.region_tag.specs.declared.row_id.RowId.{RowId}
@@ -15,12 +14,10 @@ use Rattle.nest_stack.specs.declared.stack.Nested.{Nested}
 use Rattle.arena_rows.specs.Represents.{id_of, nested_of, Stands, Holds, HasTop}
 use Rattle.arena_rows.proofs.Started.{some_is, some_none}
 use Rattle.arena_rows.proofs.Tops.{height_is, top_of_stack}
-use Rattle.arena_rows.proofs.JobChanged.{work_of}
+use Rattle.arena_rows.specs.HeldJobs.{IsCurrent}
+use Rattle.arena_rows.proofs.JobPlaces.{current_told}
 
 module _ (a : Held) (s : State) (is : Holds a s) where
-  pub job_count : length s.jobs ≡ a.retired + length a.jobs
-  job_count = ap length is.jobs.all ∙ length-append is.jobs.past (map work_of a.jobs) ∙ ap (λ n. n + length (map work_of a.jobs)) is.jobs.many ∙ ap (λ n. a.retired + n) (length-map a.jobs work_of)
-
   module _ (slot n : ℕ) (on_top : top s.rows slot ≡ Some n) where
     live : (row s.rows n).phase ≡ Live slot (height s.rows slot)
     live = (top_is s.rows slot n on_top).2
@@ -49,12 +46,9 @@ module _ (a : Held) (s : State) (is : Holds a s) where
     pub top_nested : nest.top (stack a.nests slot) ≡ Some (nested_of s.rows is.places n)
     top_nested = top_of_stack s.rows is.places a.config.slots a.nests is.steady.formed.stacked is.nests slot ∙ ap (option_map (nested_of s.rows is.places)) on_top
 
-    -- its job is not retired
-    pub top_job : (a.retired < (row s.rows n).job) × ((row s.rows n).job ≤ length s.jobs) × ((row s.rows n).job - a.retired ≤ length a.jobs)
-    top_job =
-        let above = is.jobs.later n top_open in
-        let there = is.steady.formed.linked.jobs n top_there.0 top_there.1 in
-        (above, there.1, omega (arith, there, job_count))
+    -- its job is held
+    pub top_job : IsCurrent a.jobs (row s.rows n).job
+    top_job = current_told a s is (row s.rows n).job (is.jobs.later n top_open) (is.steady.formed.linked.jobs n top_there.0 top_there.1).1
 
 pub top_within : (a : Held) (slot : ℕ) → HasTop a slot → slot < length a.nests
 top_within a slot h = omega (arith, on_slot a h.0 h.2 slot h.1 h.3, h.2.nests.long)

@@ -1,5 +1,6 @@
 -- What an arena holds.
-use Rattle.std.specs.Prelude.{ℕ, ◌<◌, ◌≤◌, List, Option, count_by, is_some, length, vec_capacity}
+use Rattle.std.specs.Prelude.{ℕ, ◌≡◌, ◌<◌, ◌≤◌, List, Option, count_by, get_or, is_some, length, nat_lt, vec_capacity}
+use Rattle.std.specs.List.{prefix_len}
 use Rattle.job_language.specs.declared.tenants.Tenant.{Tenant}
 use Rattle.cancel_context.specs.Forest.{Forest}
 use Rattle.nest_stack.specs.Nest.{Stacks}
@@ -17,7 +18,7 @@ pub record Held : Type 0 where
   pub table : List (Option OpenRow)
   pub made : ℕ
   pub jobs : List CurrentJob
-  pub retired : ℕ
+  pub made_jobs : ℕ
   pub cells : cells.Table
   pub entries : ℕ
   pub epoch : ℕ
@@ -32,7 +33,7 @@ shown p = record {
   table = p.rows.table;
   made = p.made;
   jobs = p.jobs.items;
-  retired = p.retired;
+  made_jobs = p.made_jobs;
   cells = p.cells;
   entries = p.entries;
   epoch = p.epoch;
@@ -45,6 +46,14 @@ shown p = record {
 -- A job more needs no memory.
 abbrev pub IsRoomy : Inside → Type 0
 IsRoomy p = MAX_JOBS ≤ vec_capacity p.jobs
+
+-- how many jobs stand before that of a number, where the numbers rise
+abbrev pub place_of : List CurrentJob → (job : ℕ) → ℕ
+place_of jobs j = prefix_len (λ (it : CurrentJob). nat_lt it.number j) jobs
+
+-- The jobs stand in the order of their numbers.
+abbrev pub NumbersRise : List CurrentJob → Type 0
+NumbersRise jobs = (i k : ℕ) (d : CurrentJob) → i < k → k < length jobs → (get_or jobs i d).number < (get_or jobs k d).number
 
 -- Some place is free.
 abbrev pub HasFreePlace : Held → Type 0

@@ -1,5 +1,5 @@
 -- What the changes of an arena's parts do to what they hold.
-use Rattle.std.specs.Prelude.{ℕ, pos, ◌≡◌, ◌≢◌, ◌<◌, ◌+◌, ◌-◌, All, Bool, true, false, [], ◌∷◌, ◌++◌, Option, Some, None, slice_index_or, slice_set, replicate, length, option_and_then}
+use Rattle.std.specs.Prelude.{ℕ, pos, ◌≡◌, ◌≢◌, ◌<◌, ◌+◌, All, Bool, true, false, [], ◌∷◌, ◌++◌, Option, Some, None, slice_index_or, slice_set, replicate, length, option_and_then}
 use Rattle.job_step.specs.declared.frames.Frame.{Frame}
 use Rattle.job_step.specs.Frame.{new_frame}
 use Rattle.job_language.specs.declared.jobs.Job.{Job}
@@ -25,7 +25,7 @@ use Rattle.arena_rows.specs.declared.rows.Source.{Source}
 use Rattle.arena_rows.specs.declared.rows.Source.TheVariants.{Root, Posted, Spawned, Region}
 use Rattle.arena_rows.specs.declared.rows.Stage.TheVariants as stage
 use Rattle.thread_cells.specs.Cells as cells
-use Rattle.arena_rows.specs.Held.{Held}
+use Rattle.arena_rows.specs.Held.{Held, place_of}
 
 -- a waiting row goes live on top of a slot
 abbrev pub started : Held → ℕ → RowId → OpenRow → Frame → Held
@@ -53,9 +53,9 @@ with_cells_held a t = record a { cells = t }
 abbrev pub next_id : Held → (place : ℕ) → RowId
 next_id a p = record { number = a.made + 1; place = p }
 
--- where a job that is not retired stands among those that are not
+-- where a job stands among those that are held
 abbrev pub index_of : Held → (job : ℕ) → ℕ
-index_of a j = j - a.retired - 1
+index_of a j = place_of a.jobs j
 
 -- the tag of what makes a row, and whether the row is a region
 abbrev pub outer_of : Table → Source → Option RowId
@@ -114,7 +114,7 @@ job_counted a j d = record a { jobs = slice_set a.jobs (index_of a j) (with_open
 
 -- a job that is not there
 abbrev pub no_job : CurrentJob
-no_job = record { work = job [] 0; value = pos 0; open_rows = 0; context = 0 }
+no_job = record { number = 0; work = job [] 0; value = pos 0; open_rows = 0; context = 0 }
 
 -- a job's work changed
 abbrev pub with_work : (Work → Work) → CurrentJob → CurrentJob
@@ -170,7 +170,7 @@ pub record CanWait (a : Held) (id : RowId) (made_on : Option ℕ) : Type 0 where
 
 -- the number of the next job
 abbrev pub next_job : Held → ℕ
-next_job a = a.retired + length a.jobs + 1
+next_job a = a.made_jobs + 1
 
 -- the frame of a job's root before its first instruction
 abbrev pub root_frame : Job → Frame
@@ -178,7 +178,7 @@ root_frame j = new_frame 0 (slice_index_or j.args 0 (pos 0)) (slice_index_or j.a
 
 -- a job more, whose root is the next row, with `opened` open rows
 abbrev pub new_current : Held → Job → (context opened : ℕ) → CurrentJob
-new_current a j c opened = record { work = record { program = j.program; fuel = j.fuel; root = a.made + 1; cancelled = false; fault = None; retired = false }; value = pos 0; open_rows = opened; context = c }
+new_current a j c opened = record { number = next_job a; work = record { program = j.program; fuel = j.fuel; root = a.made + 1; cancelled = false; fault = None; retired = false }; value = pos 0; open_rows = opened; context = c }
 
 -- the entry of a root
 abbrev pub root_entry : Held → (stage : Stage) → (context : ℕ) → OpenRow
@@ -186,7 +186,7 @@ root_entry a stage c = new_entry (a.made + 1) Root (next_job a) None stage c
 
 -- a job more, and its root in the table, at a place
 abbrev pub job_begun : Held → (place : ℕ) → Job → (stage : Stage) → (context : ℕ) → Held
-job_begun a p j stage c = entered (record a { contexts = with_bound a.contexts c None; jobs = a.jobs ++ new_current a j c 1 ∷ [] }) p (root_entry a stage c)
+job_begun a p j stage c = entered (record a { contexts = with_bound a.contexts c None; jobs = a.jobs ++ new_current a j c 1 ∷ []; made_jobs = next_job a }) p (root_entry a stage c)
 
 -- a job more, with a context that nothing held, and its root at a place
 pub record IsBegun (a b : Held) (place : ℕ) (j : Job) (stage : Stage) : Type 0 where

@@ -28,7 +28,8 @@ use Rattle.arena_rows.specs.declared.rows.Source.{Source}
 use Rattle.arena_rows.specs.declared.rows.Source.TheVariants as source
 use Rattle.arena_rows.specs.declared.rows.Stage.{Stage}
 use Rattle.arena_rows.specs.declared.rows.Stage.TheVariants as stage
-use Rattle.arena_rows.specs.Held.{Held}
+use Rattle.arena_rows.specs.Held.{Held, NumbersRise}
+use Rattle.tenant_model.specs.Asks.{current_jobs}
 
 -- Where each row stands while it is open, by its number. Ids of rows that have ended name their old places.
 abbrev pub Places : Type 0
@@ -157,12 +158,17 @@ abbrev pub IsGroupContext : State → Forest → Assigned → (n g : ℕ) → Op
 IsGroupContext s forest at n g None = (is_used s.rows n g ≡ false) × ((mark s.rows n g).cancelled ≡ false)
 IsGroupContext s forest at n g (Some c) = (at.owner c ≡ OfGroup n g) × (binding forest c ≡ Some (bound (at.of_row n) (mark s.rows n g).cancelled))
 
+-- A job is neither retired nor released.
+pub record IsKept (jobs : List Work) (j : ℕ) : Type 0 where
+  pub from : 1 ≤ j
+  pub kept : (job jobs j).retired ≡ false
+
 -- a context that is held is what its owner holds
-abbrev pub IsOwned : State → (retired : ℕ) → Assigned → (c : ℕ) → Owner → Type 0
-IsOwned s retired at c Nobody = ⊥
-IsOwned s retired at c (OfJob j) = (at.of_job j ≡ c) × (retired < j) × (j ≤ length s.jobs)
-IsOwned s retired at c (OfRow n) = (at.of_row n ≡ c) × (is_open (row s.rows n).phase ≡ true) × ((m : ℕ) × (g : ℕ) × ((row s.rows n).kind ≡ kind.Spawned m g))
-IsOwned s retired at c (OfGroup n g) = (at.of_group n g ≡ Some c) × (is_open (row s.rows n).phase ≡ true) × (g < GROUPS)
+abbrev pub IsOwned : State → Assigned → (c : ℕ) → Owner → Type 0
+IsOwned s at c Nobody = ⊥
+IsOwned s at c (OfJob j) = (at.of_job j ≡ c) × IsKept s.jobs j × (j ≤ length s.jobs)
+IsOwned s at c (OfRow n) = (at.of_row n ≡ c) × (is_open (row s.rows n).phase ≡ true) × ((m : ℕ) × (g : ℕ) × ((row s.rows n).kind ≡ kind.Spawned m g))
+IsOwned s at c (OfGroup n g) = (at.of_group n g ≡ Some c) × (is_open (row s.rows n).phase ≡ true) × (g < GROUPS)
 
 -- how many contexts an entry holds
 abbrev pub one_if : Bool → ℕ
@@ -176,14 +182,14 @@ abbrev pub held_by : Option OpenRow → ℕ
 held_by None = 0
 held_by (Some e) = one_if (is_spawned e.source) + count_by (λ (c : Option ℕ). is_some c) e.group_contexts
 
--- The contexts of rows, of their groups, and of the jobs that are not retired, which are `current`.
-pub record AreContexts (s : State) (retired current : ℕ) (table : List (Option OpenRow)) (forest : Forest) (at : Assigned) : Type 0 where
-  pub of_jobs : (j : ℕ) → retired < j → j ≤ length s.jobs → (at.owner (at.of_job j) ≡ OfJob j)
+-- The contexts of rows, of their groups, and of the jobs that are kept, which are `current`.
+pub record AreContexts (s : State) (current : ℕ) (table : List (Option OpenRow)) (forest : Forest) (at : Assigned) : Type 0 where
+  pub of_jobs : (j : ℕ) → IsKept s.jobs j → j ≤ length s.jobs → (at.owner (at.of_job j) ≡ OfJob j)
       × (binding forest (at.of_job j) ≡ Some (record { parent = None; is_asked = is_job_cancelled (job s.jobs j); is_orphan = false }))
   pub of_rows : (n : ℕ) → is_open (row s.rows n).phase ≡ true → IsRowContext s forest at n (row s.rows n).kind
   pub of_groups : (n g : ℕ) → is_open (row s.rows n).phase ≡ true → g < GROUPS → IsGroupContext s forest at n g (at.of_group n g)
   pub bare : (n g : ℕ) → is_unstarted (row s.rows n).phase ≡ true → at.of_group n g ≡ None
-  pub owned : (c : ℕ) → IsHeld forest c → IsOwned s retired at c (at.owner c)
+  pub owned : (c : ℕ) → IsHeld forest c → IsOwned s at c (at.owner c)
   pub in_table : (p : ℕ) (e : OpenRow) → at_place table p ≡ Some e → (e.context ≡ at.of_row e.number) × ((g : ℕ) → g < GROUPS → slice_index_or e.group_contexts g None ≡ at.of_group e.number g)
   pub count : held_count forest ≡ sum_by held_by table + current
 
@@ -191,20 +197,28 @@ pub record AreContexts (s : State) (retired current : ℕ) (table : List (Option
 abbrev pub open_of : List Row → ℕ → ℕ
 open_of rows j = count_by (λ (r : Row). (r.job == j) && is_open r.phase) rows
 
--- a job that is not retired, of that number
+-- a job that is kept, of that number
 pub record IsJob (rows : List Row) (at : Assigned) (j : ℕ) (it : CurrentJob) : Type 0 where
   pub current : it.work.retired ≡ false
   pub value : it.value ≡ value_in (row rows it.work.root).phase
   pub opened : it.open_rows ≡ open_of rows j
   pub context : it.context ≡ at.of_job j
 
-pub record AreJobs (s : State) (at : Assigned) (retired : ℕ) (jobs : List CurrentJob) : Type 0 where
-  pub past : List Work
-  pub many : length past ≡ retired
-  pub gone : All (λ (w : Work). w.retired ≡ true) past
-  pub all : s.jobs ≡ past ++ map (λ (j : CurrentJob). j.work) jobs
-  pub each : (i : ℕ) (d : CurrentJob) → i < length jobs → IsJob s.rows at (retired + i + 1) (get_or jobs i d)
-  pub later : (n : ℕ) → is_open (row s.rows n).phase ≡ true → retired < (row s.rows n).job
+-- A job of that number is among those that are held.
+pub record HasJob (jobs : List CurrentJob) (j : ℕ) : Type 0 where
+  pub place : ℕ
+  pub within : place < length jobs
+  pub number : (d : CurrentJob) → (get_or jobs place d).number ≡ j
+
+-- The jobs that are held are those that are kept.
+pub record AreJobs (s : State) (at : Assigned) (jobs : List CurrentJob) : Type 0 where
+  pub order : NumbersRise jobs
+  pub there : (i : ℕ) (d : CurrentJob) → i < length jobs → (1 ≤ (get_or jobs i d).number) × ((get_or jobs i d).number ≤ length s.jobs)
+  pub works : (i : ℕ) (d : CurrentJob) → i < length jobs → job s.jobs (get_or jobs i d).number ≡ (get_or jobs i d).work
+  pub each : (i : ℕ) (d : CurrentJob) → i < length jobs → IsJob s.rows at (get_or jobs i d).number (get_or jobs i d)
+  pub all : (j : ℕ) → IsKept s.jobs j → j ≤ length s.jobs → HasJob jobs j
+  pub later : (n : ℕ) → is_open (row s.rows n).phase ≡ true → IsKept s.jobs (row s.rows n).job
+  pub many : current_jobs s ≡ length jobs
   pub few : length jobs ≤ MAX_JOBS
 
 -- What is held stands for the state.
@@ -213,14 +227,15 @@ pub record Holds (a : Held) (s : State) : Type 0 where
   pub places : Places
   pub assigned : Assigned
   pub made : a.made ≡ length s.rows
+  pub made_jobs : a.made_jobs ≡ length s.jobs
   pub table : AreRows s.rows places a.table
   pub free : AreFree s.rows a.config.rows a.table
   pub nests : AreNests s.rows places a.config.slots a.nests
   pub tags : AreTagged s.rows places a.table a.regions
   pub waiting : a.pool ≡ record { isolation = a.config.isolation; limit = a.config.rows; slots = a.config.slots; rows = map (waiting_of s.rows places) (waiting s.rows) }
-  pub contexts : AreContexts s a.retired (length a.jobs) a.table a.contexts assigned
+  pub contexts : AreContexts s (length a.jobs) a.table a.contexts assigned
   pub room : length a.contexts ≡ BASE_CONTEXTS + CONTEXTS_PER_ROW * a.config.rows
-  pub jobs : AreJobs s assigned a.retired a.jobs
+  pub jobs : AreJobs s assigned a.jobs
   pub cells : a.cells ≡ s.cells
   pub entries : a.entries ≡ s.entries
   pub epoch : a.epoch ≡ s.epoch

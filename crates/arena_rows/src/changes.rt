@@ -1,5 +1,5 @@
 // Changes of an arena's parts, one at a time.
-ghost use Rattle.std.specs.Prelude.{◌≡◌, ◌<◌, ◌≤◌, ◌+◌, ◌-◌, ◌^◌, ℕ, length, slice_index_or, Some, None};
+ghost use Rattle.std.specs.Prelude.{◌≡◌, ◌<◌, ◌+◌, ◌^◌, ℕ, length, slice_index_or, Some, None};
 ghost use Rattle.std.specs.Option.{ForSome};
 ghost use Rattle.task_group.specs.Groups.{group};
 ghost use Rattle.arena_rows.specs.declared.rows.CurrentJob.{CurrentJob};
@@ -11,9 +11,10 @@ ghost use Rattle.arena_rows.specs.declared.rows.Stage.TheVariants as stage;
 ghost use Rattle.arena_rows.specs.Held.{HasFreePlace};
 ghost use Rattle.arena_rows.specs.Represents.{at_place, IsFree};
 ghost use Rattle.arena_rows.specs.HeldChanges.{started, counted, framed, next_id, index_of, outer_of, entered, job_counted, new_entry, with_entry, with_member, put, region_pushed, CanWait};
-ghost use Rattle.arena_rows.specs.HeldJobs.{held_job};
+ghost use Rattle.arena_rows.specs.HeldJobs.{held_job, IsCurrent};
 ghost use Rattle.region_tag.specs.Region.{region_of};
 
+use crate::job_places::place_of;
 use crate::parts::Parts;
 use crate::rows::{Source, Stage};
 use cancel_context::ContextId;
@@ -61,14 +62,13 @@ impl Parts {
         self.nests.set_top(usize::from(slot), frame);
     }
 
-    /// Where a job that is not retired stands among those that are not.
+    /// Where a job stands among those that are held.
     pub(crate) fn index_of(&self, job: u64) -> usize
-        requires above { self.now.retired < job }
-        requires below { job - self.now.retired ≤ length self.now.jobs }
+        requires { IsCurrent self.now.jobs job }
         ensures value { result ≡ index_of self.now job }
         ensures within { result < length self.now.jobs }
     {
-        (job - self.retired - 1) as usize
+        place_of(&self.jobs, job)
     }
 
     /// Takes the next row into the table, and among the regions.
@@ -109,8 +109,7 @@ impl Parts {
 
     /// Counts one more open row of a job.
     pub(crate) fn count_row(&mut self, job: u64)
-        requires above { self.old.retired < job }
-        requires below { job - self.old.retired ≤ length self.old.jobs }
+        requires current { IsCurrent self.old.jobs job }
         requires few { (d : CurrentJob)
             → (held_job self.old job d).open_rows < length self.old.table }
         ensures { (d : CurrentJob) → self.new ≡ job_counted self.old job d }

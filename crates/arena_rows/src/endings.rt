@@ -1,5 +1,5 @@
 // Rows that end: what they held is given back.
-ghost use Rattle.std.specs.Prelude.{◌≡◌, ◌<◌, ◌≤◌, ◌-◌, ℕ, length, slice_set, Some, None, IsSome};
+ghost use Rattle.std.specs.Prelude.{◌≡◌, ◌<◌, ℕ, length, slice_set, Some, None, IsSome};
 ghost use Rattle.std.specs.Option.{ForSome};
 ghost use Rattle.task_group.specs.Groups.{group};
 ghost use Rattle.region_tag.specs.Region.{IsEntered};
@@ -9,7 +9,7 @@ ghost use Rattle.arena_rows.specs.declared.rows.CurrentJob.{CurrentJob};
 ghost use Rattle.arena_rows.specs.Represents.{at_place};
 ghost use Rattle.arena_rows.specs.HeldChanges.{index_of, with_entry};
 ghost use Rattle.arena_rows.specs.Endings.{Left, below, contexts_of, MayLeave, MayEnd, member_left, open_maker, parted, with_ended, CanEnd, HasEnded};
-ghost use Rattle.arena_rows.specs.HeldJobs.{held_job};
+ghost use Rattle.arena_rows.specs.HeldJobs.{held_job, IsCurrent};
 
 use crate::open_rows::OpenRows;
 use crate::parts::Parts;
@@ -104,8 +104,7 @@ impl Parts {
 
     /// Counts one open row less of a job, whose number it was, and notes the value if it was the root.
     fn count_out(&mut self, job: u64, number: u64, value: i64)
-        requires above { self.old.retired < job }
-        requires below { job - self.old.retired ≤ length self.old.jobs }
+        requires current { IsCurrent self.old.jobs job }
         requires some { (d : CurrentJob) → 0 < (held_job self.old job d).open_rows }
         ensures { (d : CurrentJob) → self.new ≡ record self.old {
           jobs = slice_set self.old.jobs (index_of self.old job)

@@ -39,7 +39,7 @@ impl Parts {
             rows: open,
             made: 0,
             jobs,
-            retired: 0,
+            made_jobs: 0,
             cells: Cells::new(),
             entries: 0,
             epoch: 0,

@@ -1,14 +1,15 @@
 // Changes of jobs: what they pay, their faults and their cancels.
-ghost use Rattle.std.specs.Prelude.{◌≡◌, ◌<◌, ◌≤◌, ◌-◌, ℕ, not, length, Some, IsSome};
+ghost use Rattle.std.specs.Prelude.{◌≡◌, ◌<◌, ℕ, not, length, Some, IsSome};
 ghost use Rattle.tenant_model.specs.State.{State, row};
 ghost use Rattle.tenant_model.specs.Changes.{on_job};
 ghost use Rattle.cancel_context.specs.Forest.{IsForest, IsHeld, held_count};
 ghost use Rattle.tenant_model.specs.Walks.{top};
 ghost use Rattle.tenant_model.specs.Advance.{is_poor, with_fuel_paid};
 ghost use Rattle.arena_rows.specs.declared.rows.CurrentJob.{CurrentJob};
-ghost use Rattle.arena_rows.specs.Represents.{at_place, IsRow, Holds, Rests, HasTop, HoldsSomehow};
+ghost use Rattle.arena_rows.specs.Represents.{at_place, IsRow, Holds, Rests, HasTop};
 ghost use Rattle.arena_rows.specs.HeldChanges.{job_changed, job_asked, with_fuel_left, with_fault, cancelled_work};
-ghost use Rattle.arena_rows.specs.HeldJobs.{held_job};
+ghost use Rattle.arena_rows.specs.HeldJobs.{held_job, IsCurrent};
+ghost use Rattle.arena_rows.specs.HeldReads.{HasKnown};
 
 use crate::parts::Parts;
 use crate::rows::OpenRow;
@@ -33,8 +34,7 @@ impl Parts {
         ensures entry { (s : State) (n : ℕ) (is : Holds self.now s) → top s.rows slot ≡ Some n
             → (at_place self.now.table (is.places n) ≡ Some result.now)
             × IsRow s.rows is.places n result.now }
-        ensures above { self.now.retired < result.now.job }
-        ensures below { result.now.job - self.now.retired ≤ length self.now.jobs }
+        ensures current { IsCurrent self.now.jobs result.now.job }
     {
         let Some(top) = self.top(slot) else {
             unreachable!();
@@ -44,8 +44,7 @@ impl Parts {
 
     /// How much fuel a job has left.
     fn fuel_of(&self, job: u64) -> u64
-        requires above { self.now.retired < job }
-        requires below { job - self.now.retired ≤ length self.now.jobs }
+        requires { IsCurrent self.now.jobs job }
         ensures { (d : CurrentJob) → result ≡ (held_job self.now job d).work.fuel }
     {
         let index = self.index_of(job);
@@ -54,8 +53,7 @@ impl Parts {
 
     /// Lets a job have that much fuel left.
     fn set_fuel(&mut self, job: u64, fuel: u64)
-        requires above { self.old.retired < job }
-        requires below { job - self.old.retired ≤ length self.old.jobs }
+        requires { IsCurrent self.old.jobs job }
         ensures { (d : CurrentJob) → self.new ≡ job_changed self.old job (with_fuel_left fuel) d }
     {
         let index = self.index_of(job);
@@ -77,8 +75,7 @@ impl Parts {
 
     /// Notes a fault of a job, unless it has one already.
     fn note_fault(&mut self, job: u64, fault: JobFault)
-        requires above { self.old.retired < job }
-        requires below { job - self.old.retired ≤ length self.old.jobs }
+        requires { IsCurrent self.old.jobs job }
         ensures { (d : CurrentJob) → self.new ≡ job_changed self.old job (with_fault fault) d }
     {
         let index = self.index_of(job);
@@ -88,8 +85,7 @@ impl Parts {
 
     /// Notes that a job was cancelled by request.
     fn note_cancel(&mut self, job: u64)
-        requires above { self.old.retired < job }
-        requires below { job - self.old.retired ≤ length self.old.jobs }
+        requires { IsCurrent self.old.jobs job }
         ensures { (d : CurrentJob) → self.new ≡ job_changed self.old job cancelled_work d }
     {
         let index = self.index_of(job);
@@ -98,8 +94,7 @@ impl Parts {
 
     /// Makes a cancel request on a job's context.
     fn ask_job(&mut self, job: u64)
-        requires above { self.old.retired < job }
-        requires below { job - self.old.retired ≤ length self.old.jobs }
+        requires current { IsCurrent self.old.jobs job }
         requires held { (d : CurrentJob)
             → IsHeld self.old.contexts (held_job self.old job d).context }
         ensures asked { (d : CurrentJob) → self.new ≡ job_asked self.old job d }
@@ -125,9 +120,7 @@ impl Parts {
 
     /// Cancels a job by request.
     pub fn cancel_job(&mut self, job: u64)
-        requires held { HoldsSomehow self.old }
-        requires above { self.old.retired < job }
-        requires below { job - self.old.retired ≤ length self.old.jobs }
+        requires { HasKnown self.old job }
         ensures { (s : State) → Holds self.old s → Holds self.new (on_job s job cancelled_work) }
     {
         self.ask_job(job);

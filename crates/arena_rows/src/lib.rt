@@ -9,6 +9,7 @@ mod finishing;
 mod founding;
 mod frames;
 mod isolated;
+mod job_places;
 mod jobs;
 mod limits;
 mod marks;

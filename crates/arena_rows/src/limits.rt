@@ -10,7 +10,7 @@ const _: () = prove!(
 
 const _: () = prove!(nest_stack::MAX_HEIGHT as u64 == MAX_HEIGHT);
 
-// A context for each job that is not retired, and for each open row one of its own and one for each
+// A context for each job that is held, and for each open row one of its own and one for each
 // of its groups.
 const _: () = prove!(
     cancel_context::BASE_CONTEXTS == MAX_JOBS

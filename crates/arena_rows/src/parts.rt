@@ -20,9 +20,10 @@ pub struct Parts {
     pub(crate) rows: OpenRows,
     /// How many rows were made.
     pub(crate) made: u64,
-    /// The jobs that are not retired, and how many are.
+    /// The jobs that are neither retired nor released, in the order of their numbers.
     pub(crate) jobs: Vec<CurrentJob>,
-    pub(crate) retired: u64,
+    /// How many jobs were made.
+    pub(crate) made_jobs: u64,
     pub(crate) cells: Cells,
     pub(crate) entries: usize,
     pub(crate) epoch: u64,
@@ -39,7 +40,7 @@ impl Drop for Parts {
             rows: _rows,
             made: _made,
             jobs: _jobs,
-            retired: _retired,
+            made_jobs: _made_jobs,
             cells: _cells,
             entries: _entries,
             epoch: _epoch,

@@ -1,5 +1,5 @@
 // Rows in no group and no region that wait to be started, for every state that the parts stand for.
-ghost use Rattle.std.specs.Prelude.{◌≡◌, ◌<◌, ◌≤◌, ◌-◌, ◌^◌, ℕ, length, Some};
+ghost use Rattle.std.specs.Prelude.{◌≡◌, ◌<◌, ◌^◌, ℕ, Some};
 ghost use Rattle.tenant_model.specs.State.{State};
 ghost use Rattle.tenant_model.specs.Walks.{top};
 ghost use Rattle.tenant_model.specs.Sound.{IsSteady};
@@ -7,7 +7,7 @@ ghost use Rattle.tenant_model.specs.declared.rows.Phase.TheVariants.{Unstarted};
 ghost use Rattle.arena_rows.specs.declared.rows.CurrentJob.{CurrentJob};
 ghost use Rattle.arena_rows.specs.Held.{HasFreePlace};
 ghost use Rattle.arena_rows.specs.Represents.{Holds, Rests, RestsSomehow, HasTop};
-ghost use Rattle.arena_rows.specs.HeldJobs.{held_job};
+ghost use Rattle.arena_rows.specs.HeldJobs.{held_job, IsCurrent};
 ghost use Rattle.arena_rows.specs.NewRows.{with_posted};
 
 use crate::parts::Parts;
@@ -18,8 +18,7 @@ use job_step::Frame;
 impl Parts {
     /// The context of a job.
     fn context_of(&self, job: u64) -> ContextId
-        requires above { self.now.retired < job }
-        requires below { job - self.now.retired ≤ length self.now.jobs }
+        requires { IsCurrent self.now.jobs job }
         ensures { (d : CurrentJob) → result ≡ (held_job self.now job d).context }
     {
         let index = self.index_of(job);

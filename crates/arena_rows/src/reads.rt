@@ -1,5 +1,5 @@
 // What a slot's topmost row sees of itself and of its groups, for every state that the parts stand for.
-ghost use Rattle.std.specs.Prelude.{◌≡◌, ◌<◌, ◌≤◌, ◌-◌, ◌||◌, ℕ, length, Some};
+ghost use Rattle.std.specs.Prelude.{◌≡◌, ◌||◌, ℕ, Some};
 ghost use Rattle.cancel_context.specs.Forest.{IsForest, IsHeld, is_cancelled};
 ghost use Rattle.tenant_model.specs.State.{State, row, job};
 ghost use Rattle.tenant_model.specs.Shared.{group_status, has_used_group};
@@ -7,7 +7,7 @@ ghost use Rattle.tenant_model.specs.Walks.{is_context_cancelled, is_job_cancelle
 ghost use Rattle.arena_rows.specs.declared.rows.CurrentJob.{CurrentJob};
 ghost use Rattle.arena_rows.specs.Represents.{Holds, HasTop};
 ghost use Rattle.arena_rows.specs.MarkedGroups.{HasEndedGroup};
-ghost use Rattle.arena_rows.specs.HeldJobs.{held_job};
+ghost use Rattle.arena_rows.specs.HeldJobs.{held_job, IsCurrent};
 
 use crate::parts::Parts;
 use cancel_context::ContextId;
@@ -30,8 +30,7 @@ impl Parts {
 
     /// What is known of a job.
     fn work_of(&self, job: u64) -> &Work
-        requires above { self.now.retired < job }
-        requires below { job - self.now.retired ≤ length self.now.jobs }
+        requires { IsCurrent self.now.jobs job }
         ensures { (d : CurrentJob) → result.now ≡ (held_job self.now job d).work }
     {
         let index = self.index_of(job);

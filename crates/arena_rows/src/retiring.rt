@@ -1,12 +1,13 @@
-// A tenant whose jobs retire, for every state that the parts stand for.
+// A tenant whose jobs retire or are released, for every state that the parts stand for.
 ghost use Rattle.std.specs.Prelude.{◌≡◌, ◌<◌, ◌+◌, length, map};
 ghost use Rattle.cancel_context.specs.Forest.{held_count};
 ghost use Rattle.tenant_model.specs.State.{State};
 ghost use Rattle.thread_cells.specs.Cells.{no_cells};
 ghost use Rattle.tenant_model.specs.Changes.{entry};
-ghost use Rattle.tenant_model.specs.Asks.{retired_work};
+ghost use Rattle.tenant_model.specs.Asks.{released, retired_work};
+ghost use Rattle.arena_rows.specs.declared.rows.CurrentJob.{CurrentJob};
 ghost use Rattle.arena_rows.specs.Represents.{Rests};
-ghost use Rattle.arena_rows.specs.Retiring.{HoldJobs, AreRetired, IsIdle};
+ghost use Rattle.arena_rows.specs.Retiring.{HoldJobs, AreRetired, IsIdle, HasOutcome, job_released};
 
 use crate::open_rows::OpenRows;
 use crate::parts::Parts;
@@ -20,7 +21,6 @@ impl Parts {
         ensures { AreRetired self.old self.new }
     {
         release_jobs(&mut self.rows, &self.jobs);
-        self.retired += self.jobs.len() as u64;
         self.jobs.clear();
         self.cells.clear();
         self.epoch += 1;
@@ -39,6 +39,28 @@ impl Parts {
             })) }
     {
         self.end_jobs();
+    }
+
+    /// Lets a job go that has an outcome, with its context, and counts an entry.
+    fn let_go(&mut self, job: u64)
+        requires ended { HasOutcome self.old job }
+        requires room { self.old.entries < self.old.config.steps }
+        ensures gone { (d : CurrentJob) → self.new ≡ job_released self.old job d }
+        ensures count { held_count self.new.contexts + 1 ≡ held_count self.old.contexts }
+    {
+        let index = self.index_of(job);
+        let released = self.jobs.remove(index);
+        self.rows.release(released.context);
+        self.entries += 1;
+    }
+
+    /// Releases a job that has an outcome: no request knows it any more. It is an entry.
+    pub fn release(&mut self, job: u64)
+        requires ended { HasOutcome self.old job }
+        requires room { self.old.entries < self.old.config.steps }
+        ensures { (s : State) → Rests self.old s → Rests self.new (released s job) }
+    {
+        self.let_go(job);
     }
 }
 

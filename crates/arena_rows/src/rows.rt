@@ -1,4 +1,4 @@
-// Open rows, and the jobs that are not retired.
+// Open rows, and the jobs that are neither retired nor released.
 use cancel_context::ContextId;
 use job_language::{GROUPS, Group};
 use job_step::Frame;
@@ -46,9 +46,10 @@ pub struct OpenRow {
     pub context: ContextId,
 }
 
-/// A job that is not retired.
+/// A job that is neither retired nor released.
 #[derive(Drop)]
 pub struct CurrentJob {
+    pub number: u64,
     pub work: Work,
     /// The value of its root, and 0 before it has one.
     pub value: i64,

@@ -28,7 +28,8 @@ impl Parts {
         ensures row { result ≡ next_id self.old result.place }
         ensures begun { IsBegun self.old self.new result.place job stage }
     {
-        let number = self.retired + self.jobs.len() as u64 + 1;
+        self.made_jobs += 1;
+        let number = self.made_jobs;
         let context = self.rows.bind(None);
         let work = Work {
             program: job.program,
@@ -39,6 +40,7 @@ impl Parts {
             retired: false,
         };
         self.jobs.push_reserved(CurrentJob {
+            number,
             work,
             value: 0,
             open_rows: 1,

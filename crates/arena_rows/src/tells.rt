@@ -1,5 +1,5 @@
 // What the parts tell of the state that they stand for.
-ghost use Rattle.std.specs.Prelude.{◌≡◌, ◌<◌, ◌≤◌, ◌-◌, false, nat_le, count_by, length, IfSome, OnSome, option_copied};
+ghost use Rattle.std.specs.Prelude.{◌≡◌, ◌<◌, ◌≤◌, ℕ, Some, false, nat_le, count_by, length, IfSome, IsSome, option_copied, slice_get};
 ghost use Rattle.job_language.specs.declared.tenants.TheConstants.{MAX_SLOTS};
 ghost use Rattle.nest_stack.specs.Nest.{stack};
 ghost use Rattle.std.specs.List.{list_any};
@@ -10,10 +10,11 @@ ghost use Rattle.tenant_model.specs.Walks.{is_open, is_unstarted, has_unstarted}
 ghost use Rattle.tenant_model.specs.Changes.{open_rows, is_row_limit_met};
 ghost use Rattle.thread_cells.specs.Cells.{cell_sum, cell_count};
 ghost use Rattle.tenant_model.specs.Asks.{current_jobs, free_slot, known_job, status};
-ghost use Rattle.arena_rows.specs.Held.{HasFreePlace};
+ghost use Rattle.arena_rows.specs.Held.{HasFreePlace, NumbersRise};
 ghost use Rattle.arena_rows.specs.Represents.{Holds, HoldsSomehow};
-ghost use Rattle.arena_rows.specs.HeldReads.{held_status, known_current, known_status, is_first_cancel, known_cancels};
+ghost use Rattle.arena_rows.specs.HeldReads.{first_from, held_status, known_current, known_status, is_first_cancel, known_cancels};
 
+use crate::job_places::place_of;
 use crate::parts::Parts;
 use crate::rows::CurrentJob;
 use job_language::{Key, Status};
@@ -94,7 +95,7 @@ impl Parts {
         self.cells.count(key.index())
     }
 
-    /// Whether as many jobs are not retired as may be.
+    /// Whether there are as many jobs, neither retired nor released, as there may be.
     pub fn is_job_limit_met(&self) -> bool
         ensures value { (s : State) → Holds self.now s → result ≡ nat_le MAX_JOBS (current_jobs s) }
         ensures room { result ≡ false → length self.now.jobs < MAX_JOBS }
@@ -102,19 +103,49 @@ impl Parts {
         MAX_JOBS <= self.jobs.len()
     }
 
-    /// The job of a number, unless it is retired or was not made.
-    fn current(&self, job: u64) -> Option<&CurrentJob>
-        ensures value { option_copied result ≡ known_current self.now job }
-        ensures above { OnSome result (self.now.retired < job) }
-        ensures below { OnSome result (job - self.now.retired ≤ length self.now.jobs) }
+    /// What stands at a place among the jobs that are held.
+    fn job_at(&self, place: usize) -> Option<&CurrentJob>
+        ensures { option_copied result ≡ slice_get self.now.jobs place }
     {
-        if job <= self.retired {
-            return None;
-        }
-        self.jobs.get((job - self.retired - 1) as usize)
+        self.jobs.get(place)
     }
 
-    /// How far the job of a number is, unless it is retired.
+    /// The job of a number, if it is held.
+    fn current(&self, job: u64) -> Option<&CurrentJob>
+        ensures { NumbersRise self.now.jobs → option_copied result ≡ known_current self.now job }
+    {
+        let place = place_of(&self.jobs, job);
+        let Some(current) = self.job_at(place) else {
+            return None;
+        };
+        if current.number == job {
+            Some(current)
+        } else {
+            None
+        }
+    }
+
+    /// The least number above another one of a job that is neither retired nor released.
+    pub fn next_job(&self, after: u64) -> Option<u64>
+        ensures known { (s : State) → Holds self.now s
+            → IfSome result (λ n. (after < n) × IsSome (known_job s n)) }
+        ensures least { (s : State) (j : ℕ) → Holds self.now s → after < j
+            → IsSome (known_job s j) → (n : ℕ) × (result ≡ Some n) × (n ≤ j) }
+    {
+        if self.made_jobs <= after {
+            return None;
+        }
+        self.job_from(after + 1)
+    }
+
+    /// The number of the first job that is held of those with a number, or a greater one.
+    fn job_from(&self, number: u64) -> Option<u64>
+        ensures { NumbersRise self.now.jobs → result ≡ first_from self.now number }
+    {
+        Some(self.job_at(place_of(&self.jobs, number))?.number)
+    }
+
+    /// How far the job of a number is, unless it is retired or released.
     #[tactic(auto, using(crate::proofs::JobsTold::status_told))]
     pub fn status(&self, job: u64) -> Option<Status>
         ensures { (s : State) → Holds self.now s
@@ -131,14 +162,10 @@ impl Parts {
     }
 
     /// How many jobs were made, the number of the last one.
-    #[tactic(auto, using(crate::proofs::JobsTold::count_told))]
     pub fn job_count(&self) -> u64
-        requires { HoldsSomehow self.now }
         ensures { (s : State) → Holds self.now s → result ≡ length s.jobs }
     {
-        // Proof hint: there are no more jobs than rows, and their count is in range.
-        let _ = self.row_count();
-        self.retired + self.jobs.len() as u64
+        self.made_jobs
     }
 
     /// How often jobs were retired.
@@ -149,28 +176,24 @@ impl Parts {
     }
 
     /// Whether a cancel of the job of a number would be its first: it was not cancelled and has no
-    /// outcome. There is no answer if the job is retired or was not made.
+    /// outcome. There is no answer if the job is retired, released, or was not made.
     #[tactic(auto, using(crate::proofs::JobsTold::cancel_told))]
     pub fn is_first_cancel(&self, job: u64) -> Option<bool>
-        ensures value { (s : State) → Holds self.now s
+        ensures { (s : State) → Holds self.now s
             → result ≡ option_map (is_first_cancel s.rows job) (known_job s job) }
-        ensures above { OnSome result (self.now.retired < job) }
-        ensures below { OnSome result (job - self.now.retired ≤ length self.now.jobs) }
     {
         self.cancels(job)
     }
 
     fn cancels(&self, job: u64) -> Option<bool>
-        ensures value { result ≡ known_cancels self.now job }
-        ensures above { OnSome result (self.now.retired < job) }
-        ensures below { OnSome result (job - self.now.retired ≤ length self.now.jobs) }
+        ensures { NumbersRise self.now.jobs → result ≡ known_cancels self.now job }
     {
         let current = self.current(job)?;
         Some(current.open_rows > 0 && !current.work.is_cancelled())
     }
 
     fn known_status(&self, job: u64) -> Option<Status>
-        ensures { result ≡ known_status self.now job }
+        ensures { NumbersRise self.now.jobs → result ≡ known_status self.now job }
     {
         let current = self.current(job)?;
         Some(current.status())

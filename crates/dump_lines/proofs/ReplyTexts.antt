@@ -8,7 +8,7 @@ use Rattle.job_json.specs.JobData.{number_data}
 use Rattle.job_language.specs.Recorded.{is_recorded_reply}
 use Rattle.job_language.specs.TenantWords.{level_word}
 use Rattle.job_language.specs.declared.answers.Reply.{Reply}
-use Rattle.job_language.specs.declared.answers.Reply.TheVariants.{Bound, Made, Placed, Job, Cancelled, Cells, Arena, Epoch, Refused, Pending}
+use Rattle.job_language.specs.declared.answers.Reply.TheVariants.{Bound, Made, Placed, Job, Cancelled, Cells, Arena, Epoch, Released, Refused, Pending}
 use Rattle.job_language.specs.declared.answers.Status.TheVariants as status
 use Rattle.job_language.specs.declared.errors.Error.{Error}
 use Rattle.job_language.specs.declared.errors.Error.TheVariants.{LineTooLong, BadJson, BadRequest, BadProgram, UnknownTenant, UnknownJob, JobLimit, HistoryFull, NoMemory, TaskLimit, NoTenant, Busy, ConnectionLimit}
@@ -65,5 +65,6 @@ reply_texts (Arena Low reserved slots) h = two_parts (codes "{\"priority\":\"" +
 reply_texts (Arena Normal reserved slots) h = two_parts (codes "{\"priority\":\"" ++ level_word Normal ++ codes "\",\"reserved\":") (decimal reserved) (codes ",\"slots\":") (decimal slots) (codes "}")
 reply_texts (Arena High reserved slots) h = two_parts (codes "{\"priority\":\"" ++ level_word High ++ codes "\",\"reserved\":") (decimal reserved) (codes ",\"slots\":") (decimal slots) (codes "}")
 reply_texts (Epoch epoch) h = refl
+reply_texts (Released job) h = refl
 reply_texts (Refused error) h = refusal_text error
 reply_texts Pending h = cc

@@ -6,7 +6,7 @@ use Rattle.std.specs.Str.{bytes_eq}
 use Rattle.serde_json.specs.Data.{Data}
 use Rattle.serde_json.specs.Find.{as_str, as_bool}
 use Rattle.job_language.specs.declared.answers.Reply.{Reply}
-use Rattle.job_language.specs.declared.answers.Reply.TheVariants.{Made, Placed, Job, Cells, Arena, Epoch, Refused}
+use Rattle.job_language.specs.declared.answers.Reply.TheVariants.{Made, Placed, Job, Cells, Arena, Epoch, Released, Refused}
 use Rattle.job_language.specs.declared.answers.Reply.TheVariants as reply
 use Rattle.job_language.specs.declared.answers.Status.{Status}
 use Rattle.job_language.specs.declared.answers.Status.TheVariants.{Running, Cancelled, Complete, Fault}
@@ -66,6 +66,9 @@ made_in d = only 1 d (option_map (option_map Made) (number whole (codes "job") d
 abbrev pub epoch_in : Data → Option (Option Reply)
 epoch_in d = only 1 d (option_map (option_map Epoch) (number whole (codes "epoch") d))
 
+abbrev pub released_in : Data → Option (Option Reply)
+released_in d = only 1 d (option_map (option_map Released) (number whole (codes "released") d))
+
 -- A tenant never answers with its name.
 abbrev pub named_in : Data → Option (Option Reply)
 named_in d = only 1 d (option_map (λ name. None) (get_as (codes "tenant") as_str d))
@@ -104,7 +107,7 @@ cells_in d =
 -- the first of these shapes that it has
 abbrev pub reply_in : Data → Option (Option Reply)
 reply_in d = fold option_or None
-    (made_in d ∷ epoch_in d ∷ named_in d ∷ refusal_in d ∷ placed_in d ∷ canceled_in d
+    (made_in d ∷ epoch_in d ∷ released_in d ∷ named_in d ∷ refusal_in d ∷ placed_in d ∷ canceled_in d
     ∷ running_in d ∷ job_canceled_in d ∷ complete_in d ∷ faulted_in d ∷ arena_in d ∷ cells_in d ∷ [])
 
 -- It is read as this reply.

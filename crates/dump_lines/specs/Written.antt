@@ -1,5 +1,5 @@
 -- The JSON that the lines of a dump are. Members stand in the order of their names.
-use Rattle.std.specs.Prelude.{ℕ, List, Option, Some, None, option_map, if◌then◌else◌, codes}
+use Rattle.std.specs.Prelude.{ℕ, true, List, Option, Some, None, option_map, if◌then◌else◌, codes}
 use Rattle.serde_json.specs.Data.{Data, number, unsigned, boolean, string, object, member, no_members, null}
 use Rattle.job_language.specs.declared.answers.Answer.{Answer}
 use Rattle.job_language.specs.declared.answers.Answer.TheVariants as answer
@@ -44,6 +44,8 @@ request_data (request.Cancel job) = Some (job_request (codes "cancel") (count_da
 request_data (request.Cells key) = Some (object (member (codes "key") (count_data key) (member (codes "op") (string (codes "cells")) no_members)))
 request_data request.Arena = Some (bare_request (codes "arena"))
 request_data request.Retire = Some (bare_request (codes "retire"))
+request_data (request.Release job) = Some (job_request (codes "release") (count_data job))
+request_data (request.Take job) = Some (object (member (codes "job") (count_data job) (member (codes "op") (string (codes "collect")) (member (codes "release") (boolean true) no_members))))
 
 abbrev pub status_data : ℕ → Status → Data
 status_data job Running = object (member (codes "job") (count_data job) (member (codes "status") (string (codes "running")) no_members))
@@ -64,6 +66,7 @@ reply_data (reply.Cancelled job first) = object (member (codes "first") (boolean
 reply_data (reply.Cells key count sum) = object (member (codes "count") (count_data count) (member (codes "key") (count_data key) (member (codes "sum") (number_data sum) no_members)))
 reply_data (reply.Arena level reserved slots) = object (member (codes "priority") (string (level_word level)) (member (codes "reserved") (count_data reserved) (member (codes "slots") (count_data slots) no_members)))
 reply_data (reply.Epoch epoch) = object (member (codes "epoch") (count_data epoch) no_members)
+reply_data (reply.Released job) = object (member (codes "released") (count_data job) no_members)
 reply_data (reply.Refused error) = refusal_data error
 reply_data reply.Pending = null
 

@@ -6,7 +6,7 @@ ghost use Rattle.job_language.specs.declared.answers.Reply.TheVariants as reply;
 ghost use Rattle.job_language.specs.ErrorCodes.{code_of};
 ghost use Rattle.job_json.specs.Instruction.{below, key};
 ghost use Rattle.job_json.specs.Json.{get_as, whole, integer};
-ghost use Rattle.dump_lines.specs.Replies.{arena_in, canceled_in, cells_in, complete_in, epoch_in, error_in, errors, fault_of, faulted_in, is_whole, is_word, job_canceled_in, made_in, named_in, number, placed_in, refusal_in, reply_in, running_in, three, two};
+ghost use Rattle.dump_lines.specs.Replies.{arena_in, canceled_in, cells_in, complete_in, epoch_in, error_in, errors, fault_of, faulted_in, is_whole, is_word, job_canceled_in, made_in, named_in, number, placed_in, refusal_in, released_in, reply_in, running_in, three, two};
 
 use job_json::values::has_members;
 use job_language::{Error, JobFault, Key, Level, Reply, Status};
@@ -19,6 +19,7 @@ pub(crate) fn reply_in(value: &Value) -> Option<Option<Reply>>
 {
     made(value)
         .or(epoch(value))
+        .or(released(value))
         .or(named(value))
         .or(refused(value))
         .or(placed(value))
@@ -47,6 +48,15 @@ fn epoch(value: &Value) -> Option<Option<Reply>>
         return None;
     }
     Some(natural("epoch", value)?.map(Reply::Epoch))
+}
+
+fn released(value: &Value) -> Option<Option<Reply>>
+    ensures { result ≡ released_in (view value.now) }
+{
+    if !has_members(1, value) {
+        return None;
+    }
+    Some(natural("released", value)?.map(Reply::Released))
 }
 
 /// The name with which a hello is answered; a tenant never answers with it.

@@ -1,4 +1,5 @@
 pub mod Brought
+pub mod Collecting
 pub mod Configuration
 pub mod ErrorCodes
 pub mod Name

@@ -36,6 +36,8 @@ pub enum Reply {
     Arena(Level, u8, u8),
     /// The number of times that the tenant's jobs were retired.
     Epoch(u64),
+    /// The job is released.
+    Released(u64),
     Refused(Error),
     /// The job has no outcome yet. It is never written.
     Pending,

@@ -19,9 +19,9 @@ pub enum Error {
     BadProgram,
     /// No tenant has that name.
     UnknownTenant,
-    /// The number names no job, or a retired one.
+    /// The number names no job, or one that is retired or released.
     UnknownJob,
-    /// There are 256 jobs that are not retired.
+    /// There are 256 jobs that are neither retired nor released.
     JobLimit,
     /// The tenant's history is at its limit.
     HistoryFull,
@@ -31,7 +31,7 @@ pub enum Error {
     TaskLimit,
     /// The connection has not said hello.
     NoTenant,
-    /// A job still runs, so nothing can be retired.
+    /// A job still runs, so nothing can be retired, or that job can't be released.
     Busy,
     /// The tenant has as many connections as it may.
     ConnectionLimit,

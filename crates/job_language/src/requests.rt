@@ -28,6 +28,10 @@ pub enum Request {
     Arena,
     /// Retires all jobs and empties the cells.
     Retire,
+    /// Forgets a job that has an outcome, as if it were retired.
+    Release(u64),
+    /// The outcome of a job, which is released with it; pending until there is one.
+    Take(u64),
 }
 
 impl Request {
@@ -46,6 +50,8 @@ impl Request {
             Request::Cells(key) => Ok(Request::Cells(*key)),
             Request::Arena => Ok(Request::Arena),
             Request::Retire => Ok(Request::Retire),
+            Request::Release(job) => Ok(Request::Release(*job)),
+            Request::Take(job) => Ok(Request::Take(*job)),
         }
     }
 

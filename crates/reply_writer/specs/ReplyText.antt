@@ -2,7 +2,7 @@
 use Rattle.std.specs.Prelude.{ℕ, List, [], ◌++◌, Bool, true, false, codes, decimal}
 use Rattle.std.specs.Fmt.{signed_decimal}
 use Rattle.job_language.specs.declared.answers.Reply.{Reply}
-use Rattle.job_language.specs.declared.answers.Reply.TheVariants.{Bound, Made, Placed, Job, Cancelled, Cells, Arena, Epoch, Refused, Pending}
+use Rattle.job_language.specs.declared.answers.Reply.TheVariants.{Bound, Made, Placed, Job, Cancelled, Cells, Arena, Epoch, Released, Refused, Pending}
 use Rattle.job_language.specs.declared.answers.Status.{Status}
 use Rattle.job_language.specs.declared.answers.Status.TheVariants as status
 use Rattle.job_language.specs.ErrorCodes.{code_of, name_of, fault_code_of}
@@ -28,5 +28,6 @@ reply_text (Cancelled job first) = codes "{\"first\":" ++ bool_text first ++ cod
 reply_text (Cells key count sum) = codes "{\"count\":" ++ decimal count ++ codes ",\"key\":" ++ decimal key ++ codes ",\"sum\":" ++ signed_decimal sum ++ codes "}"
 reply_text (Arena level reserved slots) = codes "{\"priority\":\"" ++ level_word level ++ codes "\",\"reserved\":" ++ decimal reserved ++ codes ",\"slots\":" ++ decimal slots ++ codes "}"
 reply_text (Epoch epoch) = codes "{\"epoch\":" ++ decimal epoch ++ codes "}"
+reply_text (Released job) = codes "{\"released\":" ++ decimal job ++ codes "}"
 reply_text (Refused error) = codes "{\"code\":" ++ decimal (code_of error) ++ codes ",\"error\":\"" ++ name_of error ++ codes "\"}"
 reply_text Pending = []

@@ -21,6 +21,7 @@ pub fn reply_line(reply: &Reply) -> ReplyBuf
         Reply::Cells(key, count, sum) => ReplyBuf::of(cells(key, count, sum)),
         Reply::Arena(level, reserved, slots) => ReplyBuf::of(arena(level, reserved, slots)),
         Reply::Epoch(epoch) => ReplyBuf::of(epoch_text(epoch)),
+        Reply::Released(job) => ReplyBuf::of(released(job)),
         Reply::Refused(error) => ReplyBuf::of(refused(error)),
         Reply::Pending => unreachable!(),
     }
@@ -169,6 +170,17 @@ fn epoch_text(epoch: u64) -> ArrayString<MAX_LINE>
     let mut text = ArrayString::new();
     text.push_str("{\"epoch\":");
     push_number(&mut text, epoch);
+    text.push_str("}");
+    text
+}
+
+fn released(job: u64) -> ArrayString<MAX_LINE>
+    ensures text { result.bytes ≡ reply_text (Reply.Released job) }
+    ensures room { array_string_len result < MAX_LINE }
+{
+    let mut text = ArrayString::new();
+    text.push_str("{\"released\":");
+    push_number(&mut text, job);
     text.push_str("}");
     text
 }

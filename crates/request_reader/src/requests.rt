@@ -3,7 +3,7 @@ ghost use Rattle.std.specs.Prelude.{◌≡◌, IfOk, OnErr, option_map};
 ghost use Rattle.std.specs.List.{list_all};
 ghost use Rattle.serde_json.specs.View.{view};
 ghost use Rattle.job_json.specs.Json.{result_map};
-ghost use Rattle.request_reader.specs.Asks.{asked_by_value, plain_of, hello_of, number_of, key_of, job_value, alone, operand};
+ghost use Rattle.request_reader.specs.Asks.{asked_by_value, collect_of, collect_with, plain_asked, plain_of, hello_of, number_of, key_of, job_value, alone, operand};
 ghost use Rattle.request_reader.specs.Answers.{asked_data};
 ghost use Rattle.request_reader.specs.Blank.{is_blank_byte};
 ghost use Rattle.request_reader.specs.Exact.{ExactOrNoMemory};
@@ -87,8 +87,14 @@ fn asked_in(value: Value) -> Option<Asked>
     match op {
         "submit" => Some(Asked::Submit(job_value(value)?)),
         "execute" => Some(Asked::Execute(job_value(value)?)),
-        _ => Some(Asked::Plain(plain_of(op, &value)?)),
+        _ => plain_asked(op, &value),
     }
+}
+
+fn plain_asked(op: &str, value: &Value) -> Option<Asked>
+    ensures { option_map asked_data result ≡ plain_asked op.now (view value.now) }
+{
+    Some(Asked::Plain(plain_of(op, value)?))
 }
 
 /// The request of that name, which holds no job.
@@ -98,11 +104,12 @@ fn plain_of(op: &str, value: &Value) -> Option<Request>
     match op {
         "hello" => Some(Request::Hello(hello_of(value)?)),
         "poll" => Some(Request::Poll(number_of(value)?)),
-        "collect" => Some(Request::Collect(number_of(value)?)),
+        "collect" => collect_of(value),
         "cancel" => Some(Request::Cancel(number_of(value)?)),
         "cells" => Some(Request::Cells(key_of(value)?)),
         "arena" => alone(value, Request::Arena),
         "retire" => alone(value, Request::Retire),
+        "release" => Some(Request::Release(number_of(value)?)),
         _ => None,
     }
 }
@@ -141,6 +148,28 @@ fn number_of(value: &Value) -> Option<u64>
     ensures { result ≡ number_of (view value.now) }
 {
     operand("job", value)?.as_u64()
+}
+
+/// A collect, which may say whether the job is released with its outcome.
+fn collect_of(value: &Value) -> Option<Request>
+    ensures { result ≡ collect_of (view value.now) }
+{
+    if has_members(3, value) {
+        collect_with(value)
+    } else {
+        Some(Request::Collect(number_of(value)?))
+    }
+}
+
+fn collect_with(value: &Value) -> Option<Request>
+    ensures { result ≡ collect_with (view value.now) }
+{
+    let job = value.get("job")?.as_u64()?;
+    if value.get("release")?.as_bool()? {
+        Some(Request::Take(job))
+    } else {
+        Some(Request::Collect(job))
+    }
 }
 
 fn key_of(value: &Value) -> Option<Key>

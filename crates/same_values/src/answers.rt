@@ -34,6 +34,7 @@ pub fn is_same_reply(given: &Reply, wanted: &Reply) -> bool
             level == other && reserved == kept && slots == all
         }
         (Reply::Epoch(epoch), Reply::Epoch(other)) => epoch == other,
+        (Reply::Released(job), Reply::Released(other)) => job == other,
         (Reply::Refused(error), Reply::Refused(other)) => error == other,
         (Reply::Pending, Reply::Pending) => true,
         _ => false,

@@ -44,6 +44,8 @@ pub fn is_same_request(request: &Request, other: &Request) -> bool
         (Request::Cells(key), Request::Cells(its)) => key == its,
         (Request::Arena, Request::Arena) => true,
         (Request::Retire, Request::Retire) => true,
+        (Request::Release(job), Request::Release(its)) => job == its,
+        (Request::Take(job), Request::Take(its)) => job == its,
         _ => false,
     }
 }

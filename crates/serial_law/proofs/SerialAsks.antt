@@ -9,7 +9,7 @@ use Rattle.std.proofs.lemmas.Option.{slice_get-map}
 use Rattle.job_language.specs.Brought.{job_of}
 use Rattle.job_language.specs.declared.jobs.Job.{Job}
 use Rattle.job_language.specs.declared.requests.Request.{Request}
-use Rattle.job_language.specs.declared.requests.Request.TheVariants.{Hello, Submit, Execute, Poll, Collect, Cancel, Cells, Arena, Retire}
+use Rattle.job_language.specs.declared.requests.Request.TheVariants.{Hello, Submit, Execute, Poll, Collect, Cancel, Cells, Arena, Retire, Release, Take}
 use Rattle.job_language.specs.declared.answers.Reply.{Reply}
 use Rattle.job_language.specs.declared.answers.Status.{Status}
 use Rattle.job_language.specs.declared.answers.Status.TheVariants.{Running, Cancelled, Complete, Fault}
@@ -27,7 +27,7 @@ use Rattle.tenant_model.specs.State.{State, row, job, at_number, with_at_number}
 use Rattle.tenant_model.specs.Walks.{is_open, is_job_cancelled}
 use Rattle.tenant_model.specs.Changes.{new_row, on_job, is_full, is_row_limit_met}
 use Rattle.tenant_model.specs.Linked.{IsLinked}
-use Rattle.tenant_model.specs.Asks.{add_job, new_job, free_slot, unless_limit, submit, submit_placed, collect, cancel_by_request, retire, retired_work, reply_to, ask, is_hello, known_job, has_outcome, current_jobs, status}
+use Rattle.tenant_model.specs.Asks.{add_job, new_job, free_slot, unless_limit, submit, submit_placed, collect, cancel_by_request, retire, retired_work, released, reply_to, ask, is_hello, known_job, has_outcome, current_jobs, status}
 use Rattle.tenant_model.proofs.Changed.{at_number-push_old, at_number-push_new, at_number-with_same, row-push_old, row-push_new, length-with}
 use Rattle.tenant_model.proofs.Linked.{IsLinked-job, IsLinked-more_jobs}
 use Rattle.tenant_model.proofs.UnstuckSteps.{known_there}
@@ -226,6 +226,26 @@ module _ (o : Origin) (s : State) (is : Good o s 0) where
         follows = Follows-same o s.rows s.rows s.jobs jobs 0 (omega (arith, length-map s.jobs retired_work)) (retired_job s.jobs o.number) (λ clear before. same_rows o.number s.rows) is.follows;
       }))
 
+  -- a job that is released
+  released_good : (i : ℕ) (w : Work) → known_job s i ≡ Some w → Good o (released s i) 0
+  released_good i known_w known =
+      let there = known_there s.jobs i (at_number s.jobs i) known_w refl known in
+      let w = retired_work (job s.jobs i) in
+      let jobs = with_at_number s.jobs i w in
+      let long = length-with s.jobs i w in
+      let here : job jobs i ≡ w = at_number-with_same s.jobs _ i w there.0 there.1 in
+      let same : SameWork (job s.jobs o.number) (job jobs o.number) = elim (cases_eq o.number i) [
+        | inl own ↦
+            let is_it : job jobs o.number ≡ retired_work (job s.jobs o.number) = ap (job jobs) own ∙ here ∙ ap (λ k. retired_work (job s.jobs k)) (sym own) in
+            rw is_it (record { program = refl; root = refl; goes_on = λ clear. clear; fuel = λ clear. refl })
+        | inr other ↦ other_work s.jobs i o.number w there.0 other
+      ] in
+      entry_good o (on_job s i retired_work) 0 (record {
+        linked = IsLinked-more_jobs s jobs (omega (arith, long)) is.linked;
+        one = is.one;
+        follows = Follows-same o s.rows s.rows s.jobs jobs 0 (omega (arith, long)) same (λ clear before. same_rows o.number s.rows) is.follows;
+      })
+
   reply_good : (r : Request) → KeepsReply o (reply_to s r)
   reply_good (Hello name) = is
   reply_good (Submit b) = limited_reply _ (submitted_good b)
@@ -236,6 +256,8 @@ module _ (o : Origin) (s : State) (is : Good o s 0) where
   reply_good (Cells k) = entry_good o s 0 is
   reply_good Arena = entry_good o s 0 is
   reply_good Retire = retired_good
+  reply_good (Release j) = of_job_good (known_job s j) _ _ (entry_good o s 0 is) (λ w known. either_reply o (has_outcome s.rows j) _ _ (λ _. released_good j w known) (λ _. entry_good o s 0 is))
+  reply_good (Take j) = of_job_good (known_job s j) _ _ (entry_good o s 0 is) (λ w known. either_reply o (has_outcome s.rows j) _ _ (λ _. released_good j w known) (λ _. is))
 
   -- an ask
   pub ask_good : (r : Request) → KeepsReply o (ask s r)
@@ -273,6 +295,8 @@ module _ (s : State) (linked : IsLinked s) (one : OneJob s.rows) where
   reply_bears b j (Cells k) is = absurd (grind (arith, ap is_some is))
   reply_bears b j Arena is = absurd (grind (arith, ap is_some is))
   reply_bears b j Retire is = absurd (grind (arith, ap is_some is))
+  reply_bears b j (Release k) is = absurd (grind (arith, ap is_some is))
+  reply_bears b j (Take k) is = absurd (grind (arith, ap is_some is))
 
   -- an ask that makes a job
   pub ask_bears : (b : Job) (j : ℕ) (r : Request) → job_of r ≡ Some b → Bears s b j (ask s r)

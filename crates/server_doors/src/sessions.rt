@@ -1,5 +1,6 @@
 // One session at the doors of tenants.
-ghost use Rattle.std.specs.Prelude.{◌≡◌, ◌≤◌, ◌<◌, ℕ, length, map};
+ghost use Rattle.std.specs.Prelude.{◌≡◌, ◌≤◌, ◌<◌, length, map};
+ghost use Rattle.job_language.specs.Collecting.{IsCollect};
 ghost use Rattle.server_doors.specs.Slots.{AreNumbered};
 ghost use Rattle.server_doors.specs.Sessions.{AreOwn};
 ghost use Rattle.server_doors.specs.SessionWays.{AsksBound, with_thread};
@@ -103,8 +104,7 @@ impl<'d, 'q, R: Wait, S: Signal> LockedDoors<'d, 'q, R, S> {
     fn ask_bound(&mut self, request: Request) -> Answered
         requires { self.old.bound < length self.old.seats }
         ensures asks { AsksBound self.old request result self.new }
-        ensures pending { result.reply ≡ Reply.Pending
-            → (job : ℕ) × (request ≡ Request.Collect job) }
+        ensures pending { result.reply ≡ Reply.Pending → IsCollect request }
     {
         let (reply, due) = self.slots.ask(&mut self.seats[self.bound], request);
         self.ringer.call_due(due);

@@ -1,5 +1,6 @@
 // One thread at the doors of tenants.
-ghost use Rattle.std.specs.Prelude.{ℕ, ◌≡◌, ◌<◌, length, IfSome, None, option_map};
+ghost use Rattle.std.specs.Prelude.{◌≡◌, ◌<◌, length, IfSome, None, option_map};
+ghost use Rattle.job_language.specs.Collecting.{IsCollect};
 ghost use Rattle.server_doors.specs.Slots.{AreNumbered};
 ghost use Rattle.server_doors.specs.SlotWays.{AsksBy, call_at};
 
@@ -76,7 +77,7 @@ impl<'d, R: Wait> TenantSlots<'d, R> {
     pub fn ask(&mut self, seat: &mut Seat, request: Request) -> (Reply, Option<Call>)
         requires { seat.old.tenant < length self.old.doors }
         ensures asks { AsksBy self.old seat.old request result.0 result.1 self.new seat.new }
-        ensures pending { result.0 ≡ Reply.Pending → (job : ℕ) × (request ≡ Request.Collect job) }
+        ensures pending { result.0 ≡ Reply.Pending → IsCollect request }
         ensures due { IfSome result.1 (λ call. call.tenant < length self.new.doors) }
     {
         self.give_home();

@@ -5,7 +5,7 @@ use Rattle.job_language.specs.declared.answers.Reply.TheVariants.{Bound, Refused
 use Rattle.job_language.specs.declared.errors.Error.{Error}
 use Rattle.job_language.specs.declared.errors.Error.TheVariants.{BadRequest, UnknownTenant, NoTenant, NoMemory}
 use Rattle.job_language.specs.declared.requests.Request.{Request}
-use Rattle.job_language.specs.declared.requests.Request.TheVariants.{Hello, Collect, Execute}
+use Rattle.job_language.specs.declared.requests.Request.TheVariants.{Hello, Collect, Take, Execute}
 use Rattle.request_reader.specs.Asks.{AskedData, plain}
 use Rattle.request_reader.specs.LineAsks.{asked_by, IsShortText}
 use Rattle.request_reader.specs.Ready.{ready_of}
@@ -36,7 +36,8 @@ Greets {D = D} finds binds name s r t = MatchBool s.0 ((r ≡ Refused BadRequest
 -- a request to the tenant that is bound
 abbrev pub RepliesTo : {D : Type 0} → Asks D → Waits D → AttendsTo D → Request → Option Reply → D → D → Type 0
 RepliesTo {D = D} asks waits attends (Execute job) r d e = Executes asks waits attends job r d e
-RepliesTo {D = D} asks waits attends (Collect job) r d e = Collects asks waits job r d e
+RepliesTo {D = D} asks waits attends (Collect job) r d e = Collects asks waits false job r d e
+RepliesTo {D = D} asks waits attends (Take job) r d e = Collects asks waits true job r d e
 RepliesTo {D = D} asks waits attends request r d e = (given : Reply) × ((r ≡ Some given) × Gives asks request given d e)
 
 -- a request whose job was read, or is refused

@@ -1,5 +1,6 @@
 // What a session asks of the tenants.
 ghost use Rattle.std.specs.Prelude.{◌≡◌, ℕ, List, Bool, Option};
+ghost use Rattle.job_language.specs.Collecting.{IsCollect};
 ghost use Rattle.job_language.specs.declared.requests.Request.{Request};
 ghost use Rattle.session_core.specs.declared.doors.Answered.{Answered};
 
@@ -43,8 +44,7 @@ pub trait Doors: Door {
     fn ask(&mut self, request: Request) -> Answered
         ensures answered { asks self.old request result self.new }
         // A collect alone waits for an outcome.
-        ensures pending { result.reply ≡ Reply.Pending
-            → (job : ℕ) × (request ≡ Request.Collect job) };
+        ensures pending { result.reply ≡ Reply.Pending → IsCollect request };
 
     /// Waits while a job of the bound tenant has no outcome, and says whether to stop.
     fn pause_for(&mut self, job: u64) -> bool

@@ -1,21 +1,21 @@
 // Jobs whose outcome a session waits for.
-ghost use Rattle.std.specs.Prelude.{◌≢◌, IfSome};
+ghost use Rattle.std.specs.Prelude.{◌≡◌, ◌≢◌, IfSome};
 ghost use Rattle.nested_wait.specs.Runs.{Attends};
 ghost use Rattle.nested_wait.specs.Turns.{Turn};
-ghost use Rattle.session_core.specs.Waiting.{Collects, Executes, Follows};
+ghost use Rattle.session_core.specs.Waiting.{collecting, Collects, Executes, Follows};
 
 use crate::doors::{Answered, Doors};
 use job_language::{Error, Job, Reply, Request};
 use nested_wait::{Attended, attend};
 
-/// Asks for the outcome of a job until it is there. `None` if a pause says to stop, or after 2^64 - 1
-/// tries.
-pub(crate) fn collect<D: Doors>(doors: &mut D, job: u64) -> Option<Reply>
-    ensures collects { Collects D.asks D.waits job result doors.old doors.new }
+/// Asks for the outcome of a job until it is there, and has the job released with it if asked to.
+/// `None` if a pause says to stop, or after 2^64 - 1 tries.
+pub(crate) fn collect<D: Doors>(doors: &mut D, releases: bool, job: u64) -> Option<Reply>
+    ensures collects { Collects D.asks D.waits releases job result doors.old doors.new }
     ensures told { IfSome result (λ reply. reply ≢ Reply.Pending) }
 {
     for _turn in 0..u64::MAX {
-        match doors.ask(Request::Collect(job)).reply {
+        match doors.ask(collecting(releases, job)).reply {
             Reply::Pending => {
                 if doors.pause_for(job) {
                     return None;
@@ -56,5 +56,16 @@ fn follow<D: Doors>(doors: &mut D, job: u64, placed: bool) -> Option<Reply>
             Attended::Stopped => return None,
         }
     }
-    collect(doors, job)
+    collect(doors, false, job)
+}
+
+/// The request that collects a job, and releases it if it is to.
+fn collecting(releases: bool, job: u64) -> Request
+    ensures { result ≡ collecting releases job }
+{
+    if releases {
+        Request::Take(job)
+    } else {
+        Request::Collect(job)
+    }
 }

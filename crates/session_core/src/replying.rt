@@ -81,7 +81,8 @@ fn reply_to_request<D: Doors>(doors: &mut D, request: Request) -> Option<Reply>
 {
     match request {
         Request::Execute(job) => execute(doors, job),
-        Request::Collect(job) => collect(doors, job),
+        Request::Collect(job) => collect(doors, false, job),
+        Request::Take(job) => collect(doors, true, job),
         other => Some(doors.ask(other).reply),
     }
 }

@@ -7,7 +7,7 @@ use Rattle.job_language.specs.declared.errors.Error.{Error}
 use Rattle.job_language.specs.declared.errors.Error.TheVariants as error
 use Rattle.job_language.specs.declared.jobs.Job.{Job}
 use Rattle.job_language.specs.declared.requests.Request.{Request}
-use Rattle.job_language.specs.declared.requests.Request.TheVariants.{Hello, Submit, Execute, Poll, Collect, Cancel, Cells, Arena, Retire}
+use Rattle.job_language.specs.declared.requests.Request.TheVariants.{Hello, Submit, Execute, Poll, Collect, Cancel, Cells, Arena, Retire, Release, Take}
 use Rattle.request_reader.specs.Asks.{AskedData}
 use Rattle.request_reader.specs.LineAsks.{asked_by}
 use Rattle.request_reader.specs.Lines.{Line, whole, too_long}
@@ -16,7 +16,7 @@ use Rattle.request_reader.specs.Ready.{ready_of}
 use Rattle.nested_wait.specs.declared.attending.Attended.{Attended}
 use Rattle.nested_wait.specs.declared.attending.Attended.TheVariants.{Below, Full, Stopped}
 use Rattle.session_core.specs.Calls.{Finds, Binds, Asks, Waits, AttendsTo}
-use Rattle.session_core.specs.Waiting.{Gives, Pends, Collects, AfterAttending, Follows, AfterExecute, Executes}
+use Rattle.session_core.specs.Waiting.{collecting, Gives, Pends, Collects, AfterAttending, Follows, AfterExecute, Executes}
 use Rattle.session_core.specs.Replies.{IsRefused, hello_in, GreetsFound, GreetsFirst, Greets, RepliesTo, RepliesReady, RepliesAsked, RepliesRead, Replies}
 use Rattle.session_core.specs.Texts.{reply_bytes, Says, SaysAll, Stops, is_blank_line}
 use Rattle.session_core.specs.Sessions.{Served, Broke, Waited, ServesTo}
@@ -39,32 +39,32 @@ module _ {D E : Type 0} (at : D → E → Type 0) (finds : Finds D) (binds : Bin
       let next = asked d e x q (record { reply = r; placed = g.0 }) is g.1 in
       (next.0, ((g.0, next.1.0), next.1.1))
 
-  pends : (job n : ℕ) (d e : D) (x : E) → at d x → Pends asks waits job n d e → (y : E) × (Pends asks_by waits_by job n x y × at e y)
-  pends job zero d e x is p = (x, (refl, subst (λ f. at f x) (sym p) is))
-  pends job (suc n) d e x is p =
-      let first = pends job n d p.0 x is p.2.0 in
-      let next = gives (Collect job) reply.Pending p.0 p.1 first.0 first.1.1 p.2.1 in
+  pends : (releases : Bool) (job n : ℕ) (d e : D) (x : E) → at d x → Pends asks waits releases job n d e → (y : E) × (Pends asks_by waits_by releases job n x y × at e y)
+  pends releases job zero d e x is p = (x, (refl, subst (λ f. at f x) (sym p) is))
+  pends releases job (suc n) d e x is p =
+      let first = pends releases job n d p.0 x is p.2.0 in
+      let next = gives (collecting releases job) reply.Pending p.0 p.1 first.0 first.1.1 p.2.1 in
       let last = waited p.1 e next.0 job false next.1.1 p.2.2 in
       (last.0, ((first.0, next.0, (first.1.0, next.1.0, last.1.0)), last.1.1))
 
-  collects : (job : ℕ) (r : Option Reply) (d e : D) (x : E) → at d x → Collects asks waits job r d e → (y : E) × (Collects asks_by waits_by job r x y × at e y)
-  collects job (Some r) d e x is c =
-      let first = pends job c.0 d c.1 x is c.2.0 in
-      let next = gives (Collect job) r c.1 e first.0 first.1.1 c.2.1 in
+  collects : (releases : Bool) (job : ℕ) (r : Option Reply) (d e : D) (x : E) → at d x → Collects asks waits releases job r d e → (y : E) × (Collects asks_by waits_by releases job r x y × at e y)
+  collects releases job (Some r) d e x is c =
+      let first = pends releases job c.0 d c.1 x is c.2.0 in
+      let next = gives (collecting releases job) r c.1 e first.0 first.1.1 c.2.1 in
       (next.0, ((c.0, first.0, (first.1.0, next.1.0, c.2.2)), next.1.1))
-  collects job None d e x is c = elim c [
+  collects releases job None d e x is c = elim c [
     | inl c ↦
-        let first = pends job c.0 d c.1 x is c.3.0 in
-        let next = gives (Collect job) reply.Pending c.1 c.2 first.0 first.1.1 c.3.1 in
+        let first = pends releases job c.0 d c.1 x is c.3.0 in
+        let next = gives (collecting releases job) reply.Pending c.1 c.2 first.0 first.1.1 c.3.1 in
         let last = waited c.2 e next.0 job true next.1.1 c.3.2 in
         (last.0, (inl (c.0, first.0, next.0, (first.1.0, next.1.0, last.1.0)), last.1.1))
     | inr c ↦
-        let all = pends job c.0 d e x is c.1.1 in
+        let all = pends releases job c.0 d e x is c.1.1 in
         (all.0, (inr (c.0, (c.1.0, all.1.0)), all.1.1))
   ]
 
   after_attending : (job : ℕ) (how : Attended) (r : Option Reply) (d e : D) (x : E) → at d x → AfterAttending asks waits job how r d e → (y : E) × (AfterAttending asks_by waits_by job how r x y × at e y)
-  after_attending job Below r d e x is c = collects job r d e x is c
+  after_attending job Below r d e x is c = collects false job r d e x is c
   after_attending job Full r d e x is c = (x, ((c.0, refl), subst (λ f. at f x) (sym c.1) is))
   after_attending job Stopped r d e x is c = (x, ((c.0, refl), subst (λ f. at f x) (sym c.1) is))
 
@@ -73,7 +73,7 @@ module _ {D E : Type 0} (at : D → E → Type 0) (finds : Finds D) (binds : Bin
       let first = attended d f.1 x f.0 is f.2.0 in
       let next = after_attending job f.0 r f.1 e first.0 first.1.1 f.2.1 in
       (next.0, ((f.0, first.0, (first.1.0, next.1.0)), next.1.1))
-  follows job false r d e x is f = collects job r d e x is f
+  follows job false r d e x is f = collects false job r d e x is f
 
   after_execute : (made : Reply) (placed : Bool) (r : Option Reply) (d e : D) (x : E) → at d x → AfterExecute asks waits attends made placed r d e → (y : E) × (AfterExecute asks_by waits_by attends_by made placed r x y × at e y)
   after_execute (reply.Made job) placed r d e x is f = follows job placed r d e x is f
@@ -84,6 +84,7 @@ module _ {D E : Type 0} (at : D → E → Type 0) (finds : Finds D) (binds : Bin
   after_execute (reply.Cells key count sum) placed r d e x is f = (x, ((f.0, refl), subst (λ g. at g x) (sym f.1) is))
   after_execute (reply.Arena level reserved slots) placed r d e x is f = (x, ((f.0, refl), subst (λ g. at g x) (sym f.1) is))
   after_execute (reply.Epoch n) placed r d e x is f = (x, ((f.0, refl), subst (λ g. at g x) (sym f.1) is))
+  after_execute (reply.Released n) placed r d e x is f = (x, ((f.0, refl), subst (λ g. at g x) (sym f.1) is))
   after_execute reply.Pending placed r d e x is f = (x, ((f.0, refl), subst (λ g. at g x) (sym f.1) is))
   after_execute (reply.Refused error) placed r d e x is f = (x, ((f.0, refl), subst (λ g. at g x) (sym f.1) is))
 
@@ -97,7 +98,9 @@ module _ {D E : Type 0} (at : D → E → Type 0) (finds : Finds D) (binds : Bin
       let first = asked d g.1 x (Execute job) g.0 is g.2.0 in
       let next = after_execute g.0.reply g.0.placed r g.1 e first.0 first.1.1 g.2.1 in
       (next.0, ((g.0, first.0, (first.1.0, next.1.0)), next.1.1))
-  replies_to (Collect job) r d e x is g = collects job r d e x is g
+  replies_to (Collect job) r d e x is g = collects false job r d e x is g
+  replies_to (Take job) r d e x is g = collects true job r d e x is g
+  replies_to (Release job) r d e x is g = answers (Release job) r d e x is g
   replies_to (Hello name) r d e x is g = answers (Hello name) r d e x is g
   replies_to (Submit job) r d e x is g = answers (Submit job) r d e x is g
   replies_to (Poll job) r d e x is g = answers (Poll job) r d e x is g

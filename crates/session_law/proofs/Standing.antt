@@ -111,6 +111,7 @@ unplaced (reply.Cancelled n first) none = refl
 unplaced (reply.Cells key count sum) none = refl
 unplaced (reply.Arena level reserved slots) none = refl
 unplaced (reply.Epoch n) none = refl
+unplaced (reply.Released n) none = refl
 unplaced reply.Pending none = refl
 unplaced (reply.Refused error) none = refl
 

@@ -30,6 +30,8 @@ impl TenantState {
             Request::Cells(key) => Ok(self.cells_of(key)),
             Request::Arena => Ok(self.arena()),
             Request::Retire => Ok(self.retire()),
+            Request::Release(job) => Ok(self.release(job)),
+            Request::Take(job) => Ok(self.take_outcome(job)),
         }
     }
 
@@ -190,6 +192,42 @@ impl TenantState {
             return Reply::Refused(Error::Busy);
         }
         Reply::Epoch(self.retire_all())
+    }
+
+    /// Releases a job, unless it still runs.
+    fn release(&mut self, number: u64) -> Reply
+        requires { HasRoom self.old }
+        ensures { reply_to self.old (Request.Release number) ≡ (result, self.new) }
+    {
+        if self.known_job(number).is_none() {
+            self.enter();
+            return Reply::Refused(Error::UnknownJob);
+        }
+        if !has_outcome(self.rows(), number) {
+            self.enter();
+            return Reply::Refused(Error::Busy);
+        }
+        self.release_job(number);
+        self.enter();
+        Reply::Released(number)
+    }
+
+    /// The outcome of a job, which is released with it.
+    fn take_outcome(&mut self, number: u64) -> Reply
+        requires { HasRoom self.old }
+        ensures { reply_to self.old (Request.Take number) ≡ (result, self.new) }
+    {
+        let Some(work) = self.known_job(number) else {
+            self.enter();
+            return Reply::Refused(Error::UnknownJob);
+        };
+        if !has_outcome(self.rows(), number) {
+            return Reply::Pending;
+        }
+        let outcome = self.outcome(work);
+        self.release_job(number);
+        self.enter();
+        Reply::Job(number, outcome)
     }
 }
 

@@ -36,6 +36,8 @@ never s (request.Cancel j) is = grind (arith, is)
 never s (request.Cells k) is = grind (arith, is)
 never s request.Arena is = grind (arith, is)
 never s request.Retire is = grind (arith, is)
+never s (request.Release j) is = grind (arith, is)
+never s (request.Take j) is = grind (arith, is)
 
 never_asked : (s : State) (r : Request) → (ask s r).0 ≡ reply.Refused NoMemory → ⊥
 never_asked s r = cond_both (is_full s && not (is_hello r)) (reply.Refused HistoryFull, s) (reply_to s r) (λ q. q.0 ≡ reply.Refused NoMemory → ⊥) (λ _ is. let no : reply.Refused HistoryFull ≡ reply.Refused NoMemory = is in cc) (λ _. never s r)

@@ -11,7 +11,7 @@ pub struct Counts {
     pub asks: usize,
 }
 
-/// How many jobs of a tenant are how far, of those that are not retired.
+/// How many jobs of a tenant are how far, of those that are neither retired nor released.
 #[derive(Clone, Copy, Debug, PartialEq, Eq, Default)]
 pub struct JobTally {
     pub running: u64,

@@ -9,7 +9,8 @@ ghost use Rattle.tenant_model.specs.Told.{placed_on};
 ghost use Rattle.tenant_model.specs.declared.rows.TheConstants.{MAX_HEIGHT};
 ghost use Rattle.tenant_record.specs.PassData.{GoesWith};
 ghost use Rattle.tenant_record.specs.SeatData.{asked};
-ghost use Rattle.tenant_record.specs.Cell.{IsAttended, IsCollect, IsRight, arrival, has_slot_of};
+ghost use Rattle.job_language.specs.Collecting.{IsCollect};
+ghost use Rattle.tenant_record.specs.Cell.{IsAttended, IsRight, arrival, has_slot_of};
 ghost use Rattle.tenant_record.specs.Locked.{IsArrived};
 ghost use Rattle.tenant_lock.specs.Awaited.{is_open};
 ghost use Rattle.tenant_lock.specs.Doors.{ComesWith};
@@ -356,14 +357,18 @@ impl Held {
         }
     }
 
-    /// How far the jobs are. Those that are not retired are among the last `MAX_JOBS` that were made.
+    /// How far the jobs are that are neither retired nor released, `MAX_JOBS` at most.
     fn job_tally(&self) -> JobTally {
-        let made = self.cell.job_count();
         let mut jobs = JobTally::default();
-        for before in made.saturating_sub(MAX_JOBS as u64)..made {
-            if let Some(status) = self.cell.status(before + 1) {
+        let mut last = 0;
+        for _job in 0..MAX_JOBS {
+            let Some(job) = self.cell.next_job(last) else {
+                return jobs;
+            };
+            if let Some(status) = self.cell.status(job) {
                 jobs.add(status);
             }
+            last = job;
         }
         jobs
     }

@@ -203,6 +203,12 @@ attended_asks = record {
         let v = record (job s.jobs j) { cancelled = true } in
         MakersStay-jobs s (with_at_number s.jobs j v) (KeepFaults-set s.jobs j v there.0 there.1 (λ fault. fault)) is.1,
   );
+  release = λ s j w well p known over is. (
+    tended_asks.release s j w well tt known over is.0,
+    let there = known_there s.jobs j (at_number s.jobs j) w refl known in
+        let v = retired_work (job s.jobs j) in
+        MakersStay-jobs s (with_at_number s.jobs j v) (KeepFaults-set s.jobs j v there.0 there.1 (λ fault. fault)) is.1,
+  );
   retire = λ s well p closed is. (tended_asks.retire s well tt closed is.0, MakersStay-beside (record s { jobs = map retired_work s.jobs }) s.entries (s.epoch + 1) no_cells (MakersStay-jobs s (map retired_work s.jobs) (KeepFaults-retired s.jobs) is.1));
   enter = entry_stays;
 }

@@ -213,6 +213,7 @@ pub record KeepsAsks (P K J : State → Type 0) : Type 0 where
   pub place : (s : State) (j : Job) (slot : ℕ) → IsWellFormed s → P s → open_rows s.rows < s.config.rows → slot < s.config.reserved → height s.rows slot ≡ 0 → K s → J (add_job s j (Live slot 1))
   pub cancel : (s : State) (j : ℕ) (w : Work) → IsWellFormed s → P s → known_job s j ≡ Some w → (is_job_cancelled w || has_outcome s.rows j) ≡ false → K s → J (on_job s j (λ v. record v { cancelled = true }))
   pub retire : (s : State) → IsWellFormed s → P s → list_any (λ (r : Row). is_open r.phase) s.rows ≡ false → K s → J (record s { jobs = map retired_work s.jobs; cells = no_cells; epoch = s.epoch + 1 })
+  pub release : (s : State) (j : ℕ) (w : Work) → IsWellFormed s → P s → known_job s j ≡ Some w → has_outcome s.rows j ≡ true → K s → J (on_job s j retired_work)
   pub enter : (s : State) → J s → K (entry s)
 
 either_reply : (K : State → Type 0) (b : Bool) (r q : Reply × State) → (b ≡ true → K r.1) → (b ≡ false → K q.1) → K (if b then r else q).1
@@ -248,6 +249,9 @@ module _ (P K J : State → Type 0) (keeps : KeepsAsks P K J) (s : State) (well 
   collect_keeps j (status.Complete v) = same_keeps
   collect_keeps j (status.Fault f) = same_keeps
 
+  released_keeps : (j : ℕ) (w : Work) → known_job s j ≡ Some w → has_outcome s.rows j ≡ true → K (entry (on_job s j retired_work))
+  released_keeps j w known over = keeps.enter _ (keeps.release s j w well p known over k)
+
   reply_keeps : (r : Request) → K (reply_to s r).1
   reply_keeps (request.Hello name) = k
   reply_keeps (request.Submit j) = unless_limit_keeps _ (λ room. keeps.enter _ (keeps.add s j well p room k))
@@ -258,6 +262,8 @@ module _ (P K J : State → Type 0) (keeps : KeepsAsks P K J) (s : State) (well 
   reply_keeps (request.Cells q) = same_keeps
   reply_keeps request.Arena = same_keeps
   reply_keeps request.Retire = either_reply K (list_any (λ (r : Row). is_open r.phase) s.rows) _ _ (λ _. same_keeps) (λ closed. keeps.enter _ (keeps.retire s well p closed k))
+  reply_keeps (request.Release j) = of_job_keeps (known_job s j) _ _ same_keeps (λ w known. either_reply K (has_outcome s.rows j) _ _ (λ over. released_keeps j w known over) (λ _. same_keeps))
+  reply_keeps (request.Take j) = of_job_keeps (known_job s j) _ _ same_keeps (λ w known. either_reply K (has_outcome s.rows j) _ _ (λ over. released_keeps j w known over) (λ _. k))
 
   -- an ask
   pub ask_keeps : (r : Request) → K (ask s r).1

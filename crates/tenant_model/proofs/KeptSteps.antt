@@ -9,7 +9,7 @@ use Rattle.job_language.specs.declared.instructions.TheConstants.{KEYS}
 use Rattle.job_language.specs.declared.tenants.TheConstants.{MAX_SLOTS}
 use Rattle.job_language.specs.declared.jobs.Job.{Job}
 use Rattle.job_language.specs.declared.requests.Request.{Request}
-use Rattle.job_language.specs.declared.requests.Request.TheVariants.{Hello, Submit, Execute, Poll, Collect, Cancel, Cells, Arena, Retire}
+use Rattle.job_language.specs.declared.requests.Request.TheVariants.{Hello, Submit, Execute, Poll, Collect, Cancel, Cells, Arena, Retire, Release, Take}
 use Rattle.job_language.specs.declared.answers.Reply.{Reply}
 use Rattle.job_language.specs.declared.answers.Status.{Status}
 use Rattle.job_language.specs.declared.answers.Status.TheVariants.{Running, Cancelled, Complete, Fault}
@@ -26,7 +26,7 @@ use Rattle.tenant_model.specs.Walks.{height, is_open}
 use Rattle.tenant_model.specs.Changes.{open_rows, is_row_limit_met, new_row, on_job, is_full}
 use Rattle.thread_cells.specs.Cells.{Table, with_cell, no_cells}
 use Rattle.tenant_model.specs.WellFormed.{IsTable, IsWellFormed}
-use Rattle.tenant_model.specs.Asks.{add_job, new_job, free_slot, unless_limit, submit, submit_placed, collect, cancel_by_request, retire, retired_work, reply_to, ask, is_hello, known_job, has_outcome, current_jobs, status}
+use Rattle.tenant_model.specs.Asks.{add_job, new_job, free_slot, unless_limit, submit, submit_placed, collect, cancel_by_request, retire, retired_work, released, reply_to, ask, is_hello, known_job, has_outcome, current_jobs, status}
 use Rattle.tenant_model.specs.Walks.{is_job_cancelled}
 use Rattle.tenant_model.proofs.Linked.{IsLinked-job, IsLinked-more_jobs}
 use Rattle.tenant_model.proofs.Stacking.{count-push, AreStacked-same, AreStacked-pushed}
@@ -145,6 +145,9 @@ retired_kept s is = either (list_any (λ (r : Row). is_open r.phase) s.rows) _ _
 cancelled_kept : (s : State) (j : ℕ) (w : Work) → IsWellFormed s → Keeps (cancel_by_request s j w)
 cancelled_kept s j w is = either (is_job_cancelled w || has_outcome s.rows j) _ _ (λ _. entry_kept s is) (λ _. entry_kept (on_job s j (λ v. record v { cancelled = true })) (on_job_kept s j (λ v. record v { cancelled = true }) is))
 
+released_kept : (s : State) (j : ℕ) → IsWellFormed s → IsWellFormed (released s j)
+released_kept s j is = entry_kept (on_job s j retired_work) (on_job_kept s j retired_work is)
+
 reply_kept : (s : State) (r : Request) → IsWellFormed s → Keeps (reply_to s r)
 reply_kept s (Hello name) is = is
 reply_kept s (Submit j) is = limited_kept s _ (λ room. submitted_kept s j room is) is
@@ -155,6 +158,8 @@ reply_kept s (Cancel j) is = of_job_kept s (known_job s j) _ _ (entry_kept s is)
 reply_kept s (Cells k) is = entry_kept s is
 reply_kept s Arena is = entry_kept s is
 reply_kept s Retire is = retired_kept s is
+reply_kept s (Release j) is = of_job_kept s (known_job s j) _ _ (entry_kept s is) (λ w. either (has_outcome s.rows j) _ _ (λ _. released_kept s j is) (λ _. entry_kept s is))
+reply_kept s (Take j) is = of_job_kept s (known_job s j) _ _ (entry_kept s is) (λ w. either (has_outcome s.rows j) _ _ (λ _. released_kept s j is) (λ _. is))
 
 -- an ask
 pub ask_kept : (s : State) (r : Request) → IsWellFormed s → IsWellFormed (ask s r).1

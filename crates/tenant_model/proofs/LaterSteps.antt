@@ -207,6 +207,9 @@ module _ (s0 : State) where
         let there = known_there s.jobs j (at_number s.jobs j) w refl known in
         later-then s0 s _ is (later-set_job s j (record (job s.jobs j) { cancelled = true }) there.0 there.1 (record { program = refl; root = refl; cancelled = λ is. refl; fault = λ e is. is; retired = λ is. is })
         (λ ended. absurd (let over = ended_outcome s j ended in grind (arith, over, first))));
+    release = λ s j w well p known over is.
+        let there = known_there s.jobs j (at_number s.jobs j) w refl known in
+        later-then s0 s _ is (later-set_job s j (retired_work (job s.jobs j)) there.0 there.1 (record { program = refl; root = refl; cancelled = λ is. is; fault = λ e is. is; retired = λ is. refl }) (λ ended. (refl, refl)));
     retire = λ s well p closed is. later-then s0 s _ is (later-then s (record s { jobs = map retired_work s.jobs }) _ (later-retired s) (later-beside (record s { jobs = map retired_work s.jobs }) s.entries (s.epoch + 1) no_cells));
     enter = λ s is. later-then s0 s _ is (later-entry s);
   }

@@ -11,7 +11,7 @@ use Rattle.std.proofs.lemmas.List.Sums.{fold-append}
 use Rattle.job_language.specs.declared.tenants.TheConstants.{MAX_SLOTS}
 use Rattle.job_language.specs.declared.jobs.Job.{Job}
 use Rattle.job_language.specs.declared.requests.Request.{Request}
-use Rattle.job_language.specs.declared.requests.Request.TheVariants.{Hello, Submit, Execute, Poll, Collect, Cancel, Cells, Arena, Retire}
+use Rattle.job_language.specs.declared.requests.Request.TheVariants.{Hello, Submit, Execute, Poll, Collect, Cancel, Cells, Arena, Retire, Release, Take}
 use Rattle.job_language.specs.declared.answers.Reply.{Reply}
 use Rattle.job_language.specs.declared.answers.Came.{Came}
 use Rattle.job_language.specs.declared.answers.Status.{Status}
@@ -147,6 +147,8 @@ module _ (s : State) (busy : list_any (λ (r : Row). is_open r.phase) s.rows ≡
   reply_cells (Cells k) = refl
   reply_cells Arena = refl
   reply_cells Retire = rw busy refl
+  reply_cells (Release j) = of_job_cells s.cells (known_job s j) _ _ refl (λ w. either s.cells (has_outcome s.rows j) _ _ (λ _. refl) (λ _. refl))
+  reply_cells (Take j) = of_job_cells s.cells (known_job s j) _ _ refl (λ w. either s.cells (has_outcome s.rows j) _ _ (λ _. refl) (λ _. refl))
 
   -- While a row is open no ask changes a cell.
   ask_cells : (r : Request) → Leaves s.cells (ask s r)

@@ -93,6 +93,7 @@ counted_asks = record {
   add = λ s j well p room is. added_more s j Unstarted is;
   place = λ s j slot well p room low empty is. added_more s j (Live slot 1) is;
   cancel = λ s j w well p known first is. counted_beside s _ refl (length-with s.jobs j _) refl is;
+  release = λ s j w well p known over is. counted_beside s _ refl (length-with s.jobs j _) refl is;
   retire = λ s well p closed is. counted_beside s _ refl (length-map s.jobs retired_work) refl is;
   enter = counted_entry;
 }
@@ -157,6 +158,7 @@ settled_asks = record {
   add = λ s j well p room is. tt;
   place = λ s j slot well p room low empty is. tt;
   cancel = λ s j w well p known first is. tt;
+  release = λ s j w well p known over is. tt;
   retire = λ s well p closed is. tt;
   enter = λ s is. entry_settled s;
 }

@@ -505,6 +505,7 @@ tended_asks = record {
   add = λ s j well p room is. added_tended s j Unstarted well (λ t h live. absurd (let no : Unstarted ≡ Live t h = live in grind (arith, ap (is_live_at t h) no))) is;
   place = λ s j slot well p room low empty is. added_tended s j (Live slot 1) well (λ t h live. let same = same_place slot 1 t h live in omega (arith, same.0, low, is.reserved)) is;
   cancel = λ s j w well p known first is. let there = known_there s.jobs j (at_number s.jobs j) w refl known in on_job_tended s j (λ v. record v { cancelled = true }) there.0 there.1 refl refl is;
+  release = λ s j w well p known over is. let there = known_there s.jobs j (at_number s.jobs j) w refl known in on_job_tended s j retired_work there.0 there.1 refl refl is;
   retire = λ s well p closed is. IsTended-beside (record s { jobs = map retired_work s.jobs }) s.entries (s.epoch + 1) no_cells (IsTended-jobs s (map retired_work s.jobs) (retired_same s.jobs) is);
   enter = entry_tended;
 }

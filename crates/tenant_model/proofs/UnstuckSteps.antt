@@ -40,7 +40,7 @@ use Rattle.tenant_model.specs.Changes.{on_row, new_row, add_row, is_row_limit_me
 use Rattle.thread_cells.specs.Cells.{Table, no_cells}
 use Rattle.tenant_model.specs.Shared.{next_place, called_frame, group_status, execute, has_used_group, handed_frame, hand_to, hand_back}
 use Rattle.tenant_model.specs.Advance.{begin, nest_pick, is_poor, with_fuel, pay, move_on, is_blocked, after_run, is_idle_wait, run_on, advance_run, advance_top, would_be_recorded, advance, arrive_at, is_open_to_workers, arrive}
-use Rattle.tenant_model.specs.Asks.{ask, free_slot, unless_limit, submit_placed, collect, cancel_by_request, retire, retired_work, reply_to, is_hello, known_job, has_outcome, current_jobs}
+use Rattle.tenant_model.specs.Asks.{ask, free_slot, unless_limit, submit_placed, collect, cancel_by_request, retire, retired_work, released, reply_to, is_hello, known_job, has_outcome, current_jobs}
 use Rattle.tenant_model.specs.Solo.{step, after}
 use Rattle.tenant_model.specs.Linked.{IsLinked}
 use Rattle.tenant_model.specs.WellFormed.{IsWellFormed}
@@ -320,6 +320,11 @@ retired_reply s is = either_reply (list_any (λ (r : Row). is_open r.phase) s.ro
     let done = retired_unstuck s is in
     entry_unstuck (record s { jobs = map retired_work s.jobs; cells = no_cells; epoch = s.epoch + 1 }) (record { programs = done.programs; frames = done.frames }))
 
+released_reply : (s : State) (j : ℕ) (w : Work) → known_job s j ≡ Some w → IsUnstuck s → IsUnstuck (released s j)
+released_reply s j w known is =
+    let there = known_there s.jobs j (at_number s.jobs j) w refl known in
+    entry_unstuck _ (on_job_unstuck s j retired_work there.0 there.1 refl is)
+
 reply_unstuck : (s : State) (r : Request) → IsLinked s → BringsValid r → IsUnstuck s → KeepsReply (reply_to s r)
 reply_unstuck s (request.Hello name) linked valid is = is
 reply_unstuck s (request.Submit j) linked valid is = limited_reply s _ is (entry_unstuck _ (add_job_unstuck s j Unstarted linked valid is))
@@ -330,6 +335,10 @@ reply_unstuck s (request.Cancel j) linked valid is = of_job_unstuck (known_job s
 reply_unstuck s (request.Cells k) linked valid is = entry_unstuck s is
 reply_unstuck s request.Arena linked valid is = entry_unstuck s is
 reply_unstuck s request.Retire linked valid is = retired_reply s is
+reply_unstuck s (request.Release j) linked valid is =
+    of_job_unstuck (known_job s j) _ _ (entry_unstuck s is) (λ w known. either_reply (has_outcome s.rows j) _ _ (λ _. released_reply s j w known is) (λ _. entry_unstuck s is))
+reply_unstuck s (request.Take j) linked valid is =
+    of_job_unstuck (known_job s j) _ _ (entry_unstuck s is) (λ w known. either_reply (has_outcome s.rows j) _ _ (λ _. released_reply s j w known is) (λ _. is))
 
 -- No ask, arrival or advance leaves a row stuck.
 pub ask_unstuck : (s : State) (r : Request) → IsLinked s → BringsValid r → IsUnstuck s → IsUnstuck (ask s r).1

@@ -1,7 +1,7 @@
 -- The worked examples compute.
 use Rattle.std.proofs.Common.{refl}
 use Rattle.job_step.specs.Run.{run_for}
-use Rattle.tenant_model.specs.Worked.{FirstJobIsComplete, IsolatedWaiterKeepsItsCell, IsolatedWaiterKeepsItsCellWithin, PlainWaiterMayLoseItsCell, PostLeavesItsRegion, StolenTaskKeepsItsRegion, FibTakes85Advances, FibNests24Times, FibCosts172, FibNeeds172, CancelledGroupTellsOnce, ChainReachesHeight128, ChainIsTooDeep, WaiterLeavesInnerRegion, WaiterTakesInnerRegion, RetiredJobIsForgotten}
+use Rattle.tenant_model.specs.Worked.{FirstJobIsComplete, IsolatedWaiterKeepsItsCell, IsolatedWaiterKeepsItsCellWithin, PlainWaiterMayLoseItsCell, PostLeavesItsRegion, StolenTaskKeepsItsRegion, FibTakes85Advances, FibNests24Times, FibCosts172, FibNeeds172, CancelledGroupTellsOnce, ChainReachesHeight128, ChainIsTooDeep, WaiterLeavesInnerRegion, WaiterTakesInnerRegion, RetiredJobIsForgotten, ReleasedJobIsForgotten}
 
 pub first_job_is_complete_computes : FirstJobIsComplete
 unfolding run_for FirstJobIsComplete
@@ -66,3 +66,7 @@ waiter_takes_inner_region_computes = refl
 pub retired_job_is_forgotten_computes : RetiredJobIsForgotten
 unfolding run_for RetiredJobIsForgotten
 retired_job_is_forgotten_computes = refl
+
+pub released_job_is_forgotten_computes : ReleasedJobIsForgotten
+unfolding run_for ReleasedJobIsForgotten
+released_job_is_forgotten_computes = refl

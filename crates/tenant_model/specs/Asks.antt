@@ -5,7 +5,7 @@ use Rattle.std.specs.Option.{option_map_or}
 use Rattle.job_language.specs.declared.errors.Error.TheVariants.{BadRequest, UnknownJob, JobLimit, HistoryFull, TaskLimit, Busy}
 use Rattle.job_language.specs.declared.jobs.Job.{Job}
 use Rattle.job_language.specs.declared.requests.Request.{Request}
-use Rattle.job_language.specs.declared.requests.Request.TheVariants.{Hello, Submit, Execute, Poll, Collect, Cancel, Cells, Arena, Retire}
+use Rattle.job_language.specs.declared.requests.Request.TheVariants.{Hello, Submit, Execute, Poll, Collect, Cancel, Cells, Arena, Retire, Release, Take}
 use Rattle.job_language.specs.declared.answers.Reply.{Reply}
 use Rattle.job_language.specs.declared.answers.Reply.TheVariants as reply
 use Rattle.job_language.specs.declared.answers.Status.{Status}
@@ -32,11 +32,11 @@ outcome rows w = option_map_or (λ f. Fault f) w.fault (if w.cancelled then Canc
 abbrev pub status : List Row → ℕ → Work → Status
 status rows j w = if has_outcome rows j then outcome rows w else Running
 
--- the job of a number, unless it is retired
+-- the job of a number, unless it is retired or released
 abbrev pub known_job : State → ℕ → Option Work
 known_job s j = option_and_then (λ (w : Work). if w.retired then None else Some w) (at_number s.jobs j)
 
--- how many jobs are not retired
+-- how many jobs are neither retired nor released
 abbrev pub current_jobs : State → ℕ
 current_jobs s = count_by (λ (w : Work). not w.retired) s.jobs
 
@@ -89,6 +89,18 @@ retire s =
     if list_any (λ (r : Row). is_open r.phase) s.rows then (reply.Refused Busy, entry s)
     else (reply.Epoch (s.epoch + 1), entry (record s { jobs = map retired_work s.jobs; cells = no_cells; epoch = s.epoch + 1 }))
 
+-- A job is released as one is retired, but by itself: its rows, the cells and the epoch stay.
+abbrev pub released : State → ℕ → State
+released s j = entry (on_job s j retired_work)
+
+-- A job can be released once it has an outcome.
+abbrev pub release : State → ℕ → Reply × State
+release s j = if has_outcome s.rows j then (reply.Released j, released s j) else (reply.Refused Busy, entry s)
+
+-- An outcome is taken: the job is released with it.
+abbrev pub take_outcome : State → ℕ → Work → Reply × State
+take_outcome s j w = if has_outcome s.rows j then (reply.Job j (outcome s.rows w), released s j) else (reply.Pending, s)
+
 -- the reply to an ask, if the history has room
 abbrev pub reply_to : State → Request → Reply × State
 reply_to s (Hello name) = (reply.Refused BadRequest, s)
@@ -100,6 +112,8 @@ reply_to s (Cancel j) = of_job s j (cancel_by_request s j)
 reply_to s (Cells k) = (reply.Cells k (cell_count s.cells k) (cell_sum s.cells k), entry s)
 reply_to s Arena = (reply.Arena s.config.priority s.config.reserved s.config.slots, entry s)
 reply_to s Retire = retire s
+reply_to s (Release j) = of_job s j (λ w. release s j)
+reply_to s (Take j) = of_job s j (take_outcome s j)
 
 abbrev pub is_hello : Request → Bool
 is_hello (Hello name) = true

@@ -5,7 +5,7 @@ use Rattle.job_language.specs.declared.errors.JobFault.TheVariants.{Fuel, TooDee
 use Rattle.job_language.specs.declared.instructions.Instr.{Instr}
 use Rattle.job_language.specs.declared.instructions.Instr.TheVariants.{Add, Cancel, Isolate, Jz, Load, Lt, Mul, Post, Ret, Set, Spawn, Store, Sub, Wait}
 use Rattle.job_language.specs.declared.jobs.Job.{Job}
-use Rattle.job_language.specs.declared.requests.Request.TheVariants.{Submit, Execute, Poll, Collect, Cells, Retire}
+use Rattle.job_language.specs.declared.requests.Request.TheVariants.{Submit, Execute, Poll, Collect, Cells, Retire, Release, Take}
 use Rattle.job_language.specs.declared.answers.Reply.TheVariants as reply
 use Rattle.job_language.specs.declared.answers.Status.TheVariants.{Complete, Fault}
 use Rattle.job_language.specs.declared.answers.Came.TheVariants as came
@@ -227,4 +227,16 @@ RetiredJobIsForgotten =
     Replied (reply.Cells 0 1 (pos 9)) ∷ Replied (reply.Epoch 1) ∷ Replied (reply.Refused UnknownJob) ∷
     Replied (reply.Cells 0 0 (pos 0)) ∷ Replied (reply.Made 2) ∷ Replied (reply.Refused Busy) ∷
     Moved (Nested 2) ∷ Moved Ran ∷ Replied (reply.Job 2 (Complete (pos 7))) ∷ Replied (reply.Epoch 2) ∷
+    []
+
+-- a job is released by itself, or with its outcome, and its cells stay
+unfoldable pub ReleasedJobIsForgotten : Type 0
+ReleasedJobIsForgotten =
+    answers (empty (tenant 1 0 Exact)) (Ask (Submit nine) ∷ Ask (Release 1) ∷ Ask (Take 1) ∷ Arrive 0 ∷ Advance 0 ∷ Advance 0 ∷
+    Ask (Release 1) ∷ Ask (Poll 1) ∷ Ask (Release 1) ∷ Ask (Cells 0) ∷ Ask (Submit first) ∷ Advance 0 ∷ Advance 0 ∷
+    Ask (Take 2) ∷ Ask (Collect 2) ∷ Ask (Retire) ∷ []) ≡
+    Replied (reply.Made 1) ∷ Replied (reply.Refused Busy) ∷ Replied reply.Pending ∷ Came (came.At 1) ∷ Moved Ran ∷ Moved Ran ∷
+    Replied (reply.Released 1) ∷ Replied (reply.Refused UnknownJob) ∷ Replied (reply.Refused UnknownJob) ∷
+    Replied (reply.Cells 0 1 (pos 9)) ∷ Replied (reply.Made 2) ∷ Moved (Nested 2) ∷ Moved Ran ∷
+    Replied (reply.Job 2 (Complete (pos 7))) ∷ Replied (reply.Refused UnknownJob) ∷ Replied (reply.Epoch 1) ∷
     []

@@ -1,5 +1,5 @@
 // The worked examples, as laws that compute.
-ghost use Rattle.tenant_model.specs.Worked.{FirstJobIsComplete, IsolatedWaiterKeepsItsCell, IsolatedWaiterKeepsItsCellWithin, PlainWaiterMayLoseItsCell, PostLeavesItsRegion, StolenTaskKeepsItsRegion, FibTakes85Advances, FibNests24Times, FibCosts172, FibNeeds172, CancelledGroupTellsOnce, ChainReachesHeight128, ChainIsTooDeep, WaiterLeavesInnerRegion, WaiterTakesInnerRegion, RetiredJobIsForgotten};
+ghost use Rattle.tenant_model.specs.Worked.{FirstJobIsComplete, IsolatedWaiterKeepsItsCell, IsolatedWaiterKeepsItsCellWithin, PlainWaiterMayLoseItsCell, PostLeavesItsRegion, StolenTaskKeepsItsRegion, FibTakes85Advances, FibNests24Times, FibCosts172, FibNeeds172, CancelledGroupTellsOnce, ChainReachesHeight128, ChainIsTooDeep, WaiterLeavesInnerRegion, WaiterTakesInnerRegion, RetiredJobIsForgotten, ReleasedJobIsForgotten};
 
 /// What tenants are answered in the worked examples, by the definitions alone. It does nothing: its
 /// contract is the law.
@@ -20,4 +20,5 @@ pub fn worked_examples()
     ensures waiter_leaves_inner_region { WaiterLeavesInnerRegion }
     ensures waiter_takes_inner_region { WaiterTakesInnerRegion }
     ensures retired_job_is_forgotten { RetiredJobIsForgotten }
+    ensures released_job_is_forgotten { ReleasedJobIsForgotten }
 {}

@@ -4,7 +4,7 @@ ghost use Rattle.tenant_model.specs.Walks.{is_job_cancelled};
 
 use job_language::{JobFault, Program};
 
-/// How many jobs a tenant may have that are not retired.
+/// How many jobs a tenant may have that are neither retired nor released.
 pub const MAX_JOBS: usize = 256;
 
 const _: () = prove!(MAX_JOBS == 256);
@@ -21,6 +21,7 @@ pub struct Work {
     pub cancelled: bool,
     /// Its first fault.
     pub fault: Option<JobFault>,
+    /// It is retired or released: no request knows it any more.
     pub retired: bool,
 }
 

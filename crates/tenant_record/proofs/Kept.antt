@@ -91,6 +91,7 @@ places_by (reply.Cancelled n first) o = refl
 places_by (reply.Cells k n sum) o = refl
 places_by (reply.Arena level n m) o = refl
 places_by (reply.Epoch n) o = refl
+places_by (reply.Released n) o = refl
 places_by (reply.Refused error) o = refl
 places_by reply.Pending o = refl
 
@@ -103,6 +104,7 @@ placed_enters (reply.Cancelled n first) slot is = refl
 placed_enters (reply.Cells k n sum) slot is = refl
 placed_enters (reply.Arena level n m) slot is = refl
 placed_enters (reply.Epoch n) slot is = refl
+placed_enters (reply.Released n) slot is = refl
 placed_enters (reply.Refused error) slot is = absurd (grind (arith, is))
 placed_enters reply.Pending slot is = absurd (grind (arith, is))
 

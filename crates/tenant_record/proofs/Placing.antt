@@ -68,6 +68,8 @@ reply_free s (request.Cancel j) = of_known s (known_job s j) _ _ (nowhere s _ re
 reply_free s (request.Cells k) = nowhere s _ refl
 reply_free s request.Arena = nowhere s _ refl
 reply_free s request.Retire = either s (list_any (λ (r : Row). is_open r.phase) s.rows) _ _ (nowhere s _ refl) (nowhere s _ refl)
+reply_free s (request.Release j) = of_known s (known_job s j) _ _ (nowhere s _ refl) (λ w. either s (has_outcome s.rows j) _ _ (nowhere s _ refl) (nowhere s _ refl))
+reply_free s (request.Take j) = of_known s (known_job s j) _ _ (nowhere s _ refl) (λ w. either s (has_outcome s.rows j) _ _ (nowhere s _ refl) (nowhere s _ refl))
 
 ask_free : (b : Bool) (s : State) (r : Request) → IsFree s (ask_within b s r)
 ask_free b s r = either s (not b && not (is_hello r)) _ _ (nowhere s _ refl) (either s (is_full s && not (is_hello r)) _ _ (nowhere s _ refl) (reply_free s r))

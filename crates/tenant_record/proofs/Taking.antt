@@ -31,6 +31,7 @@ use Rattle.tenant_record.specs.Replayed.{ask_within}
 use Rattle.arena_steps.specs.Within.{advance_within, arrive_within}
 use Rattle.arena_core.specs.Views.{Commits}
 use Rattle.arena_core.proofs.Pending.{pending_asked}
+use Rattle.job_language.specs.Collecting.{IsCollect}
 
 abbrev HasRoom : State → Answer → Type 0
 HasRoom s a = is_entry a ≡ true → is_full s ≡ false
@@ -76,6 +77,8 @@ reply_room s (request.Cancel j) free enters = grind (arith, free)
 reply_room s (request.Cells k) free enters = grind (arith, free)
 reply_room s request.Arena free enters = grind (arith, free)
 reply_room s request.Retire free enters = grind (arith, free)
+reply_room s (request.Release j) free enters = grind (arith, free)
+reply_room s (request.Take j) free enters = grind (arith, free)
 
 ask_room : (s : State) (r : Request) → HasRoom s (answer.Replied (ask s r).0)
 ask_room s r =
@@ -147,6 +150,6 @@ pub placed_low : (b : Bool) (s : State) (r : Request) (y : Reply) (n : ℕ) → 
 placed_low b s r y n answered few slot is = let low = ((within_asked b s r).placed slot (ap placed_on (sym answered) ∙ is)).0 in omega (arith, low, few)
 
 -- A collect alone can be pending.
-pub pending_within : (b : Bool) (s : State) (r : Request) (y : Reply) → y ≡ (ask_within b s r).0 → y ≡ reply.Pending → (job : ℕ) × (r ≡ request.Collect job)
+pub pending_within : (b : Bool) (s : State) (r : Request) (y : Reply) → y ≡ (ask_within b s r).0 → y ≡ reply.Pending → IsCollect r
 pending_within b s r y answered pending =
-    cond_both (not b && not (is_hello r)) (reply.Refused HistoryFull, s) (ask s r) (λ (a : Reply × State). y ≡ a.0 → (job : ℕ) × (r ≡ request.Collect job)) (λ _ full. let no : reply.Refused HistoryFull ≡ reply.Pending = sym full ∙ pending in cc) (λ _ same. pending_asked s r (sym same ∙ pending)) answered
+    cond_both (not b && not (is_hello r)) (reply.Refused HistoryFull, s) (ask s r) (λ (a : Reply × State). y ≡ a.0 → IsCollect r) (λ _ full. let no : reply.Refused HistoryFull ≡ reply.Pending = sym full ∙ pending in cc) (λ _ same. pending_asked s r (sym same ∙ pending)) answered

@@ -12,7 +12,6 @@ use Rattle.job_language.specs.declared.answers.Reply.{Reply}
 use Rattle.job_language.specs.declared.answers.Reply.TheVariants.{Placed, Refused}
 use Rattle.job_language.specs.declared.errors.Error.TheVariants.{NoMemory}
 use Rattle.job_language.specs.declared.requests.Request.{Request}
-use Rattle.job_language.specs.declared.requests.Request.TheVariants.{Collect}
 use Rattle.job_language.specs.declared.steps.Entry.{Entry}
 use Rattle.job_language.specs.declared.steps.Step.{Step}
 use Rattle.job_language.specs.declared.steps.Step.TheVariants.{Ask, Arrive, Advance}
@@ -121,10 +120,6 @@ arrive_by s slot (Some p) = arrive_within (has_room p) s slot
 
 abbrev pub arrival : CellData → ℕ → Came × State
 arrival c slot = arrive_by (state_of c) slot (pass_in (place c.home slot))
-
--- The request collects a job.
-abbrev pub IsCollect : Request → Type 0
-IsCollect request = (job : ℕ) × (request ≡ Collect job)
 
 -- the answer of an advance of a pass's slot, and the state after it
 abbrev pub advance_of : CellData → PassData → Moved × State

@@ -1,5 +1,6 @@
 // A tenant's cell: what its lock keeps.
-ghost use Rattle.std.specs.Prelude.{ℕ, ◌≡◌, ◌≢◌, ◌<◌, ◌≤◌, ◌++◌, length, IfOk, IfSome, true, false, None, count_by, option_map, slice_index_or, vec_len, vec_capacity};
+ghost use Rattle.std.specs.Prelude.{ℕ, ◌≡◌, ◌≢◌, ◌<◌, ◌≤◌, ◌++◌, length, IfOk, IfSome, true, false, None, count_by, option_map, slice_index_or, vec_len, vec_capacity, Some, IsSome};
+ghost use Rattle.tenant_model.specs.Asks.{known_job};
 ghost use Rattle.std.specs.List.{list_any};
 ghost use Rattle.job_language.specs.Recorded.{is_entry, is_recorded_reply};
 ghost use Rattle.job_language.specs.Tenant.{IsValidTenant};
@@ -11,7 +12,8 @@ ghost use Rattle.tenant_model.specs.Changes.{open_rows};
 ghost use Rattle.tenant_model.specs.Told.{placed_on};
 ghost use Rattle.tenant_model.specs.Walks.{height, is_unstarted};
 ghost use Rattle.tenant_model.specs.Advance.{advance};
-ghost use Rattle.tenant_record.specs.Cell.{IsAttended, IsCollect, IsCommitted, IsRight, state_of, first_cell, has_slot_of, is_on, advance_of, arrival, entered, AnswersAsk, askers_of};
+ghost use Rattle.job_language.specs.Collecting.{IsCollect};
+ghost use Rattle.tenant_record.specs.Cell.{IsAttended, IsCommitted, IsRight, state_of, first_cell, has_slot_of, is_on, advance_of, arrival, entered, AnswersAsk, askers_of};
 ghost use Rattle.tenant_record.specs.Locked.{IsMoved, IsArrived, IsAsked, IsHandedOver, given_home};
 ghost use Rattle.tenant_record.specs.PassData.{GoesWith};
 ghost use Rattle.tenant_record.specs.Places.{place, pass_in, is_one_out, is_told_full};
@@ -214,7 +216,17 @@ impl TenantCell {
         self.replay.is_idle(slot)
     }
 
-    /// How far a job is, if it was made and is not retired.
+    /// The least number above another one of a job that is neither retired nor released.
+    pub fn next_job(&self, after: u64) -> Option<u64>
+        ensures known { IfSome result
+            (λ n. (after < n) × IsSome (known_job (state_of self.now) n)) }
+        ensures least { (j : ℕ) → after < j → IsSome (known_job (state_of self.now) j)
+            → (n : ℕ) × (result ≡ Some n) × (n ≤ j) }
+    {
+        self.replay.next_job(after)
+    }
+
+    /// How far a job is, if it was made and is neither retired nor released.
     pub fn status(&self, job: u64) -> Option<Status>
         ensures { result ≡ status_of (state_of self.now) job }
     {

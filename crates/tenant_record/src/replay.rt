@@ -1,12 +1,12 @@
 // An arena with the history that replays to it.
-ghost use Rattle.std.specs.Prelude.{◌≡◌, ◌≢◌, ◌++◌, [], ◌≤◌, ◌<◌, IfOk, true, false, count_by, length, vec_len, vec_capacity};
+ghost use Rattle.std.specs.Prelude.{◌≡◌, ◌≢◌, ◌++◌, [], ◌≤◌, ◌<◌, IfOk, true, false, count_by, length, vec_len, vec_capacity, ℕ, Some, IfSome, IsSome};
 ghost use Rattle.job_language.specs.Recorded.{is_entry};
 ghost use Rattle.job_language.specs.Tenant.{IsValidTenant};
 ghost use Rattle.job_language.specs.declared.answers.Moved.TheVariants as moved;
 ghost use Rattle.job_language.specs.declared.answers.Answer.{Answer};
 ghost use Rattle.job_language.specs.declared.answers.Reply.{Reply};
 ghost use Rattle.job_language.specs.declared.steps.Step.{Step};
-ghost use Rattle.tenant_model.specs.Asks.{is_hello};
+ghost use Rattle.tenant_model.specs.Asks.{is_hello, known_job};
 ghost use Rattle.tenant_model.specs.declared.rows.TheConstants.{MAX_HEIGHT};
 ghost use Rattle.tenant_model.specs.Changes.{open_rows};
 ghost use Rattle.tenant_model.specs.State.{State};
@@ -142,7 +142,17 @@ impl Replay {
         self.arena.job_count()
     }
 
-    /// How far a job is, if it was made and is not retired.
+    /// The least number above another one of a job that is neither retired nor released.
+    pub fn next_job(&self, after: u64) -> Option<u64>
+        ensures known { IfSome result
+            (λ n. (after < n) × IsSome (known_job (state_of self.now) n)) }
+        ensures least { (j : ℕ) → after < j → IsSome (known_job (state_of self.now) j)
+            → (n : ℕ) × (result ≡ Some n) × (n ≤ j) }
+    {
+        self.arena.next_job(after)
+    }
+
+    /// How far a job is, if it was made and is neither retired nor released.
     pub fn status(&self, job: u64) -> Option<Status>
         ensures { result ≡ status_of (state_of self.now) job }
     {

@@ -284,6 +284,7 @@ ranked_asks = record {
       let one : height s.rows slot + 1 ≡ 1 = omega (arith, empty) in
       ranked-push_top s.rows r slot well.stacked well.linked.makers (rw one refl) (λ m g kind. cc) is;
   cancel = λ s j w well p known first is. is;
+  release = λ s j w well p known over is. is;
   retire = λ s well p closed is. is;
   enter = entry_ranked;
 }

@@ -27,6 +27,7 @@ pub(super) fn reply_value(alloc: Global, reply: Reply) -> Result<Value, AllocErr
         Reply::Cells(key, count, sum) => cells(alloc, key, count, sum),
         Reply::Arena(level, reserved, slots) => arena(alloc, level, reserved, slots),
         Reply::Epoch(number) => epoch(alloc, number),
+        Reply::Released(job) => released(alloc, job),
         Reply::Refused(error) => refusal_value(alloc, error),
     }
 }
@@ -72,6 +73,13 @@ fn epoch(alloc: Global, epoch: u64) -> Result<Value, AllocError>
     ensures reads_back { IfOk result (λ v. SpellsReply (view v) (reply.Epoch epoch)) }
 {
     json!(in alloc; {"epoch": epoch})
+}
+
+fn released(alloc: Global, job: u64) -> Result<Value, AllocError>
+    ensures value { IfOk result (λ v. view v ≡ reply_data (reply.Released job)) }
+    ensures reads_back { IfOk result (λ v. SpellsReply (view v) (reply.Released job)) }
+{
+    json!(in alloc; {"released": job})
 }
 
 fn refusal_value(alloc: Global, error: Error) -> Result<Value, AllocError>

@@ -30,6 +30,8 @@ pub(super) fn request_value(alloc: Global, request: &Request) -> Result<Option<V
         Request::Cells(key) => cells_request(alloc, *key),
         Request::Arena => bare_request(alloc, "arena"),
         Request::Retire => bare_request(alloc, "retire"),
+        Request::Release(job) => job_named(alloc, "release", *job),
+        Request::Take(job) => take_request(alloc, *job),
     };
     Ok(Some(value?))
 }
@@ -56,6 +58,15 @@ fn cells_request(alloc: Global, key: Key) -> Result<Value, AllocError>
         ≡ Some (request.Cells key)) }
 {
     json!(in alloc; {"key": key.index() as u64, "op": "cells"})
+}
+
+/// A collect that releases the job.
+fn take_request(alloc: Global, job: u64) -> Result<Value, AllocError>
+    ensures value { IfOk result (λ v. Some (view v) ≡ request_data (request.Take job)) }
+    ensures reads_back { IfOk result (λ v. recorded (request_in (view v))
+        ≡ Some (request.Take job)) }
+{
+    json!(in alloc; {"job": job, "op": "collect", "release": true})
 }
 
 fn job_request(alloc: Global, op: &str, job: Value) -> Result<Value, AllocError>

@@ -34,7 +34,7 @@ impl TenantState {
         &self.jobs[row(self.rows.as_slice(), number).job as usize - 1]
     }
 
-    /// The job of a number, unless it is retired.
+    /// The job of a number, unless it is retired or released.
     pub(crate) fn known_job(&self, number: u64) -> Option<&Work>
         ensures value { option_copied result ≡ known_job self.now number }
         ensures there { OnSome result (IsNumberIn self.now.jobs number) }
@@ -124,6 +124,14 @@ impl TenantState {
         ensures { self.new ≡ on_job self.old job (λ w. record w { cancelled = true }) }
     {
         self.jobs[job as usize - 1].cancelled = true;
+    }
+
+    /// Releases a job: no request knows it any more.
+    pub(crate) fn release_job(&mut self, job: u64)
+        requires job { IsNumberIn self.old.jobs job }
+        ensures { self.new ≡ on_job self.old job retired_work }
+    {
+        self.jobs[job as usize - 1].retired = true;
     }
 
     /// Retires all jobs, empties the cells and counts an entry. It returns the epoch that begins.

@@ -15,12 +15,6 @@ submit-requires-clause-few c =
     let some = c.requires.some in
     made_few c.args.parts.now some.0 some.1 c.config.ensures.valid c.requires.room
 
-pub job_count-requires : goal.job_count-requires
-job_count-requires c =
-    let some = c.requires.some in
-    let added = add_job some.0 c.args.job Unstarted in
-    (entry added, (c.enter.ensures added (c.submit.ensures some.0 some.1.rests)).holds)
-
 pub returns : goal.returns
 returns c = λ s rests.
     let added = add_job s c.args.job Unstarted in

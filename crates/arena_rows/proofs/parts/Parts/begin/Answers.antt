@@ -4,19 +4,11 @@ use Rattle.arena_rows.proofs.Capacity.{row_room}
 use Rattle.arena_rows.proofs.NewSettled.{jobs_most}
 use Rattle.arena_rows.proofs.parts.Parts.begin.Goals as goal
 
-pub overflow_add-number : goal.overflow_add-number
-overflow_add-number c =
+pub overflow_add-self : goal.overflow_add-self
+overflow_add-self c =
     let rests = c.requires.rests in
-    let retired = ap (λ (h : Held). h.retired) c.self.view_is in
-    let jobs = ap (λ (h : Held). length h.jobs) c.self.view_is in
-    omega (arith, retired, jobs, c.len.ensures, jobs_most c.args.self.now rests.0 rests.1.holds, c.requires.few)
-
-pub overflow_add-number-2 : goal.overflow_add-number-2
-overflow_add-number-2 c =
-    let rests = c.requires.rests in
-    let retired = ap (λ (h : Held). h.retired) c.self.view_is in
-    let jobs = ap (λ (h : Held). length h.jobs) c.self.view_is in
-    omega (arith, retired, jobs, c.len.ensures, jobs_most c.args.self.now rests.0 rests.1.holds, c.requires.few)
+    let made = ap (λ (h : Held). h.made_jobs) c.self.view_is in
+    omega (arith, made, jobs_most c.args.self.now rests.0 rests.1.holds, c.requires.few)
 
 pub bind-context-requires-clause-room : goal.bind-context-requires-clause-room
 bind-context-requires-clause-room c =

@@ -40,8 +40,8 @@ take_out-requires-clause-there c =
     let there = still_there a.table e.source v c.args.row.place e c.entry_at.ensures in
     rw tells (ap is_some there.1)
 
-pub count_out-requires-clause-below : goal.count_out-requires-clause-below
-count_out-requires-clause-below c =
+pub count_out-requires-clause-current : goal.count_out-requires-clause-current
+count_out-requires-clause-current c =
     let a = c.args.self.now in
     let h : CanEnd a c.args.row = c.requires in
     let e = c.entry_at.result.now in
@@ -50,7 +50,7 @@ count_out-requires-clause-below c =
     let entry = entry_in a c.args.row h e c.entry_at.ensures in
     let tells : c.leave_maker.new.self ≡ told a forest e.source v = c.leave_maker.ensures ∙ ap (λ (t : List (Option OpenRow)). told (record (shown c.self.inside) { table = t }) forest e.source (to_z w64 (of_z w64 v))) c.release_all.ensures.table ∙ ap (λ (x : Held). told x forest e.source (to_z w64 (of_z w64 v))) c.self.view_is ∙ ap (told a forest e.source) (to_z-of_z w64 c.args.value c.ranges.value) in
     let takes = taken_is a c.leave_maker.new.self c.take_out.new.self forest c.args.row e.source v tells c.take_out.ensures in
-    rw takes (its_job a h.0 h.2 h.1 e entry).1
+    rw takes (its_job a h.0 h.2 h.1 e entry)
 
 pub count_out-requires-clause-some : goal.count_out-requires-clause-some
 count_out-requires-clause-some c =

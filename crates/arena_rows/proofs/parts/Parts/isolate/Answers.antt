@@ -30,7 +30,7 @@ count_row-requires-clause-few c = λ d.
     let new = c.enter_row-row.ensures.entered in
     let long = length-set a.table place (Some (region_entry a c.top_row-maker.result c.top_entry-entry.result.now.job c.top_entry-entry.result.now.context c.args.slot)) in
     let high = c.height.ensures in
-    rw (new, high) (omega (arith, long, few_open a h.0 h.2 c.top_entry-entry.result.now.job e.above e.below c.requires.free d))
+    rw (new, high) (omega (arith, long, few_open a h.0 h.2 c.top_entry-entry.result.now.job e.current c.requires.free d))
 
 pub push_region-requires-clause-slot : goal.push_region-requires-clause-slot
 push_region-requires-clause-slot c =

@@ -1,9 +1,10 @@
-use Rattle.std.proofs.Common.{◌≡◌, length-set, ◌<◌, ◌≤◌, ◌-◌, length, Some, None, refl, sym, ap, ◌∙◌, arith}
+use Rattle.std.proofs.Common.{◌≡◌, length-set, length, Some, None, refl, sym, ap, ◌∙◌, arith}
 use Rattle.region_tag.specs.Region.{region_of}
 use Rattle.tenant_model.specs.State.{row}
 use Rattle.arena_rows.specs.declared.rows.OpenRow.{OpenRow}
 use Rattle.arena_rows.specs.Held.{Held}
 use Rattle.arena_rows.specs.HeldChanges.{no_job, entered, job_counted, posted_entry, next_id, put}
+use Rattle.arena_rows.specs.HeldJobs.{IsCurrent}
 use Rattle.arena_rows.proofs.Making.{IsNext, is_next, new_tag, can_wait}
 use Rattle.arena_rows.proofs.Placed.{next_placed}
 use Rattle.arena_rows.proofs.Started.{some_none}
@@ -18,7 +19,7 @@ count_row-requires-clause-few c = λ d.
     let e = c.top_entry.ensures in
     let new = c.enter_row-row.ensures.entered in
     let long = length-set a.table place (Some (posted_entry a c.top_entry.result.now.job c.context_of-context.result c.args.frame)) in
-    rw new (omega (arith, long, few_open a c.requires.rests.0 c.requires.rests.1.holds c.top_entry.result.now.job e.above e.below c.requires.free d))
+    rw new (omega (arith, long, few_open a c.requires.rests.0 c.requires.rests.1.holds c.top_entry.result.now.job e.current c.requires.free d))
 
 pub wait-requires : goal.wait-requires
 wait-requires c =
@@ -38,11 +39,10 @@ returns c = λ s n rests on_top steady.
     let t = c.top_entry.ensures in
     let its_job = (t.entry s n rests.holds on_top).1.job in
     let j = (row s.rows n).job in
-    let above : a.retired < j = rw its_job at t.above in
-    let below : j - a.retired ≤ length a.jobs = rw its_job at t.below in
+    let current : IsCurrent a.jobs j = rw its_job at t.current in
     let next = next_placed a s rests.holds place in
     let ctx = c.context_of-context.result in
-    let told : ctx ≡ next.holds.assigned.of_job j = rw its_job at (c.context_of-context.ensures no_job) ∙ context_told a s rests.holds j above below no_job ∙ ap (λ x. x.of_job j) (sym next.assigned) in
+    let told : ctx ≡ next.holds.assigned.of_job j = rw its_job at (c.context_of-context.ensures no_job) ∙ context_told a s rests.holds j current no_job ∙ ap (λ x. x.of_job j) (sym next.assigned) in
     let e : OpenRow = posted_entry a c.top_entry.result.now.job ctx c.args.frame in
     let b : Held = job_counted (entered a place e) c.top_entry.result.now.job no_job in
     let at : IsNext a place = is_next a s rests.holds place c.enter_row-row.ensures.place in
@@ -51,5 +51,5 @@ returns c = λ s n rests on_top steady.
     let entered_is = c.enter_row-row.ensures.entered in
     let counted : c.count_row.new.self ≡ b = rw entered_is at (c.count_row.ensures no_job) in
     let new : c.wait.new.self ≡ put b (record { row = next_id a place; made_on = None; region = None }) = rw (counted, id, tag) at c.wait.ensures in
-    let holds = posted_holds a s next.holds place next.placed j ctx c.args.frame steady c.enter_row-row.ensures.place above below told no_job in
+    let holds = posted_holds a s next.holds place next.placed j ctx c.args.frame steady c.enter_row-row.ensures.place current told no_job in
     rw (new, its_job) holds

@@ -118,8 +118,8 @@ enter_row-row-requires-clause-earlier c =
     let earlier : ForSome (region_of a.regions maker) (λ r. r.number < a.made + 1) = rw maker_is (tag_earlier a h.0 h.2 h.1 (top_open a h.0 h.2 c.args.slot h.1 h.4)) in
     rw joins earlier
 
-pub count_row-requires-clause-above : goal.count_row-requires-clause-above
-count_row-requires-clause-above c =
+pub count_row-requires-clause-current : goal.count_row-requires-clause-current
+count_row-requires-clause-current c =
     let h = c.requires.given in
     let a = c.args.self.now in
     let me = c.top_entry.result.now in
@@ -127,18 +127,7 @@ count_row-requires-clause-above c =
     let at_maker : at_place a.table maker.place ≡ Some me = ap (λ (r : RowId). at_place a.table r.place) (c.top_row-maker.ensures h.0 h.1 h.2 h.4) ∙ (c.top_entry.ensures.entry h.0 h.1 h.2 h.4).0 in
     let joins = joined_is a c.bind_row-own.new.self c.join.new.self c.bind_row-own.result c.args.context maker.place c.args.group me at_maker c.bind_row-own.ensures.bound c.join.ensures in
     let enters = entered_is a c.join.new.self c.enter_row-row.new.self c.enter_row-row.result.place c.bind_row-own.result c.args.context maker.place c.args.group me maker me.job c.args.slot c.args.frame joins c.enter_row-row.ensures.entered in
-    rw enters c.top_entry.ensures.above
-
-pub count_row-requires-clause-below : goal.count_row-requires-clause-below
-count_row-requires-clause-below c =
-    let h = c.requires.given in
-    let a = c.args.self.now in
-    let me = c.top_entry.result.now in
-    let maker = c.top_row-maker.result in
-    let at_maker : at_place a.table maker.place ≡ Some me = ap (λ (r : RowId). at_place a.table r.place) (c.top_row-maker.ensures h.0 h.1 h.2 h.4) ∙ (c.top_entry.ensures.entry h.0 h.1 h.2 h.4).0 in
-    let joins = joined_is a c.bind_row-own.new.self c.join.new.self c.bind_row-own.result c.args.context maker.place c.args.group me at_maker c.bind_row-own.ensures.bound c.join.ensures in
-    let enters = entered_is a c.join.new.self c.enter_row-row.new.self c.enter_row-row.result.place c.bind_row-own.result c.args.context maker.place c.args.group me maker me.job c.args.slot c.args.frame joins c.enter_row-row.ensures.entered in
-    rw enters c.top_entry.ensures.below
+    rw enters c.top_entry.ensures.current
 
 pub count_row-requires-clause-few : goal.count_row-requires-clause-few
 count_row-requires-clause-few c = λ d.
@@ -153,7 +142,7 @@ count_row-requires-clause-few c = λ d.
     let table = slice_set a.table maker.place (Some (with_member c.args.group me)) in
     let long = length-set a.table maker.place (Some (with_member c.args.group me)) in
     let longer = length-set table c.enter_row-row.result.place (Some e) in
-    rw enters (omega (arith, long, longer, few_open a h.0 h.2 me.job c.top_entry.ensures.above c.top_entry.ensures.below c.requires.free d))
+    rw enters (omega (arith, long, longer, few_open a h.0 h.2 me.job c.top_entry.ensures.current c.requires.free d))
 
 pub wait-requires : goal.wait-requires
 wait-requires c =

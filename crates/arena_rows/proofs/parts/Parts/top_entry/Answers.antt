@@ -35,4 +35,4 @@ returns c =
     (stands.there ∙ ap Some entry, rw entry at stands.is) in
     let its_job = (entry_is h.0 h.1 h.2 h.3).1.job in
     let current = top_job c.args.self.now h.0 h.2 c.args.slot h.1 h.3 in
-    record { entry = entry_is; above = rw its_job current.0; below = rw its_job current.2 }
+    record { entry = entry_is; current = rw its_job current }
