@@ -10,7 +10,7 @@ from arena.language.syntax import (Application, Assign, Binary, Block, Break, Ca
                                    ParallelSum, Post, ReadCell, Return, Spawn, StoreCell, Sync, Wait, While)
 
 NUMBERS = (0, 1, 2, 3, 4, 5, 7, 10, 64, 100, -1, -3, 2**20, 2**40, 2**63 - 1, -(2**63))
-ARITHMETIC, COMPARISONS, LOGIC = "++--**/%", ("<", ">", "<=", ">=", "==", "!="), ("&&", "||")
+ARITHMETIC, COMPARISONS, LOGIC = (*"++--**/%&|^", "<<", ">>"), ("<", ">", "<=", ">=", "==", "!="), ("&&", "||")
 MOST_VARIABLES = (4, 4, 6)
 
 
@@ -80,8 +80,10 @@ class Drawer:
             return self.operand(room)
         if pick < 0.37:
             return Not(NOWHERE, self.expression(room, depth - 1))
-        if pick < 0.42:
+        if pick < 0.40:
             return binary("-", number(0), self.expression(room, depth - 1))
+        if pick < 0.42:
+            return binary("^", self.expression(room, depth - 1), number(-1))
         if pick < 0.5:
             inline = self.draws.choice(("mix", "near", "clip"))
             return applied(inline, *(self.expression(room, depth - 1) for _ in range(2)))

@@ -7,8 +7,10 @@ from arena.language.syntax import (Application, Assign, Binary, Block, Break, Ca
                                    Isolate, Item, Let, LetBoth, LetTask, Name, Not, Number, ParallelSum, Post,
                                    ReadCell, Return, Spawn, Statement, StoreCell, Sync, Wait, While)
 
-LEVEL = {"||": 1, "&&": 2, "==": 3, "!=": 3, "<": 3, "<=": 3, ">": 3, ">=": 3, "+": 4, "-": 4, "*": 5, "/": 5, "%": 5}
-UNARY = 6
+LEVEL = {"||": 1, "&&": 2, "==": 3, "!=": 3, "<": 3, "<=": 3, ">": 3, ">=": 3, "|": 4, "^": 5, "&": 6, "<<": 7, ">>": 7,
+         "+": 8, "-": 8, "*": 9, "/": 9, "%": 9}
+UNARY = 10
+ASSIGNABLE = ("+", "-", "*", "/", "%", "&", "|", "^", "<<", ">>")
 SOMETIMES = 0.05
 
 
@@ -87,7 +89,7 @@ class Printer:
 
     def assignment(self, name: str, value: Expression) -> str:
         is_short = isinstance(value, Binary) and isinstance(value.left, Name) and value.left.name == name
-        if is_short and value.operator in "+-*/%" and self.draws.random() < 0.7:
+        if is_short and value.operator in ASSIGNABLE and self.draws.random() < 0.7:
             return f"{name} {value.operator}= {self.expression(value.right)}"
         return f"{name} = {self.expression(value)}"
 
@@ -109,6 +111,8 @@ class Printer:
                 return f"!{self.expression(operand, UNARY)}", UNARY
             case Binary(operator="-", left=Number(value=0), right=Name() as right) if self.draws.random() < 0.5:
                 return f"-{self.expression(right, UNARY)}", UNARY
+            case Binary(operator="^", right=Number(value=-1)) if self.draws.random() < 0.5:
+                return f"~{self.expression(it.left, UNARY)}", UNARY
             case Binary(operator=operator):
                 own = LEVEL[operator]
                 return f"{self.expression(it.left, own)} {operator} {self.expression(it.right, own + 1)}", own

@@ -39,6 +39,11 @@ def wrapped(number: int) -> int:
     return (number + HALF) % (2 * HALF) - HALF
 
 
+def bit(number: int, place: int) -> int:
+    """A bit of a number in two's complement."""
+    return number // 2**place % 2
+
+
 def divided(a: int, b: int) -> int:
     """a / b rounded toward zero."""
     if b == 0:
@@ -294,6 +299,16 @@ def computed(operator, a, b):
             return divided(a, b)
         case "%":
             return wrapped(a - divided(a, b) * b)
+        case "&":
+            return sum(2**it * (bit(a, it) * bit(b, it)) for it in range(63)) - HALF * (bit(a, 63) * bit(b, 63))
+        case "|":
+            return wrapped(a + b - computed("&", a, b))
+        case "^":
+            return wrapped(a + b - 2 * computed("&", a, b))
+        case "<<":
+            return wrapped(a * 2**(b % 64))
+        case ">>":
+            return a // 2**(b % 64)
         case "<":
             return int(a < b)
         case ">":

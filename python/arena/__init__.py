@@ -10,7 +10,7 @@ and `python3 -m arena` is the command. docs/CLIENT.md and docs/TRACE.md show the
 """
 from arena.client import Client, Pipeline
 from arena.replies import (
-    ArenaError, BadJson, BadProgram, BadRequest, Busy, Canceled, Cells, Complete, ConnectionLost, Fault, FaultCode,
+    ArenaError, BadJson, BadProgram, BadRequest, Busy, Canceled, Cells, Complete, ConnectionLimit, ConnectionLost, Fault, FaultCode,
     HistoryFull, InUse, JobLimit, Limits, LineTooLong, LostJob, NoMemory, NoTenant, Outcome, Refused, Running, Status,
     StrangeReply, TaskLimit, TimedOut, UnknownJob, UnknownTenant)
 
@@ -18,6 +18,6 @@ __version__ = "1.0.0"
 
 __all__ = [
     "ArenaError", "BadJson", "BadProgram", "BadRequest", "Busy", "Canceled", "Cells", "Client", "Complete",
-    "ConnectionLost", "Fault", "FaultCode", "HistoryFull", "InUse", "JobLimit", "Limits", "LineTooLong", "LostJob",
+    "ConnectionLimit", "ConnectionLost", "Fault", "FaultCode", "HistoryFull", "InUse", "JobLimit", "Limits", "LineTooLong", "LostJob",
     "NoMemory", "NoTenant", "Outcome", "Pipeline", "Refused", "Running", "Status", "StrangeReply", "TaskLimit", "TimedOut",
     "UnknownJob", "UnknownTenant"]

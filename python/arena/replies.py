@@ -242,6 +242,13 @@ class Busy(Refused):
     advice = "a row is open; wait for all jobs, or cancel them, and retire again"
 
 
+class ConnectionLimit(Refused):
+    """Error 13, for a hello."""
+
+    code, name = 13, "connection_limit"
+    advice = "the tenant has as many connections as it may; close one that is not needed, or try again later"
+
+
 REFUSALS: dict[int, type[Refused]] = {kind.code: kind for kind in Refused.__subclasses__()}
 
 

@@ -45,7 +45,7 @@ STATUS_TEXTS = {
     Status.DUMP: "a dump is not one that a server wrote, `check` says no to it, or it is missing",
     Status.PROGRAM: "arena-script is not found, or failed",
     Status.HOST: "no arena-host runs in the folder, or its status.json is stale or is none",
-    Status.REFUSED: "from 21 to 32: the server's error reply, by 20 and its code (docs/PROTOCOL.md)",
+    Status.REFUSED: "from 21 to 33: the server's error reply, by 20 and its code (docs/PROTOCOL.md)",
     Status.INTERRUPTED: "interrupted from the keyboard",
 }
 

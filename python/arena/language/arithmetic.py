@@ -24,6 +24,11 @@ _RESULTS = {
     "*": lambda a, b: wrapped(a * b),
     "/": quotient,
     "%": lambda a, b: wrapped(a - quotient(a, b) * b),
+    "&": lambda a, b: a & b,
+    "|": lambda a, b: a | b,
+    "^": lambda a, b: a ^ b,
+    "<<": lambda a, b: wrapped(a << (b & 63)),
+    ">>": lambda a, b: a >> (b & 63),
     "<": lambda a, b: int(a < b),
     ">": lambda a, b: int(a > b),
     "<=": lambda a, b: int(a <= b),
@@ -37,6 +42,6 @@ _RESULTS = {
 
 def result(operator: str, a: int | None, b: int | None) -> int | None:
     """What an operator gives for two numbers; None if one of them is not known, or for a division by zero."""
-    if a is None or b is None or (operator in "/%" and b == 0):
+    if a is None or b is None or (operator in ("/", "%") and b == 0):
         return None
     return _RESULTS[operator](a, b)

@@ -129,10 +129,9 @@ class Builder:
 
     def divided(self, place: Place, register: int, bits: int, names: tuple[str, str]) -> tuple[int, int]:
         """The high part of a packed argument, and its low bits."""
-        high, back, low = self.registers.new(names[0]), self.registers.new(), self.registers.new(names[1])
+        high, low = self.registers.new(names[0]), self.registers.new(names[1])
         self.emit("div", place, (high,), (register, self.number(2**bits, place)))
-        self.emit("mul", place, (back,), (high, self.number(2**bits, place)))
-        self.emit("sub", place, (low,), (register, back))
+        self.emit("rem", place, (low,), (register, self.number(2**bits, place)))
         return high, low
 
     def argument(self, number: int, parameters: tuple[Parameter, ...]) -> int:

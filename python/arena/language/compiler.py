@@ -6,7 +6,7 @@ from arena.jobs import GREATEST_FUEL, INSTRUCTIONS_OF_A_PROCEDURE, REGISTERS, RE
 from arena.language import output
 from arena.language.arithmetic import fits
 from arena.language.builder import Source
-from arena.language.code import ARGUMENT, MOVE, NO_OPERATION, PURE, Code, Registers
+from arena.language.code import ARGUMENT, DIVISIONS, MOVE, NO_OPERATION, PURE, Code, Registers
 from arena.language.colouring import Coloured, coloured, greatest_pressure
 from arena.language.constants import with_constants
 from arena.language.copies import without_copies
@@ -48,7 +48,7 @@ class Compiled:
         """The lines of the source that divide by something else than a constant from 1: where fault 1 may come from. The
         ends of a `psum` that do not fit its index are divided by 0."""
         return sorted({line.source_line for procedure in self._procedures for line in procedure.lines
-                       if line.instruction.name == "div" and not line.names[-1].strip("-0").isdigit()})
+                       if line.instruction.name in DIVISIONS and not line.names[-1].strip("-0").isdigit()})
 
     def source_map(self) -> dict:
         """For JSON: `{"file":..,"procedures":[{"lines":[..],"name":..},..]}` with the source line of each

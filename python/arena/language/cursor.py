@@ -73,8 +73,6 @@ class Cursor:
         hint = ", which is a word of the language and no name" if is_word else ""
         if found.text in ELSEWHERE and (found.text != "=" or wanted not in ("`)`", "`,` or `)`")):
             hint = f": {ELSEWHERE[found.text]}"
-        if found.text in ("<", ">") and wanted == "an expression":
-            hint = ": there are no operations on bits; multiply or divide by a power of two"
         if found.text == ":" and wanted == "`=`":
             hint = ": a variable has no type"
         if found.text == "." and self.ahead(1).kind is TokenKind.NUMBER:

@@ -6,8 +6,9 @@ from arena.language.syntax import (Application, Binary, Block, Call, CellPart, E
                                    ParallelSum, ReadCell, Wait)
 from arena.language.tokens import Token, TokenKind
 
-LEVELS = (("||",), ("&&",), ("==", "!=", "<", "<=", ">", ">="), ("+", "-"), ("*", "/", "%"))
-"""The operators between two operands, those that bind least first."""
+LEVELS = (("||",), ("&&",), ("==", "!=", "<", "<=", ">", ">="), ("|",), ("^",), ("&",), ("<<", ">>"), ("+", "-"),
+          ("*", "/", "%"))
+"""The operators between two operands, those that bind least first, as in Rust."""
 
 DEFAULT_GRAIN = 64
 """Up to how many indices of a parallel sum one task adds by itself, unless `grain` says so."""
@@ -58,6 +59,8 @@ class Expressions(Cursor):
             return Binary(place, "-", Number(place, 0), self.unary())
         if self.take("!"):
             return Not(place, self.unary())
+        if self.take("~"):
+            return Binary(place, "^", self.unary(), Number(place, -1))
         return self.operand()
 
     def operand(self) -> Expression:

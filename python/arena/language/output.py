@@ -43,8 +43,7 @@ def without_moves(it: Coloured) -> Code:
         if step.name == MOVE:
             (to,), (source,) = step.defines, step.uses
             if it.colours[to] != it.colours[source]:
-                made.append(Step("set", step.place, (to,), number=0, depth=step.depth))
-                made.append(Step("add", step.place, (to,), (to, source), depth=step.depth))
+                made.append(Step("or", step.place, (to,), (source, source), depth=step.depth))
         elif step.name not in (ARGUMENT, LOOP):
             made.append(step)
     return made

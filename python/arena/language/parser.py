@@ -10,7 +10,7 @@ from arena.language.syntax import (Application, Assign, Binary, Block, Break, Ca
 from arena.language.tokens import WORDS, TokenKind, tokens_of
 
 TOO_DEEP = "the source is nested too deep: split the expression or the block"
-ASSIGNMENTS = ("=", "+=", "-=", "*=", "/=", "%=")
+ASSIGNMENTS = ("=", "+=", "-=", "*=", "/=", "%=", "&=", "|=", "^=", "<<=", ">>=")
 
 
 class Parser(Expressions):
@@ -123,7 +123,7 @@ class Parser(Expressions):
         sign = self.advance()
         self.skip_lines()
         value = self.expression()
-        return value if sign.text == "=" else Binary(sign.place, sign.text[0], before, value)
+        return value if sign.text == "=" else Binary(sign.place, sign.text[:-1], before, value)
 
     def _let(self) -> Statement:
         place = self.need("let")

@@ -25,7 +25,7 @@ _TOKEN = re.compile(
     r"(?P<space>[ \t\r]+|(?:#|//)[^\n]*)"
     r"|(?P<number>0x[0-9a-fA-F][0-9a-fA-F_]*|[0-9][0-9_]*)(?!\w)"
     r"|(?P<name>[A-Za-z_][A-Za-z_0-9]*)"
-    r"|(?P<sign>\.\.|\*\*|<=|>=|==|!=|&&|\|\||\+=|-=|\*=|/=|%=|[-+*/%<>=!(){},.:@;])"
+    r"|(?P<sign>\.\.|\*\*|<<=|>>=|<<|>>|<=|>=|==|!=|&&|\|\||[-+*/%&|^]=|[-+*/%&|^~<>=!(){},.:@;])"
     r"|(?P<line>\n)"
     r"|(?P<other>.)")
 
@@ -81,9 +81,8 @@ def _token(match: re.Match[str], place: Place) -> Token | None:
 
 
 def _unknown(character: str) -> str:
-    hints = {"&": "write && for `and`; there are no operations on bits", "?": "write `if`, as a statement",
-             "[": "there are no lists", "]": "there are no lists", "|": "write || for `or`", "^": "there are no operations on bits",
-             "~": "there are no operations on bits", '"': "there are no texts, only numbers",
+    hints = {"?": "write `if`, as a statement", "[": "there are no lists", "]": "there are no lists",
+             '"': "there are no texts, only numbers",
              "'": "there are no texts, only numbers"}
     is_digit = character in "0123456789"
     other = "a number is written with the digits 0 to 9" if character.isdigit() else "leave it out"

@@ -10,7 +10,8 @@ from arena.language.syntax import (Application, Binary, Call, CellPart, Expressi
 from arena.language.unit import BUILT_IN
 from arena.texts import counted, is_or_are
 
-ARITHMETIC = {"+": "add", "-": "sub", "*": "mul", "/": "div"}
+ARITHMETIC = {"+": "add", "-": "sub", "*": "mul", "/": "div", "%": "rem", "&": "and", "|": "or", "^": "xor", "<<": "shl",
+              ">>": "shr"}
 
 
 @dataclass(frozen=True)
@@ -56,23 +57,11 @@ class Values(Conditions):
         return self.registers.new() if into is None else into
 
     def _binary(self, it: Binary, into: int | None) -> int:
-        if it.operator in ("<=", ">=", "==", "!=", "&&", "||"):
+        if it.operator not in ARITHMETIC:
             return self.truth(it, into)
         left, right = self.value(it.left), self.value(it.right)
-        if it.operator == "%":
-            return self._remainder(it, left, right, into)
         register = self._result(into)
-        if it.operator in "<>":
-            self.emit("lt", it.place, (register,), (left, right) if it.operator == "<" else (right, left))
-        else:
-            self.emit(ARITHMETIC[it.operator], it.place, (register,), (left, right))
-        return register
-
-    def _remainder(self, it: Binary, left: int, right: int, into: int | None) -> int:
-        quotient, back, register = self.registers.new(), self.registers.new(), self._result(into)
-        self.emit("div", it.place, (quotient,), (left, right))
-        self.emit("mul", it.place, (back,), (quotient, right))
-        self.emit("sub", it.place, (register,), (left, back))
+        self.emit(ARITHMETIC[it.operator], it.place, (register,), (left, right))
         return register
 
     def _wait(self, it: Wait, into: int | None) -> int:
