@@ -49,7 +49,8 @@ def jobs_are_run(it):
     it.call("--json", "run", fib, "--args", "7", out='{"job":4,"status":"complete","value":13}\n')
     it.call("run", "-", "--execute", stdin=json.dumps(SEVEN), out="7\n")
     it.call("run", seven, "--color", "always", out="\x1b[32m7\x1b[0m\n")
-    it.call("run", it.file("divides.json", DIVIDES), status=1, out="job 7: fault 1, division by zero\n")
+    it.call("run", it.file("divides.json", DIVIDES), status=1, out='job 7: fault 1, division by zero, in procedure 0, '
+            'instruction 1: ["div",2,2,3]\n')
     it.call("run", it.file("spin.json", SPIN), "--json", status=1, out='{"fault":2,"job":8,"status":"fault"}\n')
     it.call("submit", seven, out="9\n")
     it.call("wait", "9", out="7\n")
@@ -104,7 +105,8 @@ def faults_have_their_status(it):
     out_of_fuel = r"job \d+: fault 2, out of fuel"
     for fuel, more in (("70", r": it had 70; --fuel gives up to 1,000,000"),
                        ("1000000", ": it had 1,000,000, the most that a job can have; split the work into several jobs")):
-        it.call("run", it.server.file("spin.json"), "--fuel", fuel, status=1, out=re.compile(f"{out_of_fuel}{more}\n"))
+        place = r'; in a rehearsal on one slot it is in procedure 0, instruction 0: \["jmp",0\]'
+        it.call("run", it.server.file("spin.json"), "--fuel", fuel, status=1, out=re.compile(f"{out_of_fuel}{more}{place}\n"))
     it.call("submit", it.server.file("spin.json"), out="15\n")
     it.call("wait", "15", status=1, out=re.compile(f"{out_of_fuel}; a job has 1,000,000 at most\n"))
 
@@ -113,8 +115,15 @@ def jobs_are_built(it):
     source, parameter = it.server.file("fib.job"), it.file("parameter.job", PARAMETER)
     it.call("run", source, "--args", "10", out="55\n")
     divides = it.file("divides.job", "fn main(n) {\n    let a = n / 2 % 3\n    let b = 7 / n\n    return a %\n        (b - b)\n}\n")
-    it.call("run", divides, status=1, out=re.compile(r"job \d+: fault 1, division by zero; its source divides in lines 3 and "
-                                                     r"4\n"))
+    it.call("run", divides, status=1, out=re.compile(r"job \d+: fault 1, division by zero, in main, line 3\n"))
+    unserial = it.file("unserial.job", "fn main(n) {\n    return n / slot() / width() % (width() - 2)\n}\n")
+    it.call("run", unserial, status=1, out=re.compile(r"job \d+: fault 1, division by zero; in a rehearsal on one slot it is "
+                                                      r"in main, line 2\n"))
+    faulty = it.file("faulty.job", "fn main(n) {\n    let x = y\n\tlet x = z\n}\n")
+    it.call("build", faulty, status=5, err="^arena: [^ ]*faulty.job:2:13: y is not known here.*\n        let x = y\n"
+            "                ^\n[^ ]*faulty.job:3:10: z is not known here.*\n    \tlet x = z\n    \t        \^\n$")
+    odd = it.file("odd.job", "fn main(n) {\n    while 1 { }\n}\n")
+    it.call("build", odd, "--serial", out="serial\n", err="^[^ ]*odd.job:2:5: warning: this loop never ends: ")
     it.call("run", parameter, "--args", "4", "-D", "N=8", out="12\n")
     it.call("build", source, "-o", it.server.file("built.json"))
     it.call("run", it.server.file("built.json"), "--args", "6", out="8\n")

@@ -79,9 +79,14 @@ class Printer:
                 return f"while {self.expression(it.condition)} {self.block(it.body, indent)}"
             case For():
                 ends = f"{self.expression(it.low)}..{self.expression(it.high)}"
-                return f"for {it.index} in {ends} {self.block(it.body, indent)}"
+                return f"for {it.index} in {ends}{self.step(it.step)} {self.block(it.body, indent)}"
             case If():
                 return self.conditional(it, indent)
+
+    def step(self, it: Expression) -> str:
+        """The step of a range, left out sometimes if it is 1."""
+        is_one = isinstance(it, Number) and it.value == 1
+        return "" if is_one and self.draws.random() < 0.8 else f" step {self.expression(it)}"
 
     def conditional(self, it: If, indent: str) -> str:
         text = f"if {self.expression(it.condition)} {self.block(it.then, indent)}"
@@ -129,4 +134,5 @@ class Printer:
             case ParallelSum():
                 index = it.index if it.bits is None else f"{it.index}: u{it.bits}"
                 ends = f"{self.expression(it.low)}..{self.expression(it.high)}"
-                return f"psum {index} in {ends} grain {self.expression(it.grain)} {self.block(it.body, '    ')}", UNARY
+                grain, block = self.expression(it.grain), self.block(it.body, "    ")
+                return f"{it.gathers.value} {index} in {ends}{self.step(it.step)} grain {grain} {block}", UNARY

@@ -65,8 +65,15 @@ REFUSED = [
     Refused(main("return n << << 2"), ":2:17: expected an expression, found `<<`"),
     Refused(main("return 1.5"), ":2:13: expected the end of the statement, found `.`: there are only whole numbers"),
     Refused(main("let x: int = 1"), ":2:10: expected `=`, found `:`: a variable has no type"),
-    Refused(main("for i in 0..n step 2 { }"), ":2:19: expected `{`, found `step`: a `for` counts by 1: multiply its counter, "
-            "or use `while`"),
+    Refused(main("for i in 0..n step 0 { }"), ":2:24: the step of a `for` is a constant that is not 0"),
+    Refused(main("for i in 0..n step n { }"), ":2:24: the step of a `for` is a constant that is not 0"),
+    Refused(main("return psum i in 0..n step 0 { give 1 }"), ":2:32: the step of a psum is a constant from 1 to 1048576"),
+    Refused(main("return pmin i in 0..n step 1048577 { give 1 }"), ":2:32: the step of a pmin is a constant from 1 to 1048576"),
+    Refused(main("return min(n)"), ":2:12: min takes 2 arguments or more, and here is 1"),
+    Refused(main("return abs(n, 1)"), ":2:12: abs takes 1 argument, and here are 2"),
+    Refused(main("return 'a'"), ":2:12: unexpected character `'`: a character is written as its number, here 97"),
+    Refused(main("return 'ab'"), ":2:12: unexpected character `'`: there are no texts, only numbers"),
+    Refused(main("return 10ms"), ":2:12: unexpected character `1`: there are no times, only numbers without a unit"),
     Refused(main("if n { return 1 } return 2"), ":2:23: expected the end of the statement, found `return`: begin a new line, "
             "or write `;`"),
     Refused(main("print(n)"), ":2:5: `print` begins no statement: a job prints nothing: `return` what it found"),
@@ -93,12 +100,12 @@ REFUSED = [
     Refused(main("n + 1"), ":2:5: this value goes nowhere: write `let name = ..`, or leave it out"),
     Refused(main("return spawn f(n)"), ":2:12: a task is made by `let name = spawn f(..)`, or by `spawn f(..)` as a "
             "statement; for its value at once write `call f(..)`"),
-    Refused(main("return 9223372036854775808"),
-            ":2:12: the number 9223372036854775808 does not fit 64 bits: it is from -2^63 to 2^63 - 1"),
-    Refused(main("return " + "9" * 5000), ":2:12: the number " + "9" * 37 + ".. does not fit 64 bits: it is from -2^63 to 2^63 "
+    Refused(main("return 18446744073709551616"),
+            ":2:12: the number 18446744073709551616 does not fit 64 bits: it is from -2^63 to 2^64 - 1"),
+    Refused(main("return " + "9" * 5000), ":2:12: the number " + "9" * 37 + ".. does not fit 64 bits: it is from -2^63 to 2^64 "
             "- 1"),
-    Refused(main("return n - 9223372036854775808 * n"),
-            ":2:16: the number 9223372036854775808 does not fit 64 bits: it is from -2^63 to 2^63 - 1"),
+    Refused(main("return n * -9223372036854775809"),
+            ":2:17: the number -9223372036854775809 does not fit 64 bits: it is from -2^63 to 2^64 - 1"),
     Refused("fn main(x: u63) { }", ":1:12: a width is u1 to u62, found `u63`"),
     Refused("cell c\n" + main("return c.all"), ":3:14: a cell has .local, .sum and .count, not .all"),
     Refused("cell c\n" + main("c.sum = 1"), ":3:7: only c.local can be assigned to"),

@@ -3,8 +3,8 @@
 The compiler, the assembler and lint share the table `INSTRUCTIONS`: what each operand of each instruction is.
 """
 import json
-from collections.abc import Mapping
-from dataclasses import dataclass
+from collections.abc import Callable, Mapping, Sequence
+from dataclasses import dataclass, field, replace
 from enum import Enum
 from types import MappingProxyType
 
@@ -106,11 +106,25 @@ Procedure = tuple[Instruction, ...]
 
 @dataclass(frozen=True)
 class Job:
-    """A job: its two arguments, its fuel in instructions, and its procedures, of which the root runs number 0."""
+    """A job: its two arguments, its fuel in instructions, and its procedures, of which the root runs number 0. `packed`
+    makes the two arguments of one number for each parameter of its source, if it has one."""
 
     args: tuple[int, int]
     fuel: int
     procedures: tuple[Procedure, ...]
+    packed: Callable[[Sequence[int]], tuple[int, int]] | None = field(default=None, compare=False, repr=False)
+
+    def __call__(self, *args: int) -> "Job":
+        """The job with other arguments, 0 for those that are left out: two at most, or one for each parameter of the `main`
+        that it was compiled of. Raises ValueError for one that does not fit."""
+        if not all(LEAST_NUMBER <= it <= GREATEST_NUMBER for it in args):
+            raise ValueError(f"the arguments {args} do not fit 64 bits")
+        if self.packed is not None:
+            return replace(self, args=self.packed(args))
+        if len(args) > ARGUMENTS:
+            raise ValueError(f"a job has two arguments, and here are {len(args)}")
+        first, second = (*args, 0, 0)[:ARGUMENTS]
+        return replace(self, args=(first, second))
 
     def to_value(self) -> dict:
         """The JSON value JOB."""

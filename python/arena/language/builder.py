@@ -3,11 +3,11 @@ alive."""
 from collections.abc import Callable
 from dataclasses import dataclass, field
 
-from arena.jobs import INSTRUCTIONS_OF_A_PROCEDURE
+from arena.jobs import INSTRUCTIONS_OF_A_PROCEDURE, PROCEDURES
 from arena.language.code import ARGUMENT, LABEL, LOOP, MOVE, Code, Registers, Step
-from arena.language.faults import NOWHERE, Place
+from arena.language.faults import NOWHERE, Notes, Place
 from arena.language.names import Names, Pending
-from arena.language.syntax import Application, Expression, Function, Parameter
+from arena.language.syntax import Application, Expression, Function, Gathers, Parameter
 from arena.language.unit import Unit, folded
 
 MOST_STEPS = 1_536
@@ -28,9 +28,10 @@ class Loop:
 
 @dataclass(frozen=True)
 class Sum:
-    """The parallel sum whose body is being made: the register of the sum, where `give` goes, and which tasks were
-    pending, and how many blocks open, when it began."""
+    """The parallel sum whose body is being made: what it gathers, in which register, where `give` goes, and which tasks
+    were pending, and how many blocks open, when it began."""
 
+    gathers: Gathers
     total: int
     more: str
     pending: Pending
@@ -39,10 +40,11 @@ class Sum:
 
 @dataclass
 class Source:
-    """What the makers of all functions of a source share. `opened` are the uses of inline functions around the place, and
-    `add_function` makes a function that is not in the source."""
+    """What the makers of all functions of a source share. `opened` are the uses of inline functions around the place,
+    `add_function` makes a function that is not in the source, and `notes` takes what is wrong or odd."""
 
     unit: Unit
+    notes: Notes
     add_function: Callable[[Function], None]
     opened: list[Application] = field(default_factory=list)
 
@@ -81,6 +83,25 @@ class Builder:
             raise (caller or place).fault(f"{self.function.title} has more than {MOST_STEPS} steps, of which a procedure "
                                           f"has at most {INSTRUCTIONS_OF_A_PROCEDURE}: let another fn do a part")
         self.code.append(Step(name, place, defines, uses, depth=self.depth, caller=caller, **more))
+
+    def is_spent(self) -> bool:
+        """Whether a limit is reached that each further statement would reach, too."""
+        return (len(self.code) >= MOST_STEPS or self._expanded > MOST_STEPS
+                or len(self.unit.functions) > PROCEDURES)
+
+    def warn(self, place: Place, message: str) -> None:
+        """Notes what is odd."""
+        self.source.notes.warn(place, message)
+
+    def warn_if_hiding(self, name: str, place: Place) -> None:
+        """Warns of a variable that has the name of one of a block around it."""
+        if name.isidentifier() and self.names.is_further_out(name):
+            self.warn_hiding(name, place)
+
+    def warn_hiding(self, name: str, place: Place) -> None:
+        """Warns of a name that hides one further out."""
+        self.warn(place, f"{name} hides the {name} of a block around this one: to change that, leave `let` out; else choose "
+                  "another name")
 
     def caller(self) -> Place | None:
         """Where the outermost inline function is used that this place is in."""
@@ -125,7 +146,7 @@ class Builder:
 
     def fold(self, expression: Expression) -> int | None:
         """The number that an expression always has, or None."""
-        return folded(expression, self.names.constant)
+        return folded(expression, self.names.constant, self.unit.own)
 
     def divided(self, place: Place, register: int, bits: int, names: tuple[str, str]) -> tuple[int, int]:
         """The high part of a packed argument, and its low bits."""

@@ -10,7 +10,7 @@ from arena.language.code import ARGUMENT, DIVISIONS, MOVE, NO_OPERATION, PURE, C
 from arena.language.colouring import Coloured, coloured, greatest_pressure
 from arena.language.constants import with_constants
 from arena.language.copies import without_copies
-from arena.language.faults import SourceFault
+from arena.language.faults import Notes, SourceFault, SourceWarning
 from arena.language.flow import tidied
 from arena.language.groups import with_ended_groups, with_waits
 from arena.language.layouts import arguments_of
@@ -32,11 +32,13 @@ MAY_BE_SHARED = frozenset({*NO_OPERATION, ARGUMENT, MOVE, "set"})
 
 @dataclass(frozen=True)
 class Compiled:
-    """A compiled source: its job, and whether that is serial: whether no schedule changes its value."""
+    """A compiled source: its job, whether that is serial: whether no schedule changes its value, and what is odd in the
+    source. `job(1, 2, 3)` is the job with these arguments, one for each parameter of its `main`."""
 
     job: Job
     serial: bool
     file: str
+    warnings: tuple[SourceWarning, ...]
     _procedures: list[FinishedProcedure] = field(repr=False)
 
     def listing(self) -> str:
@@ -49,6 +51,11 @@ class Compiled:
         ends of a `psum` that do not fit its index are divided by 0."""
         return sorted({line.source_line for procedure in self._procedures for line in procedure.lines
                        if line.instruction.name in DIVISIONS and not line.names[-1].strip("-0").isdigit()})
+
+    def place(self, procedure: int, instruction: int) -> str:
+        """What instruction of which procedure is of the source, in words: `count, line 12`."""
+        it = self._procedures[procedure]
+        return f"{it.title}, line {it.lines[instruction].source_line}"
 
     def source_map(self) -> dict:
         """For JSON: `{"file":..,"procedures":[{"lines":[..],"name":..},..]}` with the source line of each
@@ -72,26 +79,29 @@ def compile_source(text: str, *, parameters: Mapping[str, int] | None = None, ar
     parameter of its function, and `fuel` is the number of instructions that the job may execute. `file` is the name in
     messages.
 
-    Raises `SourceFault` if the source can't be compiled, and ValueError for arguments or fuel out of range. It blocks
+    Raises `SourceFault` with all faults if the source can't be compiled, and ValueError for arguments or fuel out of range. It blocks
     for as long as it computes: some milliseconds for each procedure.
     """
     if not all(map(fits, args)):
         raise ValueError(f"the arguments {args} do not fit 64 bits")
     if not 1 <= fuel <= GREATEST_FUEL:
         raise ValueError(f"the fuel is from 1 to {GREATEST_FUEL}, not {fuel}")
+    notes = Notes()
     try:
-        unit = Unit(parse(text), parameters or {})
-        arguments = arguments_of(unit.functions[unit.root()], args)
-        procedures = _procedures(unit)
-        job = Job(arguments, fuel, tuple(it.instructions() for it in procedures))
+        unit = Unit(parse(text, notes), parameters or {}, notes)
+        procedures = _procedures(unit, notes)
+        root = unit.functions[unit.root()]
+        job = Job(arguments_of(root, args), fuel, tuple(it.instructions() for it in procedures),
+                  lambda numbers: arguments_of(root, numbers))
         _check_length(job, procedures)
     except SourceFault as fault:
-        fault.file = file
+        for it in fault.all():
+            it.file, it.text = file, text
         raise
-    return Compiled(job, job.is_serial(), file, procedures)
+    return Compiled(job, job.is_serial(), file, tuple(notes.warnings(file)), procedures)
 
 
-def _procedures(unit: Unit) -> list[FinishedProcedure]:
+def _procedures(unit: Unit, notes: Notes) -> list[FinishedProcedure]:
     waiting = [unit.functions[name] for name in unit.order()]
 
     def add_function(function: Function) -> None:
@@ -100,22 +110,30 @@ def _procedures(unit: Unit) -> list[FinishedProcedure]:
         unit.check_count(function.place)
         waiting.append(function)
 
-    source = Source(unit, add_function)
+    source = Source(unit, notes, add_function)
     made: list[_Made] = []
     while waiting:
-        made.append(_made(source, waiting.pop(0)))
+        try:
+            made += _made(source, waiting.pop(0))
+        except SourceFault as fault:
+            notes.note(fault)
+            source.opened.clear()
+    notes.refuse()
     numbers = {it.function.name: number for number, it in enumerate(made)}
     return [_finished(it, numbers) for it in made]
 
 
-def _made(source: Source, function: Function) -> _Made:
-    """The code of a function through all passes up to the choice of its registers."""
-    maker = FunctionMaker(source, function)
+def _made(source: Source, function: Function) -> list[_Made]:
+    """The code of a function through all passes up to the choice of its registers; none if faults of it were noted. Raises
+    `SourceFault`."""
+    maker, before = FunctionMaker(source, function), source.notes.count
     registers = maker.registers
     try:
         made = maker.make()
     except RecursionError:
         raise (maker.caller() or maker.place).fault(TOO_DEEP) from None
+    if source.notes.count > before:
+        return []
     code = tidied(with_ended_groups(made, registers))
     _check_count(function, sum(it.name not in MAY_GO for it in code), "at least ")
     code = without_unread(with_waits(code, registers))
@@ -123,7 +141,7 @@ def _made(source: Source, function: Function) -> _Made:
     result = coloured(code, registers.fixed)
     if result is None:
         raise _pressure(function, code, registers)
-    return _Made(function, registers, with_constants(without_copies(result, registers), registers))
+    return [_Made(function, registers, with_constants(without_copies(result, registers), registers))]
 
 
 def _pressure(function: Function, code: Code, registers: Registers) -> SourceFault:

@@ -1,7 +1,8 @@
 """A reader's place in a list of tokens, and the small things that every rule of the grammar is made of."""
 import re
 
-from arena.language.faults import Place
+from arena.language.arithmetic import wrapped
+from arena.language.faults import Notes, Place, SourceFault
 from arena.language.syntax import Parameter
 from arena.language.tokens import Token, TokenKind
 
@@ -11,10 +12,14 @@ GREATEST_WIDTH = 62
 
 ELSEWHERE = {**dict.fromkeys(("elif", "elsif", "elseif"), "write `else if`"),
              "**": "there is no operator for powers: multiply, as in `n * n`",
-             "=": "to compare, write `==`", "step": "a `for` counts by 1: multiply its counter, or use `while`",
+             "=": "to compare, write `==`",
              "print": "a job prints nothing: `return` what it found",
              "fn": "each fn begins on a line of its own, outside of all braces"}
 """What other languages have, and what to write here."""
+
+
+ITEMS = ("fn", "inline", "const", "param", "cell")
+"""The words that items begin with."""
 
 
 def magnitude(token: Token) -> int:
@@ -29,8 +34,8 @@ def magnitude(token: Token) -> int:
 class Cursor:
     """A place in a list of tokens."""
 
-    def __init__(self, tokens: list[Token]) -> None:
-        self._tokens, self._at = tokens, 0
+    def __init__(self, tokens: list[Token], notes: Notes) -> None:
+        self._tokens, self._at, self._notes = tokens, 0, notes
 
     @property
     def token(self) -> Token:
@@ -92,15 +97,34 @@ class Cursor:
         while self.token.kind is TokenKind.END_OF_LINE:
             self.advance()
 
+    def skip_statement(self, fault: SourceFault) -> None:
+        """Notes a fault, and skips what is left of the statement that it is in, with the blocks in it."""
+        self._notes.note(fault)
+        depth = 0
+        while self.token.kind is not TokenKind.END_OF_FILE:
+            if depth == 0 and (self.token.kind is TokenKind.END_OF_LINE or self.sees("}")):
+                return
+            depth += {"{": 1, "}": -1}.get(self.token.text, 0)
+            self.advance()
+
+    def skip_item(self, fault: SourceFault) -> None:
+        """Notes a fault, and skips to the line with the next item."""
+        self._notes.note(fault)
+        while self.token.kind is not TokenKind.END_OF_FILE:
+            is_end = self.advance().kind is TokenKind.END_OF_LINE
+            if is_end and self.sees(*ITEMS):
+                return
+
     def number(self, is_negative: bool = False) -> int:
-        """Takes a number, or its negative. It must fit 64 bits with a sign."""
+        """Takes a number, or its negative. It must fit 64 bits; one from 2^63 on stands for the number with a sign that has
+        the same bits."""
         token = self.advance()
         value = magnitude(token) * (-1 if is_negative else 1)
-        if not -(2**63) <= value < 2**63:
+        if not -(2**63) <= value < 2**64:
             shown = ("-" if is_negative else "") + token.text
             raise token.place.fault(f"the number {shown if len(shown) <= 40 else shown[:37] + '..'} does not fit 64 bits: "
-                                    "it is from -2^63 to 2^63 - 1")
-        return value
+                                    "it is from -2^63 to 2^64 - 1")
+        return wrapped(value)
 
     def parameters(self) -> tuple[Parameter, ...]:
         """Takes `(a, b: u20, ..)`."""

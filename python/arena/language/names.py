@@ -112,6 +112,18 @@ class Names:
                 break
         return None
 
+    def is_further_out(self, name: str) -> bool:
+        """Whether a name is that of a variable of a block around the innermost one."""
+        return name not in self._scopes[-1].names and isinstance(self.found(name), Variable)
+
+    def declare_in_spite(self, name: str, meaning: Variable | Group) -> None:
+        """Declares a variable or a group whose own declaration has a fault."""
+        self._scopes[-1].names.setdefault(name, meaning)
+
+    def cut(self, depth: int) -> None:
+        """Leaves blocks until so many are open."""
+        del self._scopes[depth:]
+
     def constant(self, name: str) -> int | None:
         """The number that a name always means here."""
         found = self.found(name)

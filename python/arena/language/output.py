@@ -22,10 +22,11 @@ class Line:
 
 @dataclass(frozen=True)
 class FinishedProcedure:
-    """A procedure with its name, its lines, and the place of its function; `holds` says which variables are in which
-    register, at one time or another."""
+    """A procedure with its name, what messages call it, its lines, and the place of its function; `holds` says which
+    variables are in which register, at one time or another."""
 
     name: str
+    title: str
     lines: tuple[Line, ...]
     holds: Mapping[int, tuple[str, ...]]
     place: Place
@@ -90,7 +91,7 @@ def finished(function: Function, made: Coloured, registers: Registers,
             words = tuple(shown(step, operand, number) for operand, number in zip(INSTRUCTIONS[step.name], numbers))
             instruction = Instruction(step.name, numbers)
             lines.append(Line(instruction, step.place.line, tuple(labels.get(len(lines), ())), words, names))
-    return FinishedProcedure(function.name, tuple(lines), _holds(code, colours, registers), function.place)
+    return FinishedProcedure(function.name, function.title, tuple(lines), _holds(code, colours, registers), function.place)
 
 
 def shown(step: Step, operand: Operand, number: int) -> str:

@@ -56,6 +56,14 @@ class Application(Node):
 
 
 @dataclass(frozen=True, eq=False)
+class Extreme(Node):
+    """The least or the greatest of some operands: `min(..)` and `max(..)`, if the source has no such functions itself."""
+
+    is_least: bool
+    operands: tuple["Expression", ...]
+
+
+@dataclass(frozen=True, eq=False)
 class Wait(Node):
     """`wait name`: the value of a task, or the total of a group."""
 
@@ -92,14 +100,25 @@ class ReadCell(Node):
     part: CellPart
 
 
+class Gathers(Enum):
+    """What is made of the values that the body of a parallel sum gives; the values are the words of the language."""
+
+    SUM = "psum"
+    LEAST = "pmin"
+    GREATEST = "pmax"
+
+
 @dataclass(frozen=True, eq=False)
 class ParallelSum(Node):
-    """`psum index in low..high grain n { .. give e .. }`; `bits` is the index's width, if it has one."""
+    """`psum index in low..high step s grain n { .. give e .. }`, `pmin` or `pmax`; `bits` is the index's width, if it has
+    one."""
 
+    gathers: Gathers
     index: str
     bits: int | None
     low: "Expression"
     high: "Expression"
+    step: "Expression"
     grain: "Expression"
     body: "Block"
 
@@ -111,7 +130,7 @@ class Held(Node):
     register: int
 
 
-Expression = Number | Name | Binary | Not | Application | Wait | Isolate | Call | ReadCell | ParallelSum | Held
+Expression = Number | Name | Binary | Not | Application | Extreme | Wait | Isolate | Call | ReadCell | ParallelSum | Held
 
 
 # Statements
@@ -233,11 +252,12 @@ class While(Node):
 
 @dataclass(frozen=True, eq=False)
 class For(Node):
-    """`for index in low..high { .. }`."""
+    """`for index in low..high step s { .. }`."""
 
     index: str
     low: Expression
     high: Expression
+    step: Expression
     body: "Block"
 
 
