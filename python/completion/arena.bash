@@ -10,7 +10,7 @@ _arena() {
     local -a files=()
     COMPREPLY=()
     for word in "${COMP_WORDS[@]:1:COMP_CWORD-1}"; do
-        case $word in run|submit|wait|poll|cancel|cells|info|retire|build|asm|dis|lint|advise|shell|bench|check|stat|timeline|status|top|metrics|stop|rotate|check-dumps|pages) command=$word; break ;; esac
+        case $word in run|submit|wait|poll|cancel|cells|info|retire|build|asm|dis|lint|test|fmt|doc|advise|shell|bench|check|stat|timeline|status|top|metrics|stop|rotate|check-dumps|pages) command=$word; break ;; esac
     done
     case "$command $prev" in
         run\ --args|run\ --fuel|run\ -D|run\ --define) return ;;
@@ -22,6 +22,7 @@ _arena() {
         dis\ --args|dis\ --fuel|dis\ -D|dis\ --define) return ;;
         dis\ -o|dis\ --output) _arena_files "$cur" ''; return ;;
         lint\ --args|lint\ --fuel|lint\ -D|lint\ --define) return ;;
+        test\ --schedules|test\ --seed) return ;;
         advise\ --rotate-at|advise\ --connections|advise\ --memory) return ;;
         bench\ --args|bench\ --fuel|bench\ -D|bench\ --define|bench\ -c|bench\ --clients|bench\ -n|bench\ --jobs|bench\ --requests) return ;;
         check\ --script|check\ --program) _arena_files "$cur" ''; return ;;
@@ -39,7 +40,7 @@ _arena() {
         *\ --color) mapfile -t COMPREPLY < <(compgen -W 'auto always never' -- "$cur"); return ;;
     esac
     case $command in
-        '') choices='run submit wait poll cancel cells info retire build asm dis lint advise shell bench check stat timeline status top metrics stop rotate check-dumps pages' options='-s --socket -t --tenant --timeout --json --color' ;;
+        '') choices='run submit wait poll cancel cells info retire build asm dis lint test fmt doc advise shell bench check stat timeline status top metrics stop rotate check-dumps pages' options='-s --socket -t --tenant --timeout --json --color' ;;
         run) options='--args --fuel -D --define --execute -s --socket -t --tenant --timeout --json --color' files=(.job .jasm .json) ;;
         submit) options='--args --fuel -D --define -s --socket -t --tenant --timeout --json --color' files=(.job .jasm .json) ;;
         wait) options='-s --socket -t --tenant --timeout --json --color' ;;
@@ -52,6 +53,9 @@ _arena() {
         asm) options='--args --fuel -D --define -o --output -s --socket -t --tenant --timeout --json --color' files=(.job .jasm .json) ;;
         dis) options='--args --fuel -D --define -o --output -s --socket -t --tenant --timeout --json --color' files=(.job .jasm .json) ;;
         lint) options='--args --fuel -D --define -s --socket -t --tenant --timeout --json --color' files=(.job .jasm .json) ;;
+        test) options='--schedules --seed -s --socket -t --tenant --timeout --json --color' files=(.job .jasm .json) ;;
+        fmt) options='--check -s --socket -t --tenant --timeout --json --color' files=(.job .jasm .json) ;;
+        doc) options='-s --socket -t --tenant --timeout --json --color' files=(.job .jasm .json) ;;
         advise) options='--host --rotate-at --connections --memory -s --socket -t --tenant --timeout --json --color' files=(.json) ;;
         shell) options='-s --socket -t --tenant --timeout --json --color' ;;
         bench) options='--args --fuel -D --define -c --clients -n --jobs --requests --execute --retire -s --socket -t --tenant --timeout --json --color' files=(.job .jasm .json) ;;

@@ -4,7 +4,7 @@ import os
 import sys
 from collections.abc import Callable, Sequence
 
-from arena.command import advise, bench, building, dumps, host, jobs, metrics, orders, pages, series, shell
+from arena.command import advise, authoring, bench, building, dumps, host, jobs, metrics, orders, pages, series, shell
 from arena.command.call import Call, WordsFault
 from arena.command.script import ProgramFault
 from arena.command.sources import SourceWrong
@@ -18,7 +18,7 @@ ABOUT = ("Runs jobs on arena-server, looks after them, and shows what happened t
          "tenant are given by options or by ARENA_SOCKET and ARENA_TENANT. It also looks after arena-host, whose run "
          "folder D is given by a word or, if it may be left out, by ARENA_RUN.")
 
-COMMANDS: tuple[Command, ...] = (*jobs.COMMANDS, *building.COMMANDS, *advise.COMMANDS, *shell.COMMANDS, *bench.COMMANDS,
+COMMANDS: tuple[Command, ...] = (*jobs.COMMANDS, *building.COMMANDS, *authoring.COMMANDS, *advise.COMMANDS, *shell.COMMANDS, *bench.COMMANDS,
                                  *dumps.COMMANDS, *host.COMMANDS, *metrics.COMMANDS, *orders.COMMANDS, *series.COMMANDS,
                                  *pages.COMMANDS)
 

@@ -34,7 +34,8 @@ class Status(enum.IntEnum):
 
 STATUS_TEXTS = {
     Status.DONE: "done; the job is complete",
-    Status.FAULT: "the job ended with a fault; `cancel` changed nothing; `advise` has something to say",
+    Status.FAULT: "the job ended with a fault; `cancel` changed nothing; `advise` has something to say; `test` found another "
+                  "value, or no example; `fmt --check` a file in another form",
     Status.WORDS: "the words are wrong, or no tenant or folder is named",
     Status.CANCELED: "the job was cancelled",
     Status.RUNNING: "the job is still running",

@@ -52,6 +52,10 @@ class Compiled:
         return sorted({line.source_line for procedure in self._procedures for line in procedure.lines
                        if line.instruction.name in DIVISIONS and not line.names[-1].strip("-0").isdigit()})
 
+    def length(self, name: str) -> int:
+        """How many instructions a function has."""
+        return next(len(it.lines) for it in self._procedures if it.name == name)
+
     def place(self, procedure: int, instruction: int) -> str:
         """What instruction of which procedure is of the source, in words: `count, line 12`."""
         it = self._procedures[procedure]

@@ -61,7 +61,7 @@ class Unit:
         self.inlines: dict[str, Inline] = {}
         self.functions: dict[str, Function] = {}
         self._given = dict(parameters)
-        self._parameters = {it.name for it in items if isinstance(it, Constant) and it.is_parameter}
+        self.parameters = {it.name for it in items if isinstance(it, Constant) and it.is_parameter}
         self._places: dict[str, Place] = {}
         self._taken_keys = {it.key for it in items if isinstance(it, CellName) and it.key is not None}
         for item in items:
@@ -95,7 +95,7 @@ class Unit:
                 self.functions[item.name] = item
 
     def _constant(self, item: Constant) -> int:
-        if item.name in self._given and item.name in self._parameters:
+        if item.name in self._given and item.name in self.parameters:
             number = self._given[item.name]
             if not arithmetic.fits(number):
                 raise item.place.fault(f"{item.name} = {number} does not fit 64 bits")
@@ -123,7 +123,7 @@ class Unit:
     def _faults(self) -> Iterator[SourceFault]:
         """What is wrong with the items as a whole."""
         for name in self._given:
-            if name not in self._parameters:
+            if name not in self.parameters:
                 yield START.fault(f"there is no param {name} in the source: write `param {name} = ..` with the value "
                                   "that it has without one")
         for item in (*self.functions.values(), *self.inlines.values()):
