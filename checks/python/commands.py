@@ -4,11 +4,10 @@ says on standard error, and its status. The manual page and the completions must
 
 usage: checks/python/commands.py, at the top of the repository.
 """
-import base64
-import hashlib
 import json
 import os
 import re
+import shutil
 import signal
 import subprocess
 import sys
@@ -121,7 +120,7 @@ def jobs_are_built(it):
                                                       r"in main, line 2\n"))
     faulty = it.file("faulty.job", "fn main(n) {\n    let x = y\n\tlet x = z\n}\n")
     it.call("build", faulty, status=5, err="^arena: [^ ]*faulty.job:2:13: y is not known here.*\n        let x = y\n"
-            "                ^\n[^ ]*faulty.job:3:10: z is not known here.*\n    \tlet x = z\n    \t        \^\n$")
+            "                \\^\n[^ ]*faulty.job:3:10: z is not known here.*\n    \tlet x = z\n    \t        \\^\n$")
     odd = it.file("odd.job", "fn main(n) {\n    while 1 { }\n}\n")
     it.call("build", odd, "--serial", out="serial\n", err="^[^ ]*odd.job:2:5: warning: this loop never ends: ")
     it.call("run", parameter, "--args", "4", "-D", "N=8", out="12\n")
@@ -215,38 +214,56 @@ def wrong(path):
 
 
 def pages_are_those_that_the_command_makes(it):
-    for page, path in (("man", "python/man/arena.1"), ("bash", "python/completion/arena.bash"),
+    for page, path in (("man", "python/man/arena.1"), ("bash", "python/completion/arena"),
                        ("zsh", "python/completion/_arena")):
         with open(path) as made:
             text = made.read()
         it.call("pages", page, out=text)
 
 
+BACKEND = "from setuptools import build_meta; import sys; print(getattr(build_meta, sys.argv[1])(sys.argv[2]))"
+
+
+def packer():
+    """A Python that has what packs the package, or None."""
+    for python in (sys.executable, "/usr/bin/python3"):
+        if subprocess.run([python, "-c", "import setuptools, wheel"], capture_output=True).returncode == 0:
+            return python
+    return None
+
+
 def package_is_packed(it):
-    """The wheel that pip asks for has the package, the pages and a right record, and runs where it is unpacked."""
-    sys.path.insert(0, PACKAGE)
-    import packing
-    wheel = it.server.file(packing.build_wheel(it.server.folder.name))
-    there = it.server.file("unpacked")
-    with zipfile.ZipFile(wheel) as archive:
+    """The wheel has the package, the pages and its metadata, and runs where it is unpacked."""
+    python, folder = packer(), it.server.folder.name
+    if python is None:
+        print("the package is not packed: no Python here has setuptools and wheel")
+        return
+    copy = it.server.file("package")
+    shutil.copytree(PACKAGE, copy, ignore=shutil.ignore_patterns("__pycache__", "*.egg-info", "build"))
+    made = [subprocess.run([python, "-c", BACKEND, f"build_{kind}", folder], capture_output=True, text=True, cwd=copy,
+                           timeout=PATIENCE).stdout.split()[-1] for kind in ("wheel", "sdist")]
+    import arena
+    name, there = f"arena-{arena.__version__}", it.server.file("unpacked")
+    with zipfile.ZipFile(it.server.file(made[0])) as archive:
         archive.extractall(there)
-        record = archive.read("arena-1.0.0.dist-info/RECORD").decode().splitlines()
-        assert {line.split(",")[0] for line in record} == set(archive.namelist())
-        for path, digest, size in (line.split(",") for line in record[:-1]):
-            content = archive.read(path)
-            wanted = base64.urlsafe_b64encode(hashlib.sha256(content).digest()).rstrip(b"=").decode()
-            assert (digest, int(size)) == (f"sha256={wanted}", len(content)), path
-        assert b"arena = arena.command:main" in archive.read("arena-1.0.0.dist-info/entry_points.txt")
+        names, metadata = archive.namelist(), archive.read(f"{name}.dist-info/METADATA").decode()
+        assert b"arena = arena.command:main" in archive.read(f"{name}.dist-info/entry_points.txt")
+    shared = f"{name}.data/data/share"
+    wanted = {"arena/py.typed", f"{name}.dist-info/LICENSE", f"{shared}/man/man1/arena.1",
+              f"{shared}/bash-completion/completions/arena", f"{shared}/zsh/site-functions/_arena"}
+    assert wanted <= {*names}, wanted - {*names}
+    assert not any("test" in name.split("/")[-1] and "tests/" in name for name in names)
+    assert f"Version: {arena.__version__}\n" in metadata and "Typing :: Typed" in metadata and "# arena\n" in metadata
     done = subprocess.run([sys.executable, "-m", "arena", "lint", it.server.file("seven.json")], capture_output=True,
                           text=True, timeout=PATIENCE, cwd=there)
     assert done.stdout.endswith("seven.json: valid\n"), done
-    with tarfile.open(it.server.file(packing.build_sdist(it.server.folder.name))) as archive:
-        assert {"arena-1.0.0/pyproject.toml", "arena-1.0.0/packing.py"} <= {*archive.getnames()}
+    with tarfile.open(it.server.file(made[1])) as archive:
+        assert {f"{name}/pyproject.toml", f"{name}/README.md", f"{name}/LICENSE"} <= {*archive.getnames()}
 
 
 def every_command_has_help(it):
-    from arena.command import COMMANDS, parser
-    for command in COMMANDS:
+    from arena.command import all_commands, parser
+    for command in all_commands():
         assert command.example.split()[:2] == ["arena", command.name], command
         assert command.name in parser().format_help()
     it.call("--version", out=re.compile(r"arena \d+\.\d+\.\d+\n"))

@@ -226,8 +226,8 @@ def _zsh_text(text: str) -> str:
 def pages(call: Call) -> int:
     """Prints a page."""
     from arena.command import ABOUT
-    from arena.command import COMMANDS as ALL
-    print({"man": lambda: manual(ALL, ABOUT), "bash": lambda: bash(ALL), "zsh": lambda: zsh(ALL)}[call.words.PAGE]())
+    from arena.command import all_commands
+    print({"man": lambda: manual(all_commands(), ABOUT), "bash": lambda: bash(all_commands()), "zsh": lambda: zsh(all_commands())}[call.words.PAGE]())
     return Status.DONE
 
 

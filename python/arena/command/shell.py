@@ -125,8 +125,8 @@ def one(call: Call, parser: Parser, line: str) -> int:
 
 def shell(call: Call) -> int:
     """Takes lines until they end; the status is that of the last one, if they are not typed."""
-    from arena.command import COMMANDS as ALL
-    known = [command for command in ALL if command.in_shell]
+    from arena.command import all_commands
+    known = [command for command in all_commands() if command.in_shell]
     parser = parser_of(known, about=ABOUT)
     call.client.arena()
     typed = sys.stdin.isatty()

@@ -5,7 +5,7 @@ from collections.abc import Callable, Sequence
 from dataclasses import dataclass, field
 from typing import TYPE_CHECKING, Any, NamedTuple, NoReturn
 
-import arena
+from arena.version import VERSION
 
 if TYPE_CHECKING:
     from arena.command.call import Call
@@ -180,7 +180,7 @@ def parser_of(commands: Sequence[Command], prog: str = "arena", about: str = "")
                     + statuses())
     for word in COMMON:
         _add(parser, word, {"default": None})
-    parser.add_argument("--version", action="version", version=f"{prog} {arena.__version__}", help="print the version")
+    parser.add_argument("--version", action="version", version=f"{prog} {VERSION}", help="print the version")
     inner = parser.add_subparsers(dest="command", metavar="COMMAND", required=True)
     for command in commands:
         sub = inner.add_parser(command.name, help=command.summary, description=command.text, allow_abbrev=False,
