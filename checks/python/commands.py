@@ -142,7 +142,7 @@ def files_are_linted(it):
     it.call("lint", it.server.file("seven.json"), out=it.server.file("seven.json") + ": valid\n")
     it.call("lint", it.server.file("fib.job"), out=it.server.file("fib.job") + ": valid\n")
     it.call("lint", it.server.file("config.json"), "--json", out=json.dumps(
-        {"file": it.server.file("config.json"), "valid": True}, separators=(",", ":")) + "\n")
+        {"file": it.server.file("config.json"), "valid": True, "warnings": []}, separators=(",", ":")) + "\n")
     it.call("lint", it.server.file("invalid.json"), status=5, err=r"procs\[0\]\[0\]: .*jmp")
     it.call("lint", it.file("none.json", {"tenants": [], "workers": 1}), status=5, err="tenants")
 

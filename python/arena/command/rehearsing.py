@@ -1,13 +1,10 @@
 """Where a job had its fault, found out by running it again in this process."""
 from collections.abc import Mapping
-from typing import TYPE_CHECKING, Any
+from typing import Any
 
 from arena.command.sources import JobSource
 from arena.jobs import Job
 from arena.replies import FaultCode
-
-if TYPE_CHECKING:
-    from arena.trace.rehearsal import FaultAt
 
 
 def place_of_fault(source: JobSource, code: FaultCode) -> str:
@@ -19,15 +16,9 @@ def place_of_fault(source: JobSource, code: FaultCode) -> str:
     if at is None or at.code is not code:
         return ""
     is_sure = code is not FaultCode.FUEL and is_serial(source.job)
-    return f"{', in' if is_sure else '; in a rehearsal on one slot it is in'} {_shown(source, at)}"
+    return f"{', in' if is_sure else '; in a rehearsal on one slot it is in'} {source.place(at.procedure, at.instruction)}"
 
 
 def is_serial(job: Mapping[str, Any]) -> bool:
     """Whether no schedule changes the value of a JOB."""
     return Job.from_value(dict(job)).is_serial()
-
-
-def _shown(source: JobSource, at: "FaultAt") -> str:
-    if source.compiled is None:
-        return f"procedure {at.procedure}, instruction {at.instruction}: {source.instruction(at.procedure, at.instruction)}"
-    return f"{source.compiled.place(at.procedure, at.instruction)}"

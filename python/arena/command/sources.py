@@ -73,9 +73,12 @@ class JobSource:
     job: Mapping[str, Any]
     compiled: "Compiled | None" = None
 
-    def instruction(self, procedure: int, instruction: int) -> str:
-        """An instruction of the job as compact JSON."""
-        return json.dumps(self.job["procs"][procedure][instruction], separators=(",", ":"))
+    def place(self, procedure: int, instruction: int) -> str:
+        """Where an instruction is in the source, or else which one it is, as compact JSON."""
+        if self.compiled is not None:
+            return self.compiled.place(procedure, instruction)
+        text = json.dumps(self.job["procs"][procedure][instruction], separators=(",", ":"))
+        return f"procedure {procedure}, instruction {instruction}: {text}"
 
 
 def source_of(words: argparse.Namespace) -> JobSource:
