@@ -18,7 +18,7 @@ sys.path.insert(0, os.path.abspath("python"))
 
 from calls import Calls, by_keyboard
 from serving import (
-    DIVIDES, FIB, INVALID, PACKAGE, PATIENCE, SCRIPT, SEVEN, SPIN, Server, arena_command, arena_process, job, tenant)
+    DIVIDES, FIB, INVALID, PACKAGE, PATIENCE, SCRIPT, SERVER, SEVEN, SPIN, Server, arena_command, arena_process, job, tenant)
 
 STORES = job([["set", 2, 5], ["store", 3, 2], ["ret", 2]])
 SOURCE = """fn fib(n) {
@@ -163,14 +163,21 @@ def shell_takes_lines(it):
     assert f"{it.server.folder.name}/seven.json" in list(completer.completions(f"{it.server.folder.name}/se", "run "))
 
 
+def is_unproved():
+    """Whether the server that is tried was built without proofs, as `checks/build/unproved.py` does."""
+    return "unproved" in SERVER
+
+
 def servers_are_measured(it):
     rows = re.compile(r" +clients +count +a second +50 %, ms +90 %, ms +99 %, ms +slowest, ms\n"
-                      r"requests +3 +30 +[\d,]+( +[\d.]+){4}\njobs +3 +20 +[\d,]+( +[\d.]+){4}\n")
+                      r"requests +3 +30 +[\d,]+( +[\d.]+){4}\njobs +3 +20 +[\d,]+( +[\d.]+){4}\n"
+                      rf"the server is {'an unproved build, a hundred .*' if is_unproved() else 'a proved build'}\n")
     it.call("retire", out=re.compile("epoch \\d+\n"))
     it.call("bench", "-c", "3", "-n", "20", "--requests", "30", out=rows)
     it.call("bench", it.server.file("seven.json"), "-c", "2", "-n", "300", "--requests", "0", "--retire", "--execute",
             "--json",
-            out=re.compile(r'\{"clients":2,"count":300,"milliseconds":\{"100":.*\},"per_second":[\d.]+,"refused":0,'
+            out=re.compile(rf'\{{"build":"{"unproved" if is_unproved() else "proved"}","clients":2,'
+                           r'"count":300,"milliseconds":\{"100":.*\},"per_second":[\d.]+,"refused":0,'
                            r'"what":"jobs"\}\n'))
     it.call("bench", "-c", "1", "-n", "257", "--requests", "0", status=27, out=re.compile(r"(?s).*jobs +1 +256 .*"),
             err="1 of 1 clients ended early: .*job_limit")

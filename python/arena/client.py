@@ -68,6 +68,11 @@ class Client:
     def __exit__(self, *_: object) -> None:
         self.close()
 
+    def server_process(self) -> int | None:
+        """The number of the process that listens at the path, if it is one that is seen from here: over a tunnel it is the
+        tunnel's."""
+        return self._connection.server_process()
+
     def close(self) -> None:
         """Ends the connection. Jobs go on; another connection of the tenant can collect them."""
         self._connection.close()

@@ -8,6 +8,7 @@ import math
 import os
 import select
 import socket
+import struct
 import time
 from collections.abc import Sequence
 
@@ -90,6 +91,14 @@ class Connection:
     def is_open(self) -> bool:
         """Whether it was not closed here."""
         return self._socket.fileno() >= 0
+
+    def server_process(self) -> int | None:
+        """The number of the process that listens at the path, if it is one that is seen from here."""
+        try:
+            pid: int = struct.unpack("3i", self._socket.getsockopt(socket.SOL_SOCKET, socket.SO_PEERCRED, 12))[0]
+        except OSError:
+            return None
+        return pid or None
 
     def close(self) -> None:
         """Ends it."""
