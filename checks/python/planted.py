@@ -14,7 +14,7 @@ class Planted:
     words: tuple[str, ...] = ("language.py", "--rehearsed", "6", "250", "1")
 
 
-RANGES = ("drawn_ranges.py", "1")
+RANGES, NESTED = ("drawn_ranges.py", "1"), ("nested.py", "1", "150", "1")
 
 
 PLANTED = [
@@ -72,6 +72,12 @@ PLANTED = [
     Planted("values.py", "`min` is `max`",
             'it.name == "min"',
             'it.name != "min"'),
+    Planted("names.py", "an inner block changes the name that it hides",
+            "self._scopes[-1].names[name] = meaning",
+            "self._scopes[0].names[name] = meaning", NESTED),
+    Planted("statements.py", "`continue` leaves the loop",
+            "self.jump(loop.end if isinstance(it, Break) else loop.more, it.place)",
+            "self.jump(loop.end, it.place)", NESTED),
     Planted("loops.py", "a loop down counts up to its end",
             'high, end, "<" if step > 0 else ">")',
             'high, end, "<")'),
