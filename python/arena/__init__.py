@@ -22,8 +22,8 @@ if TYPE_CHECKING:
 
 __all__ = [
     "ArenaError", "BadJson", "BadProgram", "BadRequest", "Busy", "Canceled", "Cells", "Client", "Complete",
-    "ConnectionLimit", "ConnectionLost", "Fault", "FaultCode", "HistoryFull", "InUse", "JobLimit", "Limits", "LineTooLong",
-    "LostJob", "NoMemory", "NoTenant", "Outcome", "Pipeline", "Refused", "Running", "Status", "StrangeReply", "TaskLimit", "TimedOut",
+    "ConnectionLimit", "ConnectionLost", "Fault", "FaultCode", "HistoryFull", "InUse", "JobLimit", "Limits",
+    "LineTooLong", "LostJob", "NoMemory", "NoTenant", "Outcome", "Pipeline", "Refused", "Running", "Status", "StrangeReply", "TaskLimit", "TimedOut",
     "UnknownJob", "UnknownTenant"]
 
 

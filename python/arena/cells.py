@@ -1,4 +1,5 @@
-"""Where a job reads cells that it has not written: they have what earlier jobs of the tenant stored, or jobs at the same time."""
+"""Where a job reads cells that it has not written: they have what earlier jobs of the tenant stored, or jobs that run at the
+same time."""
 from collections.abc import Iterator
 from dataclasses import dataclass
 

@@ -11,6 +11,7 @@ import socket
 import struct
 import time
 from collections.abc import Sequence
+from typing import Any
 
 from arena.replies import ConnectionLost, StrangeReply, TimedOut
 from arena.requests import Request
@@ -60,7 +61,7 @@ class Connection:
     Raises ConnectionLost, and TimedOut if it is not made before the deadline."""
 
     def __init__(self, path: str, deadline: Deadline) -> None:
-        self.owed: collections.deque[Request] = collections.deque()
+        self.owed: collections.deque[Request[Any]] = collections.deque()
         self._bytes, self._searched = bytearray(), 0
         self._socket = socket.socket(socket.AF_UNIX)
         try:
@@ -104,7 +105,7 @@ class Connection:
         """Ends it."""
         self._socket.close()
 
-    def send(self, requests: Sequence[Request], what: str, deadline: Deadline) -> None:
+    def send(self, requests: Sequence[Request[Any]], what: str, deadline: Deadline) -> None:
         """Sends the lines of some requests, which are owed their replies from then on. If only a part of them was sent,
         or that is not known, the connection is closed. Raises ConnectionLost, TimedOut."""
         if not self.is_open:
@@ -135,7 +136,7 @@ class Connection:
             self._wait(select.POLLOUT, deadline)
             return 0
 
-    def next_reply(self, what: str, deadline: Deadline) -> tuple[Request, bytes]:
+    def next_reply(self, what: str, deadline: Deadline) -> tuple[Request[Any], bytes]:
         """The request that is owed the next reply, and the line of that without its newline. Raises ConnectionLost,
         StrangeReply, and DeadlineOver, after which the reply is still owed."""
         while (end := self._bytes.find(b"\n", self._searched)) < 0:

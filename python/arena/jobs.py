@@ -7,6 +7,7 @@ from collections.abc import Callable, Mapping, Sequence
 from dataclasses import dataclass, field, replace
 from enum import Enum
 from types import MappingProxyType
+from typing import Any
 
 REGISTERS = 8
 GROUPS = 4
@@ -126,13 +127,13 @@ class Job:
         first, second = (*args, 0, 0)[:ARGUMENTS]
         return replace(self, args=(first, second))
 
-    def to_value(self) -> dict:
+    def to_value(self) -> dict[str, Any]:
         """The JSON value JOB."""
         procedures = [[it.to_value() for it in procedure] for procedure in self.procedures]
         return {"args": list(self.args), "fuel": self.fuel, "procs": procedures}
 
     @classmethod
-    def from_value(cls, value: dict) -> "Job":
+    def from_value(cls, value: Mapping[str, Any]) -> "Job":
         """The job of a valid JOB; see `arena.lint` for one that may not be valid."""
         procedures = tuple(tuple(map(Instruction.from_value, it)) for it in value["procs"])
         first, second = value["args"]

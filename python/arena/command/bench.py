@@ -4,6 +4,7 @@ import time
 from collections.abc import Callable
 from concurrent.futures import ThreadPoolExecutor
 from dataclasses import dataclass, field
+from typing import Any
 
 from arena.client import Client
 from arena.command.builds import build_of
@@ -40,11 +41,11 @@ class Measured:
         ordered = sorted(self.times)
         return 1000 * ordered[min(len(ordered) * percent // 100, len(ordered) - 1)]
 
-    def to_value(self) -> dict:
+    def to_value(self) -> dict[str, Any]:
         """As JSON."""
         return {"clients": self.clients, "count": len(self.times), "per_second": round(self.rate, 1), "what": self.what,
                 "refused": len(self.faults),
-                "milliseconds": {str(it): self.times and round(self.percentile(it), 3) or None for it in PERCENTS}}
+                "milliseconds": {str(it): None if (ms := self.percentile(it)) is None else round(ms, 3) for it in PERCENTS}}
 
 
 def measure(call: Call, what: str, clients: int, count: int, ask: Callable[[Client], object]) -> Measured:

@@ -4,7 +4,7 @@ import json
 from arena.command.call import Call
 from arena.command.output import GREEN
 from arena.command.sources import JobSource, SourceWrong, assembled, compiled, job_of, read_json, source_of
-from arena.command.words import JOB_WORDS, Command, Completes, Status, option, positional
+from arena.command.words import JOB_WORDS, Command, Completes, Status, option
 
 TO = option("-o", "--output", help="write to this file, not to standard output", metavar="FILE",
             completes=Completes.FILE)

@@ -4,7 +4,7 @@ import shutil
 import sys
 import time
 from dataclasses import dataclass
-from typing import TextIO
+from typing import Any, TextIO
 
 from arena.command.call import Call
 from arena.command.words import FOLDER, Command, Status, option, seconds
@@ -103,7 +103,7 @@ def show(call: Call, screen: Screen, watch: Watch) -> None:
     screen.show(warning + to_text(sections_of(watch.now.status, watch)))
 
 
-def to_value(host: HostStatus, watch: Watch) -> dict:
+def to_value(host: HostStatus, watch: Watch) -> dict[str, Any]:
     """The tenants with their rates, as JSON; a rate that is not known yet is null."""
     return {"time": host.time, "total": rates_value(watch.total()), "recent": recent_value(watch.recent()), "generations": [
         {"generation": it.number, "state": it.state.value, "connections": it.connections, "served": it.served,
@@ -113,15 +113,17 @@ def to_value(host: HostStatus, watch: Watch) -> dict:
                      for tenant in it.tenants]} for it in host.generations]}
 
 
-def rates_value(rates: Rates | None) -> dict | None:
+def rates_value(rates: Rates | None) -> dict[str, Any] | None:
     """Rates as JSON."""
-    return rates and {"asks": round(rates.asks, 3), "entries": round(rates.entries, 3), "jobs": round(rates.jobs, 3)}
+    return None if rates is None else {"asks": round(rates.asks, 3), "entries": round(rates.entries, 3), "jobs": round(rates.jobs, 3)}
 
 
 def recent_value(recent: Recent | None) -> dict[str, object] | None:
     """The rates over the last minutes as JSON."""
-    return recent and {"seconds": round(recent.seconds, 3), "mean": rates_value(recent.mean()),
-                       "jobs_within": {str(it): round(recent.jobs_within(it), 3) for it in (50, 90, 100)}}
+    if recent is None:
+        return None
+    return {"seconds": round(recent.seconds, 3), "mean": rates_value(recent.mean()),
+            "jobs_within": {str(it): round(recent.jobs_within(it), 3) for it in (50, 90, 100)}}
 
 
 COMMANDS = (

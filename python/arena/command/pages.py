@@ -225,9 +225,9 @@ def _zsh_text(text: str) -> str:
 
 def pages(call: Call) -> int:
     """Prints a page."""
-    from arena.command import ABOUT
-    from arena.command import all_commands
-    print({"man": lambda: manual(all_commands(), ABOUT), "bash": lambda: bash(all_commands()), "zsh": lambda: zsh(all_commands())}[call.words.PAGE]())
+    from arena.command import ABOUT, all_commands
+    commands, kind = all_commands(), call.words.PAGE
+    print(manual(commands, ABOUT) if kind == "man" else bash(commands) if kind == "bash" else zsh(commands))
     return Status.DONE
 
 

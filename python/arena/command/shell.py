@@ -120,7 +120,7 @@ def one(call: Call, parser: Parser, line: str) -> int:
     for name in ("json", "color", "timeout", "socket", "tenant"):
         if getattr(words, name) is None:
             setattr(words, name, getattr(call.words, name))
-    return guarded(call.again(words), lambda it: words.run(renewed(it)))
+    return guarded(call.again(words), lambda it: int(words.run(renewed(it))))
 
 
 def shell(call: Call) -> int:
@@ -131,7 +131,7 @@ def shell(call: Call) -> int:
     call.client.arena()
     typed = sys.stdin.isatty()
     keep = edit_lines([*(command.name for command in known), "help", "quit"]) if typed else lambda: None
-    status = Status.DONE
+    status: int = Status.DONE
     for line in lines(f"{call.tenant}> "):
         if line in ("quit", "exit"):
             break

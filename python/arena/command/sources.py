@@ -48,7 +48,7 @@ def assembled(path: str, words: argparse.Namespace) -> Mapping[str, Any]:
     from arena.assembler import AssemblyFault, assemble
     args = _args(words)
     try:
-        return assemble(read_text(path), args=tuple(args) if args else None, fuel=words.fuel, file=path).to_value()
+        return assemble(read_text(path), args=(args[0], args[1]) if args else None, fuel=words.fuel, file=path).to_value()
     except (AssemblyFault, ValueError) as fault:
         raise SourceWrong(str(fault)) from None
 
@@ -105,6 +105,7 @@ def job_of(words: argparse.Namespace) -> Mapping[str, Any]:
     fault = _first_fault(value)
     if fault is not None:
         raise SourceWrong(f"{path}: {fault}")
+    assert isinstance(value, dict)
     return value
 
 

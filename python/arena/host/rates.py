@@ -1,4 +1,5 @@
 """How fast a host goes: what its counts grew by between two readings of its status."""
+from collections.abc import Iterable
 from dataclasses import dataclass, field
 
 from arena.host.status import Reading, TenantStatus
@@ -41,10 +42,11 @@ class Recent:
 
     def mean(self) -> Rates:
         """The rates over all of the time."""
-        def of(name: str) -> float:
-            """The mean of one of them."""
-            return sum(getattr(it.rates, name) * (it.end - it.begin) for it in self.spans) / self.seconds
-        return Rates(of("entries"), of("asks"), of("jobs"))
+        def mean_of(rates: Iterable[float]) -> float:
+            """The mean of one rate of each span."""
+            return sum(it * (span.end - span.begin) for it, span in zip(rates, self.spans)) / self.seconds
+        all_of = [it.rates for it in self.spans]
+        return Rates(mean_of(it.entries for it in all_of), mean_of(it.asks for it in all_of), mean_of(it.jobs for it in all_of))
 
     def jobs_within(self, percent: int) -> float:
         """The rate of jobs that was not exceeded in that share of the time."""
@@ -99,7 +101,8 @@ def rates_between(before: Reading, after: Reading) -> dict[Key, Rates]:
     if before.status.began != after.status.began or seconds <= 0:
         return {}
     known = _counts(before)
-    oldest_new = max((it.number for it in (*before.status.generations, *before.status.closed)), default=-1) + 1
+    there = [*(it.number for it in before.status.generations), *(it.number for it in before.status.closed)]
+    oldest_new = max(there, default=-1) + 1
     found: dict[Key, Rates] = {}
     for key, last in _counts(after).items():
         first = known.get(key)

@@ -1,4 +1,6 @@
 """What operators give for numbers of 64 bits, as the instructions of a job compute them."""
+from collections.abc import Callable
+
 from arena.jobs import GREATEST_NUMBER, LEAST_NUMBER
 
 
@@ -18,7 +20,7 @@ def quotient(a: int, b: int) -> int:
     return wrapped(size if (a < 0) == (b < 0) else -size)
 
 
-_RESULTS = {
+_RESULTS: dict[str, Callable[[int, int], int]] = {
     "+": lambda a, b: wrapped(a + b),
     "-": lambda a, b: wrapped(a - b),
     "*": lambda a, b: wrapped(a * b),

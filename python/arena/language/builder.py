@@ -2,6 +2,7 @@
 alive."""
 from collections.abc import Callable
 from dataclasses import dataclass, field
+from typing import Any
 
 from arena.jobs import INSTRUCTIONS_OF_A_PROCEDURE, PROCEDURES
 from arena.language.code import ARGUMENT, LABEL, LOOP, MOVE, Code, Registers, Step
@@ -76,7 +77,8 @@ class Builder:
         self._labels += 1
         return f"L{self._labels}"
 
-    def emit(self, name: str, place: Place, defines: tuple[int, ...] = (), uses: tuple[int, ...] = (), **more) -> None:
+    def emit(self, name: str, place: Place, defines: tuple[int, ...] = (), uses: tuple[int, ...] = (),
+             **more: Any) -> None:
         """Adds a step; `more` are the other members of `Step`."""
         self.place, caller = place, self.caller()
         if len(self.code) >= MOST_STEPS:

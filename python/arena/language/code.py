@@ -70,4 +70,4 @@ class Registers:
 
 def weight(depth: int) -> int:
     """How often code at a depth of loops is taken to run."""
-    return 10 ** min(depth, 6)
+    return int(10 ** min(depth, 6))

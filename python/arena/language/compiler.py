@@ -1,6 +1,7 @@
 """From a source to a job, through all passes."""
 from collections.abc import Mapping, Sequence
 from dataclasses import dataclass, field
+from typing import Any
 
 from arena.jobs import GREATEST_FUEL, INSTRUCTIONS_OF_A_PROCEDURE, REGISTERS, REQUEST_BYTES, Job
 from arena.language import output
@@ -61,7 +62,7 @@ class Compiled:
         it = self._procedures[procedure]
         return f"{it.title}, line {it.lines[instruction].source_line}"
 
-    def source_map(self) -> dict:
+    def source_map(self) -> dict[str, Any]:
         """For JSON: `{"file":..,"procedures":[{"lines":[..],"name":..},..]}` with the source line of each
         instruction."""
         procedures = [{"lines": [line.source_line for line in it.lines], "name": it.name} for it in self._procedures]

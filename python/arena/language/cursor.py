@@ -28,7 +28,7 @@ def magnitude(token: Token) -> int:
     if digits.startswith("0x"):
         return int(digits, 16)
     digits = digits.lstrip("0") or "0"
-    return int(digits) if len(digits) <= MOST_DIGITS else 10**MOST_DIGITS
+    return int(digits if len(digits) <= MOST_DIGITS else "1" + "0" * MOST_DIGITS)
 
 
 class Cursor:
@@ -41,6 +41,10 @@ class Cursor:
     def token(self) -> Token:
         """The next token."""
         return self._tokens[self._at]
+
+    def is_at_end(self) -> bool:
+        """Whether the next token is the end of the file."""
+        return self.token.kind is TokenKind.END_OF_FILE
 
     @property
     def place(self) -> Place:

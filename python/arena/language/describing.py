@@ -17,7 +17,8 @@ def described(text: str, compiled: Compiled, title: str) -> str:
     named = [f"- `param {name} = {value}`" for name, value in unit.constants.items() if name in unit.parameters]
     named += [f"- `cell {name} @ {key}`" for name, key in unit.cells.items()]
     parts += ["\n".join(named)] if named else []
-    for item in (*unit.functions.values(), *unit.inlines.values()):
+    items: list[Function | Inline] = [*unit.functions.values(), *unit.inlines.values()]
+    for item in items:
         parts += _function(item, lines, compiled)
     examples = [f"- `{it.text.lstrip('#/ ').removeprefix('test').strip()}`" for it in examples_of(text)]
     parts += ["## Examples", "\n".join(examples)] if examples else []

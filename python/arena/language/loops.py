@@ -9,8 +9,8 @@ from arena.language.builder import Loop, Sum
 from arena.language.captures import is_assigned, may_leave
 from arena.language.faults import Place
 from arena.language.names import Variable
-from arena.language.sums import TOTAL, SumLoop
-from arena.language.syntax import Binary, Block, Expression, For, Held, Name, Number, While
+from arena.language.sums import TOTAL
+from arena.language.syntax import Binary, Block, Expression, For, Held, Name, Number, SumLoop, While
 from arena.language.values import Values
 
 
@@ -88,13 +88,14 @@ class Loops(Values):
             return
         if first is None or first >= limit:
             self._skip_if_empty(place, index, it.high, end)
-        self._count(place, index, lambda: self.number(wrapped(limit - 1), place), end,
+        last = wrapped(limit - 1)
+        self._count(place, index, lambda: self.number(last, place), end,
                     lambda more: self._for_body(it, index, more, end))
 
     def _count_by_step(self, it: For, index: int, step: int) -> None:
         """A loop whose step is not 1, down if that is negative."""
         place, end, limit = it.place, self.label(), self.fold(it.high)
-        high = Number(place, limit) if limit is not None else Held(place, self.value(it.high))
+        high: Number | Held = Number(place, limit) if limit is not None else Held(place, self.value(it.high))
         self._skip_if_empty(place, index, high, end, "<" if step > 0 else ">")
         self._count_in_steps(place, index, Stepped(high, step), end, lambda more: self._for_body(it, index, more, end))
 

@@ -76,7 +76,9 @@ def finished(function: Function, made: Coloured, registers: Registers,
              procedures: Mapping[str, int]) -> FinishedProcedure:
     """The procedure of a function. `procedures` numbers the functions."""
     code, colours = without_moves(made), made.colours
-    targets, labels, count = {}, {}, 0
+    targets: dict[str, int] = {}
+    labels: dict[int, list[str]] = {}
+    count = 0
     for step in code:
         if step.name == LABEL:
             targets[step.target] = count

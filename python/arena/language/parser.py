@@ -66,14 +66,14 @@ class Parser(Expressions):
         found: list[Statement] = []
         self.skip_lines()
         while not self.sees("}"):
-            if self.token.kind is TokenKind.END_OF_FILE:
+            if self.is_at_end():
                 raise place.fault("this `{` has no `}`")
             try:
                 found.append(self.statement())
                 if not self.sees("}") and self.token.kind is not TokenKind.END_OF_LINE:
                     raise self.unexpected("the end of the statement")
             except SourceFault as fault:
-                if self.token.kind is TokenKind.END_OF_FILE:
+                if self.is_at_end():
                     raise
                 self.skip_statement(fault)
             self.skip_lines()

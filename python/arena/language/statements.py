@@ -5,10 +5,9 @@ from arena.language.code import GROUP_END, GROUP_LEFT, Code
 from arena.language.faults import Place, SourceFault
 from arena.language.loops import Loops
 from arena.language.names import TASKS, Group, Pending, Variable
-from arena.language.sums import SumLoop
 from arena.language.syntax import (Assign, Binary, Block, Break, Cancel, Continue, DeclareGroup, Evaluate, Extreme, For, Gathers,
-                                   Give, Held, If, Let, LetBoth, LetTask, Post, Return, Spawn, Statement, StoreCell, Sync,
-                                   Wait, While)
+                                   Give, Held, If, Let, LetBoth, LetTask, Post, Return, Spawn, Statement, StoreCell, SumLoop,
+                                   Sync, Wait, While)
 
 
 class FunctionMaker(Loops):
@@ -242,14 +241,11 @@ class FunctionMaker(Loops):
         """Where a block goes that does nothing but leave a turn of a loop, with the tasks that the loop began with."""
         if len(block.statements) != 1:
             return None
-        loop, only = self.loops[-1] if self.loops else None, block.statements[0]
-        is_own = loop and not (self.sum and len(self.loops) == 1)
+        only, is_own = block.statements[0], not (self.sum and len(self.loops) == 1)
         match only:
-            case Break() if is_own and self._has_nothing_since(loop):
-                return loop.end
-            case Continue() if is_own and self._has_nothing_since(loop):
-                return loop.more
-            case Give() if self._gives_nothing(only):
+            case Break() | Continue() if self.loops and is_own and self._has_nothing_since(self.loops[-1]):
+                return self.loops[-1].end if isinstance(only, Break) else self.loops[-1].more
+            case Give() if self.sum and self._gives_nothing(only):
                 return self.sum.more
         return None
 

@@ -10,8 +10,8 @@ from arena.language.faults import Place
 from arena.language.layouts import PACKED_BITS
 from arena.language.names import HALVES, Names, Variable
 from arena.language.syntax import (Application, Assign, Binary, Block, Break, Call, DeclareGroup, Expression, Extreme,
-                                   Function, Gathers, If, Let, LetTask, Name, Node, Number, Parameter, ParallelSum,
-                                   Return, Spawn, Statement, Wait, While)
+                                   Function, Gathers, If, Let, LetTask, Name, Number, Parameter, ParallelSum, Return,
+                                   Spawn, Statement, SumLoop, Wait, While)
 
 SIZE, MIDDLE, TOTAL, LOWER, UPPER = "(size)", "(middle)", "(total)", "(lower half)", "(upper half)"
 """Names that no source can have: the length of a range, where it is divided, the sum of one task, and those of its halves."""
@@ -27,17 +27,6 @@ Spawned = Callable[[Expression, Expression], Application]
 
 GREATEST_INDEX_BITS = PACKED_BITS // 2 - 1
 """The most bits of an index with a width: both ends of a range share an argument, and the upper may be one beyond."""
-
-
-@dataclass(frozen=True, eq=False)
-class SumLoop(Node):
-    """The loop of one task over its range, with the terms of the body; the index is kept from being assigned."""
-
-    gathers: Gathers
-    step: int
-    index: str
-    end: str
-    body: Block
 
 
 @dataclass(frozen=True)

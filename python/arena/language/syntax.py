@@ -278,8 +278,20 @@ Statement = (Let | LetTask | LetBoth | Assign | StoreCell | Evaluate | DeclareGr
 class Block(Node):
     """Statements in braces; `end` is where the closing brace is."""
 
-    statements: tuple[Statement, ...]
+    statements: tuple["Statement | SumLoop", ...]
     end: Place
+
+
+@dataclass(frozen=True, eq=False)
+class SumLoop(Node):
+    """The loop of one task of a parallel sum over its range, with the terms of the body; the index is kept from being
+    assigned. It is made by the compiler alone."""
+
+    gathers: Gathers
+    step: int
+    index: str
+    end: str
+    body: Block
 
 
 # Items

@@ -71,8 +71,8 @@ class Unit:
                 notes.note(fault)
                 if isinstance(item, Constant):
                     self.constants.setdefault(item.name, 1)  # so that its uses are no faults, too
-        for fault in self._faults():
-            notes.note(fault)
+        for found in self._faults():
+            notes.note(found)
         if not self.functions:
             notes.refuse()
             raise START.fault("there is no fn: write `fn main(x, y) { .. }`")
@@ -126,7 +126,8 @@ class Unit:
             if name not in self.parameters:
                 yield START.fault(f"there is no param {name} in the source: write `param {name} = ..` with the value "
                                   "that it has without one")
-        for item in (*self.functions.values(), *self.inlines.values()):
+        items: list[Function | Inline] = [*self.functions.values(), *self.inlines.values()]
+        for item in items:
             try:
                 self._check_names(item)
                 if isinstance(item, Function):

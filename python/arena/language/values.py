@@ -182,7 +182,7 @@ class Values(Conditions):
         registers = [self.value(it) if number is None else 0 for it, number in zip(application.arguments, numbers)]
         self.names.open(is_wall=True)
         for parameter, number, register in zip(inline.parameters, numbers, registers):
-            meaning = Variable(parameter.name, register) if number is None else number
+            meaning: Variable | int = Variable(parameter.name, register) if number is None else number
             self.names.declare(parameter.name, meaning, parameter.place)
         self.expand(application)
         return inline.value
@@ -203,13 +203,14 @@ class Values(Conditions):
         made = sum_function(it, grain, step, self.names, self.function.name)
         self.source.add_function(made.function)
         low, high = self.fold(it.low), self.fold(it.high)
-        is_known = low is not None and high is not None
-        if is_known and low >= high:
+        if low is not None and high is not None and low >= high:
             return self.number(NEUTRAL[it.gathers], it.place, into)
         self._check_ends(it)
-        ends = [Number(end.place, number) if number is not None else Held(end.place, self.value(end))
+        ends: list[Number | Held] = [Number(end.place, number) if number is not None else Held(end.place, self.value(end))
                 for end, number in ((it.low, low), (it.high, high))]
-        return self.call(made.applied(*ends), into) if is_known else self._sum_unless_empty(it, made, ends, into)
+        if low is not None and high is not None:
+            return self.call(made.applied(*ends), into)
+        return self._sum_unless_empty(it, made, ends, into)
 
     def _sum_unless_empty(self, it: ParallelSum, made: SumFunction, ends: Sequence[Number | Held],
                           into: int | None) -> int:

@@ -2,6 +2,7 @@
 instruction by instruction. The text of the function has no part of a job but its numbers, which were read as numbers.
 """
 from collections.abc import Iterator
+from typing import Any
 
 from arena.trace.machine import (
     ADD, AND, DIV, EQ, JMP, JZ, LE, LT, MUL, OR, REM, RUN, SET, SHARED, SHL, SHR, SLOT, SUB, XOR, Fast, Instr, Procedure,
@@ -19,7 +20,7 @@ def compile_procedure(procedure: Procedure) -> None:
     leaders = _leaders(procedure.instrs)
     lines = ["def run(registers, at, count, slot, width):", f" {REGISTERS} = registers", " while True:",
              *_choice(procedure.instrs, leaders, 2), f" registers[:] = {REGISTERS}", " return Run(at, count, False)"]
-    names: dict = {"Run": Run, "wrapped": wrapped, "quotient": quotient, "remainder": remainder}
+    names: dict[str, Any] = {"Run": Run, "wrapped": wrapped, "quotient": quotient, "remainder": remainder}
     exec(compile("\n".join(lines), "<procedure>", "exec"), names)
     fast: Fast = names["run"]
     procedure.fast, procedure.leaders = fast, frozenset(leaders)

@@ -3,7 +3,7 @@ from collections.abc import Callable
 from dataclasses import dataclass
 from functools import lru_cache
 from operator import and_, or_, xor
-from typing import NamedTuple
+from typing import Any, NamedTuple
 
 # How many private instructions one advance executes at most.
 RUN = 1000
@@ -54,7 +54,7 @@ class Procedure:
     leaders: frozenset[int] = frozenset()
 
 
-def decode(procs: list[list[list]]) -> list[Procedure]:
+def decode(procs: list[list[list[Any]]]) -> list[Procedure]:
     """The procedures of a valid job. Jobs of the same code share them."""
     return [_procedure(tuple(Instr(NUMBERS[name], *operands) for name, *operands in proc)) for proc in procs]
 
@@ -101,6 +101,7 @@ def run_private(procedure: Procedure, registers: list[int], at: int, slot: int, 
     instrs, leaders, count = procedure.instrs, procedure.leaders, 0
     while True:
         if at in leaders:
+            assert procedure.fast is not None
             run = procedure.fast(registers, at, count, slot, width)
             if run.divided_by_zero:
                 return run
