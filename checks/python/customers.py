@@ -1,7 +1,6 @@
 #!/usr/bin/env python3
 """Jobs as someone wrote them who had read docs/LANGUAGE.md and nothing else, with values that Python gives: each compiles as it
-was first written, and gives its value on drawn schedules, save those that need more registers than there are. The last line says
-how many there are.
+was first written, and gives its value on drawn schedules. The last line says how many there are.
 
 usage: checks/python/customers.py, from anywhere.
 """
@@ -15,9 +14,6 @@ from arena.language import SourceFault
 from arena.language.examples import differences, examples_of
 
 FOLDER = os.path.join(paths.ROOT, "checks/python/data/customers")
-REFUSED = {"det3.job": "main needs more than 8 registers here", "mandel.job": "inside needs more than 8 registers here"}
-"""Those that are refused, and what is said of them: nine values are alive at once."""
-
 FEWEST, SCHEDULES = 11, 4
 
 
@@ -31,11 +27,8 @@ def wrong(name: str, text: str) -> Iterator[str]:
         try:
             for found in differences(text, it, draws, SCHEDULES, name):
                 yield f"{name}: {it.text}: {found.found} on {found.slots} slots"
-            if name in REFUSED:
-                yield f"{name} is not refused any more"
         except SourceFault as fault:
-            if not fault.message.startswith(REFUSED.get(name, " ")):
-                yield str(fault)
+            yield str(fault)
 
 
 def main() -> list[str]:
@@ -48,7 +41,7 @@ def main() -> list[str]:
         found.append(f"{len(names)} jobs")
     for it in found:
         print(it)
-    print(f"{len(names)} jobs as first written, {len(REFUSED)} of them refused: {len(found)} differences")
+    print(f"{len(names)} jobs as first written: {len(found)} differences")
     return found
 
 

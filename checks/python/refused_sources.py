@@ -35,7 +35,7 @@ ONE_TOO_MANY = "".join(f"fn f{number}() {{ }}\n" for number in range(17))
 LONG = "fn main(n) { return n }\n" + "".join(
     f"fn f{number}(n) {{ group g; {'; '.join(['spawn g: main(n)'] * 250)} }}\n" for number in range(15))
 
-INLINED = ("fn main(a, b) {\n    let c = a + b\n    let d = a - b\n    let e = a * b\n    let f = a / b\n    let g = a + c\n"
+INLINED = ("fn main(a, b) {\n    let c = a / b\n    let d = b / a\n    let e = a / c\n    let f = a / d\n    let g = c / d\n"
            "    return far(c, d) + a + b + c + d + e + f + g\n}")
 
 REFUSED = [
@@ -254,15 +254,15 @@ REFUSED = [
     Refused(main("let m = 2", "return psum i: u4 in -1..n { give m }"),
             ":3:26: -1 does not fit i: u4, which is from 0 to 15: make the index wider"),
     # room
-    Refused("fn main(a, b) {\n    let c = a + b\n    let d = a - b\n    let e = a * b\n    let f = a / b\n"
-            "    let g = a + c\n    let h = a - c\n    let i = a * c\n    return a + b + c + d + e + f + g + h + i\n}",
+    Refused("fn main(a, b) {\n    let c = a / b\n    let d = b / a\n    let e = a / c\n    let f = a / d\n"
+            "    let g = c / d\n    let h = d / c\n    let i = a / e\n    return a + b + c + d + e + f + g + h + i\n}",
             ":8:15: main needs more than 8 registers here, and there is no memory to put one into; alive are a, b, c, "
             "d, e, f, g, h and i: let another fn do a part, or compute a value where it is needed"),
     Refused("inline fn far(a, b) = (a * a + b * b) *\n    (a - b)\n" + INLINED, ":9:12: main needs more than 8 registers here, in "
             "the inline fn of line 1, column 34, and there is no memory to put one into; alive are a, b, c, d, e, f, g and "
             "2 other values: let another fn do a part, or compute a value where it is needed"),
-    Refused(main("let m = 1", "return psum i: u9 in 0..n {", "    let a = i + m", "    let b = i - m", "    let c = i * m",
-                 "    let d = a * b", "    let e = c * d", "    let h = a - d", "    give a + b + c + d + e + h", "}"),
+    Refused(main("let m = 1", "return psum i: u9 in 0..n {", "    let a = i / m", "    let b = m / i", "    let c = a / m",
+                 "    let d = a / b", "    let e = c / d", "    let h = a / d", "    give a + b + c + d + e + h", "}"),
             ":9:19: the psum of line 3 needs more than 8 registers here, and there is no memory to put one into; alive are a, "
             "b, c, d, e, h, i, m, the end of i and the total: let another fn do a part, or compute a value where it is "
             "needed"),

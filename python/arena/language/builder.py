@@ -150,12 +150,17 @@ class Builder:
         """The number that an expression always has, or None."""
         return folded(expression, self.names.constant, self.unit.own)
 
-    def divided(self, place: Place, register: int, bits: int, names: tuple[str, str]) -> tuple[int, int]:
-        """The high part of a packed argument, and its low bits."""
-        high, low = self.registers.new(names[0]), self.registers.new(names[1])
-        self.emit("div", place, (high,), (register, self.number(2**bits, place)))
-        self.emit("rem", place, (low,), (register, self.number(2**bits, place)))
-        return high, low
+    def part(self, place: Place, register: int, shift: int, bits: int | None, name: str) -> int:
+        """A parameter of a packed argument: so many bits from one on; all from that one on without a number of bits."""
+        shifted = register
+        if shift:
+            shifted = self.registers.new(name if bits is None else "")
+            self.emit("shr", place, (shifted,), (register, self.number(shift, place)))
+        if bits is None:
+            return shifted
+        low = self.registers.new(name)
+        self.emit("and", place, (low,), (shifted, self.number(2**bits - 1, place)))
+        return low
 
     def argument(self, number: int, parameters: tuple[Parameter, ...]) -> int:
         """A register that holds an argument at the start."""
@@ -167,10 +172,11 @@ class Builder:
 
     def unpacked(self, register: int, parameters: tuple[Parameter, ...]) -> list[Unpacked]:
         """The parameters of an argument with their registers."""
-        found = []
-        for number in range(len(parameters) - 1, 0, -1):
+        found, shift = [], 0
+        for number in range(len(parameters) - 1, -1, -1):
             parameter = parameters[number]
-            high_name = parameters[0].name if number == 1 else "(packed)"
-            register, low = self.divided(parameter.place, register, parameter.bits or 0, (high_name, parameter.name))
-            found.append(Unpacked(parameter, low))
-        return [*found, Unpacked(parameters[0], register)]
+            bits = parameter.bits if number else None
+            part = self.part(parameter.place, register, shift, bits, parameter.name)
+            found.append(Unpacked(parameter, part))
+            shift += parameter.bits or 0
+        return found

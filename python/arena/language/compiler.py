@@ -18,6 +18,7 @@ from arena.language.layouts import arguments_of
 from arena.language.liveness import without_unread
 from arena.language.output import FinishedProcedure, finished
 from arena.language.parser import TOO_DEEP, parse
+from arena.language.recomputing import coloured_again
 from arena.language.statements import FunctionMaker
 from arena.language.syntax import Function
 from arena.language.unit import Unit
@@ -143,7 +144,7 @@ def _made(source: Source, function: Function) -> list[_Made]:
     _check_count(function, sum(it.name not in MAY_GO for it in code), "at least ")
     code = without_unread(with_waits(code, registers))
     _check_count(function, sum(it.name not in MAY_BE_SHARED for it in code), "at least ")
-    result = coloured(code, registers.fixed)
+    result = coloured(code, registers.fixed) or coloured_again(code, registers)
     if result is None:
         raise _pressure(function, code, registers)
     return [_Made(function, registers, with_constants(without_copies(result, registers), registers))]
