@@ -23,7 +23,8 @@ if TYPE_CHECKING:
 __all__ = [
     "ArenaError", "BadJson", "BadProgram", "BadRequest", "Busy", "Canceled", "Cells", "Client", "Complete",
     "ConnectionLimit", "ConnectionLost", "Fault", "FaultCode", "HistoryFull", "InUse", "JobLimit", "Limits",
-    "LineTooLong", "LostJob", "NoMemory", "NoTenant", "Outcome", "Pipeline", "Refused", "Running", "Status", "StrangeReply", "TaskLimit", "TimedOut",
+    "LineTooLong", "LostJob", "NoMemory", "NoTenant", "Outcome", "Pipeline", "Refused", "Running", "Status",
+    "StrangeReply", "TaskLimit", "TimedOut",
     "UnknownJob", "UnknownTenant"]
 
 

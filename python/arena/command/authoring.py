@@ -93,9 +93,9 @@ def doc(call: Call) -> int:
 
 COMMANDS = (
     Command("test", "run the examples in the comments of .job files",
-            "Runs each example that stands in a comment of a .job file, such as `# test 10 0 -> 55`, on several drawn schedules, "
-            "in this process: no server is needed. `# test N=8 3 -> fault 1` gives the param N and wants a fault, and `# test 5 "
-            "-> 5, seen.sum = 10` also wants the sum of a cell. The status is 1 if an example gave something else, or there "
+            "Runs each example that stands in a comment of a .job file, such as `# test 10 0 -> 55`, on several drawn "
+            "schedules, in this process: no server is needed. `# test N=8 3 -> fault 1` gives the param N and wants a "
+            "fault, and `# test 5 -> 5, seen.sum = 10` also wants the sum of a cell. The status is 1 if an example gave something else, or there "
             "is none.",
             "arena test examples/jobs/fib.job", test,
             (FILES, option("--schedules", help="how many schedules for each example; 8 without it", type=int, default=8,

@@ -115,7 +115,9 @@ def to_value(host: HostStatus, watch: Watch) -> dict[str, Any]:
 
 def rates_value(rates: Rates | None) -> dict[str, Any] | None:
     """Rates as JSON."""
-    return None if rates is None else {"asks": round(rates.asks, 3), "entries": round(rates.entries, 3), "jobs": round(rates.jobs, 3)}
+    if rates is None:
+        return None
+    return {"asks": round(rates.asks, 3), "entries": round(rates.entries, 3), "jobs": round(rates.jobs, 3)}
 
 
 def recent_value(recent: Recent | None) -> dict[str, object] | None:
@@ -135,8 +137,9 @@ COMMANDS = (
             "arena status /var/lib/arena", status, (FOLDER,)),
     Command("top", "watch a host: what `status` prints, with rates",
             "Shows what `status` prints again and again, with the entries, requests and jobs of each tenant in a "
-            "second, how long its history lasts at this rate until the host rotates, and after some readings the rates over the "
-            "last five minutes, with how many jobs a second there were in half and in 90 % of the time. On a terminal it stays in "
+            "second, how long its history lasts at this rate until the host rotates, and after some readings the rates "
+            "over the last five minutes, with how many jobs a second there were in half and in 90 % of the time. On a "
+            "terminal it stays in "
             "place; else it prints block after block. Ctrl-C ends it with status 0, the end of the host with 11.",
             "arena top /var/lib/arena --every 1", top,
             (FOLDER, option("--every", help="how long from one reading to the next; 2 without it", type=seconds,

@@ -297,7 +297,8 @@ def _host(part: _Part) -> HostStatus:
         part.number("time"), part.number("began"), part.number("connections"), part.number("rotate_at"),
         part.number("keep"), part.number("patience"), part.or_none("memory", part.number),
         tuple(map(_generation, part.parts("generations"))), tuple(map(_closed, part.parts("closed"))))
-    part.distinct("generations", "generation", [*(it.number for it in status.generations), *(it.number for it in status.closed)])
+    numbers = [*(it.number for it in status.generations), *(it.number for it in status.closed)]
+    part.distinct("generations", "generation", numbers)
     return status
 
 

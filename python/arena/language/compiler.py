@@ -85,8 +85,8 @@ def compile_source(text: str, *, parameters: Mapping[str, int] | None = None, ar
     parameter of its function, and `fuel` is the number of instructions that the job may execute. `file` is the name in
     messages.
 
-    Raises `SourceFault` with all faults if the source can't be compiled, and ValueError for arguments or fuel out of range. It blocks
-    for as long as it computes: some milliseconds for each procedure.
+    Raises `SourceFault` with all faults if the source can't be compiled, and ValueError for arguments or fuel out of range.
+    It blocks for as long as it computes: some milliseconds for each procedure.
     """
     if not all(map(fits, args)):
         raise ValueError(f"the arguments {args} do not fit 64 bits")

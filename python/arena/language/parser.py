@@ -4,8 +4,8 @@ from difflib import get_close_matches
 from arena.language.cursor import ELSEWHERE
 from arena.language.expressions import Expressions
 from arena.language.faults import Notes, SourceFault
-from arena.language.syntax import (Application, Assign, Binary, Block, Break, Call, Cancel, CellName, CellPart, Constant, Continue,
-                                   DeclareGroup, Evaluate, Expression, For, Function, Give, If, Inline, Isolate, Item,
+from arena.language.syntax import (Application, Assign, Binary, Block, Break, Call, Cancel, CellName, CellPart,
+                                   Constant, Continue, DeclareGroup, Evaluate, Expression, For, Function, Give, If, Inline, Isolate, Item,
                                    Let, LetBoth, LetTask, Name, Number, ParallelSum, Post, ReadCell, Return, Spawn,
                                    Statement, StoreCell, Sync, Wait, While)
 from arena.language.tokens import WORDS, TokenKind, tokens_of

@@ -5,8 +5,8 @@ from arena.language.code import GROUP_END, GROUP_LEFT, Code
 from arena.language.faults import Place, SourceFault
 from arena.language.loops import Loops
 from arena.language.names import TASKS, Group, Pending, Variable
-from arena.language.syntax import (Assign, Binary, Block, Break, Cancel, Continue, DeclareGroup, Evaluate, Extreme, For, Gathers,
-                                   Give, Held, If, Let, LetBoth, LetTask, Post, Return, Spawn, Statement, StoreCell, SumLoop,
+from arena.language.syntax import (Assign, Binary, Block, Break, Cancel, Continue, DeclareGroup, Evaluate, Extreme,
+                                   For, Gathers, Give, Held, If, Let, LetBoth, LetTask, Post, Return, Spawn, Statement, StoreCell, SumLoop,
                                    Sync, Wait, While)
 
 

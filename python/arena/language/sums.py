@@ -141,6 +141,6 @@ def _captured(it: ParallelSum, names: Names) -> str | None:
         raise used[found[0]].fault(f"{shown}: a task has room for it if the index has a width, such as "
                                    f"{it.gathers.value} {it.index}: u20")
     if it.bits > GREATEST_INDEX_BITS:
-        raise it.place.fault(f"the index of a {it.gathers.value} that uses a variable from outside has at most {GREATEST_INDEX_BITS} "
-                             "bits")
+        raise it.place.fault(f"the index of a {it.gathers.value} that uses a variable from outside has at most "
+                             f"{GREATEST_INDEX_BITS} bits")
     return found[0]

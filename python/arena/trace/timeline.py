@@ -193,7 +193,8 @@ class Builder:
     def _start(self, row: Row, begin: int) -> None:
         made_at = self._made_at.pop(row)
         if self.timeline.choice.has_row(row):
-            self._live[row] = Bar(row, self._name(row), begin, made_at, None if row.maker is None else self._live.get(row.maker))
+            maker = None if row.maker is None else self._live.get(row.maker)
+            self._live[row] = Bar(row, self._name(row), begin, made_at, maker)
 
     def _name(self, row: Row) -> str:
         key = row.job.number, row.proc
