@@ -57,6 +57,9 @@ class Warnings(unittest.TestCase):
         """A variable with the name of another one around it."""
         for line, column in (("if n { let x = 6; n = x }", 12), ("for x in 0..n { n += x }", 5),
                              ("if n { let x = spawn f(n); n = wait x }", 12), ("n = psum x in 0..3 { give x }", 9),
+                             ("n = psum i in 0..3 { let x = i; give x }", 26),
+                             ("n = psum i in 0..3 { for x in 0..i { give x } }", 26),
+                             ("n = psum i in 0..3 { give psum x in 0..i { give x } }", 31),
                              ("group g; if n { let x, s = wait g; n = x + s }", 21)):
             source = f"fn main(n) {{\n    let x = 5\n    {line}\n    return x + n\n}}\nfn f(x) {{ return x }}\n"
             self.assertEqual(told(source), [f"a:3:{column}: warning: x hides the x of a block around this one: to change that, "

@@ -63,7 +63,7 @@ class Builder:
 
     def __init__(self, source: Source, function: Function) -> None:
         self.source, self.unit, self.function = source, source.unit, function
-        self.names = Names(self.unit)
+        self.names = Names(self.unit, function.around)
         self.registers = Registers()
         self.code: Code = []
         self.loops: list[Loop] = []

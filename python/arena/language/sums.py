@@ -62,7 +62,8 @@ def sum_function(it: ParallelSum, grain: int, step: int, names: Names, around: s
     else:
         statements = (*parts.halve(it.gathers is Gathers.LEAST), *leaf, Return(place, Name(place, TOTAL)))
     body, shown = Block(place, statements, it.body.end), f"the {it.gathers.value} of line {place.line}"
-    return SumFunction(Function(place, name, (*outer, *ends), body, _numbers(it, names), shown), spawned)
+    return SumFunction(Function(place, name, (*outer, *ends), body, _numbers(it, names), shown, names.variables()),
+                       spawned)
 
 
 def _numbers(it: ParallelSum, names: Names) -> dict[str, int]:

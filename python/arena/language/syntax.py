@@ -336,13 +336,15 @@ class Inline(Node):
 @dataclass(frozen=True, eq=False)
 class Function(Node):
     """`fn name(..) { .. }`: a procedure of the job. `numbers` are names that stand for numbers in it, of the inline
-    function that a parallel sum is in; `shown` is what messages say of it if its name is not in the source."""
+    function that a parallel sum is in; `shown` is what messages say of it if its name is not in the source, and
+    `around` are the variables of the function that a parallel sum is in."""
 
     name: str
     parameters: tuple[Parameter, ...]
     body: Block
     numbers: Mapping[str, int] = field(default_factory=dict)
     shown: str = ""
+    around: frozenset[str] = frozenset()
 
     @property
     def title(self) -> str:

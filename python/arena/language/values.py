@@ -198,7 +198,7 @@ class Values(Conditions):
             raise it.grain.place.fault("the grain is a constant from 1: the most indices that one task adds by itself")
         if step is None or not 1 <= step <= GREATEST_STEP:
             raise it.step.place.fault(f"the step of a {it.gathers.value} is a constant from 1 to {GREATEST_STEP}")
-        if isinstance(self.names.found(it.index), Variable):
+        if it.index in self.names.variables():
             self.warn_hiding(it.index, it.place)
         made = sum_function(it, grain, step, self.names, self.function.name)
         self.source.add_function(made.function)
