@@ -9,6 +9,7 @@ import unittest
 
 import arena
 from arena.command import MODULES, all_commands, commands_of, main, named_command
+from arena.command.words import integer
 
 TOP = os.path.join(os.path.dirname(os.path.abspath(__file__)), "..")
 FIB = os.path.join(TOP, "..", "examples", "jobs", "fib.job")
@@ -44,6 +45,12 @@ class Loading(unittest.TestCase):
                               (("--socket=a", "--timeout", "3", "wait"), "wait"), (("--version",), None), ((), None),
                               (("-t",), None)):
             self.assertEqual(named_command(words), wanted)
+
+    def test_integer(self) -> None:
+        """Numbers of --args are those of a source."""
+        for text, wanted in (("1_000", 1000), ("0x1f", 31), ("-0x10", -16), ("0xffffffffffffffff", -1), ("-5", -5),
+                             ("9223372036854775808", -(2**63)), ("18446744073709551616", 2**64)):
+            self.assertEqual(integer(text), wanted)
 
     def test_package(self) -> None:
         """What the package offers is there, and nothing else."""

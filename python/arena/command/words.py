@@ -125,8 +125,9 @@ def assignment(text: str) -> Assignment:
 
 
 def integer(text: str) -> int:
-    """A whole number as in a source: 1_000, 0x1f, -5."""
-    return int(text, 0) if text.lower().lstrip("+-").startswith("0x") else int(text)
+    """A whole number as in a source: 1_000, 0x1f, -5. One from 2^63 to 2^64 - 1 stands for that with the same bits."""
+    number = int(text, 0) if text.lower().lstrip("+-").startswith("0x") else int(text)
+    return number - 2**64 if 2**63 <= number < 2**64 else number
 
 
 COMMON = (
