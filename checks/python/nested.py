@@ -1,6 +1,7 @@
 #!/usr/bin/env python3
 """Compares drawn sources, whose blocks nest in each other, with an interpreter that was written from docs/LANGUAGE.md alone:
-what the compiler makes is rehearsed on drawn schedules, in this process. The last line says how many.
+what the compiler makes is rehearsed on drawn schedules, in this process. Some are also written in the usual form. The last line
+says how many.
 
 usage: checks/python/nested.py [SEED [PROGRAMS [DIFFERENCES]]]: the seed is 1, and 2,000 programs are run, if none is said; it
 ends early after so many differences, or 3.
@@ -11,6 +12,7 @@ from collections import Counter
 
 import paths  # noqa: F401: it makes the package known
 from arena.language import SourceFault, compile_source
+from arena.language.formatting import formatted
 from arena.replies import Complete, Fault, FaultCode
 from arena.trace.rehearsal import rehearse
 from nested_sources import Nest
@@ -20,6 +22,10 @@ LIMITS = {"needs more than 8 registers": "registers", "no group is left for": "g
           "a job has at most 16 procedures": "procedures"}
 FEWEST = {"complete": 0.5, "fault": 0.01, "refused": 0.005}
 """Which share of the programs is at least so."""
+
+
+FORMED = 0.05
+"""Which share of the programs is also written in the usual form."""
 
 
 def outcome(source: str, arguments: tuple[int, int], draws: random.Random) -> tuple[str, object]:
@@ -55,13 +61,29 @@ def difference(source: str, arguments: tuple[int, int], draws: random.Random, se
     return ""
 
 
+def form_difference(source: str) -> str:
+    """What is wrong with the usual form of a source: it must be that of itself, and compile to the same job."""
+    form = formatted(source)
+    if formatted(form) != form:
+        return f"its usual form has another one:\n{source}"
+    try:
+        return "" if compile_source(form).job == compile_source(source).job else f"its usual form is another job:\n{source}"
+    except SourceFault:
+        return ""
+
+
 def main(seed: int = 1, programs: int = 2_000, most: int = 3) -> list[str]:
     """Compares programs, and returns what differs."""
     draws, seen, found = random.Random(seed), Counter(), []
     nest = Nest(draws)
     while sum(seen[it] for it in FEWEST) < programs and len(found) < most:
-        said = difference(nest.source(), (draws.randint(-5, 9), draws.randint(-5, 9)), draws, seen)
+        source, arguments = nest.source(), (draws.randint(-5, 9), draws.randint(-5, 9))
+        said = difference(source, arguments, draws, seen)
         found += [said] if said else []
+        if draws.random() < FORMED:
+            seen["formatted"] += 1
+            said = form_difference(source)
+            found += [said] if said else []
     for it in found:
         print(it)
     rare = [it for it, share in FEWEST.items() if seen[it] < share * programs] if programs >= 1_000 and not found else []
