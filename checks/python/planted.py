@@ -44,7 +44,7 @@ PLANTED = [
             '(shifted, self.number(2**bits, place))'),
     Planted("recomputing.py", "a value is computed again though what it is made of has changed",
             "return not any(changed[at] for at in reads)",
-            "return True", ("nested.py", "1", "1500", "1")),
+            "return True", ("refusals.py",)),
     Planted("names.py", "tasks share a group",
             "taken = {*(it.number for it in groups), *(it.group for it in tasks)}",
             "taken = {*(it.number for it in groups)}"),

@@ -258,6 +258,11 @@ REFUSED = [
             "    let g = c / d\n    let h = d / c\n    let i = a / e\n    return a + b + c + d + e + f + g + h + i\n}",
             ":8:15: main needs more than 8 registers here, and there is no memory to put one into; alive are a, b, c, "
             "d, e, f, g, h and i: let another fn do a part, or compute a value where it is needed"),
+    # what b was made of has changed where it is read, so that it can't be computed again
+    Refused(main("let b = n + 1", "let c = n ^ 2", "let d = n - 3", "let e = n * 4", "let g = n & 5", "let h = n | 6",
+                 "let i = n << 7", "let j = ~n", "n = call f(n)", "return b * c - d * e + g * h - i * j + n"),
+            ":10:14: main needs more than 8 registers here, and there is no memory to put one into; alive are b, c, d, e, g, h, i, j, "
+            "n and the status: let another fn do a part, or compute a value where it is needed"),
     Refused("inline fn far(a, b) = (a * a + b * b) *\n    (a - b)\n" + INLINED, ":9:12: main needs more than 8 registers here, in "
             "the inline fn of line 1, column 34, and there is no memory to put one into; alive are a, b, c, d, e, f, g and "
             "2 other values: let another fn do a part, or compute a value where it is needed"),

@@ -93,6 +93,25 @@ class Values(unittest.TestCase):
             job = compile_source(f"fn main(a, b) {{ return a {sign} b }}").job
             self.assertEqual(len(job.procedures[0]), 2, sign)
 
+    def test_computed_again(self) -> None:
+        """More values than registers: those that can be are computed again, each time with what they are made of."""
+        def wanted(n: int, turns: int) -> int:
+            """The same by Python."""
+            parts = [n + 1, n ^ 2, n - 3, n * 4, n & 5, n | 6, n * 128, ~n, n * n]
+            total = 0
+            for turn in range(turns):
+                for at, it in enumerate(parts):
+                    total = total * 3 + it * (turn + at)
+            return signed(total % 2**64)
+
+        names = "bcdeghijk"
+        makes = "; ".join(f"let {name} = {part}" for name, part in zip(names, (
+            "n + 1", "n ^ 2", "n - 3", "n * 4", "n & 5", "n | 6", "n << 7", "~n", "n * n")))
+        adds = "; ".join(f"total = total * 3 + {name} * (turn + {at})" for at, name in enumerate(names))
+        source = f"fn main(n, turns) {{ {makes}; let total = 0; for turn in 0..turns {{ {adds} }}; return total }}"
+        for n, turns in ((5, 0), (5, 1), (-7, 3), (2**62, 4)):
+            self.assertEqual(outcome(source, n, turns), Complete(wanted(n, turns), 1))
+
     def test_faults(self) -> None:
         """A remainder by 0 is fault 1."""
         for sign in "/%":
