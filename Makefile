@@ -1,7 +1,7 @@
 # The commands of this repository; `make help` lists them. `rt` is the command of the Rattle kit.
 
 .DEFAULT_GOAL := help
-.PHONY: help run build serve serve-unproved host host-unproved stop install uninstall deb dist pictures test bench check examples clean
+.PHONY: help run build serve serve-unproved host host-unproved stop install uninstall deb dist pictures test test-python bench check examples clean
 
 EXAMPLE ?= first_job
 
@@ -85,6 +85,9 @@ test: ## passes everything: examples, each proof, edit, test and program, the wr
 	checks/haproxy/run.py
 	@echo "make test took $$((($$(date +%s) - $$(cat out/test-began)) / 60)) minutes on $$(nproc) processors"
 	@tail -n 1 out/gate.md
+
+test-python: ## runs the tests of the Python package that need no built program, within seconds
+	@cd python && python3 -m unittest
 
 bench: ## measures everything beside its twin, and writes the table of benches/README.md
 	@benches/bench.py

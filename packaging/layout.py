@@ -75,7 +75,7 @@ def _package(target: Target) -> Iterator[File]:
         yield File(f"{target.prefix}/lib/arena-python/{path.relative_to(package)}", path.read_bytes())
     yield File(f"{target.prefix}/bin/arena", target.filled("arena"), 0o755)
     yield File(f"{target.prefix}/share/bash-completion/completions/arena",
-               (package / "completion/arena.bash").read_bytes())
+               (package / "completion/arena").read_bytes())
     zsh = "vendor-completions" if target.is_debian else "site-functions"
     yield File(f"{target.prefix}/share/zsh/{zsh}/_arena", (package / "completion/_arena").read_bytes())
 

@@ -27,7 +27,7 @@ def manuals_have_the_words_of_the_docs(room: Room) -> None:
 def bash_reads_its_completion(room: Room) -> None:
     """bash reads the completion."""
     need("bash")
-    said = run("bash", "-c", f"source {TOP}/python/completion/arena.bash && complete -p arena")
+    said = run("bash", "-c", f"source {TOP}/python/completion/arena && complete -p arena")
     assert said == "complete -F _arena arena\n", said
 
 

@@ -70,7 +70,7 @@ REFUSALS = [
     ("proc a\nhere: here: ret r0", "a:2:7: the label here is there already in a: choose another name"),
     ("proc a\n1: ret r0", "a:2:1: `1` is no name for a label"),
     ("proc a\nmove r0 r1", "a:2:1: there is no instruction move"),
-    ("proc a\n aad r0 r0 r1", "a:2:2: there is no instruction aad; did you mean add?"),
+    ("proc a\n ssub r0 r0 r1", "a:2:2: there is no instruction ssub; did you mean sub?"),
     ("proc a\nadd r0 r1", "a:2:1: add takes 3 operands, and here are 2: a register, a register and a register"),
     ("proc a\nret x", "a:2:5: the register x is read before it is written; there is no name yet"),
     ("proc a(p)\nret x", "a:2:5: the register x is read before it is written; there is p"),

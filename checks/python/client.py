@@ -99,7 +99,8 @@ def waiting_job_is_running_and_canceled():
 def each_refusal_is_an_exception_of_its_name():
     assert {kind.code: kind.name for kind in REFUSALS.values()} == {
         1: "line_too_long", 2: "bad_json", 3: "bad_request", 4: "bad_program", 5: "unknown_tenant", 6: "unknown_job",
-        7: "job_limit", 8: "history_full", 9: "no_memory", 10: "task_limit", 11: "no_tenant", 12: "busy"}
+        7: "job_limit", 8: "history_full", 9: "no_memory", 10: "task_limit", 11: "no_tenant", 12: "busy",
+        13: "connection_limit"}
     limited = [tenant(slots=1, reserved=1), tenant("short", steps=1), tenant("narrow", slots=1, reserved=1, rows=1)]
     with Server(*limited) as server, arena.Client(server.path, timeout=PATIENCE) as client:
         raises(arena.NoTenant, client.poll, 1)

@@ -4,11 +4,10 @@ says on standard error, and its status. The manual page and the completions must
 
 usage: checks/python/commands.py, at the top of the repository.
 """
-import base64
-import hashlib
 import json
 import os
 import re
+import shutil
 import signal
 import subprocess
 import sys
@@ -19,7 +18,7 @@ sys.path.insert(0, os.path.abspath("python"))
 
 from calls import Calls, by_keyboard
 from serving import (
-    DIVIDES, FIB, INVALID, PACKAGE, PATIENCE, SCRIPT, SEVEN, SPIN, Server, arena_command, arena_process, job, tenant)
+    DIVIDES, FIB, INVALID, PACKAGE, PATIENCE, SCRIPT, SERVER, SEVEN, SPIN, Server, arena_command, arena_process, job, tenant)
 
 STORES = job([["set", 2, 5], ["store", 3, 2], ["ret", 2]])
 SOURCE = """fn fib(n) {
@@ -49,7 +48,8 @@ def jobs_are_run(it):
     it.call("--json", "run", fib, "--args", "7", out='{"job":4,"status":"complete","value":13}\n')
     it.call("run", "-", "--execute", stdin=json.dumps(SEVEN), out="7\n")
     it.call("run", seven, "--color", "always", out="\x1b[32m7\x1b[0m\n")
-    it.call("run", it.file("divides.json", DIVIDES), status=1, out="job 7: fault 1, division by zero\n")
+    it.call("run", it.file("divides.json", DIVIDES), status=1, out='job 7: fault 1, division by zero, in procedure 0, '
+            'instruction 1: ["div",2,2,3]\n')
     it.call("run", it.file("spin.json", SPIN), "--json", status=1, out='{"fault":2,"job":8,"status":"fault"}\n')
     it.call("submit", seven, out="9\n")
     it.call("wait", "9", out="7\n")
@@ -104,7 +104,8 @@ def faults_have_their_status(it):
     out_of_fuel = r"job \d+: fault 2, out of fuel"
     for fuel, more in (("70", r": it had 70; --fuel gives up to 1,000,000"),
                        ("1000000", ": it had 1,000,000, the most that a job can have; split the work into several jobs")):
-        it.call("run", it.server.file("spin.json"), "--fuel", fuel, status=1, out=re.compile(f"{out_of_fuel}{more}\n"))
+        place = r'; in a rehearsal on one slot it is in procedure 0, instruction 0: \["jmp",0\]'
+        it.call("run", it.server.file("spin.json"), "--fuel", fuel, status=1, out=re.compile(f"{out_of_fuel}{more}{place}\n"))
     it.call("submit", it.server.file("spin.json"), out="15\n")
     it.call("wait", "15", status=1, out=re.compile(f"{out_of_fuel}; a job has 1,000,000 at most\n"))
 
@@ -113,8 +114,15 @@ def jobs_are_built(it):
     source, parameter = it.server.file("fib.job"), it.file("parameter.job", PARAMETER)
     it.call("run", source, "--args", "10", out="55\n")
     divides = it.file("divides.job", "fn main(n) {\n    let a = n / 2 % 3\n    let b = 7 / n\n    return a %\n        (b - b)\n}\n")
-    it.call("run", divides, status=1, out=re.compile(r"job \d+: fault 1, division by zero; its source divides in lines 3 and "
-                                                     r"4\n"))
+    it.call("run", divides, status=1, out=re.compile(r"job \d+: fault 1, division by zero, in main, line 3\n"))
+    unserial = it.file("unserial.job", "fn main(n) {\n    return n / slot() / width() % (width() - 2)\n}\n")
+    it.call("run", unserial, status=1, out=re.compile(r"job \d+: fault 1, division by zero; in a rehearsal on one slot it is "
+                                                      r"in main, line 2\n"))
+    faulty = it.file("faulty.job", "fn main(n) {\n    let x = y\n\tlet x = z\n}\n")
+    it.call("build", faulty, status=5, err="^arena: [^ ]*faulty.job:2:13: y is not known here.*\n        let x = y\n"
+            "                \\^\n[^ ]*faulty.job:3:10: z is not known here.*\n    \tlet x = z\n    \t        \\^\n$")
+    odd = it.file("odd.job", "fn main(n) {\n    while 1 { }\n}\n")
+    it.call("build", odd, "--serial", out="serial\n", err="^[^ ]*odd.job:2:5: warning: this loop never ends: ")
     it.call("run", parameter, "--args", "4", "-D", "N=8", out="12\n")
     it.call("build", source, "-o", it.server.file("built.json"))
     it.call("run", it.server.file("built.json"), "--args", "6", out="8\n")
@@ -134,7 +142,7 @@ def files_are_linted(it):
     it.call("lint", it.server.file("seven.json"), out=it.server.file("seven.json") + ": valid\n")
     it.call("lint", it.server.file("fib.job"), out=it.server.file("fib.job") + ": valid\n")
     it.call("lint", it.server.file("config.json"), "--json", out=json.dumps(
-        {"file": it.server.file("config.json"), "valid": True}, separators=(",", ":")) + "\n")
+        {"file": it.server.file("config.json"), "valid": True, "warnings": []}, separators=(",", ":")) + "\n")
     it.call("lint", it.server.file("invalid.json"), status=5, err=r"procs\[0\]\[0\]: .*jmp")
     it.call("lint", it.file("none.json", {"tenants": [], "workers": 1}), status=5, err="tenants")
 
@@ -155,14 +163,21 @@ def shell_takes_lines(it):
     assert f"{it.server.folder.name}/seven.json" in list(completer.completions(f"{it.server.folder.name}/se", "run "))
 
 
+def is_unproved():
+    """Whether the server that is tried was built without proofs, as `checks/build/unproved.py` does."""
+    return "unproved" in SERVER
+
+
 def servers_are_measured(it):
     rows = re.compile(r" +clients +count +a second +50 %, ms +90 %, ms +99 %, ms +slowest, ms\n"
-                      r"requests +3 +30 +[\d,]+( +[\d.]+){4}\njobs +3 +20 +[\d,]+( +[\d.]+){4}\n")
+                      r"requests +3 +30 +[\d,]+( +[\d.]+){4}\njobs +3 +20 +[\d,]+( +[\d.]+){4}\n"
+                      rf"the server is {'an unproved build, a hundred .*' if is_unproved() else 'a proved build'}\n")
     it.call("retire", out=re.compile("epoch \\d+\n"))
     it.call("bench", "-c", "3", "-n", "20", "--requests", "30", out=rows)
     it.call("bench", it.server.file("seven.json"), "-c", "2", "-n", "300", "--requests", "0", "--retire", "--execute",
             "--json",
-            out=re.compile(r'\{"clients":2,"count":300,"milliseconds":\{"100":.*\},"per_second":[\d.]+,"refused":0,'
+            out=re.compile(rf'\{{"build":"{"unproved" if is_unproved() else "proved"}","clients":2,'
+                           r'"count":300,"milliseconds":\{"100":.*\},"per_second":[\d.]+,"refused":0,'
                            r'"what":"jobs"\}\n'))
     it.call("bench", "-c", "1", "-n", "257", "--requests", "0", status=27, out=re.compile(r"(?s).*jobs +1 +256 .*"),
             err="1 of 1 clients ended early: .*job_limit")
@@ -206,38 +221,56 @@ def wrong(path):
 
 
 def pages_are_those_that_the_command_makes(it):
-    for page, path in (("man", "python/man/arena.1"), ("bash", "python/completion/arena.bash"),
+    for page, path in (("man", "python/man/arena.1"), ("bash", "python/completion/arena"),
                        ("zsh", "python/completion/_arena")):
         with open(path) as made:
             text = made.read()
         it.call("pages", page, out=text)
 
 
+BACKEND = "from setuptools import build_meta; import sys; print(getattr(build_meta, sys.argv[1])(sys.argv[2]))"
+
+
+def packer():
+    """A Python that has what packs the package, or None."""
+    for python in (sys.executable, "/usr/bin/python3"):
+        if subprocess.run([python, "-c", "import setuptools, wheel"], capture_output=True).returncode == 0:
+            return python
+    return None
+
+
 def package_is_packed(it):
-    """The wheel that pip asks for has the package, the pages and a right record, and runs where it is unpacked."""
-    sys.path.insert(0, PACKAGE)
-    import packing
-    wheel = it.server.file(packing.build_wheel(it.server.folder.name))
-    there = it.server.file("unpacked")
-    with zipfile.ZipFile(wheel) as archive:
+    """The wheel has the package, the pages and its metadata, and runs where it is unpacked."""
+    python, folder = packer(), it.server.folder.name
+    if python is None:
+        print("the package is not packed: no Python here has setuptools and wheel")
+        return
+    copy = it.server.file("package")
+    shutil.copytree(PACKAGE, copy, ignore=shutil.ignore_patterns("__pycache__", "*.egg-info", "build"))
+    made = [subprocess.run([python, "-c", BACKEND, f"build_{kind}", folder], capture_output=True, text=True, cwd=copy,
+                           timeout=PATIENCE).stdout.split()[-1] for kind in ("wheel", "sdist")]
+    import arena
+    name, there = f"arena-{arena.__version__}", it.server.file("unpacked")
+    with zipfile.ZipFile(it.server.file(made[0])) as archive:
         archive.extractall(there)
-        record = archive.read("arena-1.0.0.dist-info/RECORD").decode().splitlines()
-        assert {line.split(",")[0] for line in record} == set(archive.namelist())
-        for path, digest, size in (line.split(",") for line in record[:-1]):
-            content = archive.read(path)
-            wanted = base64.urlsafe_b64encode(hashlib.sha256(content).digest()).rstrip(b"=").decode()
-            assert (digest, int(size)) == (f"sha256={wanted}", len(content)), path
-        assert b"arena = arena.command:main" in archive.read("arena-1.0.0.dist-info/entry_points.txt")
+        names, metadata = archive.namelist(), archive.read(f"{name}.dist-info/METADATA").decode()
+        assert b"arena = arena.command:main" in archive.read(f"{name}.dist-info/entry_points.txt")
+    shared = f"{name}.data/data/share"
+    wanted = {"arena/py.typed", f"{name}.dist-info/LICENSE", f"{shared}/man/man1/arena.1",
+              f"{shared}/bash-completion/completions/arena", f"{shared}/zsh/site-functions/_arena"}
+    assert wanted <= {*names}, wanted - {*names}
+    assert not any("test" in name.split("/")[-1] and "tests/" in name for name in names)
+    assert f"Version: {arena.__version__}\n" in metadata and "Typing :: Typed" in metadata and "# arena\n" in metadata
     done = subprocess.run([sys.executable, "-m", "arena", "lint", it.server.file("seven.json")], capture_output=True,
                           text=True, timeout=PATIENCE, cwd=there)
     assert done.stdout.endswith("seven.json: valid\n"), done
-    with tarfile.open(it.server.file(packing.build_sdist(it.server.folder.name))) as archive:
-        assert {"arena-1.0.0/pyproject.toml", "arena-1.0.0/packing.py"} <= {*archive.getnames()}
+    with tarfile.open(it.server.file(made[1])) as archive:
+        assert {f"{name}/pyproject.toml", f"{name}/README.md", f"{name}/LICENSE"} <= {*archive.getnames()}
 
 
 def every_command_has_help(it):
-    from arena.command import COMMANDS, parser
-    for command in COMMANDS:
+    from arena.command import all_commands, parser
+    for command in all_commands():
         assert command.example.split()[:2] == ["arena", command.name], command
         assert command.name in parser().format_help()
     it.call("--version", out=re.compile(r"arena \d+\.\d+\.\d+\n"))

@@ -60,8 +60,8 @@ class Shell:
         return self.words[0]
 
 
-BASH = Shell(("bash", "--norc", "--noprofile", "-i"), "arena.bash",
-             f"shopt -u extglob; source '{FOLDER}/arena.bash'; bind 'set bell-style none'; "
+BASH = Shell(("bash", "--norc", "--noprofile", "-i"), "arena",
+             f"shopt -u extglob; source '{FOLDER}/arena'; bind 'set bell-style none'; "
              "show() { printf '<%s>>\\n' \"<$READLINE_LINE\"; READLINE_LINE=; }; bind -x '\"\\C-t\": show'")
 ZSH = Shell(("zsh", "-f", "-i"), "_arena",
             f"fpath=('{FOLDER}' $fpath); autoload -Uz compinit; compinit -u -D; unsetopt beep; "

@@ -5,12 +5,12 @@ from dataclasses import dataclass
 
 from arena.language.faults import NOWHERE
 from arena.language.syntax import (Application, Assign, Binary, Block, Break, Call, Cancel, CellName, CellPart,
-                                   Constant, Continue, DeclareGroup, Evaluate, Expression, For, Function, Give, If,
+                                   Constant, Continue, DeclareGroup, Evaluate, Expression, For, Function, Gathers, Give, If,
                                    Inline, Isolate, Item, Let, LetBoth, LetTask, Name, Not, Number, Parameter,
                                    ParallelSum, Post, ReadCell, Return, Spawn, StoreCell, Sync, Wait, While)
 
 NUMBERS = (0, 1, 2, 3, 4, 5, 7, 10, 64, 100, -1, -3, 2**20, 2**40, 2**63 - 1, -(2**63))
-ARITHMETIC, COMPARISONS, LOGIC = "++--**/%", ("<", ">", "<=", ">=", "==", "!="), ("&&", "||")
+ARITHMETIC, COMPARISONS, LOGIC = (*"++--**/%&|^", "<<", ">>"), ("<", ">", "<=", ">=", "==", "!="), ("&&", "||")
 MOST_VARIABLES = (4, 4, 6)
 
 
@@ -80,10 +80,14 @@ class Drawer:
             return self.operand(room)
         if pick < 0.37:
             return Not(NOWHERE, self.expression(room, depth - 1))
-        if pick < 0.42:
+        if pick < 0.40:
             return binary("-", number(0), self.expression(room, depth - 1))
+        if pick < 0.42:
+            return binary("^", self.expression(room, depth - 1), number(-1))
         if pick < 0.5:
-            inline = self.draws.choice(("mix", "near", "clip"))
+            inline = self.draws.choice(("mix", "near", "clip", "min", "max", "abs"))
+            if inline == "abs":
+                return applied(inline, self.expression(room, depth - 1))
             return applied(inline, *(self.expression(room, depth - 1) for _ in range(2)))
         if pick < 0.53 and self.may_be_unserial:
             return self.unserial_expression()
@@ -186,7 +190,8 @@ class Drawer:
         found = [self.use(index, room)] if room.assignable and self.chance(0.7) else []
         if before and self.chance(0.4):
             found.append(Assign(NOWHERE, end, binary(self.draws.choice("+-"), name(end), number(1))))
-        return [*before, For(NOWHERE, index, low, high, block(*found, *self.body(inner)))], []
+        step = number(self.draws.choice((1, 1, 1, 2, 3, -1)))
+        return [*before, For(NOWHERE, index, low, high, step, block(*found, *self.body(inner)))], []
 
     def counted_while(self, room):
         """A loop with a counter that it advances first, so that it ends."""
@@ -236,7 +241,7 @@ class Drawer:
                   for _ in range(self.draws.randint(1, 2))]
         if self.chance(0.3):
             inner = room.plus(kept=(index,))
-            spawns.append(For(NOWHERE, index, number(0), number(2), block(Spawn(NOWHERE, group, self.target(inner)))))
+            spawns.append(For(NOWHERE, index, number(0), number(2), number(1), block(Spawn(NOWHERE, group, self.target(inner)))))
         if self.chance(0.5):
             return [DeclareGroup(NOWHERE, group), *spawns, LetBoth(NOWHERE, total, status, group)], [total]
         value = binary(self.draws.choice("+-*"), self.operand(room), Wait(NOWHERE, group))
@@ -275,7 +280,8 @@ class Drawer:
         ends = [number(low), number(high)]
         if room.readable and self.chance(0.4):
             ends = [binary("+", binary("%", name(self.draws.choice(room.readable)), number(5)), end) for end in ends]
-        it = ParallelSum(NOWHERE, index, bits, *ends, number(self.draws.randint(1, 4)), body)
+        gathers, step = self.draws.choice((*[Gathers.SUM] * 3, *Gathers)), number(self.draws.choice((1, 1, 1, 2, 5)))
+        it = ParallelSum(NOWHERE, gathers, index, bits, *ends, step, number(self.draws.randint(1, 4)), body)
         return [Let(NOWHERE, total, it)], [total]
 
     # items

@@ -24,7 +24,7 @@ from serving import PACKAGE, PATIENCE, arena_process
 
 from arena.host import Reading, RunFolder, StatusFault, parse_status, read_status
 from arena.host.rates import Rates, Watch, rates_between
-from arena.host.report import duration, size
+from arena.host.report import duration, sections_of, size, to_text
 
 # What `arena status` prints of the example of docs/HOST.md.
 SHOWN = """host: generation 123 serves, up 2 min 3 s, 77.5 MiB of memory
@@ -215,6 +215,23 @@ def rates_are_those_of_the_time_between():
         watch.take(it)
     assert watch.of(4, "acme") == Rates(50.0, 0.5, 0.0) and watch.of(4, "gone") is None
     assert watch.total() == Rates(53.5, 3.5, 0.5)
+    rates_of_minutes_are_kept()
+
+
+def rates_of_minutes_are_kept():
+    """Ten minutes of a host that makes a job a second, and then four in the last second of each minute: of these five minutes
+    are kept, 300 spans, of which 5 have four jobs more."""
+    watch, jobs = Watch(), 0
+    for second in range(601):
+        jobs += 5 if second % 60 == 59 else 1
+        watch.take(reading(1000.0 + second, generation(1, tenants=[tenant(entries=2 * second, asks=3 * second, jobs=jobs)])))
+        assert (watch.recent() is None) == (second < 3)
+    recent = watch.recent()
+    assert recent.seconds == 300 and recent.mean() == Rates(2.0, 3.0, (300 + 5 * 4) / 300), recent.mean()
+    assert [recent.jobs_within(it) for it in (50, 90, 98, 99, 100)] == [1.0, 1.0, 1.0, 5.0, 5.0]
+    text = to_text(sections_of(watch.now.status, watch))
+    assert ("\nover 5 min: 2.0 entries, 3.0 requests and 1.1 jobs a second; jobs in half of the time at most 1.0, in 90 % 1.0, "
+            "always 5.0\n") in text, text
 
 
 def numbers_are_shown():
@@ -257,7 +274,7 @@ def rates_are_shown(it, folder):
                     ARENA_RUN=folder.path)
         with slept(two_readings(folder, 2.0)):
             it.call("top", folder.path, "--once", "--json", out=re.compile(
-                r'\{"generations":\[\{.*"per_second":\{"asks":0\.5,"entries":250\.0,"jobs":1\.5\},.*\],"time":\d+,'
+                r'\{"generations":\[\{.*"per_second":\{"asks":0\.5,"entries":250\.0,"jobs":1\.5\},.*\],"recent":null,"time":\d+,'
                 r'"total":\{"asks":0\.5,"entries":250\.0,"jobs":1\.5\}\}\n'))
         folder.write(folder.status(at=time.time() - 60))
         with slept(lambda seconds: None):

@@ -3,8 +3,9 @@
 walk over the syntax tree that was drawn; a serial one is also given to `arena-script serial`. The last line says how
 many.
 
-usage: checks/python/language.py [SEED [PROGRAMS [DIFFERENCES]]]: the seed is 1, and 2,000 programs are run, if none is
-said; it ends early after so many differences, or 3.
+usage: checks/python/language.py [--rehearsed] [SEED [PROGRAMS [DIFFERENCES]]]: the seed is 1, and 2,000 programs are run, if
+none is said; it ends early after so many differences, or 3. With --rehearsed jobs run in this process, by the replay of
+histories, and no program has to be built.
 """
 import random
 import sys
@@ -14,7 +15,7 @@ import paths  # noqa: F401: it makes the package known
 from arena.language import SourceFault, compile_source
 from drawn_sources import Drawer
 from printed import Printer
-from runs import Tenant, serial_values
+from runs import Stage, Tenant, serial_values
 from walk import DivisionByZero, TooLong, Walk
 
 EXPECTED_REFUSALS = {"needs more than 8 registers": "registers", "no group is left for": "groups",
@@ -27,7 +28,8 @@ MOVES_OF_A_ROW = 8
 class Check:
     """The programs that were run, and the differences that were found."""
 
-    def __init__(self, seed):
+    def __init__(self, seed, is_rehearsed):
+        self.is_rehearsed = is_rehearsed
         self.draws, self.seen, self.differences = random.Random(seed), Counter(), []
         self.serial_jobs, self.tenant = [], None
 
@@ -77,7 +79,7 @@ class Check:
             self.differs(source, args, f"{found}, and not {wanted}")
         self.seen[wanted["status"] if "value" in wanted else "fault 1"] += 1
         self.seen["serial" if compiled.serial else "not serial"] += 1
-        if compiled.serial:
+        if compiled.serial and not self.is_rehearsed:
             self.serial_jobs.append((source, args, compiled.job.to_value(), wanted.get("value", "none")))
 
     def serial(self):
@@ -90,11 +92,11 @@ class Check:
     def renew(self):
         if self.tenant:
             self.tenant.close()
-        self.tenant = Tenant(self.draws)
+        self.tenant = Stage(self.draws) if self.is_rehearsed else Tenant(self.draws)
 
 
-def main(seed=1, programs=2_000, most_differences=3):
-    check, ran = Check(seed), 0
+def main(seed=1, programs=2_000, most_differences=3, *, is_rehearsed=False):
+    check, ran = Check(seed, is_rehearsed), 0
     while ran < programs and len(check.differences) < most_differences:
         ran += check.program()
     check.serial()
@@ -111,4 +113,5 @@ def main(seed=1, programs=2_000, most_differences=3):
 
 
 if __name__ == "__main__":
-    sys.exit(bool(main(*map(int, sys.argv[1:]))))
+    words = [it for it in sys.argv[1:] if it != "--rehearsed"]
+    sys.exit(bool(main(*map(int, words), is_rehearsed="--rehearsed" in sys.argv)))

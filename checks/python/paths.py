@@ -6,7 +6,10 @@ from collections.abc import Iterator
 from types import ModuleType
 
 ROOT = os.path.abspath(os.path.join(os.path.dirname(__file__), "..", ".."))
-PROGRAM = os.path.join(ROOT, "crates/script_program/out/script_program")
+PROVED = os.path.join(ROOT, "crates/script_program/out/script_program")
+UNPROVED = os.path.join(ROOT, "out/unproved/arena-script")
+# arena-script: the proved one, or else one that was built without proofs.
+PROGRAM = UNPROVED if os.path.exists(UNPROVED) and not os.path.exists(PROVED) else PROVED
 EXAMPLES = os.path.join(ROOT, "examples/jobs")
 
 # The package that is checked. The check of planted faults has copies of it elsewhere.

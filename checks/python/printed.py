@@ -7,8 +7,10 @@ from arena.language.syntax import (Application, Assign, Binary, Block, Break, Ca
                                    Isolate, Item, Let, LetBoth, LetTask, Name, Not, Number, ParallelSum, Post,
                                    ReadCell, Return, Spawn, Statement, StoreCell, Sync, Wait, While)
 
-LEVEL = {"||": 1, "&&": 2, "==": 3, "!=": 3, "<": 3, "<=": 3, ">": 3, ">=": 3, "+": 4, "-": 4, "*": 5, "/": 5, "%": 5}
-UNARY = 6
+LEVEL = {"||": 1, "&&": 2, "==": 3, "!=": 3, "<": 3, "<=": 3, ">": 3, ">=": 3, "|": 4, "^": 5, "&": 6, "<<": 7, ">>": 7,
+         "+": 8, "-": 8, "*": 9, "/": 9, "%": 9}
+UNARY = 10
+ASSIGNABLE = ("+", "-", "*", "/", "%", "&", "|", "^", "<<", ">>")
 SOMETIMES = 0.05
 
 
@@ -77,9 +79,14 @@ class Printer:
                 return f"while {self.expression(it.condition)} {self.block(it.body, indent)}"
             case For():
                 ends = f"{self.expression(it.low)}..{self.expression(it.high)}"
-                return f"for {it.index} in {ends} {self.block(it.body, indent)}"
+                return f"for {it.index} in {ends}{self.step(it.step)} {self.block(it.body, indent)}"
             case If():
                 return self.conditional(it, indent)
+
+    def step(self, it: Expression) -> str:
+        """The step of a range, left out sometimes if it is 1."""
+        is_one = isinstance(it, Number) and it.value == 1
+        return "" if is_one and self.draws.random() < 0.8 else f" step {self.expression(it)}"
 
     def conditional(self, it: If, indent: str) -> str:
         text = f"if {self.expression(it.condition)} {self.block(it.then, indent)}"
@@ -87,7 +94,7 @@ class Printer:
 
     def assignment(self, name: str, value: Expression) -> str:
         is_short = isinstance(value, Binary) and isinstance(value.left, Name) and value.left.name == name
-        if is_short and value.operator in "+-*/%" and self.draws.random() < 0.7:
+        if is_short and value.operator in ASSIGNABLE and self.draws.random() < 0.7:
             return f"{name} {value.operator}= {self.expression(value.right)}"
         return f"{name} = {self.expression(value)}"
 
@@ -109,6 +116,8 @@ class Printer:
                 return f"!{self.expression(operand, UNARY)}", UNARY
             case Binary(operator="-", left=Number(value=0), right=Name() as right) if self.draws.random() < 0.5:
                 return f"-{self.expression(right, UNARY)}", UNARY
+            case Binary(operator="^", right=Number(value=-1)) if self.draws.random() < 0.5:
+                return f"~{self.expression(it.left, UNARY)}", UNARY
             case Binary(operator=operator):
                 own = LEVEL[operator]
                 return f"{self.expression(it.left, own)} {operator} {self.expression(it.right, own + 1)}", own
@@ -125,4 +134,5 @@ class Printer:
             case ParallelSum():
                 index = it.index if it.bits is None else f"{it.index}: u{it.bits}"
                 ends = f"{self.expression(it.low)}..{self.expression(it.high)}"
-                return f"psum {index} in {ends} grain {self.expression(it.grain)} {self.block(it.body, '    ')}", UNARY
+                grain, block = self.expression(it.grain), self.block(it.body, "    ")
+                return f"{it.gathers.value} {index} in {ends}{self.step(it.step)} grain {grain} {block}", UNARY

@@ -4,6 +4,9 @@ import random
 import subprocess
 from collections.abc import Iterable, Sequence
 
+from arena.replies import Complete, Fault
+from arena.trace.rehearsal import rehearse
+from arena.trace.replay import Impossible
 from paths import PROGRAM
 
 JOBS_OF_A_TENANT = 200
@@ -89,6 +92,36 @@ class Tenant:
     def cells(self, key: int) -> dict:
         """The reply for the cells of a key."""
         return self.answers([ask({"key": key, "op": "cells"})])[0]
+
+
+class Stage:
+    """A tenant of a drawn number of slots in this process, which needs no built program: `arena.trace.rehearsal`."""
+
+    def __init__(self, draws: random.Random) -> None:
+        self.draws, self.slots = draws, draws.randint(1, 4)
+
+    def outcome(self, job: dict, _length: int) -> dict:
+        """The status of a job once it has an outcome."""
+        try:
+            outcome = rehearse(job, self.slots, self.draws).outcome
+        except Impossible as why:
+            return {"status": f"not valid: {why}"}
+        match outcome:
+            case Complete(value=value):
+                return {"status": "complete", "value": value}
+            case Fault(code=code):
+                return {"status": "fault", "fault": code.value}
+        return {"status": "canceled"}
+
+    def retire(self) -> None:
+        """Each job has a stage of its own."""
+
+    def is_spent(self) -> bool:
+        """Whether another one should take its place, for another number of slots."""
+        return self.draws.random() < 0.1
+
+    def close(self) -> None:
+        """There is nothing to end."""
 
 
 def ask(request: dict) -> dict:

@@ -9,8 +9,16 @@ import tempfile
 from collections.abc import Sequence
 from dataclasses import dataclass
 
-SERVER = os.path.abspath("crates/server_program/out/server_program")
-SCRIPT = os.path.abspath("crates/script_program/out/script_program")
+
+
+def program(proved: str, unproved: str) -> str:
+    """The path of a program: the proved one or, if only that is there, the one that was built without proofs."""
+    paths = [os.path.abspath(it) for it in (proved, unproved)]
+    return next((it for it in paths if os.path.exists(it)), paths[0])
+
+
+SERVER = program("crates/server_program/out/server_program", "out/unproved/arena-server")
+SCRIPT = program("crates/script_program/out/script_program", "out/unproved/arena-script")
 PACKAGE = os.path.abspath("python")
 
 # How long, in seconds, a program may take that is to end by itself.

@@ -3,7 +3,7 @@ has its own arithmetic, and shares nothing with the compiler but the classes of 
 from collections.abc import Sequence
 
 from arena.language.syntax import (Application, Assign, Binary, Break, Call, Cancel, CellName, CellPart, Constant,
-                                   Continue, DeclareGroup, Evaluate, For, Function, Give, If, Inline, Isolate, Item,
+                                   Continue, DeclareGroup, Evaluate, For, Function, Gathers, Give, If, Inline, Isolate, Item,
                                    Let, LetBoth, LetTask, Name, Not, Number, ParallelSum, Post, ReadCell, Return,
                                    Spawn, StoreCell, Sync, Wait, While)
 
@@ -37,6 +37,11 @@ class Continued(Exception):
 def wrapped(number: int) -> int:
     """The number as a signed one of 64 bits."""
     return (number + HALF) % (2 * HALF) - HALF
+
+
+def bit(number: int, place: int) -> int:
+    """A bit of a number in two's complement."""
+    return number // 2**place % 2
 
 
 def divided(a: int, b: int) -> int:
@@ -185,8 +190,10 @@ class Walk:
                     pass
             case For():
                 low, high = self.value(it.low, scope, frame), self.value(it.high, scope, frame)
-                while low < high and self.goes_on(it.body, self.with_index(it.index, low, scope), frame):
-                    low += 1
+                step = self.value(it.step, scope, frame)
+                while (low < high if step > 0 else low > high) and self.goes_on(
+                        it.body, self.with_index(it.index, low, scope), frame):
+                    low += step
             case If():
                 holds = self.value(it.condition, scope, frame)
                 self.block(it.then if holds else it.otherwise, scope, frame)
@@ -254,23 +261,31 @@ class Walk:
         built_in = {"slot": 0, "width": self.slots, "cancelled": 0}
         if it.name in built_in:
             return built_in[it.name]
+        if it.name in ("min", "max", "abs"):
+            numbers = sorted(self.value(a, scope, frame) for a in it.arguments)
+            return {"min": numbers[0], "max": numbers[-1], "abs": wrapped(abs(numbers[0]))}[it.name]
         inline = self.inlines[it.name]
         inner = Scope()
         inner.own.update((p.name, self.value(a, scope, frame)) for p, a in zip(inline.parameters, it.arguments))
         return self.value(inline.value, inner, frame)
 
     def sum(self, it, scope, frame):
-        low, high, total = self.value(it.low, scope, frame), self.value(it.high, scope, frame), 0
+        low, high, given = self.value(it.low, scope, frame), self.value(it.high, scope, frame), []
         if it.bits is not None and low < high and not 0 <= low < high <= 2**it.bits:
             raise DivisionByZero
-        for index in range(low, high):
+        for index in range(low, high, self.value(it.step, scope, frame)):
             self.turn()
             try:
                 self.block(it.body, self.with_index(it.index, index, scope), Frame())
-            except Given as given:
-                total += given.args[0]
+            except Given as term:
+                given.append(term.args[0])
         self.rows += max(0, high - low)
-        return wrapped(total)
+        match it.gathers:
+            case Gathers.LEAST:
+                return min([*given, HALF - 1])
+            case Gathers.GREATEST:
+                return max([*given, -HALF])
+        return wrapped(sum(given))
 
     def operation(self, it, scope, frame):
         left = self.value(it.left, scope, frame)
@@ -294,6 +309,16 @@ def computed(operator, a, b):
             return divided(a, b)
         case "%":
             return wrapped(a - divided(a, b) * b)
+        case "&":
+            return sum(2**it * (bit(a, it) * bit(b, it)) for it in range(63)) - HALF * (bit(a, 63) * bit(b, 63))
+        case "|":
+            return wrapped(a + b - computed("&", a, b))
+        case "^":
+            return wrapped(a + b - 2 * computed("&", a, b))
+        case "<<":
+            return wrapped(a * 2**(b % 64))
+        case ">>":
+            return a // 2**(b % 64)
         case "<":
             return int(a < b)
         case ">":

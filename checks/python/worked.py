@@ -13,35 +13,30 @@ import sys
 import paths
 from arena.assembler import assemble
 from arena.language import compile_source
+from arena.language.examples import examples_of, unit_of
 from arena.language.parser import parse
 from runs import Tenant, serial_values
 from walk import Walk
 
 SCHEDULES = 3
-EXAMPLES, BLOCKS = 10, 5
+EXAMPLES, BLOCKS = 12, 5
 TURNS, ROWS = 1_000_000, 10_000
 MOVES = 200
 
 
-def comment(text, word):
-    """The numbers after a word of a comment."""
-    found = re.search(rf"^# {word}((?: -?\d+)+)$", text, re.M)
-    return [int(it) for it in found[1].split()] if found else None
-
-
 def differences(draws, name, text):
-    """What is wrong with an example."""
-    args, (value,) = tuple(comment(text, "arguments")), comment(text, "value")
+    """What is wrong with a source, by the first example in its comments."""
+    example = examples_of(text)[0]
+    args, value, keys = example.args, example.value, unit_of(text).cells
     compiled = compile_source(text, args=args, file=name)
     for _ in range(SCHEDULES):
         tenant = Tenant(draws)
         status = tenant.outcome(compiled.job.to_value(), MOVES)
         if status != {"job": 1, "status": "complete", "value": value}:
             yield f"{name}: {status} on {tenant.slots} slots"
-        if cells := comment(text, "cells"):
-            key, total = cells
-            if tenant.cells(key)["sum"] != total:
-                yield f"{name}: {tenant.cells(key)}"
+        for cell, total in example.cells.items():
+            if tenant.cells(keys[cell])["sum"] != total:
+                yield f"{name}: {tenant.cells(keys[cell])}"
         tenant.close()
     if Walk(rooted(text), turns=TURNS, rows=ROWS).root(args) != value:
         yield f"{name}: the walk gives another value"

@@ -8,16 +8,33 @@
 `arena.Client` is for one thread, `arena.aio.Client` for asyncio. `arena.trace` reads the dumps that the server writes,
 and `python3 -m arena` is the command. docs/CLIENT.md and docs/TRACE.md show them at work.
 """
-from arena.client import Client, Pipeline
-from arena.replies import (
-    ArenaError, BadJson, BadProgram, BadRequest, Busy, Canceled, Cells, Complete, ConnectionLost, Fault, FaultCode,
-    HistoryFull, InUse, JobLimit, Limits, LineTooLong, LostJob, NoMemory, NoTenant, Outcome, Refused, Running, Status,
-    StrangeReply, TaskLimit, TimedOut, UnknownJob, UnknownTenant)
+from importlib import import_module
+from typing import TYPE_CHECKING
 
-__version__ = "1.0.0"
+from arena.version import VERSION as __version__
+
+if TYPE_CHECKING:
+    from arena.client import Client, Pipeline
+    from arena.replies import (
+        ArenaError, BadJson, BadProgram, BadRequest, Busy, Canceled, Cells, Complete, ConnectionLimit, ConnectionLost, Fault,
+        FaultCode, HistoryFull, InUse, JobLimit, Limits, LineTooLong, LostJob, NoMemory, NoTenant, Outcome, Refused, Running,
+        Status, StrangeReply, TaskLimit, TimedOut, UnknownJob, UnknownTenant)
 
 __all__ = [
     "ArenaError", "BadJson", "BadProgram", "BadRequest", "Busy", "Canceled", "Cells", "Client", "Complete",
-    "ConnectionLost", "Fault", "FaultCode", "HistoryFull", "InUse", "JobLimit", "Limits", "LineTooLong", "LostJob",
-    "NoMemory", "NoTenant", "Outcome", "Pipeline", "Refused", "Running", "Status", "StrangeReply", "TaskLimit", "TimedOut",
+    "ConnectionLimit", "ConnectionLost", "Fault", "FaultCode", "HistoryFull", "InUse", "JobLimit", "Limits",
+    "LineTooLong", "LostJob", "NoMemory", "NoTenant", "Outcome", "Pipeline", "Refused", "Running", "Status",
+    "StrangeReply", "TaskLimit", "TimedOut",
     "UnknownJob", "UnknownTenant"]
+
+
+def __getattr__(name: str) -> object:
+    """What the package has, loaded when it is asked for: the command needs little of it for most of what it does."""
+    if name not in __all__:
+        raise AttributeError(f"module {__name__!r} has no attribute {name!r}")
+    return getattr(import_module("arena.client" if name in ("Client", "Pipeline") else "arena.replies"), name)
+
+
+def __dir__() -> list[str]:
+    """What the package has."""
+    return [*globals(), *__all__]

@@ -51,7 +51,7 @@ class Advice:
     def __str__(self) -> str:
         return f"{f'tenant {self.tenant}' if self.tenant else 'all tenants'}: {self.text}; {self.todo}"
 
-    def to_value(self) -> dict:
+    def to_value(self) -> dict[str, Any]:
         """As JSON."""
         return {"about": self.about.value, "tenant": self.tenant, "text": self.text, "todo": self.todo}
 
@@ -131,7 +131,8 @@ def _few_workers(tenants: Sequence[Mapping[str, Any]], workers: int, machine: Ma
 
 def bytes_of(tenant: Mapping[str, Any], connections: int) -> int:
     """What a server reserves for the history of a tenant, in bytes; what is not used of it takes no memory."""
-    return tenant["steps"] * (ENTRY_BYTES + SLOT_BYTES * tenant["slots"] + CONNECTION_BYTES * connections)
+    steps, slots = int(tenant["steps"]), int(tenant["slots"])
+    return steps * (ENTRY_BYTES + SLOT_BYTES * slots + CONNECTION_BYTES * connections)
 
 
 def _memory(tenants: Sequence[Mapping[str, Any]], machine: Machine) -> Iterator[Advice]:

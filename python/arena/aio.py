@@ -10,7 +10,7 @@ import collections
 import os
 from collections.abc import Mapping
 from dataclasses import dataclass
-from typing import TYPE_CHECKING, Self, TypeVar
+from typing import Any, Self, TYPE_CHECKING, TypeVar
 
 from arena import requests
 from arena.connection import check_path
@@ -32,7 +32,7 @@ CLOSING = 5.0
 class Waiting:
     """A request that was sent, and the line of its reply, which is cancelled if its call waits no more."""
 
-    request: Request
+    request: Request[Any]
     reply: asyncio.Future[bytes]
 
 
@@ -46,14 +46,14 @@ class Client:
     without late replies. `late_jobs` has the numbers of jobs that were made by such calls, once their replies have
     come. """
 
-    def __init__(self, path: str | os.PathLike, tenant: str | None = None, *, timeout: float | None = None) -> None:
+    def __init__(self, path: str | os.PathLike[str], tenant: str | None = None, *, timeout: float | None = None) -> None:
         self.path, self.tenant, self.timeout = os.fspath(path), tenant, timeout
         self.late_jobs: list[int] = []
         self._waiting: collections.deque[Waiting] = collections.deque()
         self._lost = "not connected; use `async with`, or call connect"
         self._jobs = JobsMade()
         self._writer: asyncio.StreamWriter | None = None
-        self._task: asyncio.Task | None = None
+        self._task: asyncio.Task[None] | None = None
         self._is_connecting = False
 
     async def __aenter__(self) -> Self:
@@ -128,8 +128,9 @@ class Client:
 
     async def hello(self, tenant: str) -> str:
         """Binds a connection that was made without a tenant. Raises UnknownTenant, and BadRequest if it is bound."""
-        self.tenant = await self.ask(requests.hello(tenant))
-        return self.tenant
+        named = await self.ask(requests.hello(tenant))
+        self.tenant = named
+        return named
 
     async def submit(self, job: JobLike) -> int:
         """Makes a job that waits for a worker; its number. Raises BadProgram, JobLimit, TaskLimit."""
@@ -212,7 +213,7 @@ class Client:
                 self._writer.transport.abort()
             raise
 
-    def _note_late(self, request: Request, line: bytes, connection: int) -> None:
+    def _note_late(self, request: Request[Any], line: bytes, connection: int) -> None:
         """Keeps the number of a job that a late reply tells."""
         try:
             value = self._value(request, line, connection)

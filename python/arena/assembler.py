@@ -152,7 +152,8 @@ class _Assembler:
                 self.procedures.append(self._begun(words))
             named = [self.procedures[-1].registers, self.procedures[-1].groups] if self.procedures else []
             for known in [*named, self.cells]:
-                known.reserved |= {known.plain(it.text) for it in words} - {None}
+                plain = (known.plain(it.text) for it in words)
+                known.reserved |= {it for it in plain if it is not None}
 
     def _begun(self, words: list[_Word]) -> _Procedure:
         if len(words) < 2 or not words[1].is_name():
@@ -203,7 +204,8 @@ class _Assembler:
         if len(words) == 3 and words[1].text == "=" and first.is_name():
             self.constants[first.text] = words[2].number(LEAST_NUMBER, GREATEST_NUMBER, "a constant")
         elif first.text == "args":
-            self.args = self._numbers(first, rest, 2, LEAST_NUMBER, GREATEST_NUMBER)[0:2]
+            x, y = self._numbers(first, rest, 2, LEAST_NUMBER, GREATEST_NUMBER)
+            self.args = (x, y)
         elif first.text == "fuel":
             self.fuel = self._numbers(first, rest, 1, 1, GREATEST_FUEL)[0]
         elif procedure is None:

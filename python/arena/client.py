@@ -11,7 +11,7 @@ import os
 import threading
 from collections.abc import Iterator, Mapping, Sequence
 from contextlib import contextmanager
-from typing import TYPE_CHECKING, Generic, Self, TypeVar, cast
+from typing import Any, Generic, Self, TYPE_CHECKING, TypeVar, cast
 
 from arena import requests
 from arena.connection import Connection, Deadline, DeadlineOver
@@ -39,7 +39,7 @@ class Client:
     `late` says how many. The server answers in order, so the next call waits for these first, and does so for as long
     as a job that was to be collected runs; `reconnect` gives a connection without them. """
 
-    def __init__(self, path: str | os.PathLike, tenant: str | None = None, *, timeout: float | None = None) -> None:
+    def __init__(self, path: str | os.PathLike[str], tenant: str | None = None, *, timeout: float | None = None) -> None:
         self.path, self.tenant, self.timeout = os.fspath(path), None, timeout
         self.late_jobs: list[int] = []
         """The numbers of the jobs that were made by a `submit` or `execute` that timed out or was interrupted: they are
@@ -67,6 +67,11 @@ class Client:
 
     def __exit__(self, *_: object) -> None:
         self.close()
+
+    def server_process(self) -> int | None:
+        """The number of the process that listens at the path, if it is one that is seen from here: over a tunnel it is the
+        tunnel's."""
+        return self._connection.server_process()
 
     def close(self) -> None:
         """Ends the connection. Jobs go on; another connection of the tenant can collect them."""
@@ -180,7 +185,7 @@ class Client:
         self._send((request,), request.what, deadline)
         return self._value(request, self._reply(request.what, deadline))
 
-    def _send(self, asked: Sequence[Request], what: str, deadline: Deadline) -> None:
+    def _send(self, asked: Sequence[Request[Any]], what: str, deadline: Deadline) -> None:
         """Sends requests. All replies that are owed before are late."""
         self._late = len(self._connection.owed)
         self._connection.send(asked, what, deadline)
@@ -208,7 +213,7 @@ class Client:
         return (f"{what}: no reply within {deadline.limit} s{behind}; {stands}. This connection answers nothing else "
                 "before that reply: wait for it, or reconnect")
 
-    def _note_late(self, request: Request, line: bytes) -> None:
+    def _note_late(self, request: Request[Any], line: bytes) -> None:
         """Keeps the number of a job that a late reply tells."""
         try:
             value = self._value(request, line)
@@ -260,7 +265,8 @@ class Pipeline:
     unless the pipeline was made with `raises=False`; `result` of each pending reply raises its own. """
 
     def __init__(self, client: Client, raises: bool) -> None:
-        self._client, self._raises, self._all = client, raises, []
+        self._client, self._raises = client, raises
+        self._all: list[Pending[Any]] = []
 
     def __enter__(self) -> Self:
         return self
@@ -278,7 +284,7 @@ class Pipeline:
             for pending in todo:
                 pending.result()
 
-    def _exchange(self, batch: Sequence[Pending], unsent: Sequence[Pending]) -> None:
+    def _exchange(self, batch: Sequence[Pending[Any]], unsent: Sequence[Pending[Any]]) -> None:
         """Sends some requests and reads their replies. If that ends early, the others know why they have none."""
         client, answered = self._client, 0
         why = "not sent, or in part alone: the pipeline ended before"
@@ -296,8 +302,9 @@ class Pipeline:
             raise
 
     def _put(self, request: Request[Value]) -> Pending[Value]:
-        self._all.append(Pending(request))
-        return self._all[-1]
+        pending = Pending(request)
+        self._all.append(pending)
+        return pending
 
     def submit(self, job: JobLike) -> Pending[int]:
         """As Client.submit."""

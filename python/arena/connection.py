@@ -8,8 +8,10 @@ import math
 import os
 import select
 import socket
+import struct
 import time
 from collections.abc import Sequence
+from typing import Any
 
 from arena.replies import ConnectionLost, StrangeReply, TimedOut
 from arena.requests import Request
@@ -59,7 +61,7 @@ class Connection:
     Raises ConnectionLost, and TimedOut if it is not made before the deadline."""
 
     def __init__(self, path: str, deadline: Deadline) -> None:
-        self.owed: collections.deque[Request] = collections.deque()
+        self.owed: collections.deque[Request[Any]] = collections.deque()
         self._bytes, self._searched = bytearray(), 0
         self._socket = socket.socket(socket.AF_UNIX)
         try:
@@ -91,11 +93,19 @@ class Connection:
         """Whether it was not closed here."""
         return self._socket.fileno() >= 0
 
+    def server_process(self) -> int | None:
+        """The number of the process that listens at the path, if it is one that is seen from here."""
+        try:
+            pid: int = struct.unpack("3i", self._socket.getsockopt(socket.SOL_SOCKET, socket.SO_PEERCRED, 12))[0]
+        except OSError:
+            return None
+        return pid or None
+
     def close(self) -> None:
         """Ends it."""
         self._socket.close()
 
-    def send(self, requests: Sequence[Request], what: str, deadline: Deadline) -> None:
+    def send(self, requests: Sequence[Request[Any]], what: str, deadline: Deadline) -> None:
         """Sends the lines of some requests, which are owed their replies from then on. If only a part of them was sent,
         or that is not known, the connection is closed. Raises ConnectionLost, TimedOut."""
         if not self.is_open:
@@ -126,7 +136,7 @@ class Connection:
             self._wait(select.POLLOUT, deadline)
             return 0
 
-    def next_reply(self, what: str, deadline: Deadline) -> tuple[Request, bytes]:
+    def next_reply(self, what: str, deadline: Deadline) -> tuple[Request[Any], bytes]:
         """The request that is owed the next reply, and the line of that without its newline. Raises ConnectionLost,
         StrangeReply, and DeadlineOver, after which the reply is still owed."""
         while (end := self._bytes.find(b"\n", self._searched)) < 0:

@@ -3,10 +3,11 @@
 The compiler, the assembler and lint share the table `INSTRUCTIONS`: what each operand of each instruction is.
 """
 import json
-from collections.abc import Mapping
-from dataclasses import dataclass
+from collections.abc import Callable, Mapping, Sequence
+from dataclasses import dataclass, field, replace
 from enum import Enum
 from types import MappingProxyType
+from typing import Any
 
 REGISTERS = 8
 GROUPS = 4
@@ -49,6 +50,14 @@ INSTRUCTIONS: Mapping[str, tuple[Operand, ...]] = MappingProxyType({
     "mul": (_D, _A, _A),
     "div": (_D, _A, _A),
     "lt": (_D, _A, _A),
+    "rem": (_D, _A, _A),
+    "and": (_D, _A, _A),
+    "or": (_D, _A, _A),
+    "xor": (_D, _A, _A),
+    "shl": (_D, _A, _A),
+    "shr": (_D, _A, _A),
+    "eq": (_D, _A, _A),
+    "le": (_D, _A, _A),
     "jz": (_A, _T),
     "jmp": (_T,),
     "slot": (_D,),
@@ -98,19 +107,33 @@ Procedure = tuple[Instruction, ...]
 
 @dataclass(frozen=True)
 class Job:
-    """A job: its two arguments, its fuel in instructions, and its procedures, of which the root runs number 0."""
+    """A job: its two arguments, its fuel in instructions, and its procedures, of which the root runs number 0. `packed`
+    makes the two arguments of one number for each parameter of its source, if it has one."""
 
     args: tuple[int, int]
     fuel: int
     procedures: tuple[Procedure, ...]
+    packed: Callable[[Sequence[int]], tuple[int, int]] | None = field(default=None, compare=False, repr=False)
 
-    def to_value(self) -> dict:
+    def __call__(self, *args: int) -> "Job":
+        """The job with other arguments, 0 for those that are left out: two at most, or one for each parameter of the `main`
+        that it was compiled of. Raises ValueError for one that does not fit."""
+        if not all(LEAST_NUMBER <= it <= GREATEST_NUMBER for it in args):
+            raise ValueError(f"the arguments {args} do not fit 64 bits")
+        if self.packed is not None:
+            return replace(self, args=self.packed(args))
+        if len(args) > ARGUMENTS:
+            raise ValueError(f"a job has two arguments, and here are {len(args)}")
+        first, second = (*args, 0, 0)[:ARGUMENTS]
+        return replace(self, args=(first, second))
+
+    def to_value(self) -> dict[str, Any]:
         """The JSON value JOB."""
         procedures = [[it.to_value() for it in procedure] for procedure in self.procedures]
         return {"args": list(self.args), "fuel": self.fuel, "procs": procedures}
 
     @classmethod
-    def from_value(cls, value: dict) -> "Job":
+    def from_value(cls, value: Mapping[str, Any]) -> "Job":
         """The job of a valid JOB; see `arena.lint` for one that may not be valid."""
         procedures = tuple(tuple(map(Instruction.from_value, it)) for it in value["procs"])
         first, second = value["args"]

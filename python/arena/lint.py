@@ -7,6 +7,7 @@ import math
 import re
 from collections.abc import Iterator
 from dataclasses import dataclass
+from typing import Any
 
 from arena.jobs import (ARGUMENTS, GREATEST_FUEL, GREATEST_NUMBER, GROUPS, INSTRUCTIONS, INSTRUCTIONS_OF_A_PROCEDURE,
                         KEYS, LAST_INSTRUCTIONS, LEAST_NUMBER, PROCEDURES, REGISTERS, Operand)
@@ -91,9 +92,9 @@ def _refuse(word: str) -> object:
 def _nesting(value: object) -> int:
     """How deep lists and objects nest."""
     depth, level = 0, [value]
-    while level := [it for it in level if isinstance(it, list | dict)]:
+    while inner := [it for it in level if isinstance(it, list | dict)]:
         depth += 1
-        level = [part for it in level for part in (it.values() if isinstance(it, dict) else it)]
+        level = [part for it in inner for part in (it.values() if isinstance(it, dict) else it)]
     return depth
 
 
@@ -136,7 +137,7 @@ def _members(value: object, path: str, names: tuple[str, ...], optional: tuple[s
         yield Place(path, f"{what}; {shown(more[0])} is none of them")
 
 
-def _faults_of_job(value: object) -> Iterator[Place]:
+def _faults_of_job(value: Any) -> Iterator[Place]:
     """The faults of a job, the first one first; after one of its form there is no other."""
     form = list(_faults_of_form(value))
     yield from form
@@ -146,7 +147,7 @@ def _faults_of_job(value: object) -> Iterator[Place]:
                 yield from _faults_of_instruction(value["procs"], number, index)
 
 
-def _faults_of_form(value: object) -> Iterator[Place]:
+def _faults_of_form(value: Any) -> Iterator[Place]:
     if place := next(_members(value, "", ("args", "fuel", "procs")), None):
         yield place
         return
@@ -169,7 +170,7 @@ def _is_number(value: object) -> bool:
     return _is_integer(value, LEAST_NUMBER, GREATEST_NUMBER)
 
 
-def _faults_of_instruction(procs: list, number: int, index: int) -> Iterator[Place]:
+def _faults_of_instruction(procs: list[Any], number: int, index: int) -> Iterator[Place]:
     """The faults of an instruction of a job whose form is right."""
     it, place = procs[number][index], f"procs[{number}][{index}]"
 
@@ -204,7 +205,7 @@ def _bounds(kind: Operand, procedures: int, instructions: int) -> tuple[int, int
     return 0, counts.get(kind, REGISTERS) - 1
 
 
-def _faults_of_config(value: object) -> Iterator[Place]:
+def _faults_of_config(value: Any) -> Iterator[Place]:
     if place := next(_members(value, "", ("tenants", "workers")), None):
         yield place
         return
@@ -227,7 +228,7 @@ def _faults_of_config(value: object) -> Iterator[Place]:
             first.setdefault(name, number)
 
 
-def _faults_of_tenant(value: object, path: str) -> Iterator[Place]:
+def _faults_of_tenant(value: Any, path: str) -> Iterator[Place]:
     if place := next(_members(value, path, TENANT_MEMBERS, (OPTIONAL_TENANT_MEMBER,)), None):
         yield place
         return

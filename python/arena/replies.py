@@ -6,7 +6,7 @@ as the exception of its name, all of which are `Refused`.
 import enum
 from collections.abc import Mapping
 from dataclasses import dataclass, field
-from typing import ClassVar, Self
+from typing import Any, ClassVar, Self
 
 from arena.jobs import GREATEST_NUMBER, LEAST_NUMBER
 
@@ -242,6 +242,13 @@ class Busy(Refused):
     advice = "a row is open; wait for all jobs, or cancel them, and retire again"
 
 
+class ConnectionLimit(Refused):
+    """Error 13, for a hello."""
+
+    code, name = 13, "connection_limit"
+    advice = "the tenant has as many connections as it may; close one that is not needed, or try again later"
+
+
 REFUSALS: dict[int, type[Refused]] = {kind.code: kind for kind in Refused.__subclasses__()}
 
 
@@ -257,7 +264,7 @@ def whole(number: object, least: int = LEAST_NUMBER, greatest: int = GREATEST_NU
     return number
 
 
-def members(reply: Mapping[str, object], *names: str) -> list:
+def members(reply: Mapping[str, object], *names: str) -> list[Any]:
     """The values of the members of a reply, which has just these. Raises ValueError if it has others."""
     if not isinstance(reply, dict) or reply.keys() != set(names):
         raise ValueError(f"a reply with the members {', '.join(names)} is expected")
@@ -272,7 +279,7 @@ def number_of(job: object, asked: int | None = None) -> int:
     return number
 
 
-def status_of(reply: dict, asked: int | None = None) -> Status:
+def status_of(reply: dict[str, Any], asked: int | None = None) -> Status:
     """The status that a reply says, of the job that was asked about. Raises KeyError or ValueError if it says none."""
     match reply.get("status"):
         case "complete":
@@ -283,11 +290,12 @@ def status_of(reply: dict, asked: int | None = None) -> Status:
             return Fault(FaultCode(whole(code)), number_of(job, asked))
         case "canceled" | "running" as status:
             job, _ = members(reply, "job", "status")
-            return {"canceled": Canceled, "running": Running}[status](number_of(job, asked))
+            number = number_of(job, asked)
+            return Canceled(number) if status == "canceled" else Running(number)
     raise ValueError("a status is expected")
 
 
-def outcome_of(reply: dict, asked: int | None = None) -> Outcome:
+def outcome_of(reply: dict[str, Any], asked: int | None = None) -> Outcome:
     """The outcome that a reply says, as `status_of`; a job that is running has none."""
     status = status_of(reply, asked)
     if isinstance(status, Running):
@@ -295,13 +303,13 @@ def outcome_of(reply: dict, asked: int | None = None) -> Outcome:
     return status
 
 
-def cells_of(reply: dict, asked: int) -> Cells:
+def cells_of(reply: dict[str, Any], asked: int) -> Cells:
     """The cells of a key that a reply says. Raises ValueError if it says none of that key."""
     count, key, total = members(reply, "count", "key", "sum")
     return Cells(whole(key, asked, asked), whole(count, 0), whole(total))
 
 
-def limits_of(reply: dict) -> Limits:
+def limits_of(reply: dict[str, Any]) -> Limits:
     """A tenant's limits. Raises ValueError."""
     priority, reserved, slots = members(reply, "priority", "reserved", "slots")
     if priority not in PRIORITIES:

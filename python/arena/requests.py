@@ -13,7 +13,7 @@ Value = TypeVar("Value")
 class HasValue(Protocol):
     """A job that can say its JSON value, as `arena.jobs.Job`."""
 
-    def to_value(self) -> dict:
+    def to_value(self) -> dict[str, Any]:
         """The JOB."""
         ...
 
@@ -29,8 +29,11 @@ JobLike = HasValue | HasJob | Mapping[str, Any]
 
 def value_of(job: JobLike) -> Mapping[str, Any]:
     """The JSON value of a job, of what the compiler gave, or of a mapping with args, fuel and procs."""
-    inner = getattr(job, "job", job)
-    return inner.to_value() if hasattr(inner, "to_value") else inner
+    if isinstance(job, Mapping):
+        return job
+    inner: Any = getattr(job, "job", job)
+    value: Mapping[str, Any] = inner.to_value()
+    return value
 
 
 def line_of(value: object) -> bytes:
@@ -46,7 +49,7 @@ class Request(Generic[Value]):
 
     what: str
     line: bytes
-    read: Callable[[dict], Value]
+    read: Callable[[dict[str, Any]], Value]
     job: int | None = None
     made: Callable[[Value], int] | None = None
     retires: bool = False
@@ -81,20 +84,20 @@ def place_in(program: Mapping[str, Any] | None) -> str:
         return str(fault)
 
 
-def _asked(op: str, read: Callable[[dict], Value], **more: object) -> Request[Value]:
+def _asked(op: str, read: Callable[[dict[str, Any]], Value], **more: object) -> Request[Value]:
     job = more.get("job")
     number = job if isinstance(job, int) else None
-    return Request(op if number is None else f"{op} {number}", line_of({"op": op, **more}), read, number)
+    return Request(op if number is None else f"{op} {number}", line_of({"op": op} | more), read, number)
 
 
-def _same_tenant(reply: dict, tenant: str) -> str:
+def _same_tenant(reply: dict[str, Any], tenant: str) -> str:
     (named,) = members(reply, "tenant")
     if named != tenant:
         raise ValueError("the connection is bound to another tenant")
-    return named
+    return tenant
 
 
-def _first(reply: dict, number: int) -> bool:
+def _first(reply: dict[str, Any], number: int) -> bool:
     first, job = members(reply, "first", "job")
     if type(first) is not bool:
         raise ValueError("`first` is true or false")
@@ -147,4 +150,4 @@ def limits() -> Request[Limits]:
 
 def retire() -> Request[int]:
     """Forgets all jobs and cells; the epoch that begins."""
-    return replace(_asked("retire", lambda reply: whole(*members(reply, "epoch"), 1, GREATEST_COUNT)), retires=True)
+    return replace(_asked("retire", lambda reply: whole(members(reply, "epoch")[0], 1, GREATEST_COUNT)), retires=True)

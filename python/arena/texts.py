@@ -18,6 +18,16 @@ class TextFault(Exception):
         return f"{self.file}{place}: {self.message}"
 
 
+def pointed(said: str, text: str, line: int, column: int) -> str:
+    """What is said of a place, with the line of a text that it is in, and a mark below its column."""
+    lines = text.splitlines()
+    if not 1 <= line <= len(lines):
+        return said
+    shown = lines[line - 1].rstrip()
+    before = "".join(it if it == "\t" else " " for it in shown[:column - 1])
+    return f"{said}\n    {shown}\n    {before}^"
+
+
 def listed(names: Iterable[str]) -> str:
     """Names as English lists them: `a`, `a and b`, `a, b and c`."""
     names = list(names)

@@ -4,8 +4,10 @@ import time
 from collections.abc import Callable
 from concurrent.futures import ThreadPoolExecutor
 from dataclasses import dataclass, field
+from typing import Any
 
 from arena.client import Client
+from arena.command.builds import build_of
 from arena.command.call import Call
 from arena.command.output import Progress
 from arena.command.sources import job_of
@@ -39,11 +41,11 @@ class Measured:
         ordered = sorted(self.times)
         return 1000 * ordered[min(len(ordered) * percent // 100, len(ordered) - 1)]
 
-    def to_value(self) -> dict:
+    def to_value(self) -> dict[str, Any]:
         """As JSON."""
         return {"clients": self.clients, "count": len(self.times), "per_second": round(self.rate, 1), "what": self.what,
                 "refused": len(self.faults),
-                "milliseconds": {str(it): self.times and round(self.percentile(it), 3) or None for it in PERCENTS}}
+                "milliseconds": {str(it): None if (ms := self.percentile(it)) is None else round(ms, 3) for it in PERCENTS}}
 
 
 def measure(call: Call, what: str, clients: int, count: int, ask: Callable[[Client], object]) -> Measured:
@@ -113,8 +115,9 @@ def bench(call: Call) -> int:
         """Runs one job."""
         return client.execute(value) if words.execute else client.collect(client.submit(value))
 
-    if words.retire:
-        with call.connect() as client:
+    with call.connect() as client:
+        build = build_of(client.server_process())
+        if words.retire:
             client.retire()
     all_measured = [measure(call, "requests", clients, words.requests,
                             lambda client: client.arena())] if words.requests else []
@@ -122,12 +125,14 @@ def bench(call: Call) -> int:
         all_measured.append(rounds(call, clients, words.jobs, ask, words.retire))
     if call.output.json:
         for it in all_measured:
-            call.output.say("", it.to_value())
+            call.output.say("", {**it.to_value(), "build": build and build.value})
     else:
         rows = [[it.what, it.clients, len(it.times), f"{it.rate:,.0f}",
                  *("" if (ms := it.percentile(p)) is None else f"{ms:.2f}" for p in PERCENTS)] for it in all_measured]
         head = ("", "clients", "count", "a second", *(f"{p} %, ms" for p in PERCENTS[:-1]), "slowest, ms")
         print(table(head, rows, (0,)))
+        if build:
+            print(build)
     faults = [fault for it in all_measured for fault in it.faults]
     for text in sorted({str(fault) for fault in faults}):
         call.output.complain(f"arena: {sum(str(it) == text for it in faults)} of {clients} clients ended early: {text}")
@@ -140,7 +145,8 @@ COMMANDS = (
     Command("bench", "measure requests and jobs a second",
             "Measures how many requests, and then how many jobs, a number of clients gets answered in a second, and "
             "how long each took. Every request and job takes entries of the tenant's history, which are not given "
-            "back. Jobs are those of FILE, or return at once. With --retire the tenant's jobs are forgotten before and "
+            "back. Jobs are those of FILE, or return at once. It says, where that can be seen, whether the server was built "
+            "without proofs. With --retire the tenant's jobs are forgotten before and "
             "after each round of 256; without it 256 jobs are the "
             "most.", "arena bench examples/jobs/fib.job --args 15 --clients 8 --jobs 1000 --retire", bench,
             (positional("FILE", "a job, as for `run`", Completes.JOB_FILE, nargs="?"), *JOB_WORDS[1:],

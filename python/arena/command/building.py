@@ -3,8 +3,8 @@ import json
 
 from arena.command.call import Call
 from arena.command.output import GREEN
-from arena.command.sources import SourceWrong, assembled, compiled, job_of, read_json
-from arena.command.words import JOB_WORDS, Command, Completes, Status, option, positional
+from arena.command.sources import JobSource, SourceWrong, assembled, compiled, job_of, read_json, source_of
+from arena.command.words import JOB_WORDS, Command, Completes, Status, option
 
 TO = option("-o", "--output", help="write to this file, not to standard output", metavar="FILE",
             completes=Completes.FILE)
@@ -58,21 +58,33 @@ def dis(call: Call) -> int:
 def lint(call: Call) -> int:
     """Looks for the first fault of a job or of a configuration."""
     path = call.words.FILE
+    warnings: list[str] = []
     if path.endswith((".job", ".jasm")):
-        job_of(call.words)
+        warnings = warnings_of(source_of(call.words))
         fault = None
     else:
         from arena.lint import first_fault_of_config, first_fault_of_job
         value = read_json(path)
         is_config = isinstance(value, dict) and ("tenants" in value or "workers" in value)
         fault = (first_fault_of_config if is_config else first_fault_of_job)(value)
+        if fault is None and not is_config:
+            warnings = warnings_of(JobSource(value))
     if fault is not None:
         if call.output.json:
             call.output.say("", {"fault": str(fault), "file": path, "valid": False})
             return Status.SOURCE
         raise SourceWrong(f"{path}: {fault}")
-    call.output.say(call.output.paint(f"{path}: valid", GREEN), {"file": path, "valid": True})
+    for text in warnings:
+        call.output.complain(f"{path}: warning: {text}")
+    call.output.say(call.output.paint(f"{path}: valid", GREEN), {"file": path, "valid": True, "warnings": warnings})
     return Status.DONE
+
+
+def warnings_of(source: JobSource) -> list[str]:
+    """Where a job may read what other jobs stored in cells."""
+    from arena.cells import reads_of_others
+    from arena.jobs import Job
+    return [f"{source.place(it.procedure, it.instruction)}: {it}" for it in reads_of_others(Job.from_value(dict(source.job)))]
 
 
 COMMANDS = (
@@ -92,6 +104,6 @@ COMMANDS = (
             "arena dis fib.json", dis, (*JOB_WORDS, TO)),
     Command("lint", "say where a job or a configuration is wrong",
             "Says in words where a job, or a configuration of the server, has its first fault, by the server's own "
-            "rules.",
+            "rules; all faults of a .job file. Of a valid job it says where it may read what other jobs stored in cells.",
             "arena lint fib.json", lint, JOB_WORDS),
 )

@@ -2,11 +2,13 @@
 import argparse
 import os
 from dataclasses import dataclass
-from typing import Self
+from typing import TYPE_CHECKING, Self
 
-from arena.client import Client
 from arena.command.output import Output, output_of
-from arena.host.folder import RunFolder
+
+if TYPE_CHECKING:
+    from arena.client import Client
+    from arena.host.folder import RunFolder
 
 SOCKET = "/tmp/arena.sock"
 
@@ -21,7 +23,7 @@ class Call:
 
     words: argparse.Namespace
     output: Output
-    _client: Client | None = None
+    _client: "Client | None" = None
 
     @classmethod
     def of(cls, words: argparse.Namespace) -> Self:
@@ -49,22 +51,25 @@ class Call:
         return tenant
 
     @property
-    def folder(self) -> RunFolder:
+    def folder(self) -> "RunFolder":
         """The run folder of arena-host. Raises WordsFault if none is said."""
+        from arena.host.folder import RunFolder
         path = self.words.D or os.environ.get("ARENA_RUN")
         if not path:
             raise WordsFault("no run folder of arena-host is named; give it as the word D, or set ARENA_RUN")
         return RunFolder(path)
 
     @property
-    def client(self) -> Client:
+    def client(self) -> "Client":
         """The connection. Raises WordsFault, ConnectionLost, UnknownTenant."""
         if self._client is None:
+            from arena.client import Client
             self._client = Client(self.socket, self.tenant, timeout=self.words.timeout)
         return self._client
 
-    def connect(self) -> Client:
+    def connect(self) -> "Client":
         """Another connection, which the caller closes."""
+        from arena.client import Client
         return Client(self.socket, self.tenant, timeout=self.words.timeout)
 
     def again(self, words: argparse.Namespace) -> "Call":

@@ -3,7 +3,7 @@ import contextlib
 import gc
 import os
 import sys
-from collections.abc import Iterator
+from collections.abc import Callable, Iterator
 
 from arena.command.call import Call, WordsFault
 from arena.command.output import GREEN, Progress
@@ -110,8 +110,9 @@ def draw(call: Call, shown: Timeline) -> None:
     words = call.words
     if not (words.svg or words.html or words.trace):
         sys.stdout.write(svg(shown, words.width))
-    for path, text_of in ((words.svg, lambda: svg(shown, words.width)), (words.html, lambda: page(shown)),
-                          (words.trace, lambda: chrome(shown))):
+    drawn: list[tuple[str | None, Callable[[], str]]] = [
+        (words.svg, lambda: svg(shown, words.width)), (words.html, lambda: page(shown)), (words.trace, lambda: chrome(shown))]
+    for path, text_of in drawn:
         if path:
             text = text_of()
             with open(path, "w", encoding="utf-8") as it:

@@ -4,13 +4,13 @@ import shutil
 import sys
 import time
 from dataclasses import dataclass
-from typing import TextIO
+from typing import Any, TextIO
 
 from arena.command.call import Call
 from arena.command.words import FOLDER, Command, Status, option, seconds
 from arena.host.folder import RunFolder
 from arena.host.orders import NoHost
-from arena.host.rates import Rates, Watch
+from arena.host.rates import Rates, Recent, Watch
 from arena.host.report import sections_of, to_text
 from arena.host.status import HostStatus, host_runs, read_status
 
@@ -103,9 +103,9 @@ def show(call: Call, screen: Screen, watch: Watch) -> None:
     screen.show(warning + to_text(sections_of(watch.now.status, watch)))
 
 
-def to_value(host: HostStatus, watch: Watch) -> dict:
+def to_value(host: HostStatus, watch: Watch) -> dict[str, Any]:
     """The tenants with their rates, as JSON; a rate that is not known yet is null."""
-    return {"time": host.time, "total": rates_value(watch.total()), "generations": [
+    return {"time": host.time, "total": rates_value(watch.total()), "recent": recent_value(watch.recent()), "generations": [
         {"generation": it.number, "state": it.state.value, "connections": it.connections, "served": it.served,
          "tenants": [{"tenant": tenant.tenant, "steps": tenant.steps, "entries": tenant.entries, "asks": tenant.asks,
                       "jobs": tenant.jobs, "running": tenant.jobs_now.running, "rows": tenant.rows.open,
@@ -113,9 +113,19 @@ def to_value(host: HostStatus, watch: Watch) -> dict:
                      for tenant in it.tenants]} for it in host.generations]}
 
 
-def rates_value(rates: Rates | None) -> dict | None:
+def rates_value(rates: Rates | None) -> dict[str, Any] | None:
     """Rates as JSON."""
-    return rates and {"asks": round(rates.asks, 3), "entries": round(rates.entries, 3), "jobs": round(rates.jobs, 3)}
+    if rates is None:
+        return None
+    return {"asks": round(rates.asks, 3), "entries": round(rates.entries, 3), "jobs": round(rates.jobs, 3)}
+
+
+def recent_value(recent: Recent | None) -> dict[str, object] | None:
+    """The rates over the last minutes as JSON."""
+    if recent is None:
+        return None
+    return {"seconds": round(recent.seconds, 3), "mean": rates_value(recent.mean()),
+            "jobs_within": {str(it): round(recent.jobs_within(it), 3) for it in (50, 90, 100)}}
 
 
 COMMANDS = (
@@ -127,7 +137,9 @@ COMMANDS = (
             "arena status /var/lib/arena", status, (FOLDER,)),
     Command("top", "watch a host: what `status` prints, with rates",
             "Shows what `status` prints again and again, with the entries, requests and jobs of each tenant in a "
-            "second, and how long its history lasts at this rate until the host rotates. On a terminal it stays in "
+            "second, how long its history lasts at this rate until the host rotates, and after some readings the rates "
+            "over the last five minutes, with how many jobs a second there were in half and in 90 % of the time. On a "
+            "terminal it stays in "
             "place; else it prints block after block. Ctrl-C ends it with status 0, the end of the host with 11.",
             "arena top /var/lib/arena --every 1", top,
             (FOLDER, option("--every", help="how long from one reading to the next; 2 without it", type=seconds,

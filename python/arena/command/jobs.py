@@ -1,10 +1,9 @@
 """The commands that ask the server: run, submit, wait, poll, cancel, cells, info, retire."""
-from collections.abc import Sequence
-
 from arena.client import Client
 from arena.command.call import Call
 from arena.command.output import GREEN, RED, YELLOW
-from arena.command.sources import job_of, job_with_divisions
+from arena.command.rehearsing import place_of_fault
+from arena.command.sources import JobSource, job_of, source_of
 from arena.command.words import JOB_WORDS, Command, Status, option, positional
 from arena.jobs import GREATEST_FUEL
 from arena.replies import ArenaError, Canceled, Complete, ConnectionLost, Fault, FaultCode, Outcome, Running, TimedOut
@@ -25,24 +24,33 @@ def about_fuel(given: int | None) -> str:
     return f": it had {given:,}, the most that a job can have; split the work into several jobs"
 
 
-def about_divisions(lines: Sequence[int]) -> str:
+def about_divisions(source: JobSource) -> str:
     """Where a source may have divided by zero."""
+    lines = source.compiled.divisions() if source.compiled else []
     if not lines:
         return ""
     return f"; its source divides in line{'' if len(lines) == 1 else 's'} {listed(map(str, lines))}"
 
 
-def tell(call: Call, status: JobStatus, given: int | None = None, divisions: Sequence[int] = ()) -> int:
-    """Prints a job's status: a value on standard output, anything else in words. `given` is its fuel, and `divisions` the
-    lines of its source that divide, if they are known. Returns the exit status."""
+def about_fault(code: FaultCode, source: JobSource | None) -> str:
+    """What is known of a fault: where it was, and how much fuel there was."""
+    fuel = about_fuel(source.job["fuel"] if source else None) if code is FaultCode.FUEL else ""
+    if source is None:
+        return fuel
+    place = place_of_fault(source, code)
+    return fuel + (about_divisions(source) if code is FaultCode.DIVISION and not place else place)
+
+
+def tell(call: Call, status: JobStatus, source: JobSource | None = None) -> int:
+    """Prints a job's status: a value on standard output, anything else in words. `source` is what was run, if it is known.
+    Returns the exit status."""
     output = call.output
     match status:
         case Complete(value, job):
             output.say(output.paint(str(value), GREEN), {"job": job, "status": "complete", "value": value})
             return Status.DONE
         case Fault(code, _, job):
-            text = str(status) + (about_fuel(given) if code is FaultCode.FUEL else "")
-            text += about_divisions(divisions) if code is FaultCode.DIVISION else ""
+            text = str(status) + about_fault(code, source)
             output.say(output.paint(text, RED), {"fault": code.value, "job": job, "status": "fault"})
             return Status.FAULT
         case Canceled(job):
@@ -55,10 +63,10 @@ def tell(call: Call, status: JobStatus, given: int | None = None, divisions: Seq
 
 def run(call: Call) -> int:
     """Runs a job to its outcome: submits and collects it, so that it goes on without this command."""
-    job, divisions = job_with_divisions(call.words)
+    source = source_of(call.words)
     if call.words.execute or has_no_slot_for_workers(call):
-        return tell(call, call.client.execute(job), job["fuel"], divisions)
-    return tell(call, collected(call, call.client.submit(job)), job["fuel"], divisions)
+        return tell(call, call.client.execute(source.job), source)
+    return tell(call, collected(call, call.client.submit(source.job)), source)
 
 
 def has_no_slot_for_workers(call: Call) -> bool:

@@ -4,6 +4,7 @@ import os
 import sys
 import time
 from dataclasses import dataclass
+from typing import TextIO
 
 RED, GREEN, YELLOW, BOLD, DIM = "31", "32", "33", "1", "2"
 
@@ -42,7 +43,7 @@ class Progress:
     """A line on standard error that shows how far long work is. It is there on a terminal alone, and from the first
     half second on."""
 
-    def __init__(self, what: str, total: int, stream=sys.stderr) -> None:
+    def __init__(self, what: str, total: int, stream: TextIO = sys.stderr) -> None:
         self.what, self.total, self.stream = what, max(total, 1), stream
         self.next = time.monotonic() + 0.5 if stream.isatty() else float("inf")
         self.shown = False

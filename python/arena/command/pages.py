@@ -225,9 +225,9 @@ def _zsh_text(text: str) -> str:
 
 def pages(call: Call) -> int:
     """Prints a page."""
-    from arena.command import ABOUT
-    from arena.command import COMMANDS as ALL
-    print({"man": lambda: manual(ALL, ABOUT), "bash": lambda: bash(ALL), "zsh": lambda: zsh(ALL)}[call.words.PAGE]())
+    from arena.command import ABOUT, all_commands
+    commands, kind = all_commands(), call.words.PAGE
+    print(manual(commands, ABOUT) if kind == "man" else bash(commands) if kind == "bash" else zsh(commands))
     return Status.DONE
 
 

@@ -1,5 +1,6 @@
 """`arena check-dumps`: all dumps of a run folder."""
 from dataclasses import dataclass
+from typing import Any
 
 from arena.command.call import Call
 from arena.command.output import GREEN, RED, YELLOW, Progress
@@ -25,7 +26,7 @@ class Counts:
         found = counted(self.yes + self.other, "dump")
         return f"{found}: {self.yes} yes, {self.other} not; {self.parts} in part, {self.missing} missing"
 
-    def to_value(self) -> dict:
+    def to_value(self) -> dict[str, Any]:
         """The counts as JSON."""
         return {"amiss": self.amiss, "missing": self.missing, "other": self.other, "parts": self.parts, "yes": self.yes}
 
@@ -44,7 +45,7 @@ def check_dumps(call: Call) -> int:
     return Status.DUMP if counts.amiss else Status.DONE
 
 
-def _of_file(it: DumpFile, counts: Counts, script: str) -> tuple[str, str, dict]:
+def _of_file(it: DumpFile, counts: Counts, script: str) -> tuple[str, str, dict[str, Any]]:
     """What is said of a file: its text, its colour, its value."""
     name, value = name_of(it.tenant, it.generation), {"file": it.path, "generation": it.generation, "tenant": it.tenant}
     if not it.is_whole:
@@ -63,7 +64,7 @@ def _of_file(it: DumpFile, counts: Counts, script: str) -> tuple[str, str, dict]
     return f"{name}: {verdict}", GREEN if is_yes else RED, {**value, "verdict": verdict}
 
 
-def _of_hole(it: Hole, counts: Counts) -> tuple[str, str, dict]:
+def _of_hole(it: Hole, counts: Counts) -> tuple[str, str, dict[str, Any]]:
     """What is said of generations without a dump."""
     counts.missing += (it.last - it.generation + 1) * it.amiss
     counts.amiss |= it.amiss

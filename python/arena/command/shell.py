@@ -120,18 +120,18 @@ def one(call: Call, parser: Parser, line: str) -> int:
     for name in ("json", "color", "timeout", "socket", "tenant"):
         if getattr(words, name) is None:
             setattr(words, name, getattr(call.words, name))
-    return guarded(call.again(words), lambda it: words.run(renewed(it)))
+    return guarded(call.again(words), lambda it: int(words.run(renewed(it))))
 
 
 def shell(call: Call) -> int:
     """Takes lines until they end; the status is that of the last one, if they are not typed."""
-    from arena.command import COMMANDS as ALL
-    known = [command for command in ALL if command.in_shell]
+    from arena.command import all_commands
+    known = [command for command in all_commands() if command.in_shell]
     parser = parser_of(known, about=ABOUT)
     call.client.arena()
     typed = sys.stdin.isatty()
     keep = edit_lines([*(command.name for command in known), "help", "quit"]) if typed else lambda: None
-    status = Status.DONE
+    status: int = Status.DONE
     for line in lines(f"{call.tenant}> "):
         if line in ("quit", "exit"):
             break

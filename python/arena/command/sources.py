@@ -3,7 +3,10 @@ import argparse
 import json
 import sys
 from collections.abc import Mapping
+from dataclasses import dataclass
 from typing import TYPE_CHECKING, Any
+
+from arena.texts import pointed
 
 if TYPE_CHECKING:
     from arena.language import Compiled
@@ -25,15 +28,19 @@ def read_text(path: str) -> str:
 
 
 def compiled(path: str, words: argparse.Namespace) -> "Compiled":
-    """What the compiler makes of a .job file. Raises SourceWrong."""
+    """What the compiler makes of a .job file; its warnings go to standard error. Raises SourceWrong with all faults."""
     from arena.language import SourceFault, compile_source
+    text = read_text(path)
     try:
-        return compile_source(read_text(path), parameters=dict(words.define or ()), args=tuple(words.args or ()),
+        done = compile_source(text, parameters=dict(words.define or ()), args=tuple(words.args or ()),
                               fuel=1_000_000 if words.fuel is None else words.fuel, file=path)
     except SourceFault as fault:
-        raise SourceWrong(str(fault)) from None
+        raise SourceWrong(fault.report()) from None
     except ValueError as fault:
         raise SourceWrong(f"{path}: {fault}") from None
+    for it in done.warnings:
+        print(pointed(str(it), text, it.line, it.column), file=sys.stderr)
+    return done
 
 
 def assembled(path: str, words: argparse.Namespace) -> Mapping[str, Any]:
@@ -41,7 +48,7 @@ def assembled(path: str, words: argparse.Namespace) -> Mapping[str, Any]:
     from arena.assembler import AssemblyFault, assemble
     args = _args(words)
     try:
-        return assemble(read_text(path), args=tuple(args) if args else None, fuel=words.fuel, file=path).to_value()
+        return assemble(read_text(path), args=(args[0], args[1]) if args else None, fuel=words.fuel, file=path).to_value()
     except (AssemblyFault, ValueError) as fault:
         raise SourceWrong(str(fault)) from None
 
@@ -59,12 +66,27 @@ def read_json(path: str) -> Any:
         raise SourceWrong(f"{path}: nested too deep for the JSON that a server reads") from None
 
 
-def job_with_divisions(words: argparse.Namespace) -> tuple[Mapping[str, Any], list[int]]:
-    """As `job_of`, with the lines of a .job file that divide."""
+@dataclass(frozen=True)
+class JobSource:
+    """A JOB, and what the compiler made of its source if it has one."""
+
+    job: Mapping[str, Any]
+    compiled: "Compiled | None" = None
+
+    def place(self, procedure: int, instruction: int) -> str:
+        """Where an instruction is in the source, or else which one it is, as compact JSON."""
+        if self.compiled is not None:
+            return self.compiled.place(procedure, instruction)
+        text = json.dumps(self.job["procs"][procedure][instruction], separators=(",", ":"))
+        return f"procedure {procedure}, instruction {instruction}: {text}"
+
+
+def source_of(words: argparse.Namespace) -> JobSource:
+    """As `job_of`, with what the compiler made of a .job file."""
     if not words.FILE.endswith(".job"):
-        return job_of(words), []
+        return JobSource(job_of(words))
     it = compiled(words.FILE, words)
-    return it.job.to_value(), it.divisions()
+    return JobSource(it.job.to_value(), it)
 
 
 def job_of(words: argparse.Namespace) -> Mapping[str, Any]:
@@ -83,6 +105,7 @@ def job_of(words: argparse.Namespace) -> Mapping[str, Any]:
     fault = _first_fault(value)
     if fault is not None:
         raise SourceWrong(f"{path}: {fault}")
+    assert isinstance(value, dict)
     return value
 
 

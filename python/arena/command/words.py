@@ -5,7 +5,7 @@ from collections.abc import Callable, Sequence
 from dataclasses import dataclass, field
 from typing import TYPE_CHECKING, Any, NamedTuple, NoReturn
 
-import arena
+from arena.version import VERSION
 
 if TYPE_CHECKING:
     from arena.command.call import Call
@@ -34,7 +34,8 @@ class Status(enum.IntEnum):
 
 STATUS_TEXTS = {
     Status.DONE: "done; the job is complete",
-    Status.FAULT: "the job ended with a fault; `cancel` changed nothing; `advise` has something to say",
+    Status.FAULT: "the job ended with a fault; `cancel` changed nothing; `advise` has something to say; `test` found another "
+                  "value, or no example; `fmt --check` a file in another form",
     Status.WORDS: "the words are wrong, or no tenant or folder is named",
     Status.CANCELED: "the job was cancelled",
     Status.RUNNING: "the job is still running",
@@ -45,7 +46,7 @@ STATUS_TEXTS = {
     Status.DUMP: "a dump is not one that a server wrote, `check` says no to it, or it is missing",
     Status.PROGRAM: "arena-script is not found, or failed",
     Status.HOST: "no arena-host runs in the folder, or its status.json is stale or is none",
-    Status.REFUSED: "from 21 to 32: the server's error reply, by 20 and its code (docs/PROTOCOL.md)",
+    Status.REFUSED: "from 21 to 33: the server's error reply, by 20 and its code (docs/PROTOCOL.md)",
     Status.INTERRUPTED: "interrupted from the keyboard",
 }
 
@@ -124,8 +125,9 @@ def assignment(text: str) -> Assignment:
 
 
 def integer(text: str) -> int:
-    """A whole number as in a source: 1_000, 0x1f, -5."""
-    return int(text, 0) if text.lower().lstrip("+-").startswith("0x") else int(text)
+    """A whole number as in a source: 1_000, 0x1f, -5. One from 2^63 to 2^64 - 1 stands for that with the same bits."""
+    number = int(text, 0) if text.lower().lstrip("+-").startswith("0x") else int(text)
+    return number - 2**64 if 2**63 <= number < 2**64 else number
 
 
 COMMON = (
@@ -179,7 +181,7 @@ def parser_of(commands: Sequence[Command], prog: str = "arena", about: str = "")
                     + statuses())
     for word in COMMON:
         _add(parser, word, {"default": None})
-    parser.add_argument("--version", action="version", version=f"{prog} {arena.__version__}", help="print the version")
+    parser.add_argument("--version", action="version", version=f"{prog} {VERSION}", help="print the version")
     inner = parser.add_subparsers(dest="command", metavar="COMMAND", required=True)
     for command in commands:
         sub = inner.add_parser(command.name, help=command.summary, description=command.text, allow_abbrev=False,

@@ -1,7 +1,11 @@
 """How fast a host goes: what its counts grew by between two readings of its status."""
+from collections.abc import Iterable
 from dataclasses import dataclass, field
 
 from arena.host.status import Reading, TenantStatus
+
+WINDOW, FEWEST_SPANS = 300.0, 3
+"""Over how many seconds rates are kept, and between how many readings something is said of them together."""
 
 Key = tuple[int, str]
 """A generation's number with a tenant's name."""
@@ -16,12 +20,51 @@ class Rates:
     jobs: float
 
 
+@dataclass(frozen=True, slots=True)
+class Span:
+    """The rates from one reading to the next, which were written at these times, in seconds."""
+
+    begin: float
+    end: float
+    rates: Rates
+
+
+@dataclass(frozen=True, slots=True)
+class Recent:
+    """The rates over the spans of the last minutes."""
+
+    spans: tuple[Span, ...]
+
+    @property
+    def seconds(self) -> float:
+        """How long they are together."""
+        return sum(it.end - it.begin for it in self.spans)
+
+    def mean(self) -> Rates:
+        """The rates over all of the time."""
+        def mean_of(rates: Iterable[float]) -> float:
+            """The mean of one rate of each span."""
+            return sum(it * (span.end - span.begin) for it, span in zip(rates, self.spans)) / self.seconds
+        all_of = [it.rates for it in self.spans]
+        return Rates(mean_of(it.entries for it in all_of), mean_of(it.asks for it in all_of), mean_of(it.jobs for it in all_of))
+
+    def jobs_within(self, percent: int) -> float:
+        """The rate of jobs that was not exceeded in that share of the time."""
+        ordered, left = sorted(self.spans, key=lambda it: it.rates.jobs), self.seconds * percent / 100
+        for it in ordered:
+            left -= it.end - it.begin
+            if left <= 1e-9:
+                return it.rates.jobs
+        return ordered[-1].rates.jobs
+
+
 @dataclass
 class Watch:
-    """The two last readings of a host that differ, from which rates are taken."""
+    """The two last readings of a host that differ, from which rates are taken, and the rates of the last minutes."""
 
     before: Reading | None = None
     now: Reading | None = None
+    spans: list[Span] = field(default_factory=list)
     _known: dict[Key, Rates] = field(default_factory=dict)
 
     def take(self, reading: Reading) -> None:
@@ -30,10 +73,18 @@ class Watch:
             return
         self.before, self.now = self.now, reading
         self._known = rates_between(self.before, self.now) if self.before is not None else {}
+        total = self.total()
+        if total is not None and self.before is not None:
+            self.spans.append(Span(self.before.written, reading.written, total))
+        self.spans = [it for it in self.spans if it.end > reading.written - WINDOW]
 
     def of(self, generation: int, tenant: str) -> Rates | None:
         """The rates of a tenant in a generation; None if two readings of it are not there yet."""
         return self._known.get((generation, tenant))
+
+    def recent(self) -> Recent | None:
+        """The rates of all tenants over the last minutes; None before there are some spans between readings."""
+        return Recent(tuple(self.spans)) if len(self.spans) >= FEWEST_SPANS else None
 
     def total(self) -> Rates | None:
         """The rates of all tenants together; None if there are none yet."""
@@ -50,7 +101,8 @@ def rates_between(before: Reading, after: Reading) -> dict[Key, Rates]:
     if before.status.began != after.status.began or seconds <= 0:
         return {}
     known = _counts(before)
-    oldest_new = max((it.number for it in (*before.status.generations, *before.status.closed)), default=-1) + 1
+    there = [*(it.number for it in before.status.generations), *(it.number for it in before.status.closed)]
+    oldest_new = max(there, default=-1) + 1
     found: dict[Key, Rates] = {}
     for key, last in _counts(after).items():
         first = known.get(key)

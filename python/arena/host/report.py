@@ -2,7 +2,7 @@
 from collections.abc import Iterator
 from dataclasses import dataclass, field
 
-from arena.host.rates import Rates, Watch
+from arena.host.rates import Rates, Recent, Watch
 from arena.host.status import ClosedGeneration, Generation, HostStatus, State, TenantStatus
 from arena.texts import counted
 from arena.trace.report import table
@@ -48,7 +48,18 @@ def _host(status: HostStatus, watch: Watch | None) -> Section:
     total = watch.total() if watch else None
     if total:
         notes.append(f"{total.entries:,.1f} entries, {total.asks:,.1f} requests and {total.jobs:,.1f} jobs a second")
+    recent = watch.recent() if watch else None
+    if recent:
+        notes.append(_recent(recent))
     return Section(f"host: {where}, up {duration(status.time - status.began)}{memory}", notes)
+
+
+def _recent(it: Recent) -> str:
+    """The rates of the last minutes."""
+    mean = it.mean()
+    return (f"over {duration(round(it.seconds))}: {mean.entries:,.1f} entries, {mean.asks:,.1f} requests and {mean.jobs:,.1f} "
+            f"jobs a second; jobs in half of the time at most {it.jobs_within(50):,.1f}, in 90 % {it.jobs_within(90):,.1f}, "
+            f"always {it.jobs_within(100):,.1f}")
 
 
 def _generation(status: HostStatus, it: Generation, watch: Watch | None) -> Section:

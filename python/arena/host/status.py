@@ -4,7 +4,7 @@ import json
 import os
 from collections.abc import Callable, Iterator
 from dataclasses import dataclass
-from typing import NamedTuple, TypeVar
+from typing import Any, NamedTuple, TypeVar
 
 from arena.host.folder import RunFolder
 from arena.lint import read_value
@@ -158,7 +158,7 @@ class Reading:
     the file says."""
 
     status: HostStatus
-    value: dict
+    value: dict[str, Any]
     written: float
 
     def stale(self, now: float) -> str | None:
@@ -275,7 +275,7 @@ class Parsed(NamedTuple):
     """A status, and the object that it was read from."""
 
     status: HostStatus
-    value: dict
+    value: dict[str, Any]
 
 
 def parse_status(data: bytes, file: str = "status.json") -> Parsed:
@@ -297,7 +297,8 @@ def _host(part: _Part) -> HostStatus:
         part.number("time"), part.number("began"), part.number("connections"), part.number("rotate_at"),
         part.number("keep"), part.number("patience"), part.or_none("memory", part.number),
         tuple(map(_generation, part.parts("generations"))), tuple(map(_closed, part.parts("closed"))))
-    part.distinct("generations", "generation", [it.number for it in (*status.generations, *status.closed)])
+    numbers = [*(it.number for it in status.generations), *(it.number for it in status.closed)]
+    part.distinct("generations", "generation", numbers)
     return status
 
 

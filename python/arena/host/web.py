@@ -96,7 +96,7 @@ class Timely(io.RawIOBase):
         """It can be read."""
         return True
 
-    def readinto(self, buffer: memoryview) -> int:
+    def readinto(self, buffer: Any) -> int:
         """Reads what has come."""
         left = self._end - time.monotonic()
         if left <= 0:
@@ -157,7 +157,8 @@ class MetricsServer(ThreadingHTTPServer):
     def server_bind(self) -> None:
         """Binds, without the search for a name of the address, which may take seconds."""
         socketserver.TCPServer.server_bind(self)
-        self.server_name, self.server_port = self.server_address[:2]
+        name, port = self.server_address[:2]
+        self.server_name, self.server_port = str(name), int(port)
 
     def process_request(self, request: Any, client_address: Any) -> None:
         """Answers a connection on a thread, or closes it if there are too many."""

@@ -1,4 +1,6 @@
 """What operators give for numbers of 64 bits, as the instructions of a job compute them."""
+from collections.abc import Callable
+
 from arena.jobs import GREATEST_NUMBER, LEAST_NUMBER
 
 
@@ -18,12 +20,17 @@ def quotient(a: int, b: int) -> int:
     return wrapped(size if (a < 0) == (b < 0) else -size)
 
 
-_RESULTS = {
+_RESULTS: dict[str, Callable[[int, int], int]] = {
     "+": lambda a, b: wrapped(a + b),
     "-": lambda a, b: wrapped(a - b),
     "*": lambda a, b: wrapped(a * b),
     "/": quotient,
     "%": lambda a, b: wrapped(a - quotient(a, b) * b),
+    "&": lambda a, b: a & b,
+    "|": lambda a, b: a | b,
+    "^": lambda a, b: a ^ b,
+    "<<": lambda a, b: wrapped(a << (b & 63)),
+    ">>": lambda a, b: a >> (b & 63),
     "<": lambda a, b: int(a < b),
     ">": lambda a, b: int(a > b),
     "<=": lambda a, b: int(a <= b),
@@ -37,6 +44,6 @@ _RESULTS = {
 
 def result(operator: str, a: int | None, b: int | None) -> int | None:
     """What an operator gives for two numbers; None if one of them is not known, or for a division by zero."""
-    if a is None or b is None or (operator in "/%" and b == 0):
+    if a is None or b is None or (operator in ("/", "%") and b == 0):
         return None
     return _RESULTS[operator](a, b)

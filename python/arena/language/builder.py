@@ -2,12 +2,13 @@
 alive."""
 from collections.abc import Callable
 from dataclasses import dataclass, field
+from typing import Any
 
-from arena.jobs import INSTRUCTIONS_OF_A_PROCEDURE
+from arena.jobs import INSTRUCTIONS_OF_A_PROCEDURE, PROCEDURES
 from arena.language.code import ARGUMENT, LABEL, LOOP, MOVE, Code, Registers, Step
-from arena.language.faults import NOWHERE, Place
+from arena.language.faults import NOWHERE, Notes, Place
 from arena.language.names import Names, Pending
-from arena.language.syntax import Application, Expression, Function, Parameter
+from arena.language.syntax import Application, Expression, Function, Gathers, Parameter
 from arena.language.unit import Unit, folded
 
 MOST_STEPS = 1_536
@@ -28,9 +29,10 @@ class Loop:
 
 @dataclass(frozen=True)
 class Sum:
-    """The parallel sum whose body is being made: the register of the sum, where `give` goes, and which tasks were
-    pending, and how many blocks open, when it began."""
+    """The parallel sum whose body is being made: what it gathers, in which register, where `give` goes, and which tasks
+    were pending, and how many blocks open, when it began."""
 
+    gathers: Gathers
     total: int
     more: str
     pending: Pending
@@ -39,10 +41,11 @@ class Sum:
 
 @dataclass
 class Source:
-    """What the makers of all functions of a source share. `opened` are the uses of inline functions around the place, and
-    `add_function` makes a function that is not in the source."""
+    """What the makers of all functions of a source share. `opened` are the uses of inline functions around the place,
+    `add_function` makes a function that is not in the source, and `notes` takes what is wrong or odd."""
 
     unit: Unit
+    notes: Notes
     add_function: Callable[[Function], None]
     opened: list[Application] = field(default_factory=list)
 
@@ -60,7 +63,7 @@ class Builder:
 
     def __init__(self, source: Source, function: Function) -> None:
         self.source, self.unit, self.function = source, source.unit, function
-        self.names = Names(self.unit)
+        self.names = Names(self.unit, function.around)
         self.registers = Registers()
         self.code: Code = []
         self.loops: list[Loop] = []
@@ -74,13 +77,33 @@ class Builder:
         self._labels += 1
         return f"L{self._labels}"
 
-    def emit(self, name: str, place: Place, defines: tuple[int, ...] = (), uses: tuple[int, ...] = (), **more) -> None:
+    def emit(self, name: str, place: Place, defines: tuple[int, ...] = (), uses: tuple[int, ...] = (),
+             **more: Any) -> None:
         """Adds a step; `more` are the other members of `Step`."""
         self.place, caller = place, self.caller()
         if len(self.code) >= MOST_STEPS:
             raise (caller or place).fault(f"{self.function.title} has more than {MOST_STEPS} steps, of which a procedure "
                                           f"has at most {INSTRUCTIONS_OF_A_PROCEDURE}: let another fn do a part")
         self.code.append(Step(name, place, defines, uses, depth=self.depth, caller=caller, **more))
+
+    def is_spent(self) -> bool:
+        """Whether a limit is reached that each further statement would reach, too."""
+        return (len(self.code) >= MOST_STEPS or self._expanded > MOST_STEPS
+                or len(self.unit.functions) > PROCEDURES)
+
+    def warn(self, place: Place, message: str) -> None:
+        """Notes what is odd."""
+        self.source.notes.warn(place, message)
+
+    def warn_if_hiding(self, name: str, place: Place) -> None:
+        """Warns of a variable that has the name of one of a block around it."""
+        if name.isidentifier() and self.names.is_further_out(name):
+            self.warn_hiding(name, place)
+
+    def warn_hiding(self, name: str, place: Place) -> None:
+        """Warns of a name that hides one further out."""
+        self.warn(place, f"{name} hides the {name} of a block around this one: to change that, leave `let` out; else choose "
+                  "another name")
 
     def caller(self) -> Place | None:
         """Where the outermost inline function is used that this place is in."""
@@ -125,15 +148,19 @@ class Builder:
 
     def fold(self, expression: Expression) -> int | None:
         """The number that an expression always has, or None."""
-        return folded(expression, self.names.constant)
+        return folded(expression, self.names.constant, self.unit.own)
 
-    def divided(self, place: Place, register: int, bits: int, names: tuple[str, str]) -> tuple[int, int]:
-        """The high part of a packed argument, and its low bits."""
-        high, back, low = self.registers.new(names[0]), self.registers.new(), self.registers.new(names[1])
-        self.emit("div", place, (high,), (register, self.number(2**bits, place)))
-        self.emit("mul", place, (back,), (high, self.number(2**bits, place)))
-        self.emit("sub", place, (low,), (register, back))
-        return high, low
+    def part(self, place: Place, register: int, shift: int, bits: int | None, name: str) -> int:
+        """A parameter of a packed argument: so many bits from one on; all from that one on without a number of bits."""
+        shifted = register
+        if shift:
+            shifted = self.registers.new(name if bits is None else "")
+            self.emit("shr", place, (shifted,), (register, self.number(shift, place)))
+        if bits is None:
+            return shifted
+        low = self.registers.new(name)
+        self.emit("and", place, (low,), (shifted, self.number(2**bits - 1, place)))
+        return low
 
     def argument(self, number: int, parameters: tuple[Parameter, ...]) -> int:
         """A register that holds an argument at the start."""
@@ -145,10 +172,11 @@ class Builder:
 
     def unpacked(self, register: int, parameters: tuple[Parameter, ...]) -> list[Unpacked]:
         """The parameters of an argument with their registers."""
-        found = []
-        for number in range(len(parameters) - 1, 0, -1):
+        found, shift = [], 0
+        for number in range(len(parameters) - 1, -1, -1):
             parameter = parameters[number]
-            high_name = parameters[0].name if number == 1 else "(packed)"
-            register, low = self.divided(parameter.place, register, parameter.bits or 0, (high_name, parameter.name))
-            found.append(Unpacked(parameter, low))
-        return [*found, Unpacked(parameters[0], register)]
+            bits = parameter.bits if number else None
+            part = self.part(parameter.place, register, shift, bits, parameter.name)
+            found.append(Unpacked(parameter, part))
+            shift += parameter.bits or 0
+        return found

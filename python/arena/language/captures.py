@@ -3,7 +3,8 @@ from collections.abc import Iterable, Iterator
 from dataclasses import fields
 
 from arena.language.faults import Place
-from arena.language.syntax import Assign, Block, For, Let, LetBoth, LetTask, Name, Node, ParallelSum, Spawn
+from arena.language.syntax import (Assign, Block, Break, For, Give, Let, LetBoth, LetTask, Name, Node, ParallelSum,
+                                   Return, Spawn, While)
 
 
 def children(node: Node) -> Iterator[Node]:
@@ -34,6 +35,24 @@ def spawns_without_group(node: Node) -> bool:
     return any(isinstance(it, Spawn) and it.group is None for it in parts(node))
 
 
+def may_leave(body: Block) -> bool:
+    """Whether a loop's body has a way out of the loop."""
+    waiting: list[Node] = [body]
+    while waiting:
+        node = waiting.pop()
+        if isinstance(node, Return | Give | Break):
+            return True
+        is_loop = isinstance(node, For | While | ParallelSum)
+        waiting.extend(it for it in (_returns(node) if is_loop else children(node)))
+    return False
+
+
+def _returns(loop: Node) -> Iterator[Node]:
+    """What leaves an inner loop, and those around it, too; a parallel sum's body leaves nothing but itself."""
+    if not isinstance(loop, ParallelSum):
+        yield from (it for it in parts(loop) if isinstance(it, Return | Give))
+
+
 def names_from_outside(block: Block, index: str) -> dict[str, Place]:
     """The names that a body reads or assigns and does not declare itself, with the places of their first uses."""
     found: dict[str, Place] = {}
@@ -48,11 +67,11 @@ def _walk(node: Node, own: set[str], found: dict[str, Place]) -> None:
             if name not in own:
                 found.setdefault(name, node.place)
         case For(index=index):
-            _walk_all((node.low, node.high), own, found)
+            _walk_all((node.low, node.high, node.step), own, found)
             _walk(node.body, own | {index}, found)
             return
         case ParallelSum(index=index):
-            _walk_all((node.low, node.high, node.grain), own, found)
+            _walk_all((node.low, node.high, node.step, node.grain), own, found)
             _walk(node.body, own | {index}, found)
             return
     _walk_all(children(node), set(own) if isinstance(node, Block) else own, found)

@@ -12,7 +12,13 @@ GROUP_END, GROUP_LEFT = "group end", "group left"
 made of the code."""
 
 NO_OPERATION = (LABEL, LOOP)
-PURE = frozenset({"set", "add", "sub", "mul", "lt", "slot", "width", MOVE})
+OPERATIONS = frozenset({"add", "sub", "mul", "div", "rem", "lt", "le", "eq", "and", "or", "xor", "shl", "shr"})
+"""The instructions that make a number of two others."""
+
+DIVISIONS = frozenset({"div", "rem"})
+"""Those that have fault 1 for a second operand of 0."""
+
+PURE = frozenset({"set", "slot", "width", MOVE, *(OPERATIONS - DIVISIONS)})
 """The steps that do nothing but give their register a value: they may be dropped if nothing reads it."""
 
 
@@ -64,4 +70,4 @@ class Registers:
 
 def weight(depth: int) -> int:
     """How often code at a depth of loops is taken to run."""
-    return 10 ** min(depth, 6)
+    return int(10 ** min(depth, 6))

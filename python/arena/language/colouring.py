@@ -2,10 +2,8 @@
 from dataclasses import dataclass, field
 
 from arena.jobs import ARGUMENTS, REGISTERS
-from arena.language.code import MOVE, Code
+from arena.language.code import MOVE, OPERATIONS, Code
 from arena.language.liveness import as_set, live_after, live_or_written, members
-
-LIKES_ITS_OPERANDS = frozenset({"add", "sub", "mul", "div", "lt"})
 
 Colours = dict[int, int]
 """For each register of the code one of the eight."""
@@ -65,7 +63,7 @@ def graph_of(code: Code) -> Graph:
             graph.prefer(step.defines[0], step.uses[0])
             graph.prefer(step.uses[0], step.defines[0])
     for step in code:
-        if step.name in LIKES_ITS_OPERANDS:
+        if step.name in OPERATIONS:
             for register in step.uses:
                 graph.prefer(step.defines[0], register)
     graph.close()

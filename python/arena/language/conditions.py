@@ -1,15 +1,16 @@
 """Code for conditions: what jumps on them, and their values 1 and 0."""
 from dataclasses import dataclass
 
-from arena.language.arithmetic import fits
 from arena.language.builder import Builder
-from arena.language.syntax import Application, Binary, Expression, Not, Number
+from arena.language.faults import Place
+from arena.language.syntax import Application, Binary, Expression, Not
 
 COMPARISONS = ("<", ">", "<=", ">=", "==", "!=")
-HOLD_IF_ZERO = ("<=", ">=", "==")
-"""The comparisons whose shortest test is a register that is 0 if they hold."""
+OPPOSITES = {"<": ">=", "<=": ">", ">": "<=", ">=": "<"}
+"""The comparisons that hold if others do not."""
 
-FLIPPED = {"<": "<=", "<=": "<", ">": ">=", ">=": ">"}
+INSTRUCTIONS = {"<": ("lt", False), ">": ("lt", True), "<=": ("le", False), ">=": ("le", True), "==": ("eq", False)}
+"""The comparisons that are one instruction: which, and whether its operands are swapped."""
 
 
 @dataclass(frozen=True)
@@ -68,42 +69,40 @@ class Conditions(Builder):
         self.emit("jz", condition.place, (), (test.register,), target=if_zero)
         self.jump(otherwise, condition.place, after)
 
-    def flipped(self, condition: Expression) -> Binary | None:
-        """The same comparison with a constant by the other sign, such as a <= 4 for a < 5, if there is one."""
-        if not isinstance(condition, Binary) or condition.operator not in FLIPPED:
-            return None
-        operator = FLIPPED[condition.operator]
-        step = -1 if condition.operator in ("<", ">=") else 1
-        left, right = self.fold(condition.left), self.fold(condition.right)
-        if right is not None and fits(right + step):
-            return Binary(condition.place, operator, condition.left, Number(condition.place, right + step))
-        if left is not None and fits(left - step):
-            return Binary(condition.place, operator, Number(condition.place, left - step), condition.right)
-        return None
-
     def test(self, condition: Expression, had_better_hold_if_zero: bool) -> Test:
-        """The shortest test of a condition that is no combination of others, if it can be of the kind asked for."""
+        """The shortest test of a condition that is no combination of others, if it can be of the kind asked for. All
+        comparisons can, save those with 0, whose other side is the register."""
         if not isinstance(condition, Binary) or condition.operator not in COMPARISONS:
             return Test(self.value(condition), False)
-        if had_better_hold_if_zero != (condition.operator in HOLD_IF_ZERO):
-            condition = self.flipped(condition) or condition
-        operator, place = condition.operator, condition.place
-        if operator in ("==", "!="):
-            return Test(self._difference(condition), operator == "==")
-        left, right = self.value(condition.left), self.value(condition.right)
-        register = self.registers.new()
-        self.emit("lt", place, (register,), (left, right) if operator in ("<", ">=") else (right, left))
-        return Test(register, operator in ("<=", ">="))
+        if condition.operator in ("==", "!="):
+            return self._equality(condition, had_better_hold_if_zero)
+        operator = OPPOSITES[condition.operator] if had_better_hold_if_zero else condition.operator
+        return Test(self._compared(condition, operator, None), had_better_hold_if_zero)
 
-    def _difference(self, condition: Binary) -> int:
-        """A register that is 0 if both sides are equal."""
-        if self.fold(condition.right) == 0:
-            return self.value(condition.left)
-        if self.fold(condition.left) == 0:
-            return self.value(condition.right)
+    def _equality(self, condition: Binary, had_better_hold_if_zero: bool) -> Test:
+        """The test of `==` or `!=`."""
+        holds_if_equal = condition.operator == "=="
+        other = self.side_beside_zero(condition)
+        if other is not None:
+            return Test(self.value(other), holds_if_equal)
+        name = "sub" if holds_if_equal == had_better_hold_if_zero else "eq"
         left, right = self.value(condition.left), self.value(condition.right)
         register = self.registers.new()
-        self.emit("sub", condition.place, (register,), (left, right))
+        self.emit(name, condition.place, (register,), (left, right))
+        return Test(register, had_better_hold_if_zero)
+
+    def side_beside_zero(self, condition: Binary) -> Expression | None:
+        """The side of a comparison whose other side is 0, if there is one."""
+        if self.fold(condition.right) == 0:
+            return condition.left
+        return condition.right if self.fold(condition.left) == 0 else None
+
+    def _compared(self, condition: Binary, operator: str, into: int | None) -> int:
+        """The register with 1 if both sides compare so, else 0, by one instruction."""
+        left, right = self.value(condition.left), self.value(condition.right)
+        name, is_swapped = INSTRUCTIONS[operator]
+        register = self.registers.new() if into is None else into
+        self.emit(name, condition.place, (register,), (right, left) if is_swapped else (left, right))
         return register
 
     def ends_sooner_by_zero(self, condition: Expression) -> bool:
@@ -113,20 +112,20 @@ class Conditions(Builder):
         if isinstance(condition, Not):
             operand = condition.operand
             return not isinstance(operand, Binary) or operand.operator not in (*COMPARISONS, "&&", "||")
-        if isinstance(condition, Binary) and condition.operator in ("<", ">"):
-            return self.flipped(condition) is not None
-        return isinstance(condition, Binary) and condition.operator in HOLD_IF_ZERO
+        if not isinstance(condition, Binary) or condition.operator not in COMPARISONS:
+            return False
+        return condition.operator != "!=" or self.side_beside_zero(condition) is None
 
     def truth(self, condition: Expression, into: int | None) -> int:
         """The register with 1 if a condition holds, else 0."""
         place = condition.place
-        if isinstance(condition, Binary) and condition.operator in ("<=", ">="):
-            flipped = self.flipped(condition)
-            if flipped:
-                return self.value(flipped, into)
-            test, register = self.test(condition, True), self.registers.new() if into is None else into
-            self.emit("sub", place, (register,), (self.number(1, place), test.register))
-            return register
+        match condition:
+            case Binary(operator=operator) if operator in INSTRUCTIONS:
+                return self._compared(condition, operator, into)
+            case Binary(operator="!="):
+                return self._is_zero(self._compared(condition, "==", None), place, into)
+            case Not(operand=operand) if not self.is_inline(operand):
+                return self._is_zero(self.value(operand), place, into)
         register = self.registers.new() if into is None else into
         yes, no, end = self.label(), self.label(), self.label()
         self.branch(condition, yes, no, yes)
@@ -136,4 +135,10 @@ class Conditions(Builder):
         self.put(no)
         self.number(0, place, register)
         self.put(end)
+        return register
+
+    def _is_zero(self, of: int, place: Place, into: int | None) -> int:
+        """The register with 1 if another one is 0, else 0."""
+        zero, register = self.number(0, place), self.registers.new() if into is None else into
+        self.emit("eq", place, (register,), (of, zero))
         return register

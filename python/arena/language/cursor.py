@@ -1,7 +1,8 @@
 """A reader's place in a list of tokens, and the small things that every rule of the grammar is made of."""
 import re
 
-from arena.language.faults import Place
+from arena.language.arithmetic import wrapped
+from arena.language.faults import Notes, Place, SourceFault
 from arena.language.syntax import Parameter
 from arena.language.tokens import Token, TokenKind
 
@@ -11,10 +12,14 @@ GREATEST_WIDTH = 62
 
 ELSEWHERE = {**dict.fromkeys(("elif", "elsif", "elseif"), "write `else if`"),
              "**": "there is no operator for powers: multiply, as in `n * n`",
-             "=": "to compare, write `==`", "step": "a `for` counts by 1: multiply its counter, or use `while`",
+             "=": "to compare, write `==`",
              "print": "a job prints nothing: `return` what it found",
              "fn": "each fn begins on a line of its own, outside of all braces"}
 """What other languages have, and what to write here."""
+
+
+ITEMS = ("fn", "inline", "const", "param", "cell")
+"""The words that items begin with."""
 
 
 def magnitude(token: Token) -> int:
@@ -23,19 +28,23 @@ def magnitude(token: Token) -> int:
     if digits.startswith("0x"):
         return int(digits, 16)
     digits = digits.lstrip("0") or "0"
-    return int(digits) if len(digits) <= MOST_DIGITS else 10**MOST_DIGITS
+    return int(digits if len(digits) <= MOST_DIGITS else "1" + "0" * MOST_DIGITS)
 
 
 class Cursor:
     """A place in a list of tokens."""
 
-    def __init__(self, tokens: list[Token]) -> None:
-        self._tokens, self._at = tokens, 0
+    def __init__(self, tokens: list[Token], notes: Notes) -> None:
+        self._tokens, self._at, self._notes = tokens, 0, notes
 
     @property
     def token(self) -> Token:
         """The next token."""
         return self._tokens[self._at]
+
+    def is_at_end(self) -> bool:
+        """Whether the next token is the end of the file."""
+        return self.token.kind is TokenKind.END_OF_FILE
 
     @property
     def place(self) -> Place:
@@ -73,8 +82,6 @@ class Cursor:
         hint = ", which is a word of the language and no name" if is_word else ""
         if found.text in ELSEWHERE and (found.text != "=" or wanted not in ("`)`", "`,` or `)`")):
             hint = f": {ELSEWHERE[found.text]}"
-        if found.text in ("<", ">") and wanted == "an expression":
-            hint = ": there are no operations on bits; multiply or divide by a power of two"
         if found.text == ":" and wanted == "`=`":
             hint = ": a variable has no type"
         if found.text == "." and self.ahead(1).kind is TokenKind.NUMBER:
@@ -94,15 +101,34 @@ class Cursor:
         while self.token.kind is TokenKind.END_OF_LINE:
             self.advance()
 
+    def skip_statement(self, fault: SourceFault) -> None:
+        """Notes a fault, and skips what is left of the statement that it is in, with the blocks in it."""
+        self._notes.note(fault)
+        depth = 0
+        while self.token.kind is not TokenKind.END_OF_FILE:
+            if depth == 0 and (self.token.kind is TokenKind.END_OF_LINE or self.sees("}")):
+                return
+            depth += {"{": 1, "}": -1}.get(self.token.text, 0)
+            self.advance()
+
+    def skip_item(self, fault: SourceFault) -> None:
+        """Notes a fault, and skips to the line with the next item."""
+        self._notes.note(fault)
+        while self.token.kind is not TokenKind.END_OF_FILE:
+            is_end = self.advance().kind is TokenKind.END_OF_LINE
+            if is_end and self.sees(*ITEMS):
+                return
+
     def number(self, is_negative: bool = False) -> int:
-        """Takes a number, or its negative. It must fit 64 bits with a sign."""
+        """Takes a number, or its negative. It must fit 64 bits; one from 2^63 on stands for the number with a sign that has
+        the same bits."""
         token = self.advance()
         value = magnitude(token) * (-1 if is_negative else 1)
-        if not -(2**63) <= value < 2**63:
+        if not -(2**63) <= value < 2**64:
             shown = ("-" if is_negative else "") + token.text
             raise token.place.fault(f"the number {shown if len(shown) <= 40 else shown[:37] + '..'} does not fit 64 bits: "
-                                    "it is from -2^63 to 2^63 - 1")
-        return value
+                                    "it is from -2^63 to 2^64 - 1")
+        return wrapped(value)
 
     def parameters(self) -> tuple[Parameter, ...]:
         """Takes `(a, b: u20, ..)`."""

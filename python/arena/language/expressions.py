@@ -1,13 +1,14 @@
 """The grammar's expressions."""
 from dataclasses import dataclass
 
-from arena.language.cursor import Cursor, magnitude
-from arena.language.syntax import (Application, Binary, Block, Call, CellPart, Expression, Isolate, Name, Not, Number,
+from arena.language.cursor import Cursor
+from arena.language.syntax import (Application, Binary, Block, Call, CellPart, Expression, Gathers, Isolate, Name, Not, Number,
                                    ParallelSum, ReadCell, Wait)
-from arena.language.tokens import Token, TokenKind
+from arena.language.tokens import TokenKind
 
-LEVELS = (("||",), ("&&",), ("==", "!=", "<", "<=", ">", ">="), ("+", "-"), ("*", "/", "%"))
-"""The operators between two operands, those that bind least first."""
+LEVELS = (("||",), ("&&",), ("==", "!=", "<", "<=", ">", ">="), ("|",), ("^",), ("&",), ("<<", ">>"), ("+", "-"),
+          ("*", "/", "%"))
+"""The operators between two operands, those that bind least first, as in Rust."""
 
 DEFAULT_GRAIN = 64
 """Up to how many indices of a parallel sum one task adds by itself, unless `grain` says so."""
@@ -15,10 +16,11 @@ DEFAULT_GRAIN = 64
 
 @dataclass(frozen=True)
 class Range:
-    """The ends of a range; the upper one is not in it."""
+    """The ends of a range, of which the second is not in it, and its step."""
 
     low: Expression
     high: Expression
+    step: Expression
 
 
 class Expressions(Cursor):
@@ -36,18 +38,8 @@ class Expressions(Cursor):
         while self.sees(*LEVELS[level]):
             sign = self.advance()
             self.skip_lines()
-            left = Binary(sign.place, sign.text, left, self._least() if self._sees_least(sign) else
-                          self.expression(level + 1))
+            left = Binary(sign.place, sign.text, left, self.expression(level + 1))
         return left
-
-    def _sees_least(self, sign: Token) -> bool:
-        """Whether 2^63 alone is subtracted: it is no number, but the same as -2^63 there, since arithmetic wraps."""
-        return (sign.text == "-" and self.token.kind is TokenKind.NUMBER and magnitude(self.token) == 2**63
-                and self.ahead(1).text not in LEVELS[-1])
-
-    def _least(self) -> Number:
-        """Reads 2^63 as -2^63."""
-        return Number(self.advance().place, -(2**63))
 
     def unary(self) -> Expression:
         """Reads an operand with the signs before it."""
@@ -58,6 +50,8 @@ class Expressions(Cursor):
             return Binary(place, "-", Number(place, 0), self.unary())
         if self.take("!"):
             return Not(place, self.unary())
+        if self.take("~"):
+            return Binary(place, "^", self.unary(), Number(place, -1))
         return self.operand()
 
     def operand(self) -> Expression:
@@ -77,7 +71,7 @@ class Expressions(Cursor):
             return Isolate(place, self.application())
         if self.take("call"):
             return Call(place, self.application())
-        if self.sees("psum"):
+        if self.sees("psum", "pmin", "pmax"):
             return self.parallel_sum()
         if self.sees("spawn"):
             raise place.fault("a task is made by `let name = spawn f(..)`, or by `spawn f(..)` as a statement; for its "
@@ -112,21 +106,26 @@ class Expressions(Cursor):
         return Application(place, name, tuple(arguments))
 
     def parallel_sum(self) -> ParallelSum:
-        """Reads `psum i in low..high grain n { .. }`."""
-        place = self.need("psum")
+        """Reads `psum i in low..high step s grain n { .. }`, or `pmin` or `pmax`."""
+        place, word = self.place, self.advance().text
         index, bits = self.name("the index"), self.width()
         self.need("in")
         ends = self.range()
         grain: Expression = Number(self.place, DEFAULT_GRAIN)
         if self.take("grain"):
             grain = self.expression()
-        return ParallelSum(place, index, bits, ends.low, ends.high, grain, self.block())
+        return ParallelSum(place, Gathers(word), index, bits, ends.low, ends.high, ends.step, grain, self.block())
 
     def range(self) -> Range:
-        """Reads `low..high`."""
+        """Reads `low..high`, with `step s` or without."""
         low = self.expression()
         if isinstance(low, Application) and low.name == "range" and not self.sees(".."):
             raise low.place.fault("there is no `range(..)`: write both ends, as in `0..n`")
         self.need("..", "`..` and the end of the range")
         self.skip_lines()
-        return Range(low, self.expression())
+        high = self.expression()
+        step: Expression = Number(self.place, 1)
+        if self.token.kind is TokenKind.NAME and self.token.text == "step":
+            self.advance()
+            step = self.expression()
+        return Range(low, high, step)

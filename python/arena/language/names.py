@@ -58,10 +58,10 @@ Pending = frozenset[Variable]
 
 
 class Names:
-    """The names that are alive."""
+    """The names that are alive. `around` are the variables of the function around this one, if there is one."""
 
-    def __init__(self, unit: Unit) -> None:
-        self.unit = unit
+    def __init__(self, unit: Unit, around: frozenset[str] = frozenset()) -> None:
+        self.unit, self.around = unit, around
         self.pending: Pending = frozenset()
         self._scopes = [Scope()]
 
@@ -111,6 +111,22 @@ class Names:
             if scope.is_wall:
                 break
         return None
+
+    def is_further_out(self, name: str) -> bool:
+        """Whether a name is that of a variable of a block around the innermost one."""
+        return name not in self._scopes[-1].names and (isinstance(self.found(name), Variable) or name in self.around)
+
+    def variables(self) -> frozenset[str]:
+        """The names of the variables that are alive, and of those further out."""
+        return frozenset(it for it in self._alive_names() if isinstance(self.found(it), Variable)) | self.around
+
+    def declare_in_spite(self, name: str, meaning: Variable | Group) -> None:
+        """Declares a variable or a group whose own declaration has a fault."""
+        self._scopes[-1].names.setdefault(name, meaning)
+
+    def cut(self, depth: int) -> None:
+        """Leaves blocks until so many are open."""
+        del self._scopes[depth:]
 
     def constant(self, name: str) -> int | None:
         """The number that a name always means here."""

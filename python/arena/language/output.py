@@ -22,10 +22,11 @@ class Line:
 
 @dataclass(frozen=True)
 class FinishedProcedure:
-    """A procedure with its name, its lines, and the place of its function; `holds` says which variables are in which
-    register, at one time or another."""
+    """A procedure with its name, what messages call it, its lines, and the place of its function; `holds` says which
+    variables are in which register, at one time or another."""
 
     name: str
+    title: str
     lines: tuple[Line, ...]
     holds: Mapping[int, tuple[str, ...]]
     place: Place
@@ -43,8 +44,7 @@ def without_moves(it: Coloured) -> Code:
         if step.name == MOVE:
             (to,), (source,) = step.defines, step.uses
             if it.colours[to] != it.colours[source]:
-                made.append(Step("set", step.place, (to,), number=0, depth=step.depth))
-                made.append(Step("add", step.place, (to,), (to, source), depth=step.depth))
+                made.append(Step("or", step.place, (to,), (source, source), depth=step.depth))
         elif step.name not in (ARGUMENT, LOOP):
             made.append(step)
     return made
@@ -76,7 +76,9 @@ def finished(function: Function, made: Coloured, registers: Registers,
              procedures: Mapping[str, int]) -> FinishedProcedure:
     """The procedure of a function. `procedures` numbers the functions."""
     code, colours = without_moves(made), made.colours
-    targets, labels, count = {}, {}, 0
+    targets: dict[str, int] = {}
+    labels: dict[int, list[str]] = {}
+    count = 0
     for step in code:
         if step.name == LABEL:
             targets[step.target] = count
@@ -91,7 +93,7 @@ def finished(function: Function, made: Coloured, registers: Registers,
             words = tuple(shown(step, operand, number) for operand, number in zip(INSTRUCTIONS[step.name], numbers))
             instruction = Instruction(step.name, numbers)
             lines.append(Line(instruction, step.place.line, tuple(labels.get(len(lines), ())), words, names))
-    return FinishedProcedure(function.name, tuple(lines), _holds(code, colours, registers), function.place)
+    return FinishedProcedure(function.name, function.title, tuple(lines), _holds(code, colours, registers), function.place)
 
 
 def shown(step: Step, operand: Operand, number: int) -> str:

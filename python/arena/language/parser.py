@@ -3,27 +3,31 @@ from difflib import get_close_matches
 
 from arena.language.cursor import ELSEWHERE
 from arena.language.expressions import Expressions
-from arena.language.syntax import (Application, Assign, Binary, Block, Break, Call, Cancel, CellName, CellPart, Constant, Continue,
-                                   DeclareGroup, Evaluate, Expression, For, Function, Give, If, Inline, Isolate, Item,
+from arena.language.faults import Notes, SourceFault
+from arena.language.syntax import (Application, Assign, Binary, Block, Break, Call, Cancel, CellName, CellPart,
+                                   Constant, Continue, DeclareGroup, Evaluate, Expression, For, Function, Give, If, Inline, Isolate, Item,
                                    Let, LetBoth, LetTask, Name, Number, ParallelSum, Post, ReadCell, Return, Spawn,
                                    Statement, StoreCell, Sync, Wait, While)
 from arena.language.tokens import WORDS, TokenKind, tokens_of
 
 TOO_DEEP = "the source is nested too deep: split the expression or the block"
-ASSIGNMENTS = ("=", "+=", "-=", "*=", "/=", "%=")
+ASSIGNMENTS = ("=", "+=", "-=", "*=", "/=", "%=", "&=", "|=", "^=", "<<=", ">>=")
 
 
 class Parser(Expressions):
-    """Reads a source; raises `SourceFault` at the first token that no rule allows."""
+    """Reads a source. A token that no rule allows is noted, and its statement or item left out."""
 
     def items(self) -> list[Item]:
         """Reads all items."""
         found: list[Item] = []
         self.skip_lines()
         while self.token.kind is not TokenKind.END_OF_FILE:
-            found.append(self.item())
-            if self.token.kind is not TokenKind.END_OF_LINE:
-                raise self.unexpected("the end of the line")
+            try:
+                found.append(self.item())
+                if self.token.kind is not TokenKind.END_OF_LINE:
+                    raise self.unexpected("the end of the line")
+            except SourceFault as fault:
+                self.skip_item(fault)
             self.skip_lines()
         return found
 
@@ -62,11 +66,16 @@ class Parser(Expressions):
         found: list[Statement] = []
         self.skip_lines()
         while not self.sees("}"):
-            if self.token.kind is TokenKind.END_OF_FILE:
+            if self.is_at_end():
                 raise place.fault("this `{` has no `}`")
-            found.append(self.statement())
-            if not self.sees("}") and self.token.kind is not TokenKind.END_OF_LINE:
-                raise self.unexpected("the end of the statement")
+            try:
+                found.append(self.statement())
+                if not self.sees("}") and self.token.kind is not TokenKind.END_OF_LINE:
+                    raise self.unexpected("the end of the statement")
+            except SourceFault as fault:
+                if self.is_at_end():
+                    raise
+                self.skip_statement(fault)
             self.skip_lines()
         return Block(place, tuple(found), self.need("}"))
 
@@ -123,7 +132,7 @@ class Parser(Expressions):
         sign = self.advance()
         self.skip_lines()
         value = self.expression()
-        return value if sign.text == "=" else Binary(sign.place, sign.text[0], before, value)
+        return value if sign.text == "=" else Binary(sign.place, sign.text[:-1], before, value)
 
     def _let(self) -> Statement:
         place = self.need("let")
@@ -180,7 +189,7 @@ class Parser(Expressions):
         place, index = self.need("for"), self.name("the counter")
         self.need("in")
         ends = self.range()
-        return For(place, index, ends.low, ends.high, self.block())
+        return For(place, index, ends.low, ends.high, ends.step, self.block())
 
     def _if(self) -> If:
         place, condition, then = self.need("if"), self.expression(), self.block()
@@ -195,10 +204,16 @@ class Parser(Expressions):
         return If(place, condition, then, self.block())
 
 
-def parse(text: str) -> list[Item]:
-    """The tree of a source: its items in order. Raises `SourceFault`."""
-    parser = Parser(tokens_of(text))
+def parse(text: str, notes: Notes | None = None) -> list[Item]:
+    """The tree of a source: its items in order. Raises `SourceFault` with all faults of the grammar."""
+    notes = notes or Notes()
+    tokens = tokens_of(text, notes)
+    notes.spoil()
+    parser = Parser(tokens, notes)
     try:
-        return parser.items()
+        items = parser.items()
     except RecursionError:
-        raise parser.place.fault(TOO_DEEP) from None
+        notes.note(parser.place.fault(TOO_DEEP))
+        items = []
+    notes.refuse()
+    return items

@@ -1,14 +1,13 @@
 """Code for statements: the code of a function."""
 from arena.language.builder import Loop, Sum
-from arena.language.captures import spawns_without_group
+from arena.language.captures import parts, spawns_without_group
 from arena.language.code import GROUP_END, GROUP_LEFT, Code
-from arena.language.faults import Place
+from arena.language.faults import Place, SourceFault
 from arena.language.loops import Loops
-from arena.language.names import TASKS, Pending, Variable
-from arena.language.sums import SumLoop
-from arena.language.syntax import (Assign, Binary, Block, Break, Cancel, Continue, DeclareGroup, Evaluate, For, Give,
-                                   Held, If, Let, LetBoth, LetTask, Post, Return, Spawn, Statement, StoreCell, Sync,
-                                   Wait, While)
+from arena.language.names import TASKS, Group, Pending, Variable
+from arena.language.syntax import (Assign, Binary, Block, Break, Cancel, Continue, DeclareGroup, Evaluate, Extreme,
+                                   For, Gathers, Give, Held, If, Let, LetBoth, LetTask, Post, Return, Spawn, Statement, StoreCell, SumLoop,
+                                   Sync, Wait, While)
 
 
 class FunctionMaker(Loops):
@@ -44,9 +43,43 @@ class FunctionMaker(Loops):
         is_left = False
         for it in block.statements:
             if is_left:
-                raise it.place.fault("this is never reached: leave it out")
-            is_left = self.statement(it)
+                self.source.notes.note(it.place.fault("this is never reached: leave it out"))
+                break
+            is_left = self._tried(it)
         return is_left
+
+    def _tried(self, it: Statement | SumLoop) -> bool:
+        """Makes a statement. A fault of it is noted, and what follows is looked at as if it had none."""
+        blocks, opened, loops = self.names.depth(), len(self.source.opened), len(self.loops)
+        pending, around, depth = self.names.pending, self.sum, self.depth
+        try:
+            return self.statement(it)
+        except SourceFault as fault:
+            if self.is_spent():
+                raise
+            self.source.notes.note(fault)
+        self.names.cut(blocks)
+        del self.source.opened[opened:], self.loops[loops:]
+        waited = {part.name for part in parts(it) if isinstance(part, Wait)}
+        self.names.pending = frozenset(task for task in pending if task.name not in waited)
+        self.sum, self.depth = around, depth
+        self._declare_in_spite(it)
+        return isinstance(it, Return | Give | Break | Continue)
+
+    def _declare_in_spite(self, it: Statement | SumLoop) -> None:
+        """Declares what a statement with a fault would have declared."""
+        match it:
+            case Let(name=name) | LetTask(name=name):
+                names = [name]
+            case LetBoth(total=total, status=status):
+                names = [total, status]
+            case DeclareGroup(name=name):
+                self.names.declare_in_spite(name, Group(name, 0))
+                return
+            case _:
+                return
+        for name in names:
+            self.names.declare_in_spite(name, Variable(name, self.registers.new(name), group=0))
 
     def statement(self, it: Statement | SumLoop) -> bool:
         """Makes a statement; returns whether what follows it is never reached."""
@@ -73,9 +106,11 @@ class FunctionMaker(Loops):
         """What gives a variable or a cell a value."""
         match it:
             case Let(place=place, name=name, value=value):
+                self.warn_if_hiding(name, place)
                 register = self.value(value, self.registers.new(name))
                 self.names.declare(name, Variable(name, register), place)
             case LetTask(place=place, name=name, target=target):
+                self.warn_if_hiding(name, place)
                 passed = self.passed(target)
                 task = self.names.task(name, self.registers.new(name), place)
                 self.emit("spawn", place, (), passed.uses, group=task.group, procedure=target.name)
@@ -88,6 +123,8 @@ class FunctionMaker(Loops):
                 self.emit("store", place, (), (self.value(value),), key=key)
 
     def _let_both(self, it: LetBoth) -> None:
+        for name in (it.total, it.status):
+            self.warn_if_hiding(name, it.place)
         found = self.names.group_or_task(it.group, it.place)
         total, status = self.registers.new(it.total), self.registers.new(it.status)
         if isinstance(found, Variable):
@@ -164,8 +201,10 @@ class FunctionMaker(Loops):
     def _give(self, it: Give) -> None:
         if not self.sum:
             raise it.place.fault("`give` belongs into the body of a psum: write `return`")
-        if self.fold(it.value) != 0:
-            total = self.sum.total
+        total, gathers = self.sum.total, self.sum.gathers
+        if gathers is not Gathers.SUM:
+            self.value(Extreme(it.place, gathers is Gathers.LEAST, (Held(it.place, total), it.value)), total)
+        elif self.fold(it.value) != 0:
             self.value(Binary(it.place, "+", Held(it.place, total), it.value), total)
         self._drop_tasks(it.place, self.sum.pending, "this `give`")
         self._drop_groups(it.place, self.sum.blocks)
@@ -202,16 +241,19 @@ class FunctionMaker(Loops):
         """Where a block goes that does nothing but leave a turn of a loop, with the tasks that the loop began with."""
         if len(block.statements) != 1:
             return None
-        loop, only = self.loops[-1] if self.loops else None, block.statements[0]
-        is_own = loop and not (self.sum and len(self.loops) == 1)
+        only, is_own = block.statements[0], not (self.sum and len(self.loops) == 1)
         match only:
-            case Break() if is_own and self._has_nothing_since(loop):
-                return loop.end
-            case Continue() if is_own and self._has_nothing_since(loop):
-                return loop.more
-            case Give() if self.sum and self.fold(only.value) == 0 and self._has_nothing_since(self.sum):
+            case Break() | Continue() if self.loops and is_own and self._has_nothing_since(self.loops[-1]):
+                return self.loops[-1].end if isinstance(only, Break) else self.loops[-1].more
+            case Give() if self.sum and self._gives_nothing(only):
                 return self.sum.more
         return None
+
+    def _gives_nothing(self, it: Give) -> bool:
+        """Whether a `give` does nothing but go on with the next index."""
+        if not self.sum or self.sum.gathers is not Gathers.SUM:
+            return False
+        return self.fold(it.value) == 0 and self._has_nothing_since(self.sum)
 
     def _has_nothing_since(self, around: Loop | Sum) -> bool:
         """Whether no task is pending, and no group there, that was not when a loop began."""

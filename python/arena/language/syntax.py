@@ -56,6 +56,14 @@ class Application(Node):
 
 
 @dataclass(frozen=True, eq=False)
+class Extreme(Node):
+    """The least or the greatest of some operands: `min(..)` and `max(..)`, if the source has no such functions itself."""
+
+    is_least: bool
+    operands: tuple["Expression", ...]
+
+
+@dataclass(frozen=True, eq=False)
 class Wait(Node):
     """`wait name`: the value of a task, or the total of a group."""
 
@@ -92,14 +100,25 @@ class ReadCell(Node):
     part: CellPart
 
 
+class Gathers(Enum):
+    """What is made of the values that the body of a parallel sum gives; the values are the words of the language."""
+
+    SUM = "psum"
+    LEAST = "pmin"
+    GREATEST = "pmax"
+
+
 @dataclass(frozen=True, eq=False)
 class ParallelSum(Node):
-    """`psum index in low..high grain n { .. give e .. }`; `bits` is the index's width, if it has one."""
+    """`psum index in low..high step s grain n { .. give e .. }`, `pmin` or `pmax`; `bits` is the index's width, if it has
+    one."""
 
+    gathers: Gathers
     index: str
     bits: int | None
     low: "Expression"
     high: "Expression"
+    step: "Expression"
     grain: "Expression"
     body: "Block"
 
@@ -111,7 +130,7 @@ class Held(Node):
     register: int
 
 
-Expression = Number | Name | Binary | Not | Application | Wait | Isolate | Call | ReadCell | ParallelSum | Held
+Expression = Number | Name | Binary | Not | Application | Extreme | Wait | Isolate | Call | ReadCell | ParallelSum | Held
 
 
 # Statements
@@ -233,11 +252,12 @@ class While(Node):
 
 @dataclass(frozen=True, eq=False)
 class For(Node):
-    """`for index in low..high { .. }`."""
+    """`for index in low..high step s { .. }`."""
 
     index: str
     low: Expression
     high: Expression
+    step: Expression
     body: "Block"
 
 
@@ -258,8 +278,20 @@ Statement = (Let | LetTask | LetBoth | Assign | StoreCell | Evaluate | DeclareGr
 class Block(Node):
     """Statements in braces; `end` is where the closing brace is."""
 
-    statements: tuple[Statement, ...]
+    statements: tuple["Statement | SumLoop", ...]
     end: Place
+
+
+@dataclass(frozen=True, eq=False)
+class SumLoop(Node):
+    """The loop of one task of a parallel sum over its range, with the terms of the body; the index is kept from being
+    assigned. It is made by the compiler alone."""
+
+    gathers: Gathers
+    step: int
+    index: str
+    end: str
+    body: Block
 
 
 # Items
@@ -304,13 +336,15 @@ class Inline(Node):
 @dataclass(frozen=True, eq=False)
 class Function(Node):
     """`fn name(..) { .. }`: a procedure of the job. `numbers` are names that stand for numbers in it, of the inline
-    function that a parallel sum is in; `shown` is what messages say of it if its name is not in the source."""
+    function that a parallel sum is in; `shown` is what messages say of it if its name is not in the source, and
+    `around` are the variables of the function that a parallel sum is in."""
 
     name: str
     parameters: tuple[Parameter, ...]
     body: Block
     numbers: Mapping[str, int] = field(default_factory=dict)
     shown: str = ""
+    around: frozenset[str] = frozenset()
 
     @property
     def title(self) -> str:

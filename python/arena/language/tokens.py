@@ -3,7 +3,7 @@ import re
 from dataclasses import dataclass
 from enum import Enum
 
-from arena.language.faults import Place
+from arena.language.faults import Notes, Place
 
 
 class TokenKind(Enum):
@@ -18,16 +18,19 @@ class TokenKind(Enum):
 
 
 WORDS = frozenset("fn inline const param cell let if else while for in return spawn post wait sync cancel isolate "
-                  "group break continue psum grain give call".split())
+                  "group break continue psum pmin pmax grain give call".split())
 """Names that are part of the language, and so no names of a program."""
 
 _TOKEN = re.compile(
     r"(?P<space>[ \t\r]+|(?:#|//)[^\n]*)"
     r"|(?P<number>0x[0-9a-fA-F][0-9a-fA-F_]*|[0-9][0-9_]*)(?!\w)"
     r"|(?P<name>[A-Za-z_][A-Za-z_0-9]*)"
-    r"|(?P<sign>\.\.|\*\*|<=|>=|==|!=|&&|\|\||\+=|-=|\*=|/=|%=|[-+*/%<>=!(){},.:@;])"
+    r"|(?P<sign>\.\.|\*\*|<<=|>>=|<<|>>|<=|>=|==|!=|&&|\|\||[-+*/%&|^]=|[-+*/%&|^~<>=!(){},.:@;])"
     r"|(?P<line>\n)"
     r"|(?P<other>.)")
+
+
+_TIME = re.compile(r"[0-9]+(ns|us|ms|s|min|h|d)\b")
 
 
 @dataclass(frozen=True)
@@ -44,9 +47,9 @@ class Token:
         return self.kind.value if at_end else f"`{self.text}`"
 
 
-def tokens_of(text: str) -> list[Token]:
+def tokens_of(text: str, notes: Notes) -> list[Token]:
     """The tokens of a source. A newline inside parentheses is none, save in a block in them; a semicolon ends a line.
-    The last token is the end of the file. Raises `SourceFault` for a character that no token begins with."""
+    The last token is the end of the file. Characters that no token begins with are noted, and left out."""
     found: list[Token] = []
     line, start, last = 1, 0, 0
     opened: list[str] = []
@@ -55,7 +58,8 @@ def tokens_of(text: str) -> list[Token]:
         if match["line"]:
             line, start = line + 1, match.end()
         if match["other"]:
-            raise place.fault(_unknown(match["other"]))
+            notes.note(place.fault(_unknown(match["other"], text[match.end():])))
+            continue
         if match["sign"] in ("(", "{"):
             opened.append(match["sign"])
         elif match["sign"] in (")", "}") and opened:
@@ -80,11 +84,15 @@ def _token(match: re.Match[str], place: Place) -> Token | None:
     return Token(TokenKind.SIGN, text, place)
 
 
-def _unknown(character: str) -> str:
-    hints = {"&": "write && for `and`; there are no operations on bits", "?": "write `if`, as a statement",
-             "[": "there are no lists", "]": "there are no lists", "|": "write || for `or`", "^": "there are no operations on bits",
-             "~": "there are no operations on bits", '"': "there are no texts, only numbers",
-             "'": "there are no texts, only numbers"}
+def _unknown(character: str, after: str) -> str:
+    """What is said of a character that no token begins with; a number that is followed by letters is told by its first
+    digit."""
+    hints = {"?": "write `if`, as a statement", "[": "there are no lists", "]": "there are no lists",
+             '"': "there are no texts, only numbers",
+             "'": f"a character is written as its number, here {ord(after[0])}" if after[1:2] == "'" else
+             "there are no texts, only numbers"}
+    if _TIME.match(character + after):
+        return f"unexpected character `{character}`: there are no times, only numbers without a unit"
     is_digit = character in "0123456789"
     other = "a number is written with the digits 0 to 9" if character.isdigit() else "leave it out"
     hint = hints.get(character, "a number must not end in letters" if is_digit else other)

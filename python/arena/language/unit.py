@@ -1,10 +1,10 @@
 """The items of a source by their names: constants, cells, inline functions, functions."""
-from collections.abc import Callable, Mapping, Sequence
+from collections.abc import Callable, Container, Iterator, Mapping, Sequence
 from difflib import get_close_matches
 
 from arena.jobs import KEYS, PROCEDURES
 from arena.language import arithmetic
-from arena.language.faults import START, Place
+from arena.language.faults import START, Notes, Place, SourceFault
 from arena.language.layouts import Layout, layout_of
 from arena.language.syntax import (Application, Binary, CellName, Constant, Expression, Function, Inline, Item, Name,
                                    Not, Number)
@@ -13,41 +13,69 @@ from arena.texts import counted, is_or_are, listed
 BUILT_IN = {"slot": "slot", "width": "width", "cancelled": "ask"}
 """The built-in functions, which have no arguments, and their instructions."""
 
+FUNCTIONS: Mapping[str, Callable[..., int]] = {"min": min, "max": max, "abs": lambda it: arithmetic.wrapped(abs(it))}
+"""The functions that a source may use, or have its own of the same names."""
+
 ROOT = "main"
 """The function that the job's root runs; without one of this name, the first."""
 
 
-def folded(expression: Expression, constant: Callable[[str], int | None]) -> int | None:
-    """The number that an expression always has, if its names are constants, else None."""
+def folded(expression: Expression, constant: Callable[[str], int | None], own: Container[str]) -> int | None:
+    """The number that an expression always has, if its names are constants, else None. `own` are the names of the source's
+    functions."""
     match expression:
         case Number(value=value):
             return value
         case Name(name=name):
             return constant(name)
         case Not(operand=operand):
-            number = folded(operand, constant)
+            number = folded(operand, constant, own)
             return None if number is None else int(number == 0)
         case Binary(operator=operator, left=left, right=right):
-            return arithmetic.result(operator, folded(left, constant), folded(right, constant))
+            return arithmetic.result(operator, folded(left, constant, own), folded(right, constant, own))
+        case Application(name=name, arguments=arguments) if name in FUNCTIONS and name not in own:
+            return _applied(name, [folded(it, constant, own) for it in arguments])
     return None
 
 
-class Unit:
-    """The items of a source, and the order of the functions as procedures. Raises `SourceFault` for what is there
-    twice or too often, and for parameters given by number that the source does not have."""
+def _applied(name: str, numbers: Sequence[int | None]) -> int | None:
+    """What a function of the language gives for some numbers, if all are known."""
+    known = [it for it in numbers if it is not None]
+    is_whole = len(known) == len(numbers) and takes(name, len(numbers))
+    return FUNCTIONS[name](*known) if is_whole else None
 
-    def __init__(self, items: Sequence[Item], parameters: Mapping[str, int]) -> None:
+
+def takes(name: str, count: int) -> bool:
+    """Whether a function of the language takes so many arguments."""
+    return count == 1 if name == "abs" else count >= 2
+
+
+class Unit:
+    """The items of a source, and the order of the functions as procedures. What is there twice or too often is noted, and
+    so are parameters given by number that the source does not have. Raises `SourceFault` if there is no function."""
+
+    def __init__(self, items: Sequence[Item], parameters: Mapping[str, int], notes: Notes) -> None:
+        self.own = frozenset(it.name for it in items if isinstance(it, Inline | Function))
         self.constants: dict[str, int] = {}
         self.cells: dict[str, int] = {}
         self.inlines: dict[str, Inline] = {}
         self.functions: dict[str, Function] = {}
         self._given = dict(parameters)
-        self._parameters = {it.name for it in items if isinstance(it, Constant) and it.is_parameter}
+        self.parameters = {it.name for it in items if isinstance(it, Constant) and it.is_parameter}
         self._places: dict[str, Place] = {}
         self._taken_keys = {it.key for it in items if isinstance(it, CellName) and it.key is not None}
         for item in items:
-            self._enter(item)
-        self._check()
+            try:
+                self._enter(item)
+            except SourceFault as fault:
+                notes.note(fault)
+                if isinstance(item, Constant):
+                    self.constants.setdefault(item.name, 1)  # so that its uses are no faults, too
+        for found in self._faults():
+            notes.note(found)
+        if not self.functions:
+            notes.refuse()
+            raise START.fault("there is no fn: write `fn main(x, y) { .. }`")
 
     def _enter(self, item: Item) -> None:
         if item.name in BUILT_IN:
@@ -67,12 +95,12 @@ class Unit:
                 self.functions[item.name] = item
 
     def _constant(self, item: Constant) -> int:
-        if item.name in self._given and item.name in self._parameters:
+        if item.name in self._given and item.name in self.parameters:
             number = self._given[item.name]
             if not arithmetic.fits(number):
                 raise item.place.fault(f"{item.name} = {number} does not fit 64 bits")
             return number
-        found = folded(item.value, self.constants.get)
+        found = folded(item.value, self.constants.get, self.own)
         if found is None:
             raise item.value.place.fault(f"the value of {item.name} is no constant: write it with numbers, operators "
                                          "and the constants above it")
@@ -92,19 +120,25 @@ class Unit:
             raise item.place.fault(f"key {key} is that of the cell {other}: choose another key, or leave it out")
         return key
 
-    def _check(self) -> None:
-        unknown = next((name for name in self._given if name not in self._parameters), None)
-        if unknown:
-            raise START.fault(f"there is no param {unknown} in the source: write `param {unknown} = ..` with the value "
-                              "that it has without one")
-        if not self.functions:
-            raise START.fault("there is no fn: write `fn main(x, y) { .. }`")
-        for function in self.functions.values():
-            self._check_names(function)
-            layout_of(function)
-        for inline in self.inlines.values():
-            self._check_names(inline)
-        self.check_count(list(self.functions.values())[min(len(self.functions) - 1, PROCEDURES)].place)
+    def _faults(self) -> Iterator[SourceFault]:
+        """What is wrong with the items as a whole."""
+        for name in self._given:
+            if name not in self.parameters:
+                yield START.fault(f"there is no param {name} in the source: write `param {name} = ..` with the value "
+                                  "that it has without one")
+        items: list[Function | Inline] = [*self.functions.values(), *self.inlines.values()]
+        for item in items:
+            try:
+                self._check_names(item)
+                if isinstance(item, Function):
+                    layout_of(item)
+            except SourceFault as fault:
+                yield fault
+        if len(self.functions) > PROCEDURES:
+            try:
+                self.check_count(list(self.functions.values())[PROCEDURES].place)
+            except SourceFault as fault:
+                yield fault
 
     def _check_names(self, function: Function | Inline) -> None:
         seen: set[str] = set()

@@ -4,13 +4,14 @@ from dataclasses import dataclass
 
 from arena.language.conditions import Conditions
 from arena.language.names import Variable
-from arena.language.sums import SumFunction, sum_function
-from arena.language.syntax import (Application, Binary, Call, CellPart, Expression, Held, Isolate, Name, Not, Number,
-                                   ParallelSum, ReadCell, Wait)
-from arena.language.unit import BUILT_IN
+from arena.language.sums import GREATEST_STEP, NEUTRAL, SumFunction, sum_function
+from arena.language.syntax import (Application, Binary, Call, CellPart, Expression, Extreme, Held, Isolate, Name, Not,
+                                   Number, ParallelSum, ReadCell, Wait)
+from arena.language.unit import BUILT_IN, FUNCTIONS, takes
 from arena.texts import counted, is_or_are
 
-ARITHMETIC = {"+": "add", "-": "sub", "*": "mul", "/": "div"}
+ARITHMETIC = {"+": "add", "-": "sub", "*": "mul", "/": "div", "%": "rem", "&": "and", "|": "or", "^": "xor", "<<": "shl",
+              ">>": "shr"}
 
 
 @dataclass(frozen=True)
@@ -48,6 +49,8 @@ class Values(Conditions):
                 return self._read_cell(expression, into)
             case Application():
                 return self._apply(expression, into)
+            case Extreme():
+                return self._extreme(expression, into)
             case ParallelSum():
                 return self._parallel_sum(expression, into)
         raise TypeError(expression)
@@ -56,23 +59,13 @@ class Values(Conditions):
         return self.registers.new() if into is None else into
 
     def _binary(self, it: Binary, into: int | None) -> int:
-        if it.operator in ("<=", ">=", "==", "!=", "&&", "||"):
+        if it.operator not in ARITHMETIC:
             return self.truth(it, into)
+        if it.operator in "/%" and self.fold(it.right) == 0:
+            self.warn(it.place, "this divides by 0, which ends the job with fault 1")
         left, right = self.value(it.left), self.value(it.right)
-        if it.operator == "%":
-            return self._remainder(it, left, right, into)
         register = self._result(into)
-        if it.operator in "<>":
-            self.emit("lt", it.place, (register,), (left, right) if it.operator == "<" else (right, left))
-        else:
-            self.emit(ARITHMETIC[it.operator], it.place, (register,), (left, right))
-        return register
-
-    def _remainder(self, it: Binary, left: int, right: int, into: int | None) -> int:
-        quotient, back, register = self.registers.new(), self.registers.new(), self._result(into)
-        self.emit("div", it.place, (quotient,), (left, right))
-        self.emit("mul", it.place, (back,), (quotient, right))
-        self.emit("sub", it.place, (register,), (left, back))
+        self.emit(ARITHMETIC[it.operator], it.place, (register,), (left, right))
         return register
 
     def _wait(self, it: Wait, into: int | None) -> int:
@@ -138,9 +131,38 @@ class Values(Conditions):
             register = self._result(into)
             self.emit(BUILT_IN[it.name], it.place, (register,))
             return register
+        if it.name in FUNCTIONS and it.name not in self.unit.own:
+            return self._function(it, into)
         register = self.value(self.opened(it), into)
         self.closed(it)
         return register
+
+    def _function(self, it: Application, into: int | None) -> int:
+        """`min`, `max` or `abs`."""
+        if not takes(it.name, len(it.arguments)):
+            wanted = "1 argument" if it.name == "abs" else "2 arguments or more"
+            raise it.place.fault(f"{it.name} takes {wanted}, and here {is_or_are(len(it.arguments))}")
+        if it.name != "abs":
+            return self._extreme(Extreme(it.place, it.name == "min", it.arguments), into)
+        # -1 for a negative number, else 0: a xor of that, less that
+        number, sign, turned = self.value(it.arguments[0]), self.registers.new(), self.registers.new()
+        self.emit("shr", it.place, (sign,), (number, self.number(63, it.place)))
+        self.emit("xor", it.place, (turned,), (number, sign))
+        register = self._result(into)
+        self.emit("sub", it.place, (register,), (turned, sign))
+        return register
+
+    def _extreme(self, it: Extreme, into: int | None) -> int:
+        """The least or the greatest of some operands."""
+        place, (first, *others) = it.place, [self.value(operand) for operand in it.operands]
+        found, is_other = self.move(first, self.registers.new(), place), self.registers.new()
+        for other in others:
+            kept = self.label()
+            self.emit("lt", place, (is_other,), (other, found) if it.is_least else (found, other))
+            self.emit("jz", place, (), (is_other,), target=kept)
+            self.move(other, found, place)
+            self.put(kept)
+        return self.move(found, into, place)
 
     def opened(self, application: Application) -> Expression:
         """Opens an inline function: makes its arguments, and its parameters alive. Returns its body."""
@@ -160,7 +182,7 @@ class Values(Conditions):
         registers = [self.value(it) if number is None else 0 for it, number in zip(application.arguments, numbers)]
         self.names.open(is_wall=True)
         for parameter, number, register in zip(inline.parameters, numbers, registers):
-            meaning = Variable(parameter.name, register) if number is None else number
+            meaning: Variable | int = Variable(parameter.name, register) if number is None else number
             self.names.declare(parameter.name, meaning, parameter.place)
         self.expand(application)
         return inline.value
@@ -171,24 +193,29 @@ class Values(Conditions):
         self.names.close(application.place, is_left=False)
 
     def _parallel_sum(self, it: ParallelSum, into: int | None) -> int:
-        grain = self.fold(it.grain)
+        grain, step = self.fold(it.grain), self.fold(it.step)
         if grain is None or grain < 1:
             raise it.grain.place.fault("the grain is a constant from 1: the most indices that one task adds by itself")
-        made = sum_function(it, grain, self.names, self.function.name)
+        if step is None or not 1 <= step <= GREATEST_STEP:
+            raise it.step.place.fault(f"the step of a {it.gathers.value} is a constant from 1 to {GREATEST_STEP}")
+        if it.index in self.names.variables():
+            self.warn_hiding(it.index, it.place)
+        made = sum_function(it, grain, step, self.names, self.function.name)
         self.source.add_function(made.function)
         low, high = self.fold(it.low), self.fold(it.high)
-        is_known = low is not None and high is not None
-        if is_known and low >= high:
-            return self.number(0, it.place, into)
+        if low is not None and high is not None and low >= high:
+            return self.number(NEUTRAL[it.gathers], it.place, into)
         self._check_ends(it)
-        ends = [Number(end.place, number) if number is not None else Held(end.place, self.value(end))
+        ends: list[Number | Held] = [Number(end.place, number) if number is not None else Held(end.place, self.value(end))
                 for end, number in ((it.low, low), (it.high, high))]
-        return self.call(made.applied(*ends), into) if is_known else self._sum_unless_empty(it, made, ends, into)
+        if low is not None and high is not None:
+            return self.call(made.applied(*ends), into)
+        return self._sum_unless_empty(it, made, ends, into)
 
     def _sum_unless_empty(self, it: ParallelSum, made: SumFunction, ends: Sequence[Number | Held],
                           into: int | None) -> int:
-        """The sum over a range whose ends are known when it runs: 0 if it is empty, and fault 1 if an index of it does
-        not fit its width."""
+        """The sum over a range whose ends are known when it runs: its neutral number if it is empty, and fault 1 if an index
+        of it does not fit its width."""
         place, register, (low, high) = it.place, self._result(into), ends
         inside, fits, misfit, empty, end = (self.label() for _ in range(5))
         self.branch(Binary(place, "<", low, high), inside, empty, inside)
@@ -205,7 +232,7 @@ class Values(Conditions):
             zero = self.number(0, place)
             self.emit("div", place, (self.registers.new(),), (zero, zero))
         self.put(empty)
-        self.number(0, place, register)
+        self.number(NEUTRAL[it.gathers], place, register)
         self.put(end)
         return register
 

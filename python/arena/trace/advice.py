@@ -5,7 +5,7 @@ from dataclasses import dataclass
 
 from arena.jobs import GREATEST_FUEL
 from arena.replies import FaultCode
-from arena.trace.model import Job
+from arena.trace.model import Job, there
 from arena.trace.source import SourceMap
 from arena.trace.stats import JobStat, Statistics, place_of_fault
 
@@ -148,8 +148,9 @@ _FAULTS = {
 
 def _cure(job: Job) -> str:
     """What is usually done about the fault of a job."""
-    if job.fault.code is not FaultCode.FUEL:
-        return _FAULTS[job.fault.code]
+    code = there(job.fault).code
+    if code is not FaultCode.FUEL:
+        return _FAULTS[code]
     if job.given < GREATEST_FUEL:
         return f"it had {job.given:,}: raise its fuel, or look for an endless loop"
     return f"it had {job.given:,}, which is the most: split it into several jobs, or look for an endless loop"
@@ -158,7 +159,7 @@ def _cure(job: Job) -> str:
 def _faults(it: Statistics, source: SourceMap | None) -> Iterator[Advice]:
     def say(stat: JobStat) -> str:
         """The advice about one job."""
-        fault = stat.job.fault
+        fault = there(stat.job.fault)
         return (f"job {stat.number} had fault {fault.code.value}, {fault.code.text}, at "
                 f"{place_of_fault(stat.job, source)}: {_cure(stat.job)}")
     yield from _each([stat for stat in it.jobs if stat.job.fault is not None], About.FAULT, say)

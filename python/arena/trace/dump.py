@@ -2,8 +2,8 @@
 import json
 import os
 from collections.abc import Iterable, Iterator
-from dataclasses import dataclass, field
-from typing import BinaryIO
+from dataclasses import asdict, dataclass, field
+from typing import Any, BinaryIO
 
 from arena.lint import NAME, PRIORITIES
 
@@ -35,17 +35,17 @@ class Tenant:
     priority: str = "normal"
     isolation: str = "exact"
 
-    def to_value(self) -> dict:
+    def to_value(self) -> dict[str, Any]:
         """The settings as JSON."""
-        return {name: getattr(self, name) for name in self.__slots__}
+        return asdict(self)
 
 
 @dataclass(frozen=True, slots=True)
 class Ask:
     """A request with its reply."""
 
-    request: dict
-    reply: dict
+    request: dict[str, Any]
+    reply: dict[str, Any]
 
 
 @dataclass(frozen=True, slots=True)
@@ -79,7 +79,7 @@ class Dump:
     bytes_read: int = field(default=0)
 
 
-def read_dump(path: str | os.PathLike) -> Dump:
+def read_dump(path: str | os.PathLike[str]) -> Dump:
     """Opens a dump, and closes it once its entries are read, or given up. Raises OSError, and DumpFault for its first line;
     the iteration raises DumpFault for later ones."""
     return parse_dump(_lines_of(open(path, "rb")), os.fspath(path))
@@ -136,7 +136,7 @@ def _start_of(line: bytes | str) -> str:
     return text if len(text) <= 80 else text[:77] + "..."
 
 
-def _entry_of(value: dict, tenant: Tenant) -> Entry:
+def _entry_of(value: dict[str, Any], tenant: Tenant) -> Entry:
     step = value["step"]
     if step == "ask":
         request, reply = value["request"], value["reply"]

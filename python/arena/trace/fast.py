@@ -2,12 +2,17 @@
 instruction by instruction. The text of the function has no part of a job but its numbers, which were read as numbers.
 """
 from collections.abc import Iterator
+from typing import Any
 
 from arena.trace.machine import (
-    ADD, DIV, JMP, JZ, LT, MUL, RUN, SET, SHARED, SLOT, SUB, Fast, Instr, Procedure, Run, quotient, wrapped)
+    ADD, AND, DIV, EQ, JMP, JZ, LE, LT, MUL, OR, REM, RUN, SET, SHARED, SHL, SHR, SLOT, SUB, XOR, Fast, Instr, Procedure,
+    Run, quotient, remainder, wrapped)
 
 REGISTERS = "r0, r1, r2, r3, r4, r5, r6, r7"
 OPERATORS = {ADD: "+", SUB: "-", MUL: "*"}
+COMPARISONS = {LT: "<", LE: "<=", EQ: "=="}
+BITS = {AND: "&", OR: "|", XOR: "^"}
+DIVISIONS = {DIV: "quotient", REM: "remainder"}
 
 
 def compile_procedure(procedure: Procedure) -> None:
@@ -15,7 +20,7 @@ def compile_procedure(procedure: Procedure) -> None:
     leaders = _leaders(procedure.instrs)
     lines = ["def run(registers, at, count, slot, width):", f" {REGISTERS} = registers", " while True:",
              *_choice(procedure.instrs, leaders, 2), f" registers[:] = {REGISTERS}", " return Run(at, count, False)"]
-    names: dict = {"Run": Run, "wrapped": wrapped, "quotient": quotient}
+    names: dict[str, Any] = {"Run": Run, "wrapped": wrapped, "quotient": quotient, "remainder": remainder}
     exec(compile("\n".join(lines), "<procedure>", "exec"), names)
     fast: Fast = names["run"]
     procedure.fast, procedure.leaders = fast, frozenset(leaders)
@@ -73,14 +78,20 @@ def _instr(instr: Instr, at: int, end: int) -> Iterator[str]:
     elif op in OPERATORS:
         yield f"r{x:d} = r{y:d} {OPERATORS[op]} r{z:d}"
         yield f"if not {-(2**63):d} <= r{x:d} <= {2**63 - 1:d}: r{x:d} = wrapped(r{x:d})"
-    elif op == LT:
-        yield f"r{x:d} = 1 if r{y:d} < r{z:d} else 0"
+    elif op in COMPARISONS:
+        yield f"r{x:d} = 1 if r{y:d} {COMPARISONS[op]} r{z:d} else 0"
+    elif op in BITS:
+        yield f"r{x:d} = r{y:d} {BITS[op]} r{z:d}"
+    elif op == SHL:
+        yield f"r{x:d} = wrapped(r{y:d} << (r{z:d} & 63))"
+    elif op == SHR:
+        yield f"r{x:d} = r{y:d} >> (r{z:d} & 63)"
     elif op == JZ:
         yield f"at = {y:d} if r{x:d} == 0 else {at + 1:d}"
     elif op == JMP:
         yield f"at = {x:d}"
-    elif op == DIV:
+    elif op in DIVISIONS:
         yield f"if r{z:d} == 0: return Run({at:d}, count - {end - at - 1:d}, True)"
-        yield f"r{x:d} = quotient(r{y:d}, r{z:d})"
+        yield f"r{x:d} = {DIVISIONS[op]}(r{y:d}, r{z:d})"
     else:
         yield f"r{x:d} = {'slot' if op == SLOT else 'width'}"

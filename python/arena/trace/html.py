@@ -3,8 +3,9 @@ import json
 import os
 from collections.abc import Iterable
 from html import escape
+from typing import Any
 
-from arena.trace.model import Job
+from arena.trace.model import Job, there
 from arena.trace.merge import Merged, Stretch, least_for, merge, stretches
 from arena.trace.svg import PALETTE
 from arena.trace.timeline import Bar, Mark, Timeline
@@ -55,18 +56,18 @@ def _note(timeline: Timeline, merged: Merged, least: float) -> str:
             f"{unit}, are merged into {len(merged.blocks):,} blocks; arena timeline --from, --to or --job shows them.")
 
 
-class Column(list):
+class Column(list[Any]):
     """Numbers that mostly rise, as their differences."""
 
-    def __init__(self, numbers: Iterable[int]) -> None:
+    def __init__(self, numbers: Iterable[float]) -> None:
         super().__init__()
-        last = 0
+        last: float = 0
         for number in numbers:
             self.append(number - last)
             last = number
 
 
-def _data(timeline: Timeline, merged: Merged, least: float) -> dict:
+def _data(timeline: Timeline, merged: Merged, least: float) -> dict[str, Any]:
     names: dict[str, int] = {}
     for bar in merged.bars:
         names.setdefault(bar.name, len(names))
@@ -86,7 +87,7 @@ def _data(timeline: Timeline, merged: Merged, least: float) -> dict:
 
 
 def _result(job: Job) -> str:
-    return f"{job.result}, {job.fault.code.text}" if job.outcome == "fault" else job.result
+    return f"{job.result}, {there(job.fault).code.text}" if job.outcome == "fault" else job.result
 
 
 def _value(bar: Bar) -> int | str | None:
@@ -94,33 +95,34 @@ def _value(bar: Bar) -> int | str | None:
     return value if value is None or abs(value) < EXACT else str(value)
 
 
-def _bars(bars: list[Bar], names: dict[str, int], places: dict[Bar, int]) -> dict:
+def _bars(bars: list[Bar], names: dict[str, int], places: dict[Bar, int]) -> dict[str, Any]:
     kinds, states = ["root", "task", "post", "region"], ["waiting", "live", "returned", "dropped", "faulted"]
     rows = [bar.row for bar in bars]
     return {"row": Column(row.number for row in rows), "job": Column(row.job.number for row in rows),
             "kind": [kinds.index(row.kind.value) for row in rows], "name": [names[bar.name] for bar in bars],
             "proc": [row.proc for row in rows], "slot": [row.slot for row in rows],
             "height": [row.height for row in rows],
-            "begin": Column(bar.begin for bar in bars), "length": [bar.end - bar.begin for bar in bars],
+            "begin": Column(bar.begin for bar in bars), "length": [bar.until - bar.begin for bar in bars],
             "cost": [row.cost for row in rows], "state": [states.index(row.state.value) for row in rows],
             "value": [_value(bar) for bar in bars], "made": Column(row.made for row in rows),
             "madeOn": [-1 if row.made_on is None else row.made_on for row in rows],
             "waited": [bar.begin - bar.made_at for bar in bars],
-            "maker": [places.get(bar.maker, -1) for bar in bars], "started": Column(row.started for row in rows),
-            "ended": [row.ended - row.started if row.ended else -1 for row in rows]}
+            "maker": [-1 if bar.maker is None else places.get(bar.maker, -1) for bar in bars],
+            "started": Column(there(row.started) for row in rows),
+            "ended": [row.ended - there(row.started) if row.ended else -1 for row in rows]}
 
 
-def _runs(bars: list[Bar], least: float) -> dict:
+def _runs(bars: list[Bar], least: float) -> dict[str, Any]:
     found: list[tuple[int, Bar, Stretch]] = [(at, bar, it) for at, bar in enumerate(bars)
                                              for it in stretches(bar, least)]
     return {"bar": Column(at for at, _, _ in found), "begin": [it.begin - bar.begin for _, bar, it in found],
-            "length": [it.end - it.begin for _, _, it in found], "entry": [it.entry - bar.row.started for _, bar,
+            "length": [it.end - it.begin for _, _, it in found], "entry": [it.entry - there(bar.row.started) for _, bar,
                                                                            it in found],
             "cost": [it.cost if it.cost != it.end - it.begin else 0 for _, _, it in found],
             "count": [it.runs for _, _, it in found], "then": [it.shared or 0 for _, _, it in found]}
 
 
-def _blocks(merged: Merged) -> dict:
+def _blocks(merged: Merged) -> dict[str, Any]:
     it = merged.blocks
     return {"slot": [b.slot for b in it], "height": [b.height for b in it], "begin": Column(b.begin for b in it),
             "length": [b.end - b.begin for b in it], "rows": [b.rows for b in it], "cost": [b.instructions for b in it],
@@ -128,9 +130,9 @@ def _blocks(merged: Merged) -> dict:
             "job": [b.job or 0 for b in it]}
 
 
-def _marks(marks: list[Mark], least: float) -> list[list]:
+def _marks(marks: list[Mark], least: float) -> list[list[Any]]:
     """Marks as place, entry, text, whether it is a cancellation, how many; those that are too near are one."""
-    found: list[list] = []
+    found: list[list[Any]] = []
     for mark in marks:
         last = found[-1] if found else None
         if last and last[3] == mark.is_cancel and mark.at - last[0] < least:

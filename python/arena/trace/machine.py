@@ -2,7 +2,8 @@
 from collections.abc import Callable
 from dataclasses import dataclass
 from functools import lru_cache
-from typing import NamedTuple
+from operator import and_, or_, xor
+from typing import Any, NamedTuple
 
 # How many private instructions one advance executes at most.
 RUN = 1000
@@ -12,9 +13,10 @@ LEAST, GREATEST, RANGE = -(2**63), 2**63 - 1, 2**64
 
 # Private instructions come first; `SHARED` parts them from the others.
 NAMES = ["set", "add", "sub", "lt", "jz", "jmp", "mul", "div", "slot", "width",
+         "rem", "and", "or", "xor", "shl", "shr", "eq", "le",
          "spawn", "wait", "ret", "isolate", "post", "cancel", "ask", "load", "store", "sum", "count"]
 NUMBERS = {name: number for number, name in enumerate(NAMES)}
-SET, ADD, SUB, LT, JZ, JMP, MUL, DIV, SLOT, WIDTH, SHARED = range(11)
+SET, ADD, SUB, LT, JZ, JMP, MUL, DIV, SLOT, WIDTH, REM, AND, OR, XOR, SHL, SHR, EQ, LE, SHARED = range(19)
 WAIT = NUMBERS["wait"]
 
 
@@ -52,7 +54,7 @@ class Procedure:
     leaders: frozenset[int] = frozenset()
 
 
-def decode(procs: list[list[list]]) -> list[Procedure]:
+def decode(procs: list[list[list[Any]]]) -> list[Procedure]:
     """The procedures of a valid job. Jobs of the same code share them."""
     return [_procedure(tuple(Instr(NUMBERS[name], *operands) for name, *operands in proc)) for proc in procs]
 
@@ -72,12 +74,34 @@ def quotient(a: int, b: int) -> int:
     return wrapped(abs(a) // abs(b) if (a < 0) == (b < 0) else -(abs(a) // abs(b)))
 
 
+def remainder(a: int, b: int) -> int:
+    """What `quotient` leaves: it has the sign of a."""
+    return abs(a) % abs(b) if a >= 0 else -(abs(a) % abs(b))
+
+
+def shifted_left(a: int, b: int) -> int:
+    """Shifted by the low six bits of b; what leaves the 64 bits is dropped."""
+    return wrapped(a << (b & 63))
+
+
+def shifted_right(a: int, b: int) -> int:
+    """Shifted by the low six bits of b; the sign stays."""
+    return a >> (b & 63)
+
+
+RESULTS: dict[int, Callable[[int, int], int]] = {
+    REM: remainder, AND: and_, OR: or_, XOR: xor, SHL: shifted_left, SHR: shifted_right,
+    EQ: lambda a, b: int(a == b), LE: lambda a, b: int(a <= b)}
+"""What the operations give that need no look at how often they occur."""
+
+
 def run_private(procedure: Procedure, registers: list[int], at: int, slot: int, width: int) -> Run:
     """Executes private instructions, which change the registers, until a shared one is next, 1,000 are executed, or one
     divides by zero."""
     instrs, leaders, count = procedure.instrs, procedure.leaders, 0
     while True:
         if at in leaders:
+            assert procedure.fast is not None
             run = procedure.fast(registers, at, count, slot, width)
             if run.divided_by_zero:
                 return run
@@ -115,10 +139,12 @@ def _step(instr: Instr, registers: list[int], at: int, slot: int, width: int) ->
         registers[x] = 1 if registers[y] < registers[z] else 0
     elif op == MUL:
         registers[x] = wrapped(registers[y] * registers[z])
+    elif op in (DIV, REM) and registers[z] == 0:
+        return None
     elif op == DIV:
-        if registers[z] == 0:
-            return None
         registers[x] = quotient(registers[y], registers[z])
+    elif op in RESULTS:
+        registers[x] = RESULTS[op](registers[y], registers[z])
     else:
         registers[x] = slot if op == SLOT else width
     return at + 1

@@ -24,7 +24,7 @@ class Block:
 
     def add(self, bar: Bar) -> None:
         """Takes in a bar that begins at its end or later."""
-        self.end = max(self.end, bar.end)
+        self.end = max(self.end, bar.until)
         self.rows += 1
         self.instructions += bar.row.cost
         self.executed += sum(run.end - run.begin for run in bar.runs)
@@ -67,18 +67,19 @@ class Merged:
 def _block_of(bar: Bar) -> Block:
     row = bar.row
     executed = sum(run.end - run.begin for run in bar.runs)
-    return Block(bar.slot, bar.height, bar.begin, bar.end, 1, row.cost, executed, row.number, row.number,
+    return Block(bar.slot, bar.height, bar.begin, bar.until, 1, row.cost, executed, row.number, row.number,
                  row.job.number)
 
 
 def merge(bars: Iterable[Bar], least: float) -> Merged:
     """Keeps the bars that are at least so long, and puts the others into blocks: those of a slot and height that lie
     within this distance of each other. Bars come by their begin. A block of one bar becomes that bar again."""
-    merged, last = Merged(), {}
+    merged = Merged()
+    last: dict[tuple[int, int], Block] = {}
     for bar in bars:
         lane = bar.slot, bar.height
         block = last.get(lane)
-        if bar.end - bar.begin >= least:
+        if bar.until - bar.begin >= least:
             merged.bars.append(bar)
             last.pop(lane, None)
         elif block is not None and bar.begin - block.end < least:
@@ -105,8 +106,8 @@ def least_for(bars: list[Bar], length: float, most: int) -> float:
     """The least length of a bar so that about this many, with their runs, are longer; 0 if all are that few."""
     if sum(1 + len(bar.runs) for bar in bars) <= most:
         return 0.0
-    lengths = sorted(((bar.end - bar.begin, 1 + len(bar.runs)) for bar in bars), reverse=True)
-    kept = 0
+    lengths = sorted(((bar.until - bar.begin, 1 + len(bar.runs)) for bar in bars), reverse=True)
+    kept = 0.0
     for at, weight in lengths:
         kept += min(weight, 1 + at * most / max(length, 1))
         if kept > most:

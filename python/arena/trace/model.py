@@ -1,9 +1,19 @@
 """What a replay knows: rows, groups, jobs, and what happened in an entry."""
 import enum
 from dataclasses import dataclass, field
+from typing import Any, TypeVar
 
 from arena.replies import FaultCode
 from arena.trace.machine import Procedure
+
+
+Value = TypeVar("Value")
+
+
+def there(value: Value | None) -> Value:
+    """What is always there where this is asked for, though it is not at first."""
+    assert value is not None
+    return value
 
 
 class Kind(enum.Enum):
@@ -51,7 +61,7 @@ class Job:
 
     number: int
     code: list[Procedure]
-    procs: list[list[list]]
+    procs: list[list[list[Any]]]
     args: tuple[int, int]
     given: int
     left: int
@@ -88,7 +98,7 @@ class Job:
         """The value that it returned, or what came in its place: `fault 2`, `canceled`, `running`."""
         if self.outcome == "complete":
             return str(self.value)
-        return f"fault {self.fault.code.value}" if self.outcome == "fault" else self.outcome
+        return f"fault {there(self.fault).code.value}" if self.outcome == "fault" else self.outcome
 
 
 @dataclass(slots=True, eq=False)
@@ -164,5 +174,5 @@ class Happening:
     fault: FaultCode | None = None
     ended: list[Row] = field(default_factory=list)
     op: str | None = None
-    reply: dict | None = None
+    reply: dict[str, Any] | None = None
     job: Job | None = None

@@ -3,12 +3,13 @@
 The state holds what is open, the jobs that are not retired, and the cells. Each entry costs its instructions and the
 rows that it ends: no walk over all rows, and none over the makers of a row. """
 from collections.abc import Iterable, Iterator
+from typing import Any
 
 from arena.lint import first_fault_of_job
 from arena.replies import FaultCode
 from arena.trace.dump import Advance, Arrive, Ask, Dump, DumpFault, Entry, Tenant
 from arena.trace.machine import NAMES, RUN, SHARED, WAIT, Instr, decode, run_private, wrapped
-from arena.trace.model import FaultPlace, Group, Happening, Job, Kind, Move, Row, State
+from arena.trace.model import FaultPlace, Group, Happening, Job, Kind, Move, Row, State, there
 
 # The greatest height of a slot's stack.
 HEIGHT = 128
@@ -52,17 +53,17 @@ class Replay:
     def step(self, entry: Entry) -> Happening:
         """Takes one entry. Raises Impossible."""
         self.entries += 1
-        if type(entry) is Advance and entry.row is None:
-            return self._advance(entry)
-        if type(entry) is Ask:
+        if isinstance(entry, Ask):
             return self._ask(entry)
+        if isinstance(entry, Advance) and entry.row is None:
+            return self._advance(entry)
         return self._start_waiting(entry)
 
     def _start_waiting(self, entry: Arrive | Advance) -> Happening:
-        row = self.waiting.get(entry.row)
+        row = None if entry.row is None else self.waiting.get(entry.row)
         if row is None:
             raise Impossible(f"no row {entry.row} waits")
-        arrives = type(entry) is Arrive
+        arrives = isinstance(entry, Arrive)
         if arrives and (self.stacks[entry.slot] or entry.slot < self.tenant.reserved):
             raise Impossible(f"slot {entry.slot} is not free for a worker")
         self._start(row, entry.slot)
@@ -92,7 +93,7 @@ class Replay:
             happening.job = self._known(reply)
         return happening
 
-    def _known(self, reply: dict) -> Job:
+    def _known(self, reply: dict[str, Any]) -> Job:
         number = reply.get("job")
         if number is None:
             raise Impossible("its reply names no job")
@@ -104,7 +105,7 @@ class Replay:
     def _make_job(self, entry: Ask, happening: Happening) -> None:
         value, number, slot = entry.request.get("job"), entry.reply.get("job"), entry.reply.get("slot")
         fault = first_fault_of_job(value)
-        if fault is not None:
+        if fault is not None or value is None:
             raise Impossible(f"its job is not valid, {fault}")
         (x, y), fuel, code = value["args"], value["fuel"], decode(value["procs"])
         self.made_jobs += 1
@@ -158,11 +159,11 @@ class Replay:
             del self.waiting[row.number], job.waiting[row.number]
         row.state, row.ended, row.value = state, self.entries, value
         if row.kind is Kind.TASK:
-            self._leave_group(row, row.maker.groups[row.group])
+            self._leave_group(row, there(row.maker).group_of(there(row.group)))
         elif row.kind is Kind.ROOT:
             job.value = value
         elif row.kind is Kind.REGION:
-            row.maker.region = None
+            there(row.maker).region = None
         if row.path > job.span:
             job.span = row.path
         job.open -= 1
@@ -173,7 +174,7 @@ class Replay:
     def _leave_group(self, row: Row, group: Group) -> None:
         group.members.pop(row.number, None)
         if row.state is State.RETURNED:
-            group.total += row.value
+            group.total += there(row.value)
         if row.state is not State.DROPPED and row.path > group.longest:
             group.longest = row.path
 
@@ -278,7 +279,7 @@ class Replay:
         return None
 
     def _do_isolate(self, row: Row, instr: Instr, happening: Happening) -> FaultCode | None:
-        if len(self.stacks[row.slot]) == HEIGHT:
+        if len(self.stacks[there(row.slot)]) == HEIGHT:
             return FaultCode.TOO_DEEP
         if self._is_full():
             return FaultCode.TASK_LIMIT
@@ -287,7 +288,7 @@ class Replay:
                          happening)
         new.path = row.path
         row.region = new
-        self._start(new, row.slot)
+        self._start(new, there(row.slot))
         return None
 
     def _do_wait(self, row: Row, instr: Instr, _happening: Happening) -> None:
@@ -296,7 +297,7 @@ class Replay:
         row.registers[instr.y] = 2 if group.is_cancelled or row.is_cancelled or row.job.is_stopped else 1
         if group.longest >= row.path:
             row.path = group.longest + 1  # the wait itself comes after what it waited for
-        row.groups[instr.z] = Group()
+        there(row.groups)[instr.z] = Group()
         row.at += 1
 
     def _do_cancel(self, row: Row, instr: Instr, happening: Happening) -> None:
@@ -324,11 +325,11 @@ class Replay:
         row.at += 1
 
     def _do_load(self, row: Row, instr: Instr, _happening: Happening) -> None:
-        row.registers[instr.x] = self.cells.setdefault((instr.y, row.slot), 0)
+        row.registers[instr.x] = self.cells.setdefault((instr.y, there(row.slot)), 0)
         row.at += 1
 
     def _do_store(self, row: Row, instr: Instr, _happening: Happening) -> None:
-        self.cells[instr.x, row.slot] = row.registers[instr.y]
+        self.cells[instr.x, there(row.slot)] = row.registers[instr.y]
         row.at += 1
 
     def _cells_of(self, key: int) -> list[int]:
@@ -346,7 +347,7 @@ class Replay:
         if row.groups and any(group.is_used for group in row.groups):
             return FaultCode.MISSING_WAIT
         value = row.registers[instr.x]
-        stack = self.stacks[row.slot]
+        stack = self.stacks[there(row.slot)]
         stack.pop()
         if row.kind is Kind.REGION:
             below = stack[-1]

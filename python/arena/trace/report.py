@@ -1,6 +1,8 @@
 """Statistics as a page of text, as JSON and as CSV."""
 import csv
 import io
+from collections.abc import Sequence
+from typing import Any
 
 from arena.trace.advice import advice_of
 from arena.trace.source import SourceMap
@@ -13,7 +15,7 @@ JOB_COLUMNS = ("job", "made_by", "outcome", "asked", "started", "ended", "waited
                "fault_place")
 
 
-def job_value(stat: JobStat, last: int, source: SourceMap | None) -> dict:
+def job_value(stat: JobStat, last: int, source: SourceMap | None) -> dict[str, Any]:
     """A job as JSON. Entries are numbered from 1; those that did not come are null."""
     job = stat.job
     return {"job": job.number, "made_by": "execute" if job.is_executed else "submit", "outcome": job.result,
@@ -25,14 +27,14 @@ def job_value(stat: JobStat, last: int, source: SourceMap | None) -> dict:
             "fault": job.fault and job.fault.code.value, "fault_place": place_of_fault(job, source)}
 
 
-def slot_value(it: Statistics, slot: SlotStat) -> dict:
+def slot_value(it: Statistics, slot: SlotStat) -> dict[str, Any]:
     """A slot as JSON; `busy` and `occupied` are shares from 0 to 1."""
     return {"slot": slot.number, "reserved": slot.reserved, "busy": round(it.busy(slot), 4),
             "occupied": round(slot.occupied / max(it.entries, 1), 4), "runs": slot.runs,
             "instructions": slot.instructions, "rows": slot.rows, "taken": slot.taken}
 
 
-def to_value(it: Statistics, source: SourceMap | None = None) -> dict:
+def to_value(it: Statistics, source: SourceMap | None = None) -> dict[str, Any]:
     """All statistics as JSON."""
     return {"tenant": it.tenant.to_value(), "entries": it.entries, "fill": round(it.fill, 4),
             "asks": dict(sorted(it.asks.items())), "errors": dict(sorted(it.errors.items())), "starts": it.starts, "runs": it.runs, "rows": it.rows,
@@ -52,7 +54,7 @@ def to_csv(it: Statistics, source: SourceMap | None = None) -> str:
     return text.getvalue()
 
 
-def table(head: tuple[str, ...], rows: list[list[object]], left: tuple[int, ...] = ()) -> str:
+def table(head: tuple[str, ...], rows: Sequence[Sequence[object]], left: tuple[int, ...] = ()) -> str:
     """Columns as wide as their widest text, flush right but those in `left`."""
     texts = [list(head), *[["" if it is None else str(it) for it in row] for row in rows]]
     widths = [max(len(row[at]) for row in texts) for at in range(len(head))]

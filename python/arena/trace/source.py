@@ -3,6 +3,7 @@ import json
 import os
 from collections.abc import Iterable
 from dataclasses import dataclass, field
+from typing import Any
 
 
 class MapFault(ValueError):
@@ -23,9 +24,9 @@ class Program:
 
     file: str
     procedures: list[Procedure]
-    procs: list | None
+    procs: list[Any] | None
 
-    def fits(self, procs: list) -> bool:
+    def fits(self, procs: list[Any]) -> bool:
         """Whether it is of a job with these procedures: the same code, or if the map has none, as many instructions."""
         if self.procs is not None:
             return self.procs == procs
@@ -38,27 +39,29 @@ class SourceMap:
 
     programs: list[Program] = field(default_factory=list)
     _found: dict[int, Program | None] = field(default_factory=dict)
-    _asked: list[list] = field(default_factory=list)
+    _asked: list[list[Any]] = field(default_factory=list)
 
-    def _of(self, procs: list) -> Program | None:
+    def _of(self, procs: list[Any]) -> Program | None:
         if id(procs) not in self._found:
             self._asked.append(procs)  # keeps it, so that its id stays its own
             self._found[id(procs)] = next((it for it in self.programs if it.fits(procs)), None)
         return self._found[id(procs)]
 
-    def line_of(self, procs: list, proc: int, instr: int) -> str | None:
+    def line_of(self, procs: list[Any], proc: int, instr: int) -> str | None:
         """`FILE:LINE` of an instruction of a job with these procedures."""
         program = self._of(procs)
-        line = program and program.procedures[proc].lines[instr]
+        if program is None:
+            return None
+        line = program.procedures[proc].lines[instr]
         return f"{program.file}:{line}" if line else None
 
-    def name_of(self, procs: list, proc: int) -> str:
+    def name_of(self, procs: list[Any], proc: int) -> str:
         """A procedure's name, `p1` if no map has it."""
         program = self._of(procs)
         return program.procedures[proc].name if program else f"p{proc}"
 
 
-def read_maps(paths: Iterable[str | os.PathLike]) -> SourceMap:
+def read_maps(paths: Iterable[str | os.PathLike[str]]) -> SourceMap:
     """The maps of some files. Raises OSError, MapFault."""
     return SourceMap([_program(os.fspath(path)) for path in paths])
 

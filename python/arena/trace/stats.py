@@ -5,7 +5,7 @@ from dataclasses import dataclass, field
 
 from arena.trace.axis import Axis, Meter
 from arena.trace.dump import Tenant
-from arena.trace.model import Happening, Job, Move, Row
+from arena.trace.model import Happening, Job, Move, Row, there
 from arena.trace.source import SourceMap
 
 
@@ -68,8 +68,8 @@ class Statistics:
     tenant: Tenant
     jobs: list[JobStat] = field(default_factory=list)
     slots: list[SlotStat] = field(default_factory=list)
-    asks: Counter = field(default_factory=Counter)
-    errors: Counter = field(default_factory=Counter)
+    asks: Counter[str] = field(default_factory=Counter)
+    errors: Counter[str] = field(default_factory=Counter)
     entries: int = 0
     starts: int = 0
     runs: int = 0
@@ -122,7 +122,7 @@ class Collector:
                 self._started(happening.made)
         if happening.move is Move.ARRIVED or happening.move is Move.NESTED:
             it.starts += 1
-            self._started(happening.row)
+            self._started(there(happening.row))
         for row in happening.ended:
             self._ended(row)
         if self._free:
@@ -130,23 +130,24 @@ class Collector:
 
     def _ask(self, happening: Happening) -> None:
         it = self.statistics
-        it.asks[happening.op] += 1
-        if "error" in happening.reply:
-            it.errors[happening.reply["error"]] += 1
+        it.asks[there(happening.op)] += 1
+        reply = there(happening.reply)
+        if "error" in reply:
+            it.errors[reply["error"]] += 1
         elif happening.op in ("submit", "execute"):
-            stat = JobStat(happening.job, it.work, self._idle)
+            stat = JobStat(there(happening.job), it.work, self._idle)
             it.jobs.append(stat)
-            self._current[happening.job] = stat
+            self._current[stat.job] = stat
 
     def _run(self, happening: Happening) -> None:
-        it, slot = self.statistics, self.statistics.slots[happening.slot]
+        it, slot = self.statistics, self.statistics.slots[there(happening.slot)]
         it.runs += 1
         it.work += happening.cost
         slot.runs += 1
         slot.instructions += happening.cost
 
     def _started(self, row: Row) -> None:
-        slot = self.statistics.slots[row.slot]
+        slot = self.statistics.slots[there(row.slot)]
         slot.rows += 1
         slot.taken += row.is_taken
         if row.height == 1:
@@ -162,8 +163,8 @@ class Collector:
     def _ended(self, row: Row) -> None:
         self._open -= 1
         if row.height == 1:
-            slot = self.statistics.slots[row.slot]
-            slot.occupied += row.ended - slot.since
+            slot = self.statistics.slots[there(row.slot)]
+            slot.occupied += there(row.ended) - there(slot.since)
             slot.since = None
             self._free += not slot.reserved
         if row.job.open == 0:
@@ -178,7 +179,7 @@ class Collector:
             stat.waited_without_worker = self._idle - stat.idle_before
         else:
             stat.took_instructions = work - stat.started_at
-            stat.took_entries = (stat.job.ended or last) - stat.job.started
+            stat.took_entries = (stat.job.ended or last) - there(stat.job.started)
 
     def end(self) -> Statistics:
         """The statistics, with what is still open as it is at the end."""

@@ -6,6 +6,7 @@ from dataclasses import dataclass, field
 from html import escape
 
 from arena.trace.merge import Merged, merge, stretches
+from arena.trace.model import there
 from arena.trace.timeline import Bar, Mark, Timeline
 from arena.trace.waiting import Waiting, levels_of, waits_of
 
@@ -96,9 +97,9 @@ def svg(timeline: Timeline, width: int = 1400) -> str:
     _arrows(it)
     _marks(it, head)
     _note(it, bottom + 46)
-    height = bottom + 58
-    start = (f'<svg xmlns="http://www.w3.org/2000/svg" width="{width}" height="{height:.0f}" '
-             f'viewBox="0 0 {width} {height:.0f}" font-family="DejaVu Sans, Verdana, sans-serif" role="img">'
+    tall = bottom + 58
+    start = (f'<svg xmlns="http://www.w3.org/2000/svg" width="{width}" height="{tall:.0f}" '
+             f'viewBox="0 0 {width} {tall:.0f}" font-family="DejaVu Sans, Verdana, sans-serif" role="img">'
              f'<title>{escape(timeline.title)}</title>'
              '<defs><marker id="taken" markerWidth="7" markerHeight="7" refX="6" refY="3.5" orient="auto">'
              f'<path d="M0,0.5 L7,3.5 L0,6.5 z" fill="{GREY}"/></marker></defs>'
@@ -113,7 +114,7 @@ def _merge(it: Drawing) -> None:
     least = 1.0
     while True:
         it.merged = merge(timeline.bars, least * pixel)
-        shapes = len(it.merged.blocks) + sum(1 + min(len(bar.runs), (bar.end - bar.begin) / pixel / least)
+        shapes = len(it.merged.blocks) + sum(1.0 + min(len(bar.runs), (bar.until - bar.begin) / pixel / least)
                                              for bar in it.merged.bars)
         if shapes <= MOST_SHAPES:
             return
@@ -203,7 +204,7 @@ def _rows(it: Drawing) -> None:
 
 def _row(it: Drawing, bar: Bar, pixel: float) -> None:
     colour, x, y = it.colour(bar), it.x(bar.begin), it.y(bar.slot, bar.height)
-    wide = it.x(bar.end) - x
+    wide = it.x(bar.until) - x
     edge = RED if bar.is_faulted else colour
     dashes = ' stroke-dasharray="4 2"' if bar.is_region else ""
     it.rect(x, y + 0.5, wide, it.bar - 1.5, f'fill="{colour}" fill-opacity="{0.12 if bar.is_region else 0.25}" '
@@ -228,7 +229,7 @@ def _arrows(it: Drawing) -> None:
              and bar.made_at >= it.timeline.begin]
     opacity = 0.9 if len(taken) <= 30 else 0.45
     for bar in taken[:: max(1, -(-len(taken) // MOST_ARROWS))]:
-        x, y = it.x(bar.made_at), it.y(bar.maker.slot, bar.maker.height) + it.bar / 2
+        x, y = it.x(bar.made_at), it.y(there(bar.maker).slot, there(bar.maker).height) + it.bar / 2
         it.lines.append(f'<line x1="{x:.1f}" y1="{y:.1f}" x2="{it.x(bar.begin):.1f}" '
                         f'y2="{it.y(bar.slot, bar.height) + it.bar / 2:.1f}" '
                         f'stroke="{GREY}" stroke-width="0.8" opacity="{opacity}" marker-end="url(#taken)"/>')

@@ -8,7 +8,7 @@ from dataclasses import dataclass, field
 
 from arena.trace.axis import Axis, Meter
 from arena.trace.dump import Tenant
-from arena.trace.model import Happening, Job, Kind, Move, Row, State
+from arena.trace.model import Happening, Job, Kind, Move, Row, State, there
 from arena.trace.source import SourceMap
 
 
@@ -57,14 +57,19 @@ class Bar:
     runs: list[Run] = field(default_factory=list)
 
     @property
+    def until(self) -> int:
+        """Its end, once the timeline is whole."""
+        return there(self.end)
+
+    @property
     def slot(self) -> int:
         """Its slot, from 0."""
-        return self.row.slot
+        return there(self.row.slot)
 
     @property
     def height(self) -> int:
         """Its height on the slot's stack, from 1."""
-        return self.row.height
+        return there(self.row.height)
 
     @property
     def is_region(self) -> bool:
@@ -145,7 +150,8 @@ class Builder:
 
     def __init__(self, tenant: Tenant, choice: Choice, source: SourceMap | None = None) -> None:
         self.timeline = Timeline(tenant, choice, heights=[1] * tenant.slots)
-        self._source, self._names = source or SourceMap(), {}
+        self._source = source or SourceMap()
+        self._names: dict[tuple[int, int], str] = {}
         self._meter = Meter(choice.axis, tenant.slots)
         self._live: dict[Row, Bar] = {}
         self._made_at: dict[Row, int] = {}  # rows that wait
@@ -168,7 +174,7 @@ class Builder:
         elif happening.move is Move.ASKED:
             self._mark(happening, None)
         else:
-            self._start(happening.row, meter.begin if it.choice.axis is Axis.ENTRIES else meter.end)
+            self._start(there(happening.row), meter.begin if it.choice.axis is Axis.ENTRIES else meter.end)
         made = happening.made
         if made is not None:
             self._made_at[made] = meter.end
@@ -187,7 +193,8 @@ class Builder:
     def _start(self, row: Row, begin: int) -> None:
         made_at = self._made_at.pop(row)
         if self.timeline.choice.has_row(row):
-            self._live[row] = Bar(row, self._name(row), begin, made_at, self._live.get(row.maker))
+            maker = None if row.maker is None else self._live.get(row.maker)
+            self._live[row] = Bar(row, self._name(row), begin, made_at, maker)
 
     def _name(self, row: Row) -> str:
         key = row.job.number, row.proc
@@ -196,11 +203,11 @@ class Builder:
         return self._names[key]
 
     def _run(self, happening: Happening) -> None:
-        bar = self._live.get(happening.row)
+        bar = None if happening.row is None else self._live.get(happening.row)
         if bar is not None and self._is_shown:
             bar.runs.append(Run(happening.number, self._meter.begin, self._meter.end, happening.cost, happening.shared))
-        if happening.shared == "cancel" and self.timeline.choice.has_row(happening.row):
-            self._mark(happening, f"row {happening.row.number} cancels")
+        if happening.shared == "cancel" and self.timeline.choice.has_row(there(happening.row)):
+            self._mark(happening, f"row {there(happening.row).number} cancels")
 
     def _mark(self, happening: Happening, text: str | None) -> None:
         choice = self.timeline.choice

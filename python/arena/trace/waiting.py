@@ -30,7 +30,9 @@ def waits_of(timeline: Timeline) -> list[Waiting]:
     out."""
     spans = [(max(bar.made_at, timeline.begin), bar.begin, bar.row) for bar in timeline.bars]
     spans += [(max(wait.begin, timeline.begin), wait.end, wait.row) for wait in timeline.waits]
-    free, busy, found = [], [], []
+    free: list[int] = []
+    busy: list[tuple[int, int]] = []
+    found: list[Waiting] = []
     for begin, end, row in sorted((span for span in spans if span[1] > span[0]),
                                   key=lambda span: (span[0], span[2].number)):
         while busy and busy[0][0] <= begin:
