@@ -1,0 +1,9 @@
+pub mod Code
+pub mod Within
+pub mod Operations
+pub mod Traces
+pub mod Compiled
+pub mod Runs
+pub mod Wanted
+pub mod Colours
+pub mod Worked

@@ -1,0 +1,173 @@
+// What a function must meet before it is compiled, and a list of instructions after.
+ghost use Rattle.std.specs.Prelude.{IsTrue, ◌≡◌, ◌≤◌, length};
+ghost use Rattle.job_language.specs.Program.{IsInRange, IsValidProc};
+ghost use Rattle.job_compiler.specs.Within.{IsWithin, IsTestWithin, IsStmtWithin, IsMakerWithin};
+
+use job_language::{Instr, MAX_INSTRS};
+use source_language::{Expr, Maker, Stmt, Test};
+
+/// Whether the variables of an expression are below a number.
+pub(crate) fn expr_within(n: u8, e: &Expr) -> bool
+    ensures { IsTrue result → IsWithin n e.now }
+{
+    match e {
+        Expr::Number(z) => {
+            let _value = *z;
+            true
+        }
+        Expr::Variable(x) => *x < n,
+        Expr::Slot => true,
+        Expr::Width => true,
+        Expr::Two(_, a, b) => expr_within(n, a) && expr_within(n, b),
+    }
+}
+
+pub(crate) fn test_within(n: u8, c: &Test) -> bool
+    ensures { IsTrue result → IsTestWithin n c.now }
+{
+    match c {
+        Test::Holds(e) => expr_within(n, e),
+        Test::Not(t) => test_within(n, t),
+        Test::Both(a, b) => test_within(n, a) && test_within(n, b),
+        Test::Either(a, b) => test_within(n, a) && test_within(n, b),
+    }
+}
+
+fn maker_within(n: u8, m: Maker) -> bool
+    ensures { IsTrue result → IsMakerWithin n m }
+{
+    match m {
+        Maker::Isolate(d) => d < n,
+        Maker::Spawn(_) => true,
+        Maker::Post => true,
+    }
+}
+
+pub(crate) fn stmt_within(n: u8, s: &Stmt) -> bool
+    ensures { IsTrue result → IsStmtWithin n s.now }
+{
+    match s {
+        Stmt::Skip => true,
+        Stmt::Then(a, b) => stmt_within(n, a) && stmt_within(n, b),
+        Stmt::Assign(x, e) => *x < n && expr_within(n, e),
+        Stmt::If(c, a, b) => test_within(n, c) && stmt_within(n, a) && stmt_within(n, b),
+        Stmt::Loop(c, b, s) => test_within(n, c) && stmt_within(n, b) && stmt_within(n, s),
+        Stmt::Break => true,
+        Stmt::Continue => true,
+        Stmt::Return(e) => expr_within(n, e),
+        Stmt::Make(m, _, a, b) => maker_within(n, *m) && expr_within(n, a) && expr_within(n, b),
+        Stmt::Wait(d, e, _) => *d < n && *e < n,
+        Stmt::Cancel(_) => true,
+        Stmt::Read(d, _) => *d < n,
+        Stmt::Store(_, e) => expr_within(n, e),
+    }
+}
+
+/// Whether an instruction is one of a procedure of that many instructions.
+fn is_in_range(len: usize, instr: &Instr) -> bool
+    ensures { IsTrue result → IsInRange len instr.now }
+{
+    match *instr {
+        Instr::Set(d, n) => {
+            let _value = n;
+            let _d = d.index();
+            true
+        }
+        Instr::Add(d, a, b) => {
+            let (_d, _a, _b) = (d.index(), a.index(), b.index());
+            true
+        }
+        Instr::Sub(d, a, b) => {
+            let (_d, _a, _b) = (d.index(), a.index(), b.index());
+            true
+        }
+        Instr::Mul(d, a, b) => {
+            let (_d, _a, _b) = (d.index(), a.index(), b.index());
+            true
+        }
+        Instr::Div(d, a, b) => {
+            let (_d, _a, _b) = (d.index(), a.index(), b.index());
+            true
+        }
+        Instr::Lt(d, a, b) => {
+            let (_d, _a, _b) = (d.index(), a.index(), b.index());
+            true
+        }
+        Instr::Jz(a, t) => {
+            let _a = a.index();
+            usize::from(t) < len
+        }
+        Instr::Jmp(t) => usize::from(t) < len,
+        Instr::Slot(d) => {
+            let _d = d.index();
+            true
+        }
+        Instr::Width(d) => {
+            let _d = d.index();
+            true
+        }
+        Instr::Spawn(g, _, a, b) => {
+            let (_g, _a, _b) = (g.index(), a.index(), b.index());
+            true
+        }
+        Instr::Post(_, a, b) => {
+            let (_a, _b) = (a.index(), b.index());
+            true
+        }
+        Instr::Wait(d, e, g) => {
+            let (_d, _e, _g) = (d.index(), e.index(), g.index());
+            true
+        }
+        Instr::Cancel(g) => {
+            let _g = g.index();
+            true
+        }
+        Instr::Ask(d) => {
+            let _d = d.index();
+            true
+        }
+        Instr::Isolate(d, _, a, b) => {
+            let (_d, _a, _b) = (d.index(), a.index(), b.index());
+            true
+        }
+        Instr::Load(d, k) => {
+            let (_d, _k) = (d.index(), k.index());
+            true
+        }
+        Instr::Store(k, a) => {
+            let (_k, _a) = (k.index(), a.index());
+            true
+        }
+        Instr::Sum(d, k) => {
+            let (_d, _k) = (d.index(), k.index());
+            true
+        }
+        Instr::Count(d, k) => {
+            let (_d, _k) = (d.index(), k.index());
+            true
+        }
+        Instr::Ret(a) => {
+            let _a = a.index();
+            true
+        }
+    }
+}
+
+/// Whether instructions make a procedure.
+pub(crate) fn is_valid_proc(instrs: &[Instr]) -> bool
+    ensures { IsTrue result → IsValidProc instrs.now }
+{
+    let len = instrs.len();
+    if len == 0 {
+        return false;
+    }
+    if len > MAX_INSTRS {
+        return false;
+    }
+    for instr in instrs {
+        if !is_in_range(len, instr) {
+            return false;
+        }
+    }
+    instrs[len - 1].is_last()
+}

@@ -1,0 +1,14 @@
+//! From functions of the source language to procedures of a job.
+#![tactic(auto)]
+
+mod checks;
+mod emit;
+mod errors;
+mod laws;
+mod sizes;
+#[cfg(test)]
+mod tests;
+
+pub use emit::compile_function;
+pub use errors::CompileError;
+pub use laws::{code_is_compiled, coloured_code_is_compiled, runs_follow, worked_example};

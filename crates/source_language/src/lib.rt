@@ -1,0 +1,6 @@
+//! The source language of jobs, as a tree in which names are numbers, and what a function of it does.
+#![tactic(auto)]
+
+mod syntax;
+
+pub use syntax::{Expr, Function, Maker, Operator, Question, Stmt, Test};
