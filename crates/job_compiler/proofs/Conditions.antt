@@ -1,5 +1,5 @@
 -- What the code of a condition does.
-use Rattle.std.proofs.Common.{◌≡◌, ◌≢◌, ℕ, zero, suc, ◌+◌, ◌<◌, ◌≤◌, ℤ, pos, negsuc, Bool, true, false, not, if◌then◌else◌, List, [], ◌∷◌, ◌++◌, length, get_or, Option, Some, None, option_map, refl, sym, ap, subst, ◌∙◌, arith, length-append}
+use Rattle.std.proofs.Common.{◌≡◌, ◌≢◌, ℕ, zero, suc, ◌+◌, ◌<◌, ◌≤◌, ◌^◌, ℤ, pos, negsuc, Bool, true, false, not, if◌then◌else◌, List, [], ◌∷◌, ◌++◌, length, get_or, Option, Some, None, option_map, refl, sym, ap, subst, ◌∙◌, arith, length-append}
 use Rattle.std.specs.Prelude.{slice_get, slice_index_or}
 use Rattle.job_compiler.specs.Colours.{WritesBelow}
 use Rattle.job_language.specs.declared.instructions.Instr.{Instr}
@@ -105,12 +105,12 @@ module _ (procs : List (List Instr)) (slot width p size : ℕ) where
   ends_at : (pc to end end' : ℕ) (regs : List ℤ) (t : ℕ) (w : Bool) (o : Option Bool) → end ≡ end' → JumpsIf pc to end regs t w o → JumpsIf pc to end' regs t w o
   ends_at pc to end end' regs t w o e j = subst (λ q. JumpsIf pc to q regs t w o) e j
 
-  module _ (valid : (k : ℕ) (i : Instr) → slice_get (slice_index_or procs p []) k ≡ Some i → WritesBelow size i) where
+  module _ (valid : (k : ℕ) (i : Instr) → slice_get (slice_index_or procs p []) k ≡ Some i → WritesBelow size i) (low_slot : slot < 2 ^ 8) (low_width : width < 2 ^ 8) where
     pub test_runs : (c : Test) (w : Bool) (n to t pc : ℕ) (vars regs : List ℤ) → IsTestWithin n c → n ≤ t → Agree size n vars regs → HasAt procs slot width p size pc (test_code c w to t pc) → JumpsIf pc to (pc + test_size c w t) regs t w (test_of c slot width vars)
     test_runs (Holds e) w n to t pc vars regs h le agree has =
         let ce = operand_code e t in
         let e1 : pc + length ce + (if w then 2 else 1) ≡ pc + (length ce + (if w then 2 else 1)) = omega arith in
-        ends_at pc to _ _ regs t w (test_of (Holds e) slot width vars) e1 (holds_runs w to (operand e t) pc (pc + length ce) t regs (value_of e slot width vars) (has_back procs slot width p size pc ce _ has) (operand_runs procs slot width p size valid e n t pc vars regs h le agree (has_front procs slot width p size pc ce _ has)))
+        ends_at pc to _ _ regs t w (test_of (Holds e) slot width vars) e1 (holds_runs w to (operand e t) pc (pc + length ce) t regs (value_of e slot width vars) (has_back procs slot width p size pc ce _ has) (operand_runs procs slot width p size valid low_slot low_width e n t pc vars regs h le agree (has_front procs slot width p size pc ce _ has)))
     test_runs (Not' q c) w n to t pc vars regs h le agree has = flipped pc to _ regs t w (test_of c slot width vars) (test_runs c (not w) n to t pc vars regs h le agree has)
     test_runs (Both' q a r b) w n to t pc vars regs h le agree has =
         let m = pc + test_size a false t in
@@ -121,7 +121,7 @@ module _ (procs : List (List Instr)) (slot width p size : ℕ) where
         let hb : HasAt procs slot width p size m (test_code b w to t m) = subst (λ k. HasAt procs slot width p size k (test_code b w to t m)) la (has_back procs slot width p size pc ca _ has) in
         ends_at pc to _ _ regs t w (test_of (Both' q a r b) slot width vars) e1 (both_run w pc m to (m + test_size b w t) regs t (test_of a slot width vars) (test_of b slot width vars)
         (test_runs a false n ta t pc vars regs h.0 le agree (has_front procs slot width p size pc ca _ has))
-        (λ regs' long kept. test_runs b w n to t m vars regs' h.1 le (still procs slot width p size valid n t vars regs regs' le agree long kept) hb))
+        (λ regs' long kept. test_runs b w n to t m vars regs' h.1 le (still procs slot width p size valid low_slot low_width n t vars regs regs' le agree long kept) hb))
     test_runs (Either' q a r b) w n to t pc vars regs h le agree has =
         let m = pc + test_size a true t in
         let ta = if w then to else m + test_size b w t in
@@ -131,4 +131,4 @@ module _ (procs : List (List Instr)) (slot width p size : ℕ) where
         let hb : HasAt procs slot width p size m (test_code b w to t m) = subst (λ k. HasAt procs slot width p size k (test_code b w to t m)) la (has_back procs slot width p size pc ca _ has) in
         ends_at pc to _ _ regs t w (test_of (Either' q a r b) slot width vars) e1 (either_runs w pc m to (m + test_size b w t) regs t (test_of a slot width vars) (test_of b slot width vars)
         (test_runs a true n ta t pc vars regs h.0 le agree (has_front procs slot width p size pc ca _ has))
-        (λ regs' long kept. test_runs b w n to t m vars regs' h.1 le (still procs slot width p size valid n t vars regs regs' le agree long kept) hb))
+        (λ regs' long kept. test_runs b w n to t m vars regs' h.1 le (still procs slot width p size valid low_slot low_width n t vars regs regs' le agree long kept) hb))

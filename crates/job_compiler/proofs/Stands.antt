@@ -10,62 +10,61 @@ use Rattle.job_step.specs.declared.effects.Effect.TheVariants.{IsShared}
 use Rattle.job_step.specs.Frame.{instr_at, effect}
 use Rattle.source_language.specs.declared.syntax.Test.{Test}
 use Rattle.source_language.specs.declared.syntax.Stmt.{Stmt}
-use Rattle.source_language.specs.declared.syntax.Stmt.TheVariants.{Skip, Then', Assign, If', Loop', Break, Continue, Return, Make, Wait, Cancel, Read, Store}
+use Rattle.source_language.specs.declared.syntax.Stmt.TheVariants.{Skip, Then', Assign, If', Loop', Repeat', Break, Continue, Return, Make, Wait, Cancel, Read, Store}
 use Rattle.source_language.specs.declared.syntax.Maker.{Maker}
 use Rattle.source_language.specs.declared.syntax.Maker.TheVariants.{Spawn, Post, Isolate}
-use Rattle.source_language.specs.Meaning.{Operation, Returns, Todo, Do, Turn, Next, Point, Act, Goes, Divides, Does, next_turn, past_loop, answered}
-use Rattle.job_compiler.specs.Within.{IsTestWithin, IsStmtWithin}
-use Rattle.job_compiler.specs.Code.{operand, operand_code, above, value_code, make_instr, test_size, test_code, stmt_size, loop_end, loop_code, stmt_code}
+use Rattle.source_language.specs.Meaning.{Operation, Returns, Todo, Do, Turn, Next, Point, Act, Goes, Divides, Does, next_turn, past_loop, put_into, answered}
+use Rattle.job_compiler.specs.Within.{IsTestWithin, IsStmtWithin, IsOneWithin}
+use Rattle.job_compiler.specs.Code.{operand, operand_code, above, value_code, make_instr, test_size, test_code, stmt_size, loop_test, loop_end, loop_label, after_of, next_of, loop_code, register_for, stmt_code}
+use Rattle.job_compiler.specs.declared.labels.Label.{Label}
 use Rattle.job_compiler.specs.Operations.{operation_of, resumed}
 use Rattle.job_compiler.specs.Traces.{is_return}
 use Rattle.job_compiler.proofs.Steps.{AreKept, Agree, at, HasAt, Comes, Fails, comes_on, stays}
 use Rattle.job_compiler.proofs.Conditions.{test_length}
 
-pub stmt_length : (s : Stmt) (t at more end : ℕ) → length (stmt_code s t at more end) ≡ stmt_size s t
-stmt_length Skip t at more end = refl
-stmt_length (Then' p a q b) t at more end =
-    let la : length (stmt_code a t at more end) ≡ stmt_size a t = stmt_length a t at more end in
-    let lb : length (stmt_code b t (at + stmt_size a t) more end) ≡ stmt_size b t = stmt_length b t (at + stmt_size a t) more end in
-    omega (arith, la, lb, length-append (stmt_code a t at more end) (stmt_code b t (at + stmt_size a t) more end))
-stmt_length (Assign x e) t at more end = refl
-stmt_length (If' c p a q b) t at more end =
+pub loop_length : (cb cs ct : List Instr) (b s t : ℕ) → length cb ≡ b → length cs ≡ s → length ct ≡ t → length (loop_code cb cs ct) ≡ b + s + t
+loop_length cb cs ct b s t lb ls lt = omega (arith, lb, ls, lt, length-append cb (cs ++ ct), length-append cs ct)
+
+pub stmt_length : (s : Stmt) (t at : ℕ) (labels : List Label) (ret : ℕ) → length (stmt_code s t at labels ret) ≡ stmt_size s t
+stmt_length Skip t at labels ret = refl
+stmt_length (Then' p a q b) t at labels ret =
+    let la : length (stmt_code a t at labels ret) ≡ stmt_size a t = stmt_length a t at labels ret in
+    let lb : length (stmt_code b t (at + stmt_size a t) labels ret) ≡ stmt_size b t = stmt_length b t (at + stmt_size a t) labels ret in
+    omega (arith, la, lb, length-append (stmt_code a t at labels ret) (stmt_code b t (at + stmt_size a t) labels ret))
+stmt_length (Assign x e) t at labels ret = refl
+stmt_length (If' c p a q b) t at labels ret =
     let m = at + test_size c false t in
     let other = m + stmt_size a t + 1 in
     let ct = test_code c false other t at in
-    let ca = stmt_code a t m more end in
-    let cb = stmt_code b t other more end in
+    let ca = stmt_code a t m labels ret in
+    let cb = stmt_code b t other labels ret in
     let lt : length ct ≡ test_size c false t = test_length c false other t at in
-    let la : length ca ≡ stmt_size a t = stmt_length a t m more end in
-    let lb : length cb ≡ stmt_size b t = stmt_length b t other more end in
+    let la : length ca ≡ stmt_size a t = stmt_length a t m labels ret in
+    let lb : length cb ≡ stmt_size b t = stmt_length b t other labels ret in
     omega (arith, lt, la, lb, length-append ct (ca ++ instr.Jmp (other + stmt_size b t) ∷ cb), length-append ca (instr.Jmp (other + stmt_size b t) ∷ cb))
-stmt_length (Loop' c p b q s) t at more end =
-    let m = at + test_size c false t in
-    let n = m + stmt_size b t in
-    let after = loop_end c b s t at in
-    let ct = test_code c false after t at in
-    let cb = stmt_code b t m n after in
-    let cs = stmt_code s t n more end in
-    let lt : length ct ≡ test_size c false t = test_length c false after t at in
-    let lb : length cb ≡ stmt_size b t = stmt_length b t m n after in
-    let ls : length cs ≡ stmt_size s t = stmt_length s t n more end in
-    omega (arith, lt, lb, ls, length-append ct (cb ++ (cs ++ instr.Jmp at ∷ [])), length-append cb (cs ++ instr.Jmp at ∷ []), length-append cs (instr.Jmp at ∷ []))
-stmt_length Break t at more end = refl
-stmt_length Continue t at more end = refl
-stmt_length (Return e) t at more end = length-append (operand_code e t) (instr.Ret (operand e t) ∷ [])
-stmt_length (Make m p a b) t at more end =
+stmt_length (Loop' c p b q s) t at labels ret =
+    let k = at + 1 in
+    let l = loop_length _ _ _ (stmt_size b t) (stmt_size s t) (test_size c true t) (stmt_length b t k (loop_label c b s t k ∷ labels) ret) (stmt_length s t (k + stmt_size b t) labels ret) (test_length c true k t (loop_test b s t k)) in
+    omega (arith, l)
+stmt_length (Repeat' c p b q s) t at labels ret =
+    loop_length _ _ _ (stmt_size b t) (stmt_size s t) (test_size c true t) (stmt_length b t at (loop_label c b s t at ∷ labels) ret) (stmt_length s t (at + stmt_size b t) labels ret) (test_length c true at t (loop_test b s t at))
+stmt_length (Break k) t at labels ret = refl
+stmt_length (Continue k) t at labels ret = refl
+stmt_length (Return e) t at labels ret = length-append (operand_code e t) (instr.Ret (operand e t) ∷ [])
+stmt_length (Make m p a b) t at labels ret =
     let ca = operand_code a t in
     let cb = operand_code b (above a t) in
     let i = make_instr m p (operand a t) (operand b (above a t)) in
     omega (arith, length-append ca (cb ++ i ∷ []), length-append cb (i ∷ []))
-stmt_length (Wait d e g) t at more end = refl
-stmt_length (Cancel g) t at more end = refl
-stmt_length (Read d q) t at more end = refl
-stmt_length (Store k e) t at more end = length-append (operand_code e t) (instr.Store k (operand e t) ∷ [])
+stmt_length (Wait d e g) t at labels ret = refl
+stmt_length (Cancel g) t at labels ret = refl
+stmt_length (Read d q) t at labels ret = refl
+stmt_length (Store k e) t at labels ret = length-append (operand_code e t) (instr.Store k (operand e t) ∷ [])
 
 -- how much is left to be done before the code has to move
 abbrev pub stmt_weight : Stmt → ℕ
 stmt_weight (Then' p a q b) = 1 + stmt_weight a + stmt_weight b
-stmt_weight (Loop' c p b q s) = 2
+stmt_weight (Repeat' c p b q s) = 3 + stmt_weight b + stmt_weight s
 stmt_weight s = 1
 
 abbrev pub weight : List Todo → ℕ
@@ -92,54 +91,72 @@ pub agree_set : (size n d : ℕ) (v : ℤ) (vars regs : List ℤ) → Agree size
 agree_set size n d v vars regs agree long low within fits =
     agree_written size n d v vars regs (set regs d v) agree long low (length-set regs d v ∙ agree.long) (get_or-set_same regs d v (pos 0) (omega (arith, within, agree.long))) (λ r below other. get_or-set_other regs d r v (pos 0) other) fits
 
+-- what was answered goes to a variable and its register, or to a register that is free
+pub agree_put : (size n : ℕ) (o : Option ℕ) (v : ℤ) (vars regs : List ℤ) → Agree size n vars regs → length vars ≡ n → IsOneWithin n o → register_for o n < size → FitsSigned w64 v → Agree size n (put_into o v vars) (set regs (register_for o n) v)
+agree_put size n (Some d) v vars regs agree long low within fits = agree_set size n d v vars regs agree long low within fits
+agree_put size n None v vars regs agree long low within fits = record {
+  long = length-set regs n v ∙ agree.long;
+  same = λ x below. get_or-set_other regs n x v (pos 0) (omega (arith, below)) ∙ agree.same x below;
+  fit = agree.fit;
+}
+
+pub put_long : (o : Option ℕ) (v : ℤ) (vars : List ℤ) → length (put_into o v vars) ≡ length vars
+put_long None v vars = refl
+put_long (Some d) v vars = length-set vars d v
+
 module _ (procs : List (List Instr)) (slot width p size n ret : ℕ) where
   -- whatever the registers are
   abbrev pub Reaches : ℕ → ℕ → Type 0
   Reaches pc pc' = (regs : List ℤ) → Comes procs slot width p size (at procs slot width p size pc regs) (at procs slot width p size pc' regs)
 
-  -- a loop stands in the code
-  pub record IsLoop (c : Test) (b s : Stmt) (more end q : ℕ) : Type 0 where
+  -- a loop stands in the code, with its body at q
+  pub record IsLoop (c : Test) (b s : Stmt) (labels : List Label) (q : ℕ) : Type 0 where
     pub test : IsTestWithin n c
     pub body : IsStmtWithin n b
     pub step : IsStmtWithin n s
-    pub code : HasAt procs slot width p size q (loop_code (test_code c false (loop_end c b s n q) n q) (stmt_code b n (q + test_size c false n) (q + test_size c false n + stmt_size b n) (loop_end c b s n q)) (stmt_code s n (q + test_size c false n + stmt_size b n) more end) q)
+    pub code : HasAt procs slot width p size q (loop_code (stmt_code b n q (loop_label c b s n q ∷ labels) ret) (stmt_code s n (q + stmt_size b n) labels ret) (test_code c true q n (loop_test b s n q)))
 
-  -- the code does what is left to be done, from a place, where the loop around goes on at `more` and ends at `end`
-  abbrev pub IsAt : List Todo → (more end q : ℕ) → Type 0
-  IsAt [] more end q = (q ≡ ret) × (more ≡ ret) × (end ≡ ret)
-  IsAt (Do s ∷ todo) more end q = IsStmtWithin n s × HasAt procs slot width p size q (stmt_code s n q more end) × (r : ℕ) × Reaches (q + stmt_size s n) r × IsAt todo more end r
-  IsAt (Turn c b s ∷ todo) more end q = IsLoop c b s more end q × (r : ℕ) × Reaches (loop_end c b s n q) r × IsAt todo more end r
-  IsAt (Next c b s ∷ todo) more end q =
-      (l more' end' : ℕ) × IsLoop c b s more' end' l × (q ≡ l + test_size c false n + stmt_size b n) × (more ≡ q) × (end ≡ loop_end c b s n l) × (r : ℕ) × Reaches end r × IsAt todo more' end' r
+  -- the code does what is left to be done, from a place, in loops with these labels
+  abbrev pub IsAt : List Todo → (labels : List Label) → (q : ℕ) → Type 0
+  IsAt [] labels q = (q ≡ ret) × (labels ≡ [])
+  IsAt (Do s ∷ todo) labels q = IsStmtWithin n s × HasAt procs slot width p size q (stmt_code s n q labels ret) × (r : ℕ) × Reaches (q + stmt_size s n) r × IsAt todo labels r
+  IsAt (Turn c b s ∷ todo) labels q = (l : ℕ) × IsLoop c b s labels l × (q ≡ loop_test b s n l) × (r : ℕ) × Reaches (loop_end c b s n l) r × IsAt todo labels r
+  IsAt (Next c b s ∷ todo) labels q =
+      (l : ℕ) × (outer : List Label) × IsLoop c b s outer l × (q ≡ l + stmt_size b n) × (labels ≡ loop_label c b s n l ∷ outer) × (r : ℕ) × Reaches (loop_end c b s n l) r × IsAt todo outer r
 
   -- where something is, with the labels there
   pub record Place (from : ℕ) (todo : List Todo) : Type 0 where
-    pub more : ℕ
-    pub end : ℕ
+    pub labels : List Label
     pub q : ℕ
     pub reaches : Reaches from q
-    pub is_at : IsAt todo more end q
+    pub is_at : IsAt todo labels q
 
-  pub past_place : (todo : List Todo) (more end q : ℕ) → IsAt todo more end q → Place end (past_loop todo)
-  past_place [] more end q h = record { more = more; end = end; q = end; reaches = λ regs. stays procs slot width p size _; is_at = (h.2, h.1, h.2) }
-  past_place (Do s ∷ todo) more end q h = past_place todo more end h.2 h.4
-  past_place (Turn c b s ∷ todo) more end q h = past_place todo more end h.1 h.3
-  past_place (Next c b s ∷ todo) more end q h = record { more = h.1; end = h.2; q = h.7; reaches = h.8; is_at = h.9 }
+  pub past_place : (todo : List Todo) (k : ℕ) (labels : List Label) (q : ℕ) → IsAt todo labels q → Place (after_of (slice_get labels k) ret) (past_loop todo k)
+  past_place [] k labels q h = record { labels = []; q = ret; reaches = subst (λ ls. Reaches (after_of (slice_get ls k) ret) ret) (sym h.1) (λ regs. stays procs slot width p size _); is_at = (refl, refl) }
+  past_place (Do s ∷ todo) k labels q h = past_place todo k labels h.2 h.4
+  past_place (Turn c b s ∷ todo) k labels q h = past_place todo k labels h.3 h.5
+  past_place (Next c b s ∷ todo) zero labels q h = record { labels = h.1; q = h.5; reaches = subst (λ ls. Reaches (after_of (slice_get ls 0) ret) h.5) (sym h.4) h.6; is_at = h.7 }
+  past_place (Next c b s ∷ todo) (suc k) labels q h = subst (λ ls. Place (after_of (slice_get ls (suc k)) ret) (past_loop todo k)) (sym h.4) (past_place todo k h.1 h.5 h.7)
 
-  pub next_place : (todo : List Todo) (more end q : ℕ) → IsAt todo more end q → Place more (next_turn todo)
-  next_place [] more end q h = record { more = more; end = end; q = more; reaches = λ regs. stays procs slot width p size _; is_at = (h.1, h.1, h.2) }
-  next_place (Do s ∷ todo) more end q h = next_place todo more end h.2 h.4
-  next_place (Turn c b s ∷ todo) more end q h = next_place todo more end h.1 h.3
-  next_place (Next c b s ∷ todo) more end q h = record { more = more; end = end; q = q; reaches = subst (Reaches more) h.5 (λ regs. stays procs slot width p size _); is_at = h }
+  pub next_place : (todo : List Todo) (k : ℕ) (labels : List Label) (q : ℕ) → IsAt todo labels q → Place (next_of (slice_get labels k) ret) (next_turn todo k)
+  next_place [] k labels q h = record { labels = []; q = ret; reaches = subst (λ ls. Reaches (next_of (slice_get ls k) ret) ret) (sym h.1) (λ regs. stays procs slot width p size _); is_at = (refl, refl) }
+  next_place (Do s ∷ todo) k labels q h = next_place todo k labels h.2 h.4
+  next_place (Turn c b s ∷ todo) k labels q h = next_place todo k labels h.3 h.5
+  next_place (Next c b s ∷ todo) zero labels q h = record {
+    labels = labels;
+    q = q;
+    reaches = subst (λ ls. Reaches (next_of (slice_get ls 0) ret) q) (sym h.4) (subst (λ k. Reaches k q) h.3 (λ regs. stays procs slot width p size _));
+    is_at = h;
+  }
+  next_place (Next c b s ∷ todo) (suc k) labels q h = subst (λ ls. Place (next_of (slice_get ls (suc k)) ret) (next_turn todo k)) (sym h.4) (next_place todo k h.1 h.5 h.7)
 
   -- a frame comes to where a function is
   pub record Stands (f : Frame) (point : Point) : Type 0 where
-    pub more : ℕ
-    pub end : ℕ
+    pub labels : List Label
     pub q : ℕ
     pub regs : List ℤ
     pub comes : Comes procs slot width p size f (at procs slot width p size q regs)
-    pub is_at : IsAt point.todo more end q
+    pub is_at : IsAt point.todo labels q
     pub agree : Agree size n point.vars regs
     pub long : length point.vars ≡ n
 
@@ -163,13 +180,13 @@ module _ (procs : List (List Instr)) (slot width p size n ret : ℕ) where
   Follows f point s Divides = Fails procs slot width p size f
   Follows f point s (Does o) = Stops f point o
 
-  pub continues : (f : Frame) (point next : Point) (s : Stands f point) (more end q : ℕ) (regs : List ℤ) (c : Comes procs slot width p size (at procs slot width p size s.q s.regs) (at procs slot width p size q regs)) → IsAt next.todo more end q → Agree size n next.vars regs → length next.vars ≡ n → (0 < c.steps) ⊎ (weight next.todo < weight point.todo) → Continues f point next s
-  continues f point next s more end q regs c is_at agree long progress = record {
-    next = record { more = more; end = end; q = q; regs = regs; comes = comes_on procs slot width p size _ _ _ s.comes c; is_at = is_at; agree = agree; long = long };
+  pub continues : (f : Frame) (point next : Point) (s : Stands f point) (labels : List Label) (q : ℕ) (regs : List ℤ) (c : Comes procs slot width p size (at procs slot width p size s.q s.regs) (at procs slot width p size q regs)) → IsAt next.todo labels q → Agree size n next.vars regs → length next.vars ≡ n → (0 < c.steps) ⊎ (weight next.todo < weight point.todo) → Continues f point next s
+  continues f point next s labels q regs c is_at agree long progress = record {
+    next = record { labels = labels; q = q; regs = regs; comes = comes_on procs slot width p size _ _ _ s.comes c; is_at = is_at; agree = agree; long = long };
     progress = ⊎_elim (λ h. inl (omega (arith, h))) (λ h. inr (omega arith, h)) progress;
   }
 
   -- after an operation
-  pub resumes_at : (vars : List ℤ) (todo : List Todo) (more end from q r : ℕ) (regs : List ℤ) → from ≡ q → Reaches q r → IsAt todo more end r → Agree size n vars regs → length vars ≡ n → Stands (at procs slot width p size from regs) (record { vars = vars; todo = todo })
-  resumes_at vars todo more end from q r regs e reaches is_at agree long =
-      record { more = more; end = end; q = r; regs = regs; comes = subst (λ k. Comes procs slot width p size (at procs slot width p size k regs) (at procs slot width p size r regs)) (sym e) (reaches regs); is_at = is_at; agree = agree; long = long }
+  pub resumes_at : (vars : List ℤ) (todo : List Todo) (labels : List Label) (from q r : ℕ) (regs : List ℤ) → from ≡ q → Reaches q r → IsAt todo labels r → Agree size n vars regs → length vars ≡ n → Stands (at procs slot width p size from regs) (record { vars = vars; todo = todo })
+  resumes_at vars todo labels from q r regs e reaches is_at agree long =
+      record { labels = labels; q = r; regs = regs; comes = subst (λ k. Comes procs slot width p size (at procs slot width p size k regs) (at procs slot width p size r regs)) (sym e) (reaches regs); is_at = is_at; agree = agree; long = long }

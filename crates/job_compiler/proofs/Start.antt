@@ -85,13 +85,13 @@ starts f good procs slot width p size x y is each big low_slot low_width fx fy =
     (λ g point s. follows procs slot width p size f.variables (stmt_size f.body f.variables) each low_slot low_width ends g point.vars point.todo s)
     (frame_of p 0 (with_two (size - 2) x y)) (start f x y) stands
   where
-    all : HasAt procs slot width p size 0 (stmt_code f.body f.variables 0 (stmt_size f.body f.variables) (stmt_size f.body f.variables) ++ (ins.Set 0 (pos 0) ∷ ins.Ret 0 ∷ []))
+    all : HasAt procs slot width p size 0 (stmt_code f.body f.variables 0 [] (stmt_size f.body f.variables) ++ (ins.Set 0 (pos 0) ∷ ins.Ret 0 ∷ []))
     all = has_all procs slot width p size (function_code f) [] is
 
     ends : HasAt procs slot width p size (stmt_size f.body f.variables) (ins.Set 0 (pos 0) ∷ ins.Ret 0 ∷ [])
     ends =
-        let c = stmt_code f.body f.variables 0 (stmt_size f.body f.variables) (stmt_size f.body f.variables) in
-        let l : 0 + length c ≡ stmt_size f.body f.variables = omega (arith, stmt_length f.body f.variables 0 (stmt_size f.body f.variables) (stmt_size f.body f.variables)) in
+        let c = stmt_code f.body f.variables 0 [] (stmt_size f.body f.variables) in
+        let l : 0 + length c ≡ stmt_size f.body f.variables = omega (arith, stmt_length f.body f.variables 0 [] (stmt_size f.body f.variables)) in
         subst (λ k. HasAt procs slot width p size k (ins.Set 0 (pos 0) ∷ ins.Ret 0 ∷ [])) l (has_back procs slot width p size 0 c _ all)
 
     reach : Reaches procs slot width p size f.variables (stmt_size f.body f.variables) (0 + stmt_size f.body f.variables) (stmt_size f.body f.variables)
@@ -99,12 +99,11 @@ starts f good procs slot width p size x y is each big low_slot low_width fx fy =
 
     stands : Stands procs slot width p size f.variables (stmt_size f.body f.variables) (frame_of p 0 (with_two (size - 2) x y)) (start f x y)
     stands = record {
-      more = stmt_size f.body f.variables;
-      end = stmt_size f.body f.variables;
+      labels = [];
       q = 0;
       regs = with_two (size - 2) x y;
       comes = stays procs slot width p size (frame_of p 0 (with_two (size - 2) x y));
-      is_at = (good.within, has_front procs slot width p size 0 (stmt_code f.body f.variables 0 (stmt_size f.body f.variables) (stmt_size f.body f.variables)) _ all, stmt_size f.body f.variables, reach, (refl, refl, refl));
+      is_at = (good.within, has_front procs slot width p size 0 (stmt_code f.body f.variables 0 [] (stmt_size f.body f.variables)) _ all, stmt_size f.body f.variables, reach, (refl, refl));
       agree = record { long = omega (arith, length-replicate (size - 2) (pos 0), big); same = λ k low. two_same (size - 2) (f.variables - 2) x y k; fit = two_fit (f.variables - 2) x y fx fy };
       long = omega (arith, length-replicate (f.variables - 2) (pos 0), good.parameters);
     }

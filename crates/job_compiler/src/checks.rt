@@ -1,7 +1,7 @@
 // What a function must meet before it is compiled, and a list of instructions after.
 ghost use Rattle.std.specs.Prelude.{IsTrue, ◌≡◌, ◌≤◌, length};
 ghost use Rattle.job_language.specs.Program.{IsInRange, IsValidProc};
-ghost use Rattle.job_compiler.specs.Within.{IsWithin, IsTestWithin, IsStmtWithin, IsMakerWithin};
+ghost use Rattle.job_compiler.specs.Within.{IsWithin, IsTestWithin, IsStmtWithin, IsMakerWithin, IsOneWithin};
 
 use job_language::{Instr, MAX_INSTRS};
 use source_language::{Expr, Maker, Stmt, Test};
@@ -43,6 +43,15 @@ fn maker_within(n: u8, m: Maker) -> bool
     }
 }
 
+fn one_within(n: u8, into: Option<u8>) -> bool
+    ensures { IsTrue result → IsOneWithin n into }
+{
+    match into {
+        Some(d) => d < n,
+        None => true,
+    }
+}
+
 pub(crate) fn stmt_within(n: u8, s: &Stmt) -> bool
     ensures { IsTrue result → IsStmtWithin n s.now }
 {
@@ -52,11 +61,12 @@ pub(crate) fn stmt_within(n: u8, s: &Stmt) -> bool
         Stmt::Assign(x, e) => *x < n && expr_within(n, e),
         Stmt::If(c, a, b) => test_within(n, c) && stmt_within(n, a) && stmt_within(n, b),
         Stmt::Loop(c, b, s) => test_within(n, c) && stmt_within(n, b) && stmt_within(n, s),
-        Stmt::Break => true,
-        Stmt::Continue => true,
+        Stmt::Repeat(c, b, s) => test_within(n, c) && stmt_within(n, b) && stmt_within(n, s),
+        Stmt::Break(_) => true,
+        Stmt::Continue(_) => true,
         Stmt::Return(e) => expr_within(n, e),
         Stmt::Make(m, _, a, b) => maker_within(n, *m) && expr_within(n, a) && expr_within(n, b),
-        Stmt::Wait(d, e, _) => *d < n && *e < n,
+        Stmt::Wait(d, e, _) => one_within(n, *d) && one_within(n, *e),
         Stmt::Cancel(_) => true,
         Stmt::Read(d, _) => *d < n,
         Stmt::Store(_, e) => expr_within(n, e),

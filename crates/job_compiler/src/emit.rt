@@ -1,11 +1,13 @@
 // The code of a function.
 ghost use Rattle.std.specs.Prelude.{◌≡◌, ◌+◌, ℕ, [], ◌∷◌, ◌++◌, length, false, Some, None, IfOk, OnOk, if◌then◌else◌};
-ghost use Rattle.job_compiler.specs.Code.{op_instr, operand, make_instr, read_instr, jump_instrs, test_size, test_code, stmt_size, stmt_code, function_code};
+ghost use Rattle.job_compiler.specs.Code.{op_code, operand, register_for, make_code, make_instr, read_instr, jump_instrs, test_size, test_code, stmt_size, stmt_code, function_code};
+ghost use Rattle.job_language.specs.declared.instructions.Instr.TheVariants.{Jmp};
 ghost use Rattle.job_compiler.specs.Compiled.{IsCompiled};
 ghost use Rattle.job_compiler.specs.Wanted.{wanted_code};
 
 use crate::checks::{is_valid_proc, stmt_within};
 use crate::errors::CompileError;
+use crate::labels::{Label, after_of, if_labels, inside, loop_labels, next_of, place};
 use crate::sizes::{above, expr_size, stmt_size, sum, test_size};
 use job_language::{Instr, Proc, Register};
 use source_language::{Expr, Function, Maker, Operator, Question, Stmt, Test};
@@ -23,7 +25,7 @@ pub fn compile_function(alloc: Global, function: &Function) -> Result<Proc, Comp
     }
     let end = stmt_size(&function.body, free)?;
     let mut code = Vec::new(alloc);
-    emit_stmt(&mut code, &function.body, free, end, end)?;
+    emit_stmt(alloc, &mut code, &function.body, free, &[], end)?;
     put(&mut code, Instr::Set(register(0)?, 0))?;
     put(&mut code, Instr::Ret(register(0)?))?;
     if !is_valid_proc(&code) {
@@ -41,16 +43,6 @@ fn register(number: u8) -> Result<Register, CompileError>
     }
 }
 
-/// A place to jump to.
-fn place(at: usize) -> Result<u8, CompileError>
-    ensures { IfOk result (λ t. t ≡ at) }
-{
-    if at > 255 {
-        return Err(CompileError::TooLong);
-    }
-    Ok(at as u8)
-}
-
 // One more instruction.
 fn put(code: &mut Vec<Instr>, instr: Instr) -> Result<(), CompileError>
     ensures { OnOk result (code.new.items ≡ code.old.items ++ instr ∷ []) }
@@ -61,15 +53,29 @@ fn put(code: &mut Vec<Instr>, instr: Instr) -> Result<(), CompileError>
     }
 }
 
-fn op_instr(op: Operator, d: Register, a: Register, b: Register) -> Instr
-    ensures { result ≡ op_instr op d a b }
+// The instructions of an operator, of which a remainder uses the register `free` of its own.
+fn emit_op(
+    code: &mut Vec<Instr>,
+    op: Operator,
+    registers: (Register, Register, Register),
+    free: u8,
+) -> Result<(), CompileError>
+    ensures { OnOk result (code.new.items ≡ code.old.items
+        ++ op_code op registers.0 registers.1 registers.2 free) }
 {
+    let (d, a, b) = registers;
     match op {
-        Operator::Plus => Instr::Add(d, a, b),
-        Operator::Minus => Instr::Sub(d, a, b),
-        Operator::Times => Instr::Mul(d, a, b),
-        Operator::Over => Instr::Div(d, a, b),
-        Operator::Below => Instr::Lt(d, a, b),
+        Operator::Plus => put(code, Instr::Add(d, a, b)),
+        Operator::Minus => put(code, Instr::Sub(d, a, b)),
+        Operator::Times => put(code, Instr::Mul(d, a, b)),
+        Operator::Over => put(code, Instr::Div(d, a, b)),
+        Operator::Remainder => {
+            let t = register(free)?;
+            put(code, Instr::Div(t, a, b))?;
+            put(code, Instr::Mul(t, t, b))?;
+            put(code, Instr::Sub(d, a, t))
+        }
+        Operator::Below => put(code, Instr::Lt(d, a, b)),
     }
 }
 
@@ -106,8 +112,7 @@ fn operand(e: &Expr, free: u8) -> Result<Register, CompileError>
 
 /// The register that is written, if one is asked for, and else the first free one.
 fn written(into: Option<u8>, free: u8) -> Result<Register, CompileError>
-    ensures some { (d : ℕ) → into ≡ Some d → IfOk result (λ r. r ≡ d) }
-    ensures none { into ≡ None → IfOk result (λ r. r ≡ free) }
+    ensures { IfOk result (λ r. r ≡ register_for into free) }
 {
     match into {
         Some(d) => register(d),
@@ -153,7 +158,7 @@ fn emit_expr(
             let d = written(into, free)?;
             let left = operand(a, free)?;
             let right = operand(b, second)?;
-            put(code, op_instr(*op, d, left, right))
+            emit_op(code, *op, (d, left, right), above(b, second)?)
         }
     }
 }
@@ -217,125 +222,91 @@ fn emit_jump(
     }
 }
 
-/// Where the other side of a choice is, and what follows both.
-#[derive(Clone, Copy)]
-struct IfLabels {
-    other: usize,
-    after: u8,
-}
-
-fn if_labels(at: usize, c: &Test, a: &Stmt, b: &Stmt, free: u8) -> Result<IfLabels, CompileError>
-    ensures { IfOk result (λ l. (l.other ≡ at + test_size c.now false free + stmt_size a.now free + 1)
-        × (l.after ≡ l.other + stmt_size b.now free)) }
+// A jump.
+fn put_jump(code: &mut Vec<Instr>, to: usize) -> Result<(), CompileError>
+    ensures { OnOk result (code.new.items ≡ code.old.items ++ Jmp to ∷ []) }
 {
-    let test = test_size(c, false, free)?;
-    let first = stmt_size(a, free)?;
-    let second = stmt_size(b, free)?;
-    let middle = sum(at, test)?;
-    let jump = sum(middle, first)?;
-    let other = sum(jump, 1)?;
-    let end = sum(other, second)?;
-    let after = place(end)?;
-    Ok(IfLabels { other, after })
+    let target = place(to)?;
+    put(code, Instr::Jmp(target))
 }
 
-/// Where a loop begins, where its step is, and what follows it.
-#[derive(Clone, Copy)]
-struct LoopLabels {
-    start: u8,
-    next: usize,
-    after: usize,
-}
-
-fn loop_labels(
-    at: usize,
-    c: &Test,
-    b: &Stmt,
-    s: &Stmt,
+// Two operands, and an instruction that makes a row of them.
+fn emit_make(
+    code: &mut Vec<Instr>,
+    m: Maker,
+    p: u8,
+    a: &Expr,
+    b: &Expr,
     free: u8,
-) -> Result<LoopLabels, CompileError>
-    ensures { IfOk result (λ l. (l.start ≡ at)
-        × (l.next ≡ at + test_size c.now false free + stmt_size b.now free)
-        × (l.after ≡ l.next + stmt_size s.now free + 1)) }
+) -> Result<(), CompileError>
+    ensures { OnOk result (code.new.items ≡ code.old.items ++ make_code m p a.now b.now free) }
 {
-    let test = test_size(c, false, free)?;
-    let body = stmt_size(b, free)?;
-    let step = stmt_size(s, free)?;
-    let middle = sum(at, test)?;
-    let next = sum(middle, body)?;
-    let jump = sum(next, step)?;
-    let after = sum(jump, 1)?;
-    let start = place(at)?;
-    Ok(LoopLabels { start, next, after })
+    emit_expr(code, a, None, free)?;
+    let second = above(a, free)?;
+    emit_expr(code, b, None, second)?;
+    let left = operand(a, free)?;
+    let right = operand(b, second)?;
+    let instr = make_instr(m, p, left, right)?;
+    put(code, instr)
 }
 
 fn emit_stmt(
+    alloc: Global,
     code: &mut Vec<Instr>,
     s: &Stmt,
     free: u8,
-    more: usize,
+    labels: &[Label],
     end: usize,
 ) -> Result<(), CompileError>
     ensures { OnOk result (code.new.items ≡ code.old.items
-        ++ stmt_code s.now free (length code.old.items) more end) }
+        ++ stmt_code s.now free (length code.old.items) labels.now end) }
 {
     match s {
         Stmt::Skip => Ok(()),
         Stmt::Then(a, b) => {
-            emit_stmt(code, a, free, more, end)?;
-            emit_stmt(code, b, free, more, end)
+            emit_stmt(alloc, code, a, free, labels, end)?;
+            emit_stmt(alloc, code, b, free, labels, end)
         }
         Stmt::Assign(x, e) => emit_expr(code, e, Some(*x), free),
         Stmt::If(c, a, b) => {
-            let labels = if_labels(code.len(), c, a, b, free)?;
-            emit_test(code, c, false, labels.other, free)?;
-            emit_stmt(code, a, free, more, end)?;
-            put(code, Instr::Jmp(labels.after))?;
-            emit_stmt(code, b, free, more, end)
+            let sides = if_labels(code.len(), c, a, b, free)?;
+            emit_test(code, c, false, sides.other, free)?;
+            emit_stmt(alloc, code, a, free, labels, end)?;
+            put(code, Instr::Jmp(sides.after))?;
+            emit_stmt(alloc, code, b, free, labels, end)
         }
         Stmt::Loop(c, b, step) => {
-            let labels = loop_labels(code.len(), c, b, step, free)?;
-            emit_test(code, c, false, labels.after, free)?;
-            emit_stmt(code, b, free, labels.next, labels.after)?;
-            emit_stmt(code, step, free, more, end)?;
-            put(code, Instr::Jmp(labels.start))
+            let parts = loop_labels(sum(code.len(), 1)?, c, b, step, free)?;
+            let all = inside(alloc, parts.label, labels)?;
+            put_jump(code, parts.test)?;
+            emit_stmt(alloc, code, b, free, &all, end)?;
+            emit_stmt(alloc, code, step, free, labels, end)?;
+            emit_test(code, c, true, parts.body, free)
         }
-        Stmt::Break => {
-            let target = place(end)?;
-            put(code, Instr::Jmp(target))
+        Stmt::Repeat(c, b, step) => {
+            let parts = loop_labels(code.len(), c, b, step, free)?;
+            let all = inside(alloc, parts.label, labels)?;
+            emit_stmt(alloc, code, b, free, &all, end)?;
+            emit_stmt(alloc, code, step, free, labels, end)?;
+            emit_test(code, c, true, parts.body, free)
         }
-        Stmt::Continue => {
-            let target = place(more)?;
-            put(code, Instr::Jmp(target))
-        }
+        Stmt::Break(loops) => put_jump(code, after_of(labels, *loops, end)),
+        Stmt::Continue(loops) => put_jump(code, next_of(labels, *loops, end)),
         Stmt::Return(e) => {
             emit_expr(code, e, None, free)?;
-            let from = operand(e, free)?;
-            put(code, Instr::Ret(from))
+            put(code, Instr::Ret(operand(e, free)?))
         }
-        Stmt::Make(m, p, a, b) => {
-            emit_expr(code, a, None, free)?;
-            let second = above(a, free)?;
-            emit_expr(code, b, None, second)?;
-            let left = operand(a, free)?;
-            let right = operand(b, second)?;
-            let instr = make_instr(*m, *p, left, right)?;
-            put(code, instr)
-        }
+        Stmt::Make(m, p, a, b) => emit_make(code, *m, *p, a, b, free),
         Stmt::Wait(d, e, g) => {
-            let total = register(*d)?;
-            let status = register(*e)?;
+            let total = written(*d, free)?;
+            let status = written(*e, free)?;
             put(code, Instr::Wait(total, status, *g))
         }
         Stmt::Cancel(g) => put(code, Instr::Cancel(*g)),
-        Stmt::Read(d, q) => {
-            let to = register(*d)?;
-            put(code, read_instr(to, *q))
-        }
+        Stmt::Read(d, q) => put(code, read_instr(register(*d)?, *q)),
         Stmt::Store(k, e) => {
             emit_expr(code, e, None, free)?;
-            let from = operand(e, free)?;
-            put(code, Instr::Store(*k, from))
+            put(code, Instr::Store(*k, operand(e, free)?))
         }
     }
 }

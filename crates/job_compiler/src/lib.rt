@@ -4,6 +4,7 @@
 mod checks;
 mod emit;
 mod errors;
+mod labels;
 mod laws;
 mod sizes;
 #[cfg(test)]

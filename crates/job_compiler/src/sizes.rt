@@ -1,10 +1,10 @@
 // How many instructions there will be.
-ghost use Rattle.std.specs.Prelude.{◌≡◌, ◌+◌, length, IfOk};
-ghost use Rattle.job_compiler.specs.Code.{operand, above, operand_code, test_size, stmt_size};
+ghost use Rattle.std.specs.Prelude.{◌≡◌, ◌+◌, ℕ, length, IfOk};
+ghost use Rattle.job_compiler.specs.Code.{op_code, operand, above, operand_code, test_size, stmt_size};
 ghost use Rattle.job_compiler.specs.Wanted.{wanted_code};
 
 use crate::errors::CompileError;
-use source_language::{Expr, Stmt, Test};
+use source_language::{Expr, Operator, Stmt, Test};
 
 /// A sum of two sizes.
 pub(crate) fn sum(a: usize, b: usize) -> Result<usize, CompileError>
@@ -31,6 +31,16 @@ pub(crate) fn above(e: &Expr, free: u8) -> Result<u8, CompileError>
     }
 }
 
+// How many instructions an operator has.
+fn op_size(op: Operator) -> usize
+    ensures { (d a b t : ℕ) → result ≡ length (op_code op d a b t) }
+{
+    match op {
+        Operator::Remainder => 3,
+        _ => 1,
+    }
+}
+
 /// The size of an expression's code: as an operand, or with a register to be written.
 pub(crate) fn expr_size(e: &Expr, into: Option<u8>, free: u8) -> Result<usize, CompileError>
     ensures { IfOk result (λ n. n ≡ length (wanted_code e.now into free)) }
@@ -43,12 +53,12 @@ pub(crate) fn expr_size(e: &Expr, into: Option<u8>, free: u8) -> Result<usize, C
         },
         Expr::Slot => Ok(1),
         Expr::Width => Ok(1),
-        Expr::Two(_, a, b) => {
+        Expr::Two(op, a, b) => {
             let first = expr_size(a, None, free)?;
             let next = above(a, free)?;
             let second = expr_size(b, None, next)?;
             let both = sum(first, second)?;
-            sum(both, 1)
+            sum(both, op_size(*op))
         }
     }
 }
@@ -76,11 +86,15 @@ pub(crate) fn stmt_size(s: &Stmt, free: u8) -> Result<usize, CompileError>
             sum(sum(before, 1)?, stmt_size(b, free)?)
         }
         Stmt::Loop(c, b, s) => {
-            let before = sum(test_size(c, false, free)?, stmt_size(b, free)?)?;
-            sum(sum(before, stmt_size(s, free)?)?, 1)
+            let parts = sum(stmt_size(b, free)?, stmt_size(s, free)?)?;
+            sum(1, sum(parts, test_size(c, true, free)?)?)
         }
-        Stmt::Break => Ok(1),
-        Stmt::Continue => Ok(1),
+        Stmt::Repeat(c, b, s) => {
+            let parts = sum(stmt_size(b, free)?, stmt_size(s, free)?)?;
+            sum(parts, test_size(c, true, free)?)
+        }
+        Stmt::Break(_) => Ok(1),
+        Stmt::Continue(_) => Ok(1),
         Stmt::Return(e) => sum(expr_size(e, None, free)?, 1),
         Stmt::Make(_, _, a, b) => {
             let first = expr_size(a, None, free)?;

@@ -34,9 +34,9 @@ fn count(alloc: Global, function: &Function) -> Result<usize, CompileError> {
 }
 
 #[test]
-fn a_loop_has_ten_instructions(rt: HostRuntime) -> Result<(), Fail> {
+fn a_loop_has_eleven_instructions(rt: HostRuntime) -> Result<(), Fail> {
     let function = summed(rt.alloc())?;
-    assert_eq!(rt; count(rt.alloc(), &function), Ok(10));
+    assert_eq!(rt; count(rt.alloc(), &function), Ok(11));
     Ok(())
 }
 

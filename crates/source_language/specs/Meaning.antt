@@ -1,9 +1,9 @@
 -- What a function of the source language does: a machine over its variables and what is left to be done, which stops at each shared operation.
-use Rattle.std.specs.Prelude.{ℕ, zero, suc, ◌-◌, ℤ, pos, int_lt, Bool, true, false, not, if◌then◌else◌, List, [], ◌∷◌, slice_index_or, slice_set, replicate, Option, Some, None}
+use Rattle.std.specs.Prelude.{ℕ, zero, suc, ◌-◌, ℤ, pos, int_lt, int_rem, Bool, true, false, not, if◌then◌else◌, List, [], ◌∷◌, slice_index_or, slice_set, replicate, Option, Some, None}
 use Rattle.std.specs.Int.{int_wrapping_add, int_wrapping_sub, int_wrapping_mul, int_wrapping_div, w64}
 use Rattle.std.specs.Option.{option_map}
 use Rattle.source_language.specs.declared.syntax.Operator.{Operator}
-use Rattle.source_language.specs.declared.syntax.Operator.TheVariants.{Plus, Minus, Times, Over, Below}
+use Rattle.source_language.specs.declared.syntax.Operator.TheVariants.{Plus, Minus, Times, Over, Remainder, Below}
 use Rattle.source_language.specs.declared.syntax.Expr.{Expr}
 use Rattle.source_language.specs.declared.syntax.Expr.TheVariants.{Number, Variable, Slot, Width, Two'}
 use Rattle.source_language.specs.declared.syntax.Test.{Test}
@@ -13,7 +13,7 @@ use Rattle.source_language.specs.declared.syntax.Maker.TheVariants.{Spawn, Post,
 use Rattle.source_language.specs.declared.syntax.Question.{Question}
 use Rattle.source_language.specs.declared.syntax.Question.TheVariants.{Cancelled, Cell, CellSum, CellCount}
 use Rattle.source_language.specs.declared.syntax.Stmt.{Stmt}
-use Rattle.source_language.specs.declared.syntax.Stmt.TheVariants.{Skip, Then', Assign, If', Loop', Break, Continue, Return, Make, Wait, Cancel, Read, Store}
+use Rattle.source_language.specs.declared.syntax.Stmt.TheVariants.{Skip, Then', Assign, If', Loop', Repeat', Break, Continue, Return, Make, Wait, Cancel, Read, Store}
 use Rattle.source_language.specs.declared.syntax.Function.{Function}
 
 abbrev pub is_nought : ℤ → Bool
@@ -27,6 +27,7 @@ result_of Plus x y = Some (int_wrapping_add w64 x y)
 result_of Minus x y = Some (int_wrapping_sub w64 x y)
 result_of Times x y = Some (int_wrapping_mul w64 x y)
 result_of Over x y = if is_nought y then None else Some (int_wrapping_div w64 x y)
+result_of Remainder x y = if is_nought y then None else Some (int_rem x y)
 result_of Below x y = Some (if int_lt x y then pos 1 else pos 0)
 
 abbrev pub on_both : (ℤ → ℤ → Option ℤ) → Option ℤ → Option ℤ → Option ℤ
@@ -89,19 +90,21 @@ pub data Act : Type 0 where
   Divides : Act
   Does : Operation → Act
 
--- the innermost loop's next turn, or the end
-abbrev pub next_turn : List Todo → List Todo
-next_turn [] = []
-next_turn (Do s ∷ todo) = next_turn todo
-next_turn (Turn c b s ∷ todo) = next_turn todo
-next_turn (Next c b s ∷ todo) = Next c b s ∷ todo
+-- the next turn of the loop around k others, or the end
+abbrev pub next_turn : List Todo → (k : ℕ) → List Todo
+next_turn [] k = []
+next_turn (Do s ∷ todo) k = next_turn todo k
+next_turn (Turn c b s ∷ todo) k = next_turn todo k
+next_turn (Next c b s ∷ todo) zero = Next c b s ∷ todo
+next_turn (Next c b s ∷ todo) (suc k) = next_turn todo k
 
--- what follows the innermost loop
-abbrev pub past_loop : List Todo → List Todo
-past_loop [] = []
-past_loop (Do s ∷ todo) = past_loop todo
-past_loop (Turn c b s ∷ todo) = past_loop todo
-past_loop (Next c b s ∷ todo) = todo
+-- what follows the loop around k others
+abbrev pub past_loop : List Todo → (k : ℕ) → List Todo
+past_loop [] k = []
+past_loop (Do s ∷ todo) k = past_loop todo k
+past_loop (Turn c b s ∷ todo) k = past_loop todo k
+past_loop (Next c b s ∷ todo) zero = todo
+past_loop (Next c b s ∷ todo) (suc k) = past_loop todo k
 
 abbrev pub with_value : Option ℤ → (ℤ → Act) → Act
 with_value None next = Divides
@@ -133,8 +136,9 @@ act_of (Then' p a q b) slot width vars rest = goes vars (Do a ∷ Do b ∷ rest)
 act_of (Assign x e) slot width vars rest = with_value (value_of e slot width vars) (λ v. goes (slice_set vars x v) rest)
 act_of (If' c p a q b) slot width vars rest = with_test (test_of c slot width vars) (goes vars (Do a ∷ rest)) (goes vars (Do b ∷ rest))
 act_of (Loop' c p b q s) slot width vars rest = goes vars (Turn c b s ∷ rest)
-act_of Break slot width vars rest = goes vars (past_loop rest)
-act_of Continue slot width vars rest = goes vars (next_turn rest)
+act_of (Repeat' c p b q s) slot width vars rest = goes vars (Do b ∷ Next c b s ∷ rest)
+act_of (Break k) slot width vars rest = goes vars (past_loop rest k)
+act_of (Continue k) slot width vars rest = goes vars (next_turn rest k)
 act_of (Return e) slot width vars rest = with_value (value_of e slot width vars) (λ v. Does (Returns v))
 act_of (Make m p a b) slot width vars rest = with_value (value_of a slot width vars) (λ x. with_value (value_of b slot width vars) (λ y. Does (made_by m p x y)))
 act_of (Wait d e g) slot width vars rest = Does (Waits g)
@@ -152,10 +156,15 @@ act_on slot width vars (Next c b s ∷ rest) = goes vars (Do s ∷ Turn c b s �
 abbrev pub act : (slot width : ℕ) → Point → Act
 act slot width p = act_on slot width p.vars p.todo
 
+-- the variables after a number was given to one of them, or to none
+abbrev pub put_into : Option ℕ → ℤ → List ℤ → List ℤ
+put_into None v vars = vars
+put_into (Some d) v vars = slice_set vars d v
+
 -- the variables after an operation that was answered by two numbers, of which most use one or none
 abbrev pub vars_answered : Stmt → ℤ → ℤ → List ℤ → List ℤ
 vars_answered (Make (Isolate d) p a b) x y vars = slice_set vars d x
-vars_answered (Wait d e g) x y vars = slice_set (slice_set vars d x) e y
+vars_answered (Wait d e g) x y vars = put_into e y (put_into d x vars)
 vars_answered (Read d q) x y vars = slice_set vars d x
 vars_answered s x y vars = vars
 

@@ -1,13 +1,15 @@
 // The syntax tree of a function: variables, groups and procedures are numbers.
 use job_language::{Group, Key};
 
-/// An operator between two numbers.
+/// An operator between two numbers of 64 bits, which wraps. Division rounds toward zero, and a remainder
+/// has the sign of the dividend. `Below` gives 1 or 0.
 #[derive(Clone, Copy, Debug, PartialEq, Eq)]
 pub enum Operator {
     Plus,
     Minus,
     Times,
     Over,
+    Remainder,
     Below,
 }
 
@@ -60,13 +62,18 @@ pub enum Stmt {
     If(Test, Box<Stmt>, Box<Stmt>),
     /// While the condition holds, the body and then the step. `continue` goes on at the step.
     Loop(Test, Box<Stmt>, Box<Stmt>),
-    Break,
-    Continue,
+    /// The body and then the step, and this again as long as the condition then holds.
+    Repeat(Test, Box<Stmt>, Box<Stmt>),
+    /// Leaves the innermost loop, and as many more as it says. With fewer around it, the function ends.
+    Break(u8),
+    /// Leaves as many loops as it says, and goes on at the step of the next one.
+    Continue(u8),
     Return(Expr),
     /// Makes a row of a procedure with two numbers.
     Make(Maker, u8, Expr, Expr),
-    /// Waits for a group; its total goes to the first variable, and then its status to the second one.
-    Wait(u8, u8, Group),
+    /// Waits for a group. Its total goes to the first variable, and then its status to the second one,
+    /// if there is one.
+    Wait(Option<u8>, Option<u8>, Group),
     Cancel(Group),
     Read(u8, Question),
     Store(Key, Expr),
