@@ -124,3 +124,9 @@ emitted_function f end r1 r2 n0 c1 c2 c3 en ee e1 er1 e2 er2 e3 =
     let f2 : c2 ≡ c1 ++ ins.Set 0 (pos 0) ∷ [] = e2 ∙ ap (λ r. c1 ++ ins.Set r (pos 0) ∷ []) er1 in
     let f3 : c3 ≡ c2 ++ ins.Ret 0 ∷ [] = e3 ∙ ap (λ r. c2 ++ ins.Ret r ∷ []) er2 in
     two_parts c1 c2 c3 (ins.Set 0 (pos 0) ∷ []) (ins.Ret 0 ∷ []) f2 f3 ∙ ap (λ l. l ++ (ins.Set 0 (pos 0) ∷ ins.Ret 0 ∷ [])) f1
+
+pub function_length : (f : Function) → length (function_code f) ≡ stmt_size f.body f.variables + 2
+function_length f =
+    let end = stmt_size f.body f.variables in
+    let code = stmt_code f.body f.variables 0 [] end in
+    omega (arith, length-append code (ins.Set 0 (pos 0) ∷ ins.Ret 0 ∷ []), stmt_length f.body f.variables 0 [] end)

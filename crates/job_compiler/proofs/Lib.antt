@@ -8,5 +8,6 @@ pub mod Events
 pub mod Start
 pub mod RunsFollow
 pub mod Colours
+pub mod FewRegisters
 pub mod Emitted
 pub mod WorkedProofs

@@ -6,4 +6,5 @@ pub mod Compiled
 pub mod Runs
 pub mod Wanted
 pub mod Colours
+pub mod Registers
 pub mod Worked

@@ -1,14 +1,15 @@
-// What a function must meet before it is compiled, and a list of instructions after.
-ghost use Rattle.std.specs.Prelude.{IsTrue, ◌≡◌, ◌≤◌, length};
+// What a function must meet before it is compiled, and a list of instructions afterwards.
+ghost use Rattle.std.specs.Prelude.{IsTrue, ◌≡◌, ◌≤◌, ◌↔◌, length};
 ghost use Rattle.job_language.specs.Program.{IsInRange, IsValidProc};
+ghost use Rattle.job_compiler.specs.Compiled.{IsFunction};
 ghost use Rattle.job_compiler.specs.Within.{IsWithin, IsTestWithin, IsStmtWithin, IsMakerWithin, IsOneWithin};
 
 use job_language::{Instr, MAX_INSTRS};
-use source_language::{Expr, Maker, Stmt, Test};
+use source_language::{Expr, Function, Maker, Stmt, Test};
 
 /// Whether the variables of an expression are below a number.
 pub(crate) fn expr_within(n: u8, e: &Expr) -> bool
-    ensures { IsTrue result → IsWithin n e.now }
+    ensures { IsTrue result ↔ IsWithin n e.now }
 {
     match e {
         Expr::Number(z) => {
@@ -23,7 +24,7 @@ pub(crate) fn expr_within(n: u8, e: &Expr) -> bool
 }
 
 pub(crate) fn test_within(n: u8, c: &Test) -> bool
-    ensures { IsTrue result → IsTestWithin n c.now }
+    ensures { IsTrue result ↔ IsTestWithin n c.now }
 {
     match c {
         Test::Holds(e) => expr_within(n, e),
@@ -34,7 +35,7 @@ pub(crate) fn test_within(n: u8, c: &Test) -> bool
 }
 
 fn maker_within(n: u8, m: Maker) -> bool
-    ensures { IsTrue result → IsMakerWithin n m }
+    ensures { IsTrue result ↔ IsMakerWithin n m }
 {
     match m {
         Maker::Isolate(d) => d < n,
@@ -44,7 +45,7 @@ fn maker_within(n: u8, m: Maker) -> bool
 }
 
 fn one_within(n: u8, into: Option<u8>) -> bool
-    ensures { IsTrue result → IsOneWithin n into }
+    ensures { IsTrue result ↔ IsOneWithin n into }
 {
     match into {
         Some(d) => d < n,
@@ -53,7 +54,7 @@ fn one_within(n: u8, into: Option<u8>) -> bool
 }
 
 pub(crate) fn stmt_within(n: u8, s: &Stmt) -> bool
-    ensures { IsTrue result → IsStmtWithin n s.now }
+    ensures { IsTrue result ↔ IsStmtWithin n s.now }
 {
     match s {
         Stmt::Skip => true,
@@ -73,9 +74,16 @@ pub(crate) fn stmt_within(n: u8, s: &Stmt) -> bool
     }
 }
 
+/// Whether a function has its two parameters, and names only variables that it has.
+pub(crate) fn is_function(function: &Function) -> bool
+    ensures { IsTrue result ↔ IsFunction function.now }
+{
+    function.variables >= 2 && stmt_within(function.variables, &function.body)
+}
+
 /// Whether an instruction is one of a procedure of that many instructions.
 fn is_in_range(len: usize, instr: &Instr) -> bool
-    ensures { IsTrue result → IsInRange len instr.now }
+    ensures { IsTrue result ↔ IsInRange len instr.now }
 {
     match *instr {
         Instr::Set(d, n) => {
@@ -165,7 +173,7 @@ fn is_in_range(len: usize, instr: &Instr) -> bool
 
 /// Whether instructions make a procedure.
 pub(crate) fn is_valid_proc(instrs: &[Instr]) -> bool
-    ensures { IsTrue result → IsValidProc instrs.now }
+    ensures { IsTrue result ↔ IsValidProc instrs.now }
 {
     let len = instrs.len();
     if len == 0 {

@@ -1,55 +1,96 @@
 // The code of a function.
-ghost use Rattle.std.specs.Prelude.{◌≡◌, ◌+◌, ℕ, [], ◌∷◌, ◌++◌, length, false, Some, None, IfOk, OnOk, if◌then◌else◌};
+ghost use Rattle.std.specs.Prelude.{◌≡◌, ◌↔◌, ◌⊎◌, Err, ◌+◌, ℕ, [], ◌∷◌, ◌++◌, length, false, Some, None, IfOk, OnOk, if◌then◌else◌};
 ghost use Rattle.job_compiler.specs.Code.{op_code, operand, register_for, make_code, make_instr, read_instr, jump_instrs, test_size, test_code, stmt_size, stmt_code, function_code};
 ghost use Rattle.job_language.specs.declared.instructions.Instr.TheVariants.{Jmp};
-ghost use Rattle.job_compiler.specs.Compiled.{IsCompiled};
+ghost use Rattle.job_compiler.specs.Compiled.{IsCompiled, IsFunction};
+ghost use Rattle.job_compiler.specs.Registers.{UsesFewRegisters};
+ghost use Rattle.job_language.specs.Program.{IsValidProc};
 ghost use Rattle.job_compiler.specs.Wanted.{wanted_code};
 
-use crate::checks::{is_valid_proc, stmt_within};
-use crate::errors::CompileError;
+use crate::checks::{is_function, is_valid_proc};
+use crate::errors::{CompileError, Unfinished};
 use crate::labels::{Label, after_of, if_labels, inside, loop_labels, next_of, place};
+use crate::registers::stmt_low;
 use crate::sizes::{above, expr_size, stmt_size, sum, test_size};
-use job_language::{Instr, Proc, Register};
+use job_language::{Instr, MAX_INSTRS, Proc, Register};
 use source_language::{Expr, Function, Maker, Operator, Question, Stmt, Test};
 use std::alloc::Global;
 
 /// The procedure of a function. Wherever it stands in a program, a new frame of it does the same as
 /// the function: the same shared operations, with the same numbers, in the same order.
+///
+/// A function is refused by what it is, in this order: it is none (`NoFunction`), it needs too many
+/// registers, or too many instructions. An error other than these is one of memory.
 pub fn compile_function(alloc: Global, function: &Function) -> Result<Proc, CompileError>
     ensures code { IfOk result (λ proc. proc ≡ function_code function.now) }
     ensures compiled { IfOk result (IsCompiled function.now) }
+    ensures no_function { (result ≡ Err CompileError.NoFunction) ↔ (¬ IsFunction function.now) }
+    ensures registers { (result ≡ Err CompileError.TooManyRegisters)
+        ↔ (IsFunction function.now × (¬ UsesFewRegisters function.now)) }
+    ensures too_long { result ≡ Err CompileError.TooLong
+        → IsFunction function.now × UsesFewRegisters function.now }
+    ensures refused { (result ≡ Err CompileError.TooManyRegisters) ⊎ (result ≡ Err CompileError.TooLong)
+        → (¬ IsValidProc (function_code function.now)) }
 {
-    let free = function.variables;
-    if free < 2 || !stmt_within(free, &function.body) {
+    if !is_function(function) {
         return Err(CompileError::NoFunction);
     }
-    let end = stmt_size(&function.body, free)?;
-    let mut code = Vec::new(alloc);
-    emit_stmt(alloc, &mut code, &function.body, free, &[], end)?;
-    put(&mut code, Instr::Set(register(0)?, 0))?;
-    put(&mut code, Instr::Ret(register(0)?))?;
-    if !is_valid_proc(&code) {
+    if !stmt_low(&function.body, function.variables) {
+        return Err(CompileError::TooManyRegisters);
+    }
+    let Ok(end) = stmt_size(&function.body, function.variables) else {
+        return Err(CompileError::NoMemory);
+    };
+    if end > MAX_INSTRS - 2 {
         return Err(CompileError::TooLong);
     }
-    Ok(Proc::new(code))
+    match emit_function(alloc, function, end) {
+        Ok(code) => {
+            if is_valid_proc(&code) {
+                Ok(Proc::new(code))
+            } else {
+                Err(CompileError::TooLong)
+            }
+        }
+        Err(Unfinished) => Err(CompileError::NoMemory),
+    }
 }
 
-fn register(number: u8) -> Result<Register, CompileError>
+// The code of a function whose body has that many instructions.
+fn emit_function(alloc: Global, function: &Function, end: usize) -> Result<Vec<Instr>, Unfinished>
+    requires { end ≡ stmt_size function.now.body function.now.variables }
+    ensures { IfOk result (λ code. code.items ≡ function_code function.now) }
+{
+    let mut code = Vec::new(alloc);
+    emit_stmt(
+        alloc,
+        &mut code,
+        &function.body,
+        function.variables,
+        &[],
+        end,
+    )?;
+    put(&mut code, Instr::Set(register(0)?, 0))?;
+    put(&mut code, Instr::Ret(register(0)?))?;
+    Ok(code)
+}
+
+fn register(number: u8) -> Result<Register, Unfinished>
     ensures { IfOk result (λ r. r ≡ number) }
 {
     match Register::new(u64::from(number)) {
         Some(register) => Ok(register),
-        None => Err(CompileError::TooManyRegisters),
+        None => Err(Unfinished),
     }
 }
 
 // One more instruction.
-fn put(code: &mut Vec<Instr>, instr: Instr) -> Result<(), CompileError>
+fn put(code: &mut Vec<Instr>, instr: Instr) -> Result<(), Unfinished>
     ensures { OnOk result (code.new.items ≡ code.old.items ++ instr ∷ []) }
 {
     match code.push(instr) {
         Ok(()) => Ok(()),
-        Err(_) => Err(CompileError::NoMemory),
+        Err(_) => Err(Unfinished),
     }
 }
 
@@ -59,7 +100,7 @@ fn emit_op(
     op: Operator,
     registers: (Register, Register, Register),
     free: u8,
-) -> Result<(), CompileError>
+) -> Result<(), Unfinished>
     ensures { OnOk result (code.new.items ≡ code.old.items
         ++ op_code op registers.0 registers.1 registers.2 free) }
 {
@@ -79,7 +120,7 @@ fn emit_op(
     }
 }
 
-fn make_instr(m: Maker, p: u8, a: Register, b: Register) -> Result<Instr, CompileError>
+fn make_instr(m: Maker, p: u8, a: Register, b: Register) -> Result<Instr, Unfinished>
     ensures { IfOk result (λ i. i ≡ make_instr m p a b) }
 {
     match m {
@@ -101,7 +142,7 @@ fn read_instr(d: Register, q: Question) -> Instr
 }
 
 /// The register of an operand.
-fn operand(e: &Expr, free: u8) -> Result<Register, CompileError>
+fn operand(e: &Expr, free: u8) -> Result<Register, Unfinished>
     ensures { IfOk result (λ r. r ≡ operand e.now free) }
 {
     match e {
@@ -111,7 +152,7 @@ fn operand(e: &Expr, free: u8) -> Result<Register, CompileError>
 }
 
 /// The register that is written, if one is asked for, and else the first free one.
-fn written(into: Option<u8>, free: u8) -> Result<Register, CompileError>
+fn written(into: Option<u8>, free: u8) -> Result<Register, Unfinished>
     ensures { IfOk result (λ r. r ≡ register_for into free) }
 {
     match into {
@@ -120,12 +161,7 @@ fn written(into: Option<u8>, free: u8) -> Result<Register, CompileError>
     }
 }
 
-fn emit_expr(
-    code: &mut Vec<Instr>,
-    e: &Expr,
-    into: Option<u8>,
-    free: u8,
-) -> Result<(), CompileError>
+fn emit_expr(code: &mut Vec<Instr>, e: &Expr, into: Option<u8>, free: u8) -> Result<(), Unfinished>
     ensures { OnOk result (code.new.items ≡ code.old.items ++ wanted_code e.now into free) }
 {
     match e {
@@ -169,7 +205,7 @@ fn emit_test(
     want: bool,
     to: usize,
     free: u8,
-) -> Result<(), CompileError>
+) -> Result<(), Unfinished>
     ensures { OnOk result (code.new.items ≡ code.old.items
         ++ test_code c.now want to free (length code.old.items)) }
 {
@@ -206,7 +242,7 @@ fn emit_jump(
     want: bool,
     register: Register,
     to: usize,
-) -> Result<(), CompileError>
+) -> Result<(), Unfinished>
     ensures { OnOk result (code.new.items ≡ code.old.items
         ++ jump_instrs want register to (length code.old.items)) }
 {
@@ -223,7 +259,7 @@ fn emit_jump(
 }
 
 // A jump.
-fn put_jump(code: &mut Vec<Instr>, to: usize) -> Result<(), CompileError>
+fn put_jump(code: &mut Vec<Instr>, to: usize) -> Result<(), Unfinished>
     ensures { OnOk result (code.new.items ≡ code.old.items ++ Jmp to ∷ []) }
 {
     let target = place(to)?;
@@ -238,7 +274,7 @@ fn emit_make(
     a: &Expr,
     b: &Expr,
     free: u8,
-) -> Result<(), CompileError>
+) -> Result<(), Unfinished>
     ensures { OnOk result (code.new.items ≡ code.old.items ++ make_code m p a.now b.now free) }
 {
     emit_expr(code, a, None, free)?;
@@ -257,7 +293,7 @@ fn emit_stmt(
     free: u8,
     labels: &[Label],
     end: usize,
-) -> Result<(), CompileError>
+) -> Result<(), Unfinished>
     ensures { OnOk result (code.new.items ≡ code.old.items
         ++ stmt_code s.now free (length code.old.items) labels.now end) }
 {

@@ -2,7 +2,7 @@
 ghost use Rattle.std.specs.Prelude.{◌≡◌, ◌+◌, ◌∷◌, false, true, IfOk, slice_get};
 ghost use Rattle.job_compiler.specs.Code.{test_size, stmt_size, loop_test, loop_end, after_of, next_of};
 
-use crate::errors::CompileError;
+use crate::errors::Unfinished;
 use crate::sizes::{stmt_size, sum, test_size};
 use source_language::{Stmt, Test};
 use std::alloc::Global;
@@ -15,11 +15,11 @@ pub(crate) struct Label {
 }
 
 /// A place to jump to.
-pub(crate) fn place(at: usize) -> Result<u8, CompileError>
+pub(crate) fn place(at: usize) -> Result<u8, Unfinished>
     ensures { IfOk result (λ t. t ≡ at) }
 {
     if at > 255 {
-        return Err(CompileError::TooLong);
+        return Err(Unfinished);
     }
     Ok(at as u8)
 }
@@ -49,16 +49,16 @@ pub(crate) fn inside(
     alloc: Global,
     label: Label,
     labels: &[Label],
-) -> Result<Vec<Label>, CompileError>
+) -> Result<Vec<Label>, Unfinished>
     ensures { IfOk result (λ all. all.items ≡ label ∷ labels.now) }
 {
     let mut all = Vec::new(alloc);
     if all.push(label).is_err() {
-        return Err(CompileError::NoMemory);
+        return Err(Unfinished);
     }
     match all.extend_from_slice(labels) {
         Ok(()) => Ok(all),
-        Err(_) => Err(CompileError::NoMemory),
+        Err(_) => Err(Unfinished),
     }
 }
 
@@ -76,7 +76,7 @@ pub(crate) fn if_labels(
     a: &Stmt,
     b: &Stmt,
     free: u8,
-) -> Result<IfLabels, CompileError>
+) -> Result<IfLabels, Unfinished>
     ensures { IfOk result (λ l. (l.other ≡ at + test_size c.now false free + stmt_size a.now free + 1)
         × (l.after ≡ l.other + stmt_size b.now free)) }
 {
@@ -106,7 +106,7 @@ pub(crate) fn loop_labels(
     b: &Stmt,
     s: &Stmt,
     free: u8,
-) -> Result<LoopLabels, CompileError>
+) -> Result<LoopLabels, Unfinished>
     ensures { IfOk result (λ l. (l.body ≡ at)
         × (l.test ≡ loop_test b.now s.now free at)
         × (l.label.next ≡ at + stmt_size b.now free)

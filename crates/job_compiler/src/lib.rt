@@ -6,6 +6,7 @@ mod emit;
 mod errors;
 mod labels;
 mod laws;
+mod registers;
 mod sizes;
 #[cfg(test)]
 mod tests;

@@ -3,28 +3,28 @@ ghost use Rattle.std.specs.Prelude.{◌≡◌, ◌+◌, ℕ, length, IfOk};
 ghost use Rattle.job_compiler.specs.Code.{op_code, operand, above, operand_code, test_size, stmt_size};
 ghost use Rattle.job_compiler.specs.Wanted.{wanted_code};
 
-use crate::errors::CompileError;
+use crate::errors::Unfinished;
 use source_language::{Expr, Operator, Stmt, Test};
 
 /// A sum of two sizes.
-pub(crate) fn sum(a: usize, b: usize) -> Result<usize, CompileError>
+pub(crate) fn sum(a: usize, b: usize) -> Result<usize, Unfinished>
     ensures { IfOk result (λ n. n ≡ a + b) }
 {
     match a.checked_add(b) {
         Some(n) => Ok(n),
-        None => Err(CompileError::TooLong),
+        None => Err(Unfinished),
     }
 }
 
 /// The first free register beside an operand.
-pub(crate) fn above(e: &Expr, free: u8) -> Result<u8, CompileError>
+pub(crate) fn above(e: &Expr, free: u8) -> Result<u8, Unfinished>
     ensures { IfOk result (λ r. r ≡ above e.now free) }
 {
     match e {
         Expr::Variable(_) => Ok(free),
         _ => {
             if free >= 8 {
-                return Err(CompileError::TooManyRegisters);
+                return Err(Unfinished);
             }
             Ok(free + 1)
         }
@@ -42,7 +42,7 @@ fn op_size(op: Operator) -> usize
 }
 
 /// The size of an expression's code: as an operand, or with a register to be written.
-pub(crate) fn expr_size(e: &Expr, into: Option<u8>, free: u8) -> Result<usize, CompileError>
+pub(crate) fn expr_size(e: &Expr, into: Option<u8>, free: u8) -> Result<usize, Unfinished>
     ensures { IfOk result (λ n. n ≡ length (wanted_code e.now into free)) }
 {
     match e {
@@ -63,7 +63,7 @@ pub(crate) fn expr_size(e: &Expr, into: Option<u8>, free: u8) -> Result<usize, C
     }
 }
 
-pub(crate) fn test_size(c: &Test, want: bool, free: u8) -> Result<usize, CompileError>
+pub(crate) fn test_size(c: &Test, want: bool, free: u8) -> Result<usize, Unfinished>
     ensures { IfOk result (λ n. n ≡ test_size c.now want free) }
 {
     match c {
@@ -74,7 +74,7 @@ pub(crate) fn test_size(c: &Test, want: bool, free: u8) -> Result<usize, Compile
     }
 }
 
-pub(crate) fn stmt_size(s: &Stmt, free: u8) -> Result<usize, CompileError>
+pub(crate) fn stmt_size(s: &Stmt, free: u8) -> Result<usize, Unfinished>
     ensures { IfOk result (λ n. n ≡ stmt_size s.now free) }
 {
     match s {
