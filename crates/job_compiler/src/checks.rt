@@ -1,10 +1,10 @@
 // What a function must meet before it is compiled, and a list of instructions afterwards.
-ghost use Rattle.std.specs.Prelude.{IsTrue, ◌≡◌, ◌≤◌, ◌↔◌, length};
+ghost use Rattle.std.specs.Prelude.{IsTrue, ◌≡◌, ◌<◌, ◌≤◌, ◌↔◌, length};
 ghost use Rattle.job_language.specs.Program.{IsInRange, IsValidProc};
 ghost use Rattle.job_compiler.specs.Compiled.{IsFunction};
 ghost use Rattle.job_compiler.specs.Within.{IsWithin, IsTestWithin, IsStmtWithin, IsMakerWithin, IsOneWithin};
 
-use job_language::{Instr, MAX_INSTRS};
+use job_language::{GROUPS, Instr, KEYS, MAX_INSTRS, REGISTERS, Register};
 use source_language::{Expr, Function, Maker, Stmt, Test};
 
 /// Whether the variables of an expression are below a number.
@@ -81,6 +81,25 @@ pub(crate) fn is_function(function: &Function) -> bool
     function.variables >= 2 && stmt_within(function.variables, &function.body)
 }
 
+// Each register is one: what this brings is that its number is low.
+fn one(a: Register) -> bool
+    ensures { IsTrue result × (a < REGISTERS) }
+{
+    a.index() < REGISTERS
+}
+
+fn two(a: Register, b: Register) -> bool
+    ensures { IsTrue result × (a < REGISTERS) × (b < REGISTERS) }
+{
+    one(a) && one(b)
+}
+
+fn three(d: Register, a: Register, b: Register) -> bool
+    ensures { IsTrue result × (d < REGISTERS) × (a < REGISTERS) × (b < REGISTERS) }
+{
+    one(d) && two(a, b)
+}
+
 /// Whether an instruction is one of a procedure of that many instructions.
 fn is_in_range(len: usize, instr: &Instr) -> bool
     ensures { IsTrue result ↔ IsInRange len instr.now }
@@ -88,86 +107,28 @@ fn is_in_range(len: usize, instr: &Instr) -> bool
     match *instr {
         Instr::Set(d, n) => {
             let _value = n;
-            let _d = d.index();
-            true
+            one(d)
         }
-        Instr::Add(d, a, b) => {
-            let (_d, _a, _b) = (d.index(), a.index(), b.index());
-            true
-        }
-        Instr::Sub(d, a, b) => {
-            let (_d, _a, _b) = (d.index(), a.index(), b.index());
-            true
-        }
-        Instr::Mul(d, a, b) => {
-            let (_d, _a, _b) = (d.index(), a.index(), b.index());
-            true
-        }
-        Instr::Div(d, a, b) => {
-            let (_d, _a, _b) = (d.index(), a.index(), b.index());
-            true
-        }
-        Instr::Lt(d, a, b) => {
-            let (_d, _a, _b) = (d.index(), a.index(), b.index());
-            true
-        }
-        Instr::Jz(a, t) => {
-            let _a = a.index();
-            usize::from(t) < len
-        }
+        Instr::Add(d, a, b) => three(d, a, b),
+        Instr::Sub(d, a, b) => three(d, a, b),
+        Instr::Mul(d, a, b) => three(d, a, b),
+        Instr::Div(d, a, b) => three(d, a, b),
+        Instr::Lt(d, a, b) => three(d, a, b),
+        Instr::Jz(a, t) => one(a) && usize::from(t) < len,
         Instr::Jmp(t) => usize::from(t) < len,
-        Instr::Slot(d) => {
-            let _d = d.index();
-            true
-        }
-        Instr::Width(d) => {
-            let _d = d.index();
-            true
-        }
-        Instr::Spawn(g, _, a, b) => {
-            let (_g, _a, _b) = (g.index(), a.index(), b.index());
-            true
-        }
-        Instr::Post(_, a, b) => {
-            let (_a, _b) = (a.index(), b.index());
-            true
-        }
-        Instr::Wait(d, e, g) => {
-            let (_d, _e, _g) = (d.index(), e.index(), g.index());
-            true
-        }
-        Instr::Cancel(g) => {
-            let _g = g.index();
-            true
-        }
-        Instr::Ask(d) => {
-            let _d = d.index();
-            true
-        }
-        Instr::Isolate(d, _, a, b) => {
-            let (_d, _a, _b) = (d.index(), a.index(), b.index());
-            true
-        }
-        Instr::Load(d, k) => {
-            let (_d, _k) = (d.index(), k.index());
-            true
-        }
-        Instr::Store(k, a) => {
-            let (_k, _a) = (k.index(), a.index());
-            true
-        }
-        Instr::Sum(d, k) => {
-            let (_d, _k) = (d.index(), k.index());
-            true
-        }
-        Instr::Count(d, k) => {
-            let (_d, _k) = (d.index(), k.index());
-            true
-        }
-        Instr::Ret(a) => {
-            let _a = a.index();
-            true
-        }
+        Instr::Slot(d) => one(d),
+        Instr::Width(d) => one(d),
+        Instr::Spawn(g, _, a, b) => g.index() < GROUPS && two(a, b),
+        Instr::Post(_, a, b) => two(a, b),
+        Instr::Wait(d, e, g) => g.index() < GROUPS && two(d, e),
+        Instr::Cancel(g) => g.index() < GROUPS,
+        Instr::Ask(d) => one(d),
+        Instr::Isolate(d, _, a, b) => three(d, a, b),
+        Instr::Load(d, k) => k.index() < KEYS && one(d),
+        Instr::Store(k, a) => k.index() < KEYS && one(a),
+        Instr::Sum(d, k) => k.index() < KEYS && one(d),
+        Instr::Count(d, k) => k.index() < KEYS && one(d),
+        Instr::Ret(a) => one(a),
     }
 }
 

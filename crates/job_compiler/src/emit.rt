@@ -1,7 +1,7 @@
 // The code of a function.
 ghost use Rattle.std.specs.Prelude.{◌≡◌, ◌↔◌, ◌⊎◌, Err, ◌+◌, ℕ, [], ◌∷◌, ◌++◌, length, false, Some, None, IfOk, OnOk, if◌then◌else◌};
-ghost use Rattle.job_compiler.specs.Code.{op_code, operand, register_for, make_code, make_instr, read_instr, jump_instrs, test_size, test_code, stmt_size, stmt_code, function_code};
-ghost use Rattle.job_language.specs.declared.instructions.Instr.TheVariants.{Jmp};
+ghost use Rattle.job_compiler.specs.Code.{op_code, operand, operand_code, register_for, make_code, make_instr, read_instr, jump_instrs, test_size, test_code, stmt_size, stmt_code, function_code};
+ghost use Rattle.job_language.specs.declared.instructions.Instr.TheVariants.{Jmp, Ret, Store, Wait};
 ghost use Rattle.job_compiler.specs.Compiled.{IsCompiled, IsFunction};
 ghost use Rattle.job_compiler.specs.Registers.{UsesFewRegisters};
 ghost use Rattle.job_language.specs.Program.{IsValidProc};
@@ -12,7 +12,7 @@ use crate::errors::{CompileError, Unfinished};
 use crate::labels::{Label, after_of, if_labels, inside, loop_labels, next_of, place};
 use crate::registers::stmt_low;
 use crate::sizes::{above, expr_size, stmt_size, sum, test_size};
-use job_language::{Instr, MAX_INSTRS, Proc, Register};
+use job_language::{Group, Instr, Key, MAX_INSTRS, Proc, Register};
 use source_language::{Expr, Function, Maker, Operator, Question, Stmt, Test};
 use std::alloc::Global;
 
@@ -286,6 +286,38 @@ fn emit_make(
     put(code, instr)
 }
 
+fn emit_return(code: &mut Vec<Instr>, e: &Expr, free: u8) -> Result<(), Unfinished>
+    ensures { OnOk result (code.new.items ≡ code.old.items
+        ++ (operand_code e.now free ++ Ret (operand e.now free) ∷ [])) }
+{
+    emit_expr(code, e, None, free)?;
+    put(code, Instr::Ret(operand(e, free)?))
+}
+
+fn emit_store(code: &mut Vec<Instr>, k: Key, e: &Expr, free: u8) -> Result<(), Unfinished>
+    ensures { OnOk result (code.new.items ≡ code.old.items
+        ++ (operand_code e.now free ++ Store k (operand e.now free) ∷ [])) }
+{
+    emit_expr(code, e, None, free)?;
+    put(code, Instr::Store(k, operand(e, free)?))
+}
+
+// A wait whose total and status go to variables, or to the first free register.
+fn emit_wait(
+    code: &mut Vec<Instr>,
+    d: Option<u8>,
+    e: Option<u8>,
+    g: Group,
+    free: u8,
+) -> Result<(), Unfinished>
+    ensures { OnOk result (code.new.items ≡ code.old.items
+        ++ Wait (register_for d free) (register_for e free) g ∷ []) }
+{
+    let total = written(d, free)?;
+    let status = written(e, free)?;
+    put(code, Instr::Wait(total, status, g))
+}
+
 fn emit_stmt(
     alloc: Global,
     code: &mut Vec<Instr>,
@@ -328,21 +360,11 @@ fn emit_stmt(
         }
         Stmt::Break(loops) => put_jump(code, after_of(labels, *loops, end)),
         Stmt::Continue(loops) => put_jump(code, next_of(labels, *loops, end)),
-        Stmt::Return(e) => {
-            emit_expr(code, e, None, free)?;
-            put(code, Instr::Ret(operand(e, free)?))
-        }
+        Stmt::Return(e) => emit_return(code, e, free),
         Stmt::Make(m, p, a, b) => emit_make(code, *m, *p, a, b, free),
-        Stmt::Wait(d, e, g) => {
-            let total = written(*d, free)?;
-            let status = written(*e, free)?;
-            put(code, Instr::Wait(total, status, *g))
-        }
+        Stmt::Wait(d, e, g) => emit_wait(code, *d, *e, *g, free),
         Stmt::Cancel(g) => put(code, Instr::Cancel(*g)),
         Stmt::Read(d, q) => put(code, read_instr(register(*d)?, *q)),
-        Stmt::Store(k, e) => {
-            emit_expr(code, e, None, free)?;
-            put(code, Instr::Store(*k, operand(e, free)?))
-        }
+        Stmt::Store(k, e) => emit_store(code, *k, e, free),
     }
 }
