@@ -72,15 +72,21 @@ module _ (procs : List (List Instr)) (slot width p size : ℕ) where
   jumps_on_if pc pc1 to end regs t false (Some false) a b = jumps_on pc pc1 to regs t a b
 
   -- the last step of a condition
-  jump : (pc pc1 pc2 r t : ℕ) (regs : List ℤ) (v : ℤ) (b : Brings procs slot width p size pc pc1 regs r t v) → (c : Comes procs slot width p size (at procs slot width p size pc1 b.regs') (at procs slot width p size pc2 b.regs')) → 0 < c.steps → Jumps pc pc2 regs t
+  jump : (pc pc1 pc2 r t : ℕ) (regs : List ℤ) (v : ℤ) (b : Brings procs slot width p size pc pc1 regs r t v)
+      → (c : Comes procs slot width p size (at procs slot width p size pc1 b.regs') (at procs slot width p size pc2 b.regs')) → 0 < c.steps → Jumps pc pc2 regs t
   jump pc pc1 pc2 r t regs v b c some = record { regs' = b.regs'; comes = comes_on procs slot width p size _ _ _ b.comes c; some = omega (arith, some); long = b.long; kept = b.kept }
 
-  holds_runs : (w : Bool) (to r pc pc1 t : ℕ) (regs : List ℤ) (o : Option ℤ) → HasAt procs slot width p size pc1 (jump_instrs w r to pc1) → BringsIf procs slot width p size pc pc1 regs r t o → JumpsIf pc to (pc1 + (if w then 2 else 1)) regs t w (option_map (λ v. not (is_nought v)) o)
+  holds_runs : (w : Bool) (to r pc pc1 t : ℕ) (regs : List ℤ) (o : Option ℤ) → HasAt procs slot width p size pc1 (jump_instrs w r to pc1) → BringsIf procs slot width p size pc pc1 regs r t o
+      → JumpsIf pc to (pc1 + (if w then 2 else 1)) regs t w (option_map (λ v. not (is_nought v)) o)
   holds_runs w to r pc pc1 t regs None has b = b
-  holds_runs false to r pc pc1 t regs (Some (pos zero)) has b = jump pc pc1 to r t regs (pos zero) b (one_step procs slot width p size pc1 b.regs' (instr.Jz r to) (at procs slot width p size to b.regs') has.0 (rw b.value refl)) (omega arith)
-  holds_runs false to r pc pc1 t regs (Some (pos (suc n))) has b = jump pc pc1 (pc1 + 1) r t regs (pos (suc n)) b (one_step procs slot width p size pc1 b.regs' (instr.Jz r to) (at procs slot width p size (pc1 + 1) b.regs') has.0 (rw b.value refl)) (omega arith)
-  holds_runs false to r pc pc1 t regs (Some (negsuc n)) has b = jump pc pc1 (pc1 + 1) r t regs (negsuc n) b (one_step procs slot width p size pc1 b.regs' (instr.Jz r to) (at procs slot width p size (pc1 + 1) b.regs') has.0 (rw b.value refl)) (omega arith)
-  holds_runs true to r pc pc1 t regs (Some (pos zero)) has b = jump pc pc1 (pc1 + 2) r t regs (pos zero) b (one_step procs slot width p size pc1 b.regs' (instr.Jz r (pc1 + 2)) (at procs slot width p size (pc1 + 2) b.regs') has.0 (rw b.value refl)) (omega arith)
+  holds_runs false to r pc pc1 t regs (Some (pos zero)) has b = jump pc pc1 to r t regs (pos zero) b
+      (one_step procs slot width p size pc1 b.regs' (instr.Jz r to) (at procs slot width p size to b.regs') has.0 (rw b.value refl)) (omega arith)
+  holds_runs false to r pc pc1 t regs (Some (pos (suc n))) has b = jump pc pc1 (pc1 + 1) r t regs (pos (suc n)) b
+      (one_step procs slot width p size pc1 b.regs' (instr.Jz r to) (at procs slot width p size (pc1 + 1) b.regs') has.0 (rw b.value refl)) (omega arith)
+  holds_runs false to r pc pc1 t regs (Some (negsuc n)) has b = jump pc pc1 (pc1 + 1) r t regs (negsuc n) b
+      (one_step procs slot width p size pc1 b.regs' (instr.Jz r to) (at procs slot width p size (pc1 + 1) b.regs') has.0 (rw b.value refl)) (omega arith)
+  holds_runs true to r pc pc1 t regs (Some (pos zero)) has b = jump pc pc1 (pc1 + 2) r t regs (pos zero) b
+      (one_step procs slot width p size pc1 b.regs' (instr.Jz r (pc1 + 2)) (at procs slot width p size (pc1 + 2) b.regs') has.0 (rw b.value refl)) (omega arith)
   holds_runs true to r pc pc1 t regs (Some (pos (suc n))) has b =
       jump pc pc1 to r t regs (pos (suc n)) b (comes_on procs slot width p size _ _ _
       (one_step procs slot width p size pc1 b.regs' (instr.Jz r (pc1 + 2)) (at procs slot width p size (pc1 + 1) b.regs') has.0 (rw b.value refl))
@@ -90,13 +96,15 @@ module _ (procs : List (List Instr)) (slot width p size : ℕ) where
       (one_step procs slot width p size pc1 b.regs' (instr.Jz r (pc1 + 2)) (at procs slot width p size (pc1 + 1) b.regs') has.0 (rw b.value refl))
       (one_step procs slot width p size (pc1 + 1) b.regs' (instr.Jmp to) (at procs slot width p size to b.regs') has.1.0 refl)) (omega arith)
 
-  both_run : (w : Bool) (pc m to end : ℕ) (regs : List ℤ) (t : ℕ) (oa ob : Option Bool) → JumpsIf pc (if w then end else to) m regs t false oa → ((regs' : List ℤ) → length regs' ≡ size → AreAllKept t regs regs' → JumpsIf m to end regs' t w ob) → JumpsIf pc to end regs t w (if_true oa ob)
+  both_run : (w : Bool) (pc m to end : ℕ) (regs : List ℤ) (t : ℕ) (oa ob : Option Bool) → JumpsIf pc (if w then end else to) m regs t false oa
+      → ((regs' : List ℤ) → length regs' ≡ size → AreAllKept t regs regs' → JumpsIf m to end regs' t w ob) → JumpsIf pc to end regs t w (if_true oa ob)
   both_run w pc m to end regs t None ob a b = a
   both_run true pc m to end regs t (Some false) ob a b = a
   both_run false pc m to end regs t (Some false) ob a b = a
   both_run w pc m to end regs t (Some true) ob a b = jumps_on_if pc m to end regs t w ob a (b a.regs' a.long a.kept)
 
-  either_runs : (w : Bool) (pc m to end : ℕ) (regs : List ℤ) (t : ℕ) (oa ob : Option Bool) → JumpsIf pc (if w then to else end) m regs t true oa → ((regs' : List ℤ) → length regs' ≡ size → AreAllKept t regs regs' → JumpsIf m to end regs' t w ob) → JumpsIf pc to end regs t w (if_false oa ob)
+  either_runs : (w : Bool) (pc m to end : ℕ) (regs : List ℤ) (t : ℕ) (oa ob : Option Bool) → JumpsIf pc (if w then to else end) m regs t true oa
+      → ((regs' : List ℤ) → length regs' ≡ size → AreAllKept t regs regs' → JumpsIf m to end regs' t w ob) → JumpsIf pc to end regs t w (if_false oa ob)
   either_runs w pc m to end regs t None ob a b = a
   either_runs true pc m to end regs t (Some true) ob a b = a
   either_runs false pc m to end regs t (Some true) ob a b = a
@@ -106,11 +114,14 @@ module _ (procs : List (List Instr)) (slot width p size : ℕ) where
   ends_at pc to end end' regs t w o e j = subst (λ q. JumpsIf pc to q regs t w o) e j
 
   module _ (valid : (k : ℕ) (i : Instr) → slice_get (slice_index_or procs p []) k ≡ Some i → WritesBelow size i) (low_slot : slot < 2 ^ 8) (low_width : width < 2 ^ 8) where
-    pub test_runs : (c : Test) (w : Bool) (n to t pc : ℕ) (vars regs : List ℤ) → IsTestWithin n c → n ≤ t → Agree size n vars regs → HasAt procs slot width p size pc (test_code c w to t pc) → JumpsIf pc to (pc + test_size c w t) regs t w (test_of c slot width vars)
+    pub test_runs : (c : Test) (w : Bool) (n to t pc : ℕ) (vars regs : List ℤ) → IsTestWithin n c → n ≤ t → Agree size n vars regs → HasAt procs slot width p size pc (test_code c w to t pc)
+        → JumpsIf pc to (pc + test_size c w t) regs t w (test_of c slot width vars)
     test_runs (Holds e) w n to t pc vars regs h le agree has =
         let ce = operand_code e t in
         let e1 : pc + length ce + (if w then 2 else 1) ≡ pc + (length ce + (if w then 2 else 1)) = omega arith in
-        ends_at pc to _ _ regs t w (test_of (Holds e) slot width vars) e1 (holds_runs w to (operand e t) pc (pc + length ce) t regs (value_of e slot width vars) (has_back procs slot width p size pc ce _ has) (operand_runs procs slot width p size valid low_slot low_width e n t pc vars regs h le agree (has_front procs slot width p size pc ce _ has)))
+        ends_at pc to _ _ regs t w (test_of (Holds e) slot width vars) e1
+        (holds_runs w to (operand e t) pc (pc + length ce) t regs (value_of e slot width vars) (has_back procs slot width p size pc ce _ has)
+        (operand_runs procs slot width p size valid low_slot low_width e n t pc vars regs h le agree (has_front procs slot width p size pc ce _ has)))
     test_runs (Not' q c) w n to t pc vars regs h le agree has = flipped pc to _ regs t w (test_of c slot width vars) (test_runs c (not w) n to t pc vars regs h le agree has)
     test_runs (Both' q a r b) w n to t pc vars regs h le agree has =
         let m = pc + test_size a false t in

@@ -38,17 +38,24 @@ emitted_then a b t labels ret c0 c1 c2 e1 e2 =
     let l1 : length c1 ≡ length c0 + stmt_size a t = grown c0 c1 _ (stmt_size a t) _ e1 (stmt_length a t (length c0) labels ret) refl in
     two_parts c0 c1 c2 _ _ e1 (e2 ∙ ap (λ k. c1 ++ stmt_code b t k labels ret) l1)
 
-pub emitted_both : (a b : Test) (w : Bool) (to t x : ℕ) (c0 c1 c2 : List Instr) → c1 ≡ c0 ++ test_code a false x t (length c0) → c2 ≡ c1 ++ test_code b w to t (length c1) → c2 ≡ c0 ++ (test_code a false x t (length c0) ++ test_code b w to t (length c0 + test_size a false t))
+pub emitted_both : (a b : Test) (w : Bool) (to t x : ℕ) (c0 c1 c2 : List Instr) → c1 ≡ c0 ++ test_code a false x t (length c0) → c2 ≡ c1 ++ test_code b w to t (length c1)
+    → c2 ≡ c0 ++ (test_code a false x t (length c0) ++ test_code b w to t (length c0 + test_size a false t))
 emitted_both a b w to t x c0 c1 c2 e1 e2 =
     let l1 : length c1 ≡ length c0 + test_size a false t = grown c0 c1 _ (test_size a false t) _ e1 (test_length a false x t (length c0)) refl in
     two_parts c0 c1 c2 _ _ e1 (e2 ∙ ap (λ k. c1 ++ test_code b w to t k) l1)
 
-pub emitted_either : (a b : Test) (w : Bool) (to t x : ℕ) (c0 c1 c2 : List Instr) → c1 ≡ c0 ++ test_code a true x t (length c0) → c2 ≡ c1 ++ test_code b w to t (length c1) → c2 ≡ c0 ++ (test_code a true x t (length c0) ++ test_code b w to t (length c0 + test_size a true t))
+pub emitted_either : (a b : Test) (w : Bool) (to t x : ℕ) (c0 c1 c2 : List Instr) → c1 ≡ c0 ++ test_code a true x t (length c0) → c2 ≡ c1 ++ test_code b w to t (length c1)
+    → c2 ≡ c0 ++ (test_code a true x t (length c0) ++ test_code b w to t (length c0 + test_size a true t))
 emitted_either a b w to t x c0 c1 c2 e1 e2 =
     let l1 : length c1 ≡ length c0 + test_size a true t = grown c0 c1 _ (test_size a true t) _ e1 (test_length a true x t (length c0)) refl in
     two_parts c0 c1 c2 _ _ e1 (e2 ∙ ap (λ k. c1 ++ test_code b w to t k) l1)
 
-pub emitted_if : (c : Test) (a b : Stmt) (t : ℕ) (labels : List Label) (ret middle other after j : ℕ) (c0 c1 c2 c3 c4 : List Instr) → middle ≡ length c0 + test_size c false t → other ≡ middle + stmt_size a t + 1 → after ≡ other + stmt_size b t → j ≡ after → c1 ≡ c0 ++ test_code c false other t (length c0) → c2 ≡ c1 ++ stmt_code a t (length c1) labels ret → c3 ≡ c2 ++ ins.Jmp j ∷ [] → c4 ≡ c3 ++ stmt_code b t (length c3) labels ret → c4 ≡ c0 ++ (test_code c false (length c0 + test_size c false t + stmt_size a t + 1) t (length c0) ++ (stmt_code a t (length c0 + test_size c false t) labels ret ++ ins.Jmp (length c0 + test_size c false t + stmt_size a t + 1 + stmt_size b t) ∷ stmt_code b t (length c0 + test_size c false t + stmt_size a t + 1) labels ret))
+pub emitted_if : (c : Test) (a b : Stmt) (t : ℕ) (labels : List Label) (ret middle other after j : ℕ) (c0 c1 c2 c3 c4 : List Instr) → middle ≡ length c0 + test_size c false t
+    → other ≡ middle + stmt_size a t + 1 → after ≡ other + stmt_size b t → j ≡ after → c1 ≡ c0 ++ test_code c false other t (length c0) → c2 ≡ c1 ++ stmt_code a t (length c1) labels ret
+    → c3 ≡ c2 ++ ins.Jmp j ∷ [] → c4 ≡ c3 ++ stmt_code b t (length c3) labels ret
+    → c4 ≡ c0 ++ (test_code c false (length c0 + test_size c false t + stmt_size a t + 1) t (length c0) ++
+    (stmt_code a t (length c0 + test_size c false t) labels ret ++ ins.Jmp (length c0 + test_size c false t + stmt_size a t + 1 + stmt_size b t) ∷ stmt_code b t
+    (length c0 + test_size c false t + stmt_size a t + 1) labels ret))
 emitted_if c a b t labels ret middle other after j c0 c1 c2 c3 c4 em eo ea ej e1 e2 e3 e4 =
     let m = length c0 + test_size c false t in
     let o = m + stmt_size a t + 1 in
@@ -83,41 +90,54 @@ emitted_loop c b s t labels all ret at back test label c0 c1 c2 c3 l0 eb et en e
 pub emitted_while : (c : Test) (b s : Stmt) (t : ℕ) (labels all : List Label) (ret at back test : ℕ) (label : Label) (c0 c1 c2 c3 c4 : List Instr)
     → at ≡ length c0 + 1 → back ≡ at → test ≡ loop_test b s t at → label.next ≡ at + stmt_size b t → label.after ≡ loop_end c b s t at → all ≡ label ∷ labels
     → c1 ≡ c0 ++ ins.Jmp test ∷ [] → c2 ≡ c1 ++ stmt_code b t (length c1) all ret → c3 ≡ c2 ++ stmt_code s t (length c2) labels ret → c4 ≡ c3 ++ test_code c true back t (length c3)
-    → c4 ≡ c0 ++ ins.Jmp (loop_test b s t (length c0 + 1)) ∷ loop_code (stmt_code b t (length c0 + 1) (loop_label c b s t (length c0 + 1) ∷ labels) ret) (stmt_code s t (length c0 + 1 + stmt_size b t) labels ret) (test_code c true (length c0 + 1) t (loop_test b s t (length c0 + 1)))
+    → c4 ≡ c0 ++ ins.Jmp (loop_test b s t (length c0 + 1)) ∷ loop_code (stmt_code b t (length c0 + 1) (loop_label c b s t (length c0 + 1) ∷ labels) ret)
+    (stmt_code s t (length c0 + 1 + stmt_size b t) labels ret) (test_code c true (length c0 + 1) t (loop_test b s t (length c0 + 1)))
 emitted_while c b s t labels all ret at back test label c0 c1 c2 c3 c4 e0 eb et en ea el e1 e2 e3 e4 =
     let l1 : length c1 ≡ at = grown c0 c1 (ins.Jmp test ∷ []) 1 at e1 refl e0 in
     let loop = emitted_loop c b s t labels all ret at back test label c1 c2 c3 c4 l1 eb et en ea el e2 e3 e4 in
     let f1 : c1 ≡ c0 ++ ins.Jmp (loop_test b s t at) ∷ [] = e1 ∙ ap (λ k. c0 ++ ins.Jmp k ∷ []) et in
-    two_parts c0 c1 c4 _ _ f1 loop ∙ ap (λ k. c0 ++ ins.Jmp (loop_test b s t k) ∷ loop_code (stmt_code b t k (loop_label c b s t k ∷ labels) ret) (stmt_code s t (k + stmt_size b t) labels ret) (test_code c true k t (loop_test b s t k))) e0
+    two_parts c0 c1 c4 _ _ f1 loop ∙ ap (λ k. c0 ++ ins.Jmp (loop_test b s t k) ∷ loop_code (stmt_code b t k (loop_label c b s t k ∷ labels) ret) (stmt_code s t (k + stmt_size b t) labels ret)
+    (test_code c true k t (loop_test b s t k))) e0
 
 parts_size : (ca cb co : List Instr) → length ca + length cb + length co ≡ length (ca ++ (cb ++ co))
 parts_size ca cb co = omega (arith, length-append ca (cb ++ co), length-append cb co)
 
-pub wanted_two_size : (op : Operator) (p : Box (Unit {0}) Global) (a : Expr) (q : Box (Unit {0}) Global) (b : Expr) (into : Option ℕ) (t size : ℕ) → ((d l r k : ℕ) → size ≡ length (op_code op d l r k)) → length (operand_code a t) + length (operand_code b (above a t)) + size ≡ length (wanted_code (Two' op p a q b) into t)
-wanted_two_size op p a q b None t size is = ap (λ n. length (operand_code a t) + length (operand_code b (above a t)) + n) (is t (operand a t) (operand b (above a t)) (above b (above a t))) ∙ parts_size (operand_code a t) (operand_code b (above a t)) (op_code op t (operand a t) (operand b (above a t)) (above b (above a t)))
-wanted_two_size op p a q b (Some d) t size is = ap (λ n. length (operand_code a t) + length (operand_code b (above a t)) + n) (is d (operand a t) (operand b (above a t)) (above b (above a t))) ∙ parts_size (operand_code a t) (operand_code b (above a t)) (op_code op d (operand a t) (operand b (above a t)) (above b (above a t)))
+pub wanted_two_size : (op : Operator) (p : Box (Unit {0}) Global) (a : Expr) (q : Box (Unit {0}) Global) (b : Expr) (into : Option ℕ) (t size : ℕ)
+    → ((d l r k : ℕ) → size ≡ length (op_code op d l r k)) → length (operand_code a t) + length (operand_code b (above a t)) + size ≡ length (wanted_code (Two' op p a q b) into t)
+wanted_two_size op p a q b None t size is = ap (λ n. length (operand_code a t) + length (operand_code b (above a t)) + n) (is t (operand a t) (operand b (above a t)) (above b (above a t)))
+    ∙ parts_size (operand_code a t) (operand_code b (above a t)) (op_code op t (operand a t) (operand b (above a t)) (above b (above a t)))
+wanted_two_size op p a q b (Some d) t size is = ap (λ n. length (operand_code a t) + length (operand_code b (above a t)) + n) (is d (operand a t) (operand b (above a t)) (above b (above a t)))
+    ∙ parts_size (operand_code a t) (operand_code b (above a t)) (op_code op d (operand a t) (operand b (above a t)) (above b (above a t)))
 
 pub emitted_two : (op : Operator) (p : Box (Unit {0}) Global) (a : Expr) (q : Box (Unit {0}) Global) (b : Expr) (into : Option ℕ) (t d left right free : ℕ) (c0 c1 c2 c3 : List Instr)
-    → c1 ≡ c0 ++ operand_code a t → c2 ≡ c1 ++ operand_code b (above a t) → d ≡ register_for into t → left ≡ operand a t → right ≡ operand b (above a t) → free ≡ above b (above a t) → c3 ≡ c2 ++ op_code op d left right free
+    → c1 ≡ c0 ++ operand_code a t → c2 ≡ c1 ++ operand_code b (above a t) → d ≡ register_for into t → left ≡ operand a t → right ≡ operand b (above a t) → free ≡ above b (above a t) → c3
+    ≡ c2 ++ op_code op d left right free
     → c3 ≡ c0 ++ wanted_code (Two' op p a q b) into t
 emitted_two op p a q b None t d left right free c0 c1 c2 c3 e1 e2 ed el er ef e3 =
-    three_parts c0 c1 c2 c3 _ _ _ e1 e2 (e3 ∙ ap (λ x. c2 ++ op_code op x left right free) ed ∙ ap (λ x. c2 ++ op_code op t x right free) el ∙ ap (λ x. c2 ++ op_code op t (operand a t) x free) er ∙ ap (λ x. c2 ++ op_code op t (operand a t) (operand b (above a t)) x) ef)
+    three_parts c0 c1 c2 c3 _ _ _ e1 e2 (e3 ∙ ap (λ x. c2 ++ op_code op x left right free) ed ∙ ap (λ x. c2 ++ op_code op t x right free) el ∙ ap (λ x. c2 ++ op_code op t (operand a t) x free) er
+    ∙ ap (λ x. c2 ++ op_code op t (operand a t) (operand b (above a t)) x) ef)
 emitted_two op p a q b (Some z) t d left right free c0 c1 c2 c3 e1 e2 ed el er ef e3 =
-    three_parts c0 c1 c2 c3 _ _ _ e1 e2 (e3 ∙ ap (λ x. c2 ++ op_code op x left right free) ed ∙ ap (λ x. c2 ++ op_code op z x right free) el ∙ ap (λ x. c2 ++ op_code op z (operand a t) x free) er ∙ ap (λ x. c2 ++ op_code op z (operand a t) (operand b (above a t)) x) ef)
+    three_parts c0 c1 c2 c3 _ _ _ e1 e2 (e3 ∙ ap (λ x. c2 ++ op_code op x left right free) ed ∙ ap (λ x. c2 ++ op_code op z x right free) el ∙ ap (λ x. c2 ++ op_code op z (operand a t) x free) er
+    ∙ ap (λ x. c2 ++ op_code op z (operand a t) (operand b (above a t)) x) ef)
 
-pub emitted_both_test : (p : Box (Unit {0}) Global) (a : Test) (q : Box (Unit {0}) Global) (b : Test) (w : Bool) (to t x after : ℕ) (c0 c1 c2 : List Instr) → x ≡ (if w then after else to) → after ≡ length c0 + test_size (Both' p a q b) w t → c1 ≡ c0 ++ test_code a false x t (length c0) → c2 ≡ c1 ++ test_code b w to t (length c1) → c2 ≡ c0 ++ test_code (Both' p a q b) w to t (length c0)
+pub emitted_both_test : (p : Box (Unit {0}) Global) (a : Test) (q : Box (Unit {0}) Global) (b : Test) (w : Bool) (to t x after : ℕ) (c0 c1 c2 : List Instr) → x ≡ (if w then after else to)
+    → after ≡ length c0 + test_size (Both' p a q b) w t → c1 ≡ c0 ++ test_code a false x t (length c0) → c2 ≡ c1 ++ test_code b w to t (length c1)
+    → c2 ≡ c0 ++ test_code (Both' p a q b) w to t (length c0)
 emitted_both_test p a q b w to t x after c0 c1 c2 ex ea e1 e2 =
     let m = length c0 + test_size a false t in
     let l : length c0 + (test_size a false t + test_size b w t) ≡ m + test_size b w t = omega arith in
     emitted_both a b w to t x c0 c1 c2 e1 e2 ∙ ap (λ y. c0 ++ (test_code a false y t (length c0) ++ test_code b w to t m)) (ex ∙ ap (λ k. if w then k else to) (ea ∙ l))
 
-pub emitted_either_test : (p : Box (Unit {0}) Global) (a : Test) (q : Box (Unit {0}) Global) (b : Test) (w : Bool) (to t x after : ℕ) (c0 c1 c2 : List Instr) → x ≡ (if w then to else after) → after ≡ length c0 + test_size (Either' p a q b) w t → c1 ≡ c0 ++ test_code a true x t (length c0) → c2 ≡ c1 ++ test_code b w to t (length c1) → c2 ≡ c0 ++ test_code (Either' p a q b) w to t (length c0)
+pub emitted_either_test : (p : Box (Unit {0}) Global) (a : Test) (q : Box (Unit {0}) Global) (b : Test) (w : Bool) (to t x after : ℕ) (c0 c1 c2 : List Instr) → x ≡ (if w then to else after)
+    → after ≡ length c0 + test_size (Either' p a q b) w t → c1 ≡ c0 ++ test_code a true x t (length c0) → c2 ≡ c1 ++ test_code b w to t (length c1)
+    → c2 ≡ c0 ++ test_code (Either' p a q b) w to t (length c0)
 emitted_either_test p a q b w to t x after c0 c1 c2 ex ea e1 e2 =
     let m = length c0 + test_size a true t in
     let l : length c0 + (test_size a true t + test_size b w t) ≡ m + test_size b w t = omega arith in
     emitted_either a b w to t x c0 c1 c2 e1 e2 ∙ ap (λ y. c0 ++ (test_code a true y t (length c0) ++ test_code b w to t m)) (ex ∙ ap (λ k. if w then to else k) (ea ∙ l))
 
-pub emitted_function : (f : Function) (end r1 r2 : ℕ) (n0 c1 c2 c3 : List Instr) → n0 ≡ [] → end ≡ stmt_size f.body f.variables → c1 ≡ n0 ++ stmt_code f.body f.variables (length n0) [] end → r1 ≡ 0 → c2 ≡ c1 ++ ins.Set r1 (pos 0) ∷ [] → r2 ≡ 0 → c3 ≡ c2 ++ ins.Ret r2 ∷ [] → c3 ≡ function_code f
+pub emitted_function : (f : Function) (end r1 r2 : ℕ) (n0 c1 c2 c3 : List Instr) → n0 ≡ [] → end ≡ stmt_size f.body f.variables → c1 ≡ n0 ++ stmt_code f.body f.variables (length n0) [] end → r1 ≡ 0
+    → c2 ≡ c1 ++ ins.Set r1 (pos 0) ∷ [] → r2 ≡ 0 → c3 ≡ c2 ++ ins.Ret r2 ∷ [] → c3 ≡ function_code f
 emitted_function f end r1 r2 n0 c1 c2 c3 en ee e1 er1 e2 er2 e3 =
     let s = stmt_size f.body f.variables in
     let f1 : c1 ≡ stmt_code f.body f.variables 0 [] s = e1 ∙ ap (λ l. l ++ stmt_code f.body f.variables (length l) [] end) en ∙ ap (λ k. stmt_code f.body f.variables 0 [] k) ee in

@@ -42,7 +42,8 @@ module _ (procs : List (List Instr)) (slot width : ℕ) where
   pub before_last : (f g : Frame) (k : ℕ) → frame_after procs slot width f (suc k) ≡ Some g → (h : Frame) × (frame_after procs slot width f k ≡ Some h) × (next_of procs slot width h ≡ Some g)
   before_last f g k e = by_frame (frame_after procs slot width f k) refl e
     where
-      by_frame : (o : Option Frame) → frame_after procs slot width f k ≡ o → option_and_then (next_of procs slot width) o ≡ Some g → (h : Frame) × (frame_after procs slot width f k ≡ Some h) × (next_of procs slot width h ≡ Some g)
+      by_frame : (o : Option Frame) → frame_after procs slot width f k ≡ o → option_and_then (next_of procs slot width) o ≡ Some g
+          → (h : Frame) × (frame_after procs slot width f k ≡ Some h) × (next_of procs slot width h ≡ Some g)
       by_frame None is e = absurd (none-some g e)
       by_frame (Some h) is e = (h, is, e)
 
@@ -77,23 +78,28 @@ module _ (procs : List (List Instr)) (slot width : ℕ) where
   map_some o None t e = absurd (none-some t e)
   map_some o (Some es) t e = (es, refl, same_Some (Did o ∷ es) t e)
 
-  more_after : (o : Operation) (answers : List (ℤ × ℤ)) (G H : (ℤ × ℤ) → List (ℤ × ℤ) → Option (List Event)) (t : List Event) → ((a : ℤ × ℤ) (rest : List (ℤ × ℤ)) (es : List Event) → G a rest ≡ Some es → H a rest ≡ Some es) → events_after o answers G ≡ Some t → events_after o answers H ≡ Some t
+  more_after : (o : Operation) (answers : List (ℤ × ℤ)) (G H : (ℤ × ℤ) → List (ℤ × ℤ) → Option (List Event)) (t : List Event)
+      → ((a : ℤ × ℤ) (rest : List (ℤ × ℤ)) (es : List Event) → G a rest ≡ Some es → H a rest ≡ Some es) → events_after o answers G ≡ Some t → events_after o answers H ≡ Some t
   more_after o [] G H t each e = e
   more_after o (a ∷ rest) G H t each e = by_return (is_return o) e
     where
-      by_return : (b : Bool) → (if b then Some (Did o ∷ []) else option_map (λ events. Did o ∷ events) (G a rest)) ≡ Some t → (if b then Some (Did o ∷ []) else option_map (λ events. Did o ∷ events) (H a rest)) ≡ Some t
+      by_return : (b : Bool) → (if b then Some (Did o ∷ []) else option_map (λ events. Did o ∷ events) (G a rest)) ≡ Some t
+          → (if b then Some (Did o ∷ []) else option_map (λ events. Did o ∷ events) (H a rest)) ≡ Some t
       by_return true e = e
       by_return false e = let r = map_some o (G a rest) t e in ap (option_map (λ events. Did o ∷ events)) (each a rest r.0 r.1) ∙ ap Some r.2
 
-  stops_extends : (F G : Events Frame) → Extends F G → (f : Frame) (x : Option Operation) (resume : Frame → ℤ → ℤ → Frame) (answers : List (ℤ × ℤ)) (t : List Event) → frame_stops F f x resume answers ≡ Some t → frame_stops G f x resume answers ≡ Some t
+  stops_extends : (F G : Events Frame) → Extends F G → (f : Frame) (x : Option Operation) (resume : Frame → ℤ → ℤ → Frame) (answers : List (ℤ × ℤ)) (t : List Event)
+      → frame_stops F f x resume answers ≡ Some t → frame_stops G f x resume answers ≡ Some t
   stops_extends F G h f None resume answers t e = e
-  stops_extends F G h f (Some o) resume answers t e = more_after o answers (λ a rest. F (resume f a.0 a.1) rest) (λ a rest. G (resume f a.0 a.1) rest) t (λ a rest es q. h (resume f a.0 a.1) rest es q) e
+  stops_extends F G h f (Some o) resume answers t e = more_after o answers (λ a rest. F (resume f a.0 a.1) rest) (λ a rest. G (resume f a.0 a.1) rest) t
+      (λ a rest es q. h (resume f a.0 a.1) rest es q) e
 
   at_extends : (F G : Events Frame) → Extends F G → (f : Frame) (i : Option Instr) (answers : List (ℤ × ℤ)) (t : List Event) → frame_at F f i answers ≡ Some t → frame_at G f i answers ≡ Some t
   at_extends F G h f None answers t e = e
   at_extends F G h f (Some i) answers t e = stops_extends F G h f (operation_of i f) (λ g x y. resumed i x y g) answers t e
 
-  by_extends : (F G : Events Frame) → Extends F G → (f : Frame) (x : Effect) (i : Option Instr) (answers : List (ℤ × ℤ)) (t : List Event) → frame_by F f x i answers ≡ Some t → frame_by G f x i answers ≡ Some t
+  by_extends : (F G : Events Frame) → Extends F G → (f : Frame) (x : Effect) (i : Option Instr) (answers : List (ℤ × ℤ)) (t : List Event) → frame_by F f x i answers ≡ Some t
+      → frame_by G f x i answers ≡ Some t
   by_extends F G h f (Moves g) i answers t e = h g answers t e
   by_extends F G h f DividesByZero i answers t e = e
   by_extends F G h f IsShared i answers t e = at_extends F G h f i answers t e
@@ -102,7 +108,8 @@ module _ (procs : List (List Instr)) (slot width : ℕ) where
   longer zero j f answers t e = absurd (none-some t e)
   longer (suc m) j f answers t e =
       let z : suc m + j ≡ suc (m + j) = omega arith in
-      ap (λ k. does k f answers) z ∙ by_extends (frame_events procs slot width m) (frame_events procs slot width (m + j)) (longer m j) f (effect_at (instr_at procs f) slot width f) (instr_at procs f) answers t e
+      ap (λ k. does k f answers) z ∙ by_extends (frame_events procs slot width m) (frame_events procs slot width (m + j)) (longer m j) f (effect_at (instr_at procs f) slot width f)
+      (instr_at procs f) answers t e
 
   pub two_ends : (m k : ℕ) (f : Frame) (answers : List (ℤ × ℤ)) (t u : List Event) → does m f answers ≡ Some t → does k f answers ≡ Some u → t ≡ u
   two_ends m k f answers t u e g =
@@ -110,11 +117,14 @@ module _ (procs : List (List Instr)) (slot width : ℕ) where
       same_Some t u (sym (longer m k f answers t e) ∙ ap (λ n. does n f answers) z ∙ longer k m f answers u g)
 
   -- what follows an operation, in one of two machines, follows it in the other one
-  after_same : (o : Operation) (answers : List (ℤ × ℤ)) (G : (ℤ × ℤ) → List (ℤ × ℤ) → Option (List Event)) (H : ℕ → (ℤ × ℤ) → List (ℤ × ℤ) → Option (List Event)) (t : List Event) → ((a : ℤ × ℤ) (rest : List (ℤ × ℤ)) (es : List Event) → answers ≡ a ∷ rest → is_return o ≡ false → G a rest ≡ Some es → (m : ℕ) × (H m a rest ≡ Some es)) → events_after o answers G ≡ Some t → (m : ℕ) × (events_after o answers (H m) ≡ Some t)
+  after_same : (o : Operation) (answers : List (ℤ × ℤ)) (G : (ℤ × ℤ) → List (ℤ × ℤ) → Option (List Event)) (H : ℕ → (ℤ × ℤ) → List (ℤ × ℤ) → Option (List Event)) (t : List Event)
+      → ((a : ℤ × ℤ) (rest : List (ℤ × ℤ)) (es : List Event) → answers ≡ a ∷ rest → is_return o ≡ false → G a rest ≡ Some es → (m : ℕ) × (H m a rest ≡ Some es)) → events_after o answers G ≡ Some t
+      → (m : ℕ) × (events_after o answers (H m) ≡ Some t)
   after_same o [] G H t each e = (0, e)
   after_same o (a ∷ rest) G H t each e = by_return (is_return o) refl e
     where
-      by_return : (b : Bool) → is_return o ≡ b → (if b then Some (Did o ∷ []) else option_map (λ events. Did o ∷ events) (G a rest)) ≡ Some t → (m : ℕ) × ((if b then Some (Did o ∷ []) else option_map (λ events. Did o ∷ events) (H m a rest)) ≡ Some t)
+      by_return : (b : Bool) → is_return o ≡ b → (if b then Some (Did o ∷ []) else option_map (λ events. Did o ∷ events) (G a rest)) ≡ Some t
+          → (m : ℕ) × ((if b then Some (Did o ∷ []) else option_map (λ events. Did o ∷ events) (H m a rest)) ≡ Some t)
       by_return true is e = (0, e)
       by_return false is e =
           let r = map_some o (G a rest) t e in
@@ -131,18 +141,22 @@ module _ (procs : List (List Instr)) (slot width : ℕ) where
         last : does 1 d.end answers ≡ Some (Divided ∷ [])
         last = rw (d.there, d.divides) refl
 
-    stops_are : (f : Frame) (point : Point) (o : Operation) (s : Stops procs slot width p size n ret f point o) (k : ℕ) (answers : List (ℤ × ℤ)) → does (s.comes.steps + suc k) f answers ≡ events_after o answers (λ a rest. does k (resumed s.instr a.0 a.1 s.last) rest)
+    stops_are : (f : Frame) (point : Point) (o : Operation) (s : Stops procs slot width p size n ret f point o) (k : ℕ) (answers : List (ℤ × ℤ))
+        → does (s.comes.steps + suc k) f answers ≡ events_after o answers (λ a rest. does k (resumed s.instr a.0 a.1 s.last) rest)
     stops_are f point o s k answers = does_after s.comes.steps f s.last (suc k) answers s.comes.by ∙ last
       where
         last : does (suc k) s.last answers ≡ events_after o answers (λ a rest. does k (resumed s.instr a.0 a.1 s.last) rest)
         last = rw (s.there, s.shared, s.asks) refl
 
     module _ (step : (f : Frame) (point : Point) (s : Stands procs slot width p size n ret f point) → Follows procs slot width p size n ret f point s (act slot width point)) where
-      pub forth : (k : ℕ) (f : Frame) (point : Point) → Stood f point → (answers : List (ℤ × ℤ)) → AreAnswers answers → (t : List Event) → source_events slot width k point answers ≡ Some t → (m : ℕ) × (does m f answers ≡ Some t)
+      pub forth : (k : ℕ) (f : Frame) (point : Point) → Stood f point → (answers : List (ℤ × ℤ)) → AreAnswers answers → (t : List Event) → source_events slot width k point answers ≡ Some t
+          → (m : ℕ) × (does m f answers ≡ Some t)
       forth zero f point s answers ok t e = absurd (none-some t e)
       forth (suc k) f point s answers ok t e = by_act (λ f' point' s' answers' ok' t' e'. forth k f' point' s' answers' ok' t' e') (act slot width point) (step f point s) e
         where
-          by_act : ((f' : Frame) (point' : Point) → Stands procs slot width p size n ret f' point' → (answers' : List (ℤ × ℤ)) → AreAnswers answers' → (t' : List Event) → source_events slot width k point' answers' ≡ Some t' → (m : ℕ) × (does m f' answers' ≡ Some t')) → (a : Act) → Follows procs slot width p size n ret f point s a → source_by (source_events slot width k) point a answers ≡ Some t → (m : ℕ) × (does m f answers ≡ Some t)
+          by_act : ((f' : Frame) (point' : Point) → Stands procs slot width p size n ret f' point' → (answers' : List (ℤ × ℤ)) → AreAnswers answers' → (t' : List Event)
+              → source_events slot width k point' answers' ≡ Some t' → (m : ℕ) × (does m f' answers' ≡ Some t')) → (a : Act) → Follows procs slot width p size n ret f point s a
+              → source_by (source_events slot width k) point a answers ≡ Some t → (m : ℕ) × (does m f answers ≡ Some t)
           by_act ih (Goes q) c e = ih f q c.next answers ok t e
           by_act ih Divides d e = (d.comes.steps + 1, fails_are f d answers ∙ e)
           by_act ih (Does o) st e =
@@ -151,9 +165,11 @@ module _ (procs : List (List Instr)) (slot width : ℕ) where
               (st.comes.steps + suc r.0, stops_are f point o st r.0 answers ∙ r.1)
 
       abbrev BackAt : (answers : List (ℤ × ℤ)) (d w : ℕ) → Type 0
-      BackAt answers d w = (m : ℕ) (f : Frame) (point : Point) (s : Stands procs slot width p size n ret f point) (t : List Event) → m ≤ s.comes.steps + d → weight point.todo ≤ w → does m f answers ≡ Some t → (k : ℕ) × (source_events slot width k point answers ≡ Some t)
+      BackAt answers d w = (m : ℕ) (f : Frame) (point : Point) (s : Stands procs slot width p size n ret f point) (t : List Event) → m ≤ s.comes.steps + d → weight point.todo ≤ w
+          → does m f answers ≡ Some t → (k : ℕ) × (source_events slot width k point answers ≡ Some t)
 
-      step_back : (answers : List (ℤ × ℤ)) → AreAnswers answers → ((a : ℤ × ℤ) (rest : List (ℤ × ℤ)) → answers ≡ a ∷ rest → AreAnswers rest → (d w : ℕ) → BackAt rest d w) → (d w : ℕ) → ((d' w' : ℕ) → d ≡ suc d' → BackAt answers d' w') → ((w' : ℕ) → w ≡ suc w' → BackAt answers d w') → BackAt answers d w
+      step_back : (answers : List (ℤ × ℤ)) → AreAnswers answers → ((a : ℤ × ℤ) (rest : List (ℤ × ℤ)) → answers ≡ a ∷ rest → AreAnswers rest → (d w : ℕ) → BackAt rest d w) → (d w : ℕ)
+          → ((d' w' : ℕ) → d ≡ suc d' → BackAt answers d' w') → ((w' : ℕ) → w ≡ suc w' → BackAt answers d w') → BackAt answers d w
       step_back answers ok rest_back d w lower_d lower_w m f point s t le lw e = by_act (act slot width point) refl (step f point s)
         where
           -- the steps that were made are not all
@@ -164,7 +180,8 @@ module _ (procs : List (List Instr)) (slot width : ℕ) where
           fewer q next zero is lt = absurd (omega (arith, is, le, not_all s.comes.steps _ s.comes.by))
           fewer q next (suc d') is lt = lower_d d' (weight q.todo) is m f q next t (omega (arith, is, le, lt)) (omega arith) e
 
-          lighter : (q : Point) (next : Stands procs slot width p size n ret f q) → (w' : ℕ) → w ≡ w' → s.comes.steps ≤ next.comes.steps → weight q.todo < weight point.todo → (k : ℕ) × (source_events slot width k q answers ≡ Some t)
+          lighter : (q : Point) (next : Stands procs slot width p size n ret f q) → (w' : ℕ) → w ≡ w' → s.comes.steps ≤ next.comes.steps → weight q.todo < weight point.todo
+              → (k : ℕ) × (source_events slot width k q answers ≡ Some t)
           lighter q next zero is ge lt = absurd (omega (arith, is, lw, lt))
           lighter q next (suc w') is ge lt = lower_w w' is m f q next t (omega (arith, le, ge)) (omega (arith, is, lw, lt)) e
 
@@ -186,7 +203,8 @@ module _ (procs : List (List Instr)) (slot width : ℕ) where
               rest_back a rest eq ok'.1 k (weight (answered point a.0 a.1).todo) k (resumed st.instr a.0 a.1 st.last) (answered point a.0 a.1) s' es (omega arith) (omega arith) g) done in
               (suc r.0, ap (λ x. source_by (source_events slot width r.0) point x answers) is ∙ r.1)
 
-      on_w : (answers : List (ℤ × ℤ)) → AreAnswers answers → ((a : ℤ × ℤ) (rest : List (ℤ × ℤ)) → answers ≡ a ∷ rest → AreAnswers rest → (d w : ℕ) → BackAt rest d w) → (d : ℕ) → ((d' w' : ℕ) → d ≡ suc d' → BackAt answers d' w') → (w : ℕ) → BackAt answers d w
+      on_w : (answers : List (ℤ × ℤ)) → AreAnswers answers → ((a : ℤ × ℤ) (rest : List (ℤ × ℤ)) → answers ≡ a ∷ rest → AreAnswers rest → (d w : ℕ) → BackAt rest d w) → (d : ℕ)
+          → ((d' w' : ℕ) → d ≡ suc d' → BackAt answers d' w') → (w : ℕ) → BackAt answers d w
       on_w answers ok rb d lower_d zero = step_back answers ok rb d zero lower_d (λ w' is. absurd (omega (arith, is)))
       on_w answers ok rb d lower_d (suc w) = step_back answers ok rb d (suc w) lower_d (λ w' is. let e : w ≡ w' = omega (arith, is) in subst (BackAt answers d) e (on_w answers ok rb d lower_d w))
 

@@ -48,7 +48,8 @@ pub remainder_is : (x y : ℤ) → FitsSigned w64 x → FitsSigned w64 y → 0 <
 remainder_is x y fx fy some fq fm =
     let q = int_div x y in
     let eq : int_wrapping_div w64 x y ≡ int_wrap w64 q = quotient_wraps q (omega (arith, quotient_low x y, fits_abs x fx)) in
-    let em : int_wrapping_mul w64 (int_wrapping_div w64 x y) y ≡ int_wrap w64 (q *ℤ y) = wrapping_mul_is w64 (int_wrapping_div w64 x y) y fq fy ∙ ap (λ z. int_wrap w64 (z *ℤ y)) eq ∙ int_wrap-mul_left w64 q y in
+    let em : int_wrapping_mul w64 (int_wrapping_div w64 x y) y ≡ int_wrap w64 (q *ℤ y) = wrapping_mul_is w64 (int_wrapping_div w64 x y) y fq fy ∙ ap (λ z. int_wrap w64 (z *ℤ y)) eq
+    ∙ int_wrap-mul_left w64 q y in
     wrapping_sub_is w64 x (int_wrapping_mul w64 (int_wrapping_div w64 x y) y) fx fm
     ∙ ap (λ z. int_wrap w64 (x -ℤ z)) em
     ∙ int_wrap-sub_right w64 x (q *ℤ y)

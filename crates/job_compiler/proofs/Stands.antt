@@ -44,10 +44,12 @@ stmt_length (If' c p a q b) t at labels ret =
     omega (arith, lt, la, lb, length-append ct (ca ++ instr.Jmp (other + stmt_size b t) ∷ cb), length-append ca (instr.Jmp (other + stmt_size b t) ∷ cb))
 stmt_length (Loop' c p b q s) t at labels ret =
     let k = at + 1 in
-    let l = loop_length _ _ _ (stmt_size b t) (stmt_size s t) (test_size c true t) (stmt_length b t k (loop_label c b s t k ∷ labels) ret) (stmt_length s t (k + stmt_size b t) labels ret) (test_length c true k t (loop_test b s t k)) in
+    let l = loop_length _ _ _ (stmt_size b t) (stmt_size s t) (test_size c true t) (stmt_length b t k (loop_label c b s t k ∷ labels) ret) (stmt_length s t (k + stmt_size b t) labels ret)
+    (test_length c true k t (loop_test b s t k)) in
     omega (arith, l)
 stmt_length (Repeat' c p b q s) t at labels ret =
-    loop_length _ _ _ (stmt_size b t) (stmt_size s t) (test_size c true t) (stmt_length b t at (loop_label c b s t at ∷ labels) ret) (stmt_length s t (at + stmt_size b t) labels ret) (test_length c true at t (loop_test b s t at))
+    loop_length _ _ _ (stmt_size b t) (stmt_size s t) (test_size c true t) (stmt_length b t at (loop_label c b s t at ∷ labels) ret) (stmt_length s t (at + stmt_size b t) labels ret)
+    (test_length c true at t (loop_test b s t at))
 stmt_length (Break k) t at labels ret = refl
 stmt_length (Continue k) t at labels ret = refl
 stmt_length (Return e) t at labels ret = length-append (operand_code e t) (instr.Ret (operand e t) ∷ [])
@@ -74,7 +76,8 @@ weight (Turn c b s ∷ todo) = 1 + weight todo
 weight (Next c b s ∷ todo) = 2 + stmt_weight s + weight todo
 
 -- a variable and its register are written
-pub agree_written : (size n d : ℕ) (v : ℤ) (vars regs regs' : List ℤ) → Agree size n vars regs → length vars ≡ n → d < n → length regs' ≡ size → get_or regs' d (pos 0) ≡ v → AreKept n d regs regs' → FitsSigned w64 v → Agree size n (set vars d v) regs'
+pub agree_written : (size n d : ℕ) (v : ℤ) (vars regs regs' : List ℤ) → Agree size n vars regs → length vars ≡ n → d < n → length regs' ≡ size → get_or regs' d (pos 0) ≡ v → AreKept n d regs regs'
+    → FitsSigned w64 v → Agree size n (set vars d v) regs'
 agree_written size n d v vars regs regs' agree long low long' value kept fits = record {
   long = long';
   same = λ x below. ⊎_elim
@@ -89,10 +92,12 @@ agree_written size n d v vars regs regs' agree long low long' value kept fits = 
 
 pub agree_set : (size n d : ℕ) (v : ℤ) (vars regs : List ℤ) → Agree size n vars regs → length vars ≡ n → d < n → d < size → FitsSigned w64 v → Agree size n (set vars d v) (set regs d v)
 agree_set size n d v vars regs agree long low within fits =
-    agree_written size n d v vars regs (set regs d v) agree long low (length-set regs d v ∙ agree.long) (get_or-set_same regs d v (pos 0) (omega (arith, within, agree.long))) (λ r below other. get_or-set_other regs d r v (pos 0) other) fits
+    agree_written size n d v vars regs (set regs d v) agree long low (length-set regs d v ∙ agree.long) (get_or-set_same regs d v (pos 0) (omega (arith, within, agree.long)))
+    (λ r below other. get_or-set_other regs d r v (pos 0) other) fits
 
 -- what was answered goes to a variable and its register, or to a register that is free
-pub agree_put : (size n : ℕ) (o : Option ℕ) (v : ℤ) (vars regs : List ℤ) → Agree size n vars regs → length vars ≡ n → IsOneWithin n o → register_for o n < size → FitsSigned w64 v → Agree size n (put_into o v vars) (set regs (register_for o n) v)
+pub agree_put : (size n : ℕ) (o : Option ℕ) (v : ℤ) (vars regs : List ℤ) → Agree size n vars regs → length vars ≡ n → IsOneWithin n o → register_for o n < size → FitsSigned w64 v
+    → Agree size n (put_into o v vars) (set regs (register_for o n) v)
 agree_put size n (Some d) v vars regs agree long low within fits = agree_set size n d v vars regs agree long low within fits
 agree_put size n None v vars regs agree long low within fits = record {
   long = length-set regs n v ∙ agree.long;
@@ -114,7 +119,8 @@ module _ (procs : List (List Instr)) (slot width p size n ret : ℕ) where
     pub test : IsTestWithin n c
     pub body : IsStmtWithin n b
     pub step : IsStmtWithin n s
-    pub code : HasAt procs slot width p size q (loop_code (stmt_code b n q (loop_label c b s n q ∷ labels) ret) (stmt_code s n (q + stmt_size b n) labels ret) (test_code c true q n (loop_test b s n q)))
+    pub code : HasAt procs slot width p size q (loop_code (stmt_code b n q (loop_label c b s n q ∷ labels) ret) (stmt_code s n (q + stmt_size b n) labels ret)
+        (test_code c true q n (loop_test b s n q)))
 
   -- the code does what is left to be done, from a place, in loops with these labels
   abbrev pub IsAt : List Todo → (labels : List Label) → (q : ℕ) → Type 0
@@ -132,14 +138,26 @@ module _ (procs : List (List Instr)) (slot width p size n ret : ℕ) where
     pub is_at : IsAt todo labels q
 
   pub past_place : (todo : List Todo) (k : ℕ) (labels : List Label) (q : ℕ) → IsAt todo labels q → Place (after_of (slice_get labels k) ret) (past_loop todo k)
-  past_place [] k labels q h = record { labels = []; q = ret; reaches = subst (λ ls. Reaches (after_of (slice_get ls k) ret) ret) (sym h.1) (λ regs. stays procs slot width p size _); is_at = (refl, refl) }
+  past_place [] k labels q h = record {
+    labels = [];
+    q = ret;
+    reaches = subst (λ ls. Reaches (after_of (slice_get ls k) ret) ret) (sym h.1) (λ regs. stays procs slot width p size _);
+    is_at =
+        (refl, refl);
+  }
   past_place (Do s ∷ todo) k labels q h = past_place todo k labels h.2 h.4
   past_place (Turn c b s ∷ todo) k labels q h = past_place todo k labels h.3 h.5
   past_place (Next c b s ∷ todo) zero labels q h = record { labels = h.1; q = h.5; reaches = subst (λ ls. Reaches (after_of (slice_get ls 0) ret) h.5) (sym h.4) h.6; is_at = h.7 }
   past_place (Next c b s ∷ todo) (suc k) labels q h = subst (λ ls. Place (after_of (slice_get ls (suc k)) ret) (past_loop todo k)) (sym h.4) (past_place todo k h.1 h.5 h.7)
 
   pub next_place : (todo : List Todo) (k : ℕ) (labels : List Label) (q : ℕ) → IsAt todo labels q → Place (next_of (slice_get labels k) ret) (next_turn todo k)
-  next_place [] k labels q h = record { labels = []; q = ret; reaches = subst (λ ls. Reaches (next_of (slice_get ls k) ret) ret) (sym h.1) (λ regs. stays procs slot width p size _); is_at = (refl, refl) }
+  next_place [] k labels q h = record {
+    labels = [];
+    q = ret;
+    reaches = subst (λ ls. Reaches (next_of (slice_get ls k) ret) ret) (sym h.1) (λ regs. stays procs slot width p size _);
+    is_at =
+        (refl, refl);
+  }
   next_place (Do s ∷ todo) k labels q h = next_place todo k labels h.2 h.4
   next_place (Turn c b s ∷ todo) k labels q h = next_place todo k labels h.3 h.5
   next_place (Next c b s ∷ todo) zero labels q h = record {
@@ -180,13 +198,25 @@ module _ (procs : List (List Instr)) (slot width p size n ret : ℕ) where
   Follows f point s Divides = Fails procs slot width p size f
   Follows f point s (Does o) = Stops f point o
 
-  pub continues : (f : Frame) (point next : Point) (s : Stands f point) (labels : List Label) (q : ℕ) (regs : List ℤ) (c : Comes procs slot width p size (at procs slot width p size s.q s.regs) (at procs slot width p size q regs)) → IsAt next.todo labels q → Agree size n next.vars regs → length next.vars ≡ n → (0 < c.steps) ⊎ (weight next.todo < weight point.todo) → Continues f point next s
+  pub continues : (f : Frame) (point next : Point) (s : Stands f point) (labels : List Label) (q : ℕ) (regs : List ℤ)
+      (c : Comes procs slot width p size (at procs slot width p size s.q s.regs) (at procs slot width p size q regs)) → IsAt next.todo labels q → Agree size n next.vars regs → length next.vars
+      ≡ n → (0 < c.steps) ⊎ (weight next.todo < weight point.todo) → Continues f point next s
   continues f point next s labels q regs c is_at agree long progress = record {
     next = record { labels = labels; q = q; regs = regs; comes = comes_on procs slot width p size _ _ _ s.comes c; is_at = is_at; agree = agree; long = long };
     progress = ⊎_elim (λ h. inl (omega (arith, h))) (λ h. inr (omega arith, h)) progress;
   }
 
   -- after an operation
-  pub resumes_at : (vars : List ℤ) (todo : List Todo) (labels : List Label) (from q r : ℕ) (regs : List ℤ) → from ≡ q → Reaches q r → IsAt todo labels r → Agree size n vars regs → length vars ≡ n → Stands (at procs slot width p size from regs) (record { vars = vars; todo = todo })
+  pub resumes_at : (vars : List ℤ) (todo : List Todo) (labels : List Label) (from q r : ℕ) (regs : List ℤ) → from ≡ q → Reaches q r → IsAt todo labels r → Agree size n vars regs → length vars ≡ n
+      → Stands (at procs slot width p size from regs) (record { vars = vars; todo = todo })
   resumes_at vars todo labels from q r regs e reaches is_at agree long =
-      record { labels = labels; q = r; regs = regs; comes = subst (λ k. Comes procs slot width p size (at procs slot width p size k regs) (at procs slot width p size r regs)) (sym e) (reaches regs); is_at = is_at; agree = agree; long = long }
+      record {
+        labels = labels;
+        q = r;
+        regs = regs;
+        comes = subst (λ k. Comes procs slot width p size (at procs slot width p size k regs) (at procs slot width p size r regs)) (sym e)
+            (reaches regs);
+        is_at = is_at;
+        agree = agree;
+        long = long;
+      }

@@ -47,7 +47,8 @@ has_all : (procs : List (List Instr)) (slot width p size : ℕ) (is pre : List I
 has_all procs slot width p size [] pre e = tt
 has_all procs slot width p size (i ∷ is) pre e =
     let within : length pre < length (pre ++ i ∷ is) = omega (arith, length-append pre (i ∷ is)) in
-    let here : slice_get (slice_index_or procs p []) (length pre) ≡ Some i = ap (λ l. slice_get l (length pre)) e ∙ slice_get-get_or (pre ++ i ∷ is) (length pre) i within ∙ ap Some (get_or_at pre i is i (length pre) refl) in
+    let here : slice_get (slice_index_or procs p []) (length pre) ≡ Some i = ap (λ l. slice_get l (length pre)) e ∙ slice_get-get_or (pre ++ i ∷ is) (length pre) i within
+    ∙ ap Some (get_or_at pre i is i (length pre) refl) in
     let n : length (pre ++ i ∷ []) ≡ length pre + 1 = omega (arith, length-append pre (i ∷ [])) in
     let rest = has_all procs slot width p size is (pre ++ i ∷ []) (e ∙ sym (append_assoc pre (i ∷ []) is)) in
     (here, subst (λ m. HasAt procs slot width p size m is) n rest)
@@ -79,7 +80,9 @@ pub valid_each : (instrs : List Instr) → IsValidProc instrs → (k : ℕ) (i :
 valid_each instrs valid k i e = within_range (length instrs) i (subst (IsInRange (length instrs)) (get_or_from_slice_get instrs k i i e) (valid.each k i (slice_get_within instrs k i e)))
 
 -- a frame with `size` registers at the beginning of a function's code
-pub starts : (f : Function) → IsFunction f → (procs : List (List Instr)) (slot width p size : ℕ) (x y : ℤ) → slice_index_or procs p [] ≡ function_code f → ((k : ℕ) (i : Instr) → slice_get (slice_index_or procs p []) k ≡ Some i → WritesBelow size i) → 2 ≤ size → slot < 2 ^ 8 → width < 2 ^ 8 → FitsSigned w64 x → FitsSigned w64 y → DoesTheSame procs slot width (start f x y) (frame_of p 0 (with_two (size - 2) x y))
+pub starts : (f : Function) → IsFunction f → (procs : List (List Instr)) (slot width p size : ℕ) (x y : ℤ) → slice_index_or procs p [] ≡ function_code f
+    → ((k : ℕ) (i : Instr) → slice_get (slice_index_or procs p []) k ≡ Some i → WritesBelow size i) → 2 ≤ size → slot < 2 ^ 8 → width < 2 ^ 8 → FitsSigned w64 x → FitsSigned w64 y
+    → DoesTheSame procs slot width (start f x y) (frame_of p 0 (with_two (size - 2) x y))
 starts f good procs slot width p size x y is each big low_slot low_width fx fy =
     does_the_same procs slot width p size f.variables (stmt_size f.body f.variables)
     (λ g point s. follows procs slot width p size f.variables (stmt_size f.body f.variables) each low_slot low_width ends g point.vars point.todo s)
@@ -95,7 +98,8 @@ starts f good procs slot width p size x y is each big low_slot low_width fx fy =
         subst (λ k. HasAt procs slot width p size k (ins.Set 0 (pos 0) ∷ ins.Ret 0 ∷ [])) l (has_back procs slot width p size 0 c _ all)
 
     reach : Reaches procs slot width p size f.variables (stmt_size f.body f.variables) (0 + stmt_size f.body f.variables) (stmt_size f.body f.variables)
-    reach = let l : stmt_size f.body f.variables ≡ 0 + stmt_size f.body f.variables = omega arith in subst (λ k. Reaches procs slot width p size f.variables (stmt_size f.body f.variables) k (stmt_size f.body f.variables)) l (λ regs. stays procs slot width p size _)
+    reach = let l : stmt_size f.body f.variables ≡ 0 + stmt_size f.body f.variables = omega arith in subst
+        (λ k. Reaches procs slot width p size f.variables (stmt_size f.body f.variables) k (stmt_size f.body f.variables)) l (λ regs. stays procs slot width p size _)
 
     stands : Stands procs slot width p size f.variables (stmt_size f.body f.variables) (frame_of p 0 (with_two (size - 2) x y)) (start f x y)
     stands = record {
@@ -113,7 +117,8 @@ is_compiled f good valid procs p slot width x y is low_slot low_width fx fy =
     starts f good procs slot width p 8 x y is (valid_each (slice_index_or procs p []) (subst IsValidProc (sym is) valid)) (omega arith) low_slot low_width fx fy
 
 -- the same with registers that were chosen
-pub is_compiled_coloured : (f : Function) → IsFunction f → (instrs : List Instr) (size : ℕ) (c : ℕ → ℕ) (live : ℕ → ℕ → Bool) → 2 ≤ size → IsColoured size (function_code f) instrs c live → BeginsWith c live → IsCompiled f instrs
+pub is_compiled_coloured : (f : Function) → IsFunction f → (instrs : List Instr) (size : ℕ) (c : ℕ → ℕ) (live : ℕ → ℕ → Bool) → 2 ≤ size → IsColoured size (function_code f) instrs c live
+    → BeginsWith c live → IsCompiled f instrs
 is_compiled_coloured f good instrs size c live big coloured begins procs p slot width x y is low_slot low_width fx fy =
     record {
       forth = λ answers ok n t e. let m = virtual.forth answers ok n t e in (m.0, sym (same m.0 answers) ∙ m.1);

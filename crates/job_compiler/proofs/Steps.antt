@@ -120,7 +120,8 @@ module _ (procs : List (List Instr)) (slot width p size : ℕ) where
   BringsIf pc pc' regs r t (Some v) = Brings pc pc' regs r t v
 
   -- one instruction that writes
-  abbrev pub write : (pc d t : ℕ) (regs : List ℤ) (i : Instr) (v : ℤ) → slice_get code pc ≡ Some i → effect i slot width (at pc regs) ≡ Moves (write_and_step (at pc regs) d v) → d < size → length regs ≡ size → Writes pc (pc + 1) regs d t v
+  abbrev pub write : (pc d t : ℕ) (regs : List ℤ) (i : Instr) (v : ℤ) → slice_get code pc ≡ Some i → effect i slot width (at pc regs) ≡ Moves (write_and_step (at pc regs) d v) → d < size
+      → length regs ≡ size → Writes pc (pc + 1) regs d t v
   write pc d t regs i v here does low long = record {
     regs' = slice_set regs d v;
     comes = one_step pc regs i (write_and_step (at pc regs) d v) here does;
@@ -132,15 +133,18 @@ module _ (procs : List (List Instr)) (slot width p size : ℕ) where
 
   module _ (valid : (k : ℕ) (i : Instr) → slice_get code k ≡ Some i → WritesBelow size i) (low_slot : slot < 2 ^ 8) (low_width : width < 2 ^ 8) where
     -- a quotient, a product and a difference
-    remains : (d a b t2 pc t : ℕ) (regs : List ℤ) (x y : ℤ) → HasAt pc (op_code Remainder d a b t2) → a < t2 → b < t2 → t ≤ t2 → get_or regs a (pos 0) ≡ x → get_or regs b (pos 0) ≡ y → length regs ≡ size
-        → FitsSigned w64 x → FitsSigned w64 y → 0 < unsigned_abs y → effect (instr.Div t2 a b) slot width (at pc regs) ≡ Moves (write_and_step (at pc regs) t2 (int_wrapping_div w64 x y)) → Writes pc (pc + 3) regs d t (int_rem x y)
+    remains : (d a b t2 pc t : ℕ) (regs : List ℤ) (x y : ℤ) → HasAt pc (op_code Remainder d a b t2) → a < t2 → b < t2 → t ≤ t2 → get_or regs a (pos 0) ≡ x → get_or regs b (pos 0) ≡ y
+        → length regs ≡ size
+        → FitsSigned w64 x → FitsSigned w64 y → 0 < unsigned_abs y → effect (instr.Div t2 a b) slot width (at pc regs) ≡ Moves (write_and_step (at pc regs) t2 (int_wrapping_div w64 x y))
+        → Writes pc (pc + 3) regs d t (int_rem x y)
     remains d a b t2 pc t regs x y has la lb high ex ey long fx fy some divides = subst (λ k. Writes pc k regs d t (int_rem x y)) len (record {
       regs' = third.regs';
       comes = comes_on _ _ _ first.comes (comes_on _ _ _ second.comes third.comes);
       some = omega (arith, first.some);
       long = third.long;
       value = third.value;
-      kept = λ k below other. third.kept k below other ∙ second.kept k (omega (arith, below, high)) (omega (arith, below, high)) ∙ first.kept k (omega (arith, below, high)) (omega (arith, below, high));
+      kept = λ k below other. third.kept k below other ∙ second.kept k (omega (arith, below, high)) (omega (arith, below, high))
+          ∙ first.kept k (omega (arith, below, high)) (omega (arith, below, high));
     })
       where
         q : ℤ
@@ -156,18 +160,22 @@ module _ (procs : List (List Instr)) (slot width p size : ℕ) where
         product = ap (λ z. int_wrapping_mul w64 z (get_or first.regs' b (pos 0))) first.value ∙ ap (int_wrapping_mul w64 (int_wrapping_div w64 x y)) (first.kept b lb (omega (arith, lb)) ∙ ey)
 
         second : Writes (pc + 1) (pc + 1 + 1) first.regs' t2 t2 (int_wrapping_mul w64 (int_wrapping_div w64 x y) y)
-        second = write (pc + 1) t2 t2 first.regs' (instr.Mul t2 t2 b) (int_wrapping_mul w64 (int_wrapping_div w64 x y) y) has.1.0 (ap (λ z. Moves (write_and_step (at (pc + 1) first.regs') t2 z)) product) (valid (pc + 1) _ has.1.0).0 first.long
+        second = write (pc + 1) t2 t2 first.regs' (instr.Mul t2 t2 b) (int_wrapping_mul w64 (int_wrapping_div w64 x y) y) has.1.0
+            (ap (λ z. Moves (write_and_step (at (pc + 1) first.regs') t2 z)) product) (valid (pc + 1) _ has.1.0).0 first.long
 
         rest : int_wrapping_sub w64 (get_or second.regs' a (pos 0)) (get_or second.regs' t2 (pos 0)) ≡ int_rem x y
-        rest = ap (λ z. int_wrapping_sub w64 z (get_or second.regs' t2 (pos 0))) (second.kept a la (omega (arith, la)) ∙ first.kept a la (omega (arith, la)) ∙ ex) ∙ ap (int_wrapping_sub w64 x) second.value ∙ remainder_is x y fx fy some (wrapped_fits _) (wrapped_fits _)
+        rest = ap (λ z. int_wrapping_sub w64 z (get_or second.regs' t2 (pos 0))) (second.kept a la (omega (arith, la)) ∙ first.kept a la (omega (arith, la)) ∙ ex)
+            ∙ ap (int_wrapping_sub w64 x) second.value ∙ remainder_is x y fx fy some (wrapped_fits _) (wrapped_fits _)
 
         third : Writes (pc + 1 + 1) (pc + 1 + 1 + 1) second.regs' d t (int_rem x y)
-        third = write (pc + 1 + 1) d t second.regs' (instr.Sub d a t2) (int_rem x y) has.1.1.0 (ap (λ z. Moves (write_and_step (at (pc + 1 + 1) second.regs') d z)) rest) (valid (pc + 1 + 1) _ has.1.1.0).0 second.long
+        third = write (pc + 1 + 1) d t second.regs' (instr.Sub d a t2) (int_rem x y) has.1.1.0 (ap (λ z. Moves (write_and_step (at (pc + 1 + 1) second.regs') d z)) rest)
+            (valid (pc + 1 + 1) _ has.1.1.0).0 second.long
 
         len : pc + 1 + 1 + 1 ≡ pc + 3
         len = omega arith
 
-    op_runs : (op : Operator) (d a b t2 pc t : ℕ) (regs : List ℤ) (x y : ℤ) → HasAt pc (op_code op d a b t2) → a < t2 → b < t2 → t ≤ t2 → get_or regs a (pos 0) ≡ x → get_or regs b (pos 0) ≡ y → length regs ≡ size → FitsSigned w64 x → FitsSigned w64 y
+    op_runs : (op : Operator) (d a b t2 pc t : ℕ) (regs : List ℤ) (x y : ℤ) → HasAt pc (op_code op d a b t2) → a < t2 → b < t2 → t ≤ t2 → get_or regs a (pos 0) ≡ x → get_or regs b (pos 0) ≡ y
+        → length regs ≡ size → FitsSigned w64 x → FitsSigned w64 y
         → WritesIf pc (pc + length (op_code op d a b t2)) regs d t (result_of op x y)
     op_runs Plus d a b t2 pc t regs x y has la lb high ex ey long fx fy = write pc d t regs (instr.Add d a b) _ has.0 (rw (ex, ey) refl) (valid pc _ has.0).0 long
     op_runs Minus d a b t2 pc t regs x y has la lb high ex ey long fx fy = write pc d t regs (instr.Sub d a b) _ has.0 (rw (ex, ey) refl) (valid pc _ has.0).0 long
@@ -203,7 +211,9 @@ module _ (procs : List (List Instr)) (slot width p size : ℕ) where
     written_brings_if pc pc' t regs (Some v) w = written_brings pc pc' t regs v w
 
     -- an operand, whose own code is known to run
-    brought_runs : (n pc t : ℕ) (e : Expr) (vars regs : List ℤ) → IsWithin n e → n ≤ t → Agree size n vars regs → HasAt pc (operand_code e t) → (HasAt pc (value_code e t t) → WritesIf pc (pc + length (value_code e t t)) regs t t (value_of e slot width vars)) → BringsIf pc (pc + length (operand_code e t)) regs (operand e t) t (value_of e slot width vars)
+    brought_runs : (n pc t : ℕ) (e : Expr) (vars regs : List ℤ) → IsWithin n e → n ≤ t → Agree size n vars regs → HasAt pc (operand_code e t)
+        → (HasAt pc (value_code e t t) → WritesIf pc (pc + length (value_code e t t)) regs t t (value_of e slot width vars))
+        → BringsIf pc (pc + length (operand_code e t)) regs (operand e t) t (value_of e slot width vars)
     brought_runs n pc t (Variable x) vars regs h le agree has runs =
         let e : pc ≡ pc + 0 = omega arith in
         record { regs' = regs; comes = subst (λ q. Comes (at pc regs) (at q regs)) e (stays (at pc regs)); long = agree.long; value = agree.same x h; kept = λ r below. refl }
@@ -216,14 +226,16 @@ module _ (procs : List (List Instr)) (slot width p size : ℕ) where
     still n t vars regs regs' le agree long kept = record { long = long; same = λ x low. kept x (omega (arith, low, le)) ∙ agree.same x low; fit = agree.fit }
 
     -- two operands and an operator
-    two_runs : (op : Operator) (ca cb : List Instr) (oa ob : Option ℤ) (d ra rb pc t t2 t3 : ℕ) (regs : List ℤ) → HasAt pc (ca ++ (cb ++ op_code op d ra rb t3)) → ra < t2 → t ≤ t2 → rb < t3 → t2 ≤ t3 → FitsIf oa → FitsIf ob
+    two_runs : (op : Operator) (ca cb : List Instr) (oa ob : Option ℤ) (d ra rb pc t t2 t3 : ℕ) (regs : List ℤ) → HasAt pc (ca ++ (cb ++ op_code op d ra rb t3)) → ra < t2 → t ≤ t2 → rb < t3 → t2 ≤ t3
+        → FitsIf oa → FitsIf ob
         → BringsIf pc (pc + length ca) regs ra t oa → ((regs' : List ℤ) → length regs' ≡ size → AreAllKept t regs regs' → BringsIf (pc + length ca) (pc + length ca + length cb) regs' rb t2 ob)
         → WritesIf pc (pc + length (ca ++ (cb ++ op_code op d ra rb t3))) regs d t (on_both (result_of op) oa ob)
     two_runs op ca cb None ob d ra rb pc t t2 t3 regs has low high low2 high2 fa fb first second = first
     two_runs op ca cb (Some x) None d ra rb pc t t2 t3 regs has low high low2 high2 fa fb first second =
         fails_on _ _ first.comes (second first.regs' first.long first.kept)
     two_runs op ca cb (Some x) (Some y) d ra rb pc t t2 t3 regs has low high low2 high2 fa fb first second =
-        last (result_of op x y) (op_runs op d ra rb t3 (pc + length ca + length cb) t next.regs' x y here (omega (arith, low, high2)) low2 (omega (arith, high, high2)) (next.kept ra low ∙ first.value) next.value next.long fa fb)
+        last (result_of op x y) (op_runs op d ra rb t3 (pc + length ca + length cb) t next.regs' x y here (omega (arith, low, high2)) low2 (omega (arith, high, high2))
+        (next.kept ra low ∙ first.value) next.value next.long fa fb)
       where
         next : Brings (pc + length ca) (pc + length ca + length cb) first.regs' rb t2 y
         next = second first.regs' first.long first.kept
@@ -237,7 +249,8 @@ module _ (procs : List (List Instr)) (slot width p size : ℕ) where
         both : Comes (at pc regs) (at (pc + length ca + length cb) next.regs')
         both = comes_on _ _ _ first.comes next.comes
 
-        last : (o : Option ℤ) → WritesIf (pc + length ca + length cb) (pc + length ca + length cb + length (op_code op d ra rb t3)) next.regs' d t o → WritesIf pc (pc + length (ca ++ (cb ++ op_code op d ra rb t3))) regs d t o
+        last : (o : Option ℤ) → WritesIf (pc + length ca + length cb) (pc + length ca + length cb + length (op_code op d ra rb t3)) next.regs' d t o
+            → WritesIf pc (pc + length (ca ++ (cb ++ op_code op d ra rb t3))) regs d t o
         last None f = fails_on _ _ both f
         last (Some v) w = subst (λ q. Writes pc q regs d t v) len (record {
           regs' = w.regs';
@@ -248,7 +261,8 @@ module _ (procs : List (List Instr)) (slot width p size : ℕ) where
           kept = λ r below other. w.kept r below other ∙ next.kept r (omega (arith, below, high)) ∙ first.kept r below;
         })
 
-    pub value_runs : (e : Expr) (n d t pc : ℕ) (vars regs : List ℤ) → IsWithin n e → n ≤ t → Agree size n vars regs → HasAt pc (value_code e d t) → WritesIf pc (pc + length (value_code e d t)) regs d t (value_of e slot width vars)
+    pub value_runs : (e : Expr) (n d t pc : ℕ) (vars regs : List ℤ) → IsWithin n e → n ≤ t → Agree size n vars regs → HasAt pc (value_code e d t)
+        → WritesIf pc (pc + length (value_code e d t)) regs d t (value_of e slot width vars)
     value_runs (Number z) n d t pc vars regs h le agree has = write pc d t regs (instr.Set d z) z has.0 refl (valid pc _ has.0).0 agree.long
     value_runs Slot n d t pc vars regs h le agree has = write pc d t regs (instr.Slot d) (pos slot) has.0 refl (valid pc _ has.0).0 agree.long
     value_runs Width n d t pc vars regs h le agree has = write pc d t regs (instr.Width d) (pos width) has.0 refl (valid pc _ has.0).0 agree.long
@@ -258,10 +272,12 @@ module _ (procs : List (List Instr)) (slot width p size : ℕ) where
         first = write pc t t regs (instr.Set t (pos 0)) (pos 0) has.0 refl (valid pc _ has.0).0 agree.long
 
         sum : int_wrapping_add w64 (get_or first.regs' x (pos 0)) (get_or first.regs' t (pos 0)) ≡ get_or vars x (pos 0)
-        sum = ap (λ z. int_wrapping_add w64 z (get_or first.regs' t (pos 0))) (first.kept x (omega (arith, h, le)) (omega (arith, h, le)) ∙ agree.same x h) ∙ ap (int_wrapping_add w64 (get_or vars x (pos 0))) first.value ∙ add_nought (get_or vars x (pos 0)) (agree.fit x)
+        sum = ap (λ z. int_wrapping_add w64 z (get_or first.regs' t (pos 0))) (first.kept x (omega (arith, h, le)) (omega (arith, h, le)) ∙ agree.same x h)
+            ∙ ap (int_wrapping_add w64 (get_or vars x (pos 0))) first.value ∙ add_nought (get_or vars x (pos 0)) (agree.fit x)
 
         second : Writes (pc + 1) (pc + 1 + 1) first.regs' d t (get_or vars x (pos 0))
-        second = write (pc + 1) d t first.regs' (instr.Add d x t) (get_or vars x (pos 0)) has.1.0 (ap (λ z. Moves (write_and_step (at (pc + 1) first.regs') d z)) sum) (valid (pc + 1) _ has.1.0).0 first.long
+        second = write (pc + 1) d t first.regs' (instr.Add d x t) (get_or vars x (pos 0)) has.1.0 (ap (λ z. Moves (write_and_step (at (pc + 1) first.regs') d z)) sum)
+            (valid (pc + 1) _ has.1.0).0 first.long
 
         two : pc + 1 + 1 ≡ pc + 2
         two = omega arith
@@ -281,12 +297,14 @@ module _ (procs : List (List Instr)) (slot width p size : ℕ) where
         let cb = operand_code b t2 in
         let high = above_high t a in
         let le2 : n ≤ t2 = omega (arith, high, le) in
-        two_runs op ca cb (value_of a slot width vars) (value_of b slot width vars) d (operand a t) (operand b t2) pc t t2 (above b t2) regs has (operand_low n t a h.0 le) high (operand_low n t2 b h.1 le2) (above_high t2 b)
+        two_runs op ca cb (value_of a slot width vars) (value_of b slot width vars) d (operand a t) (operand b t2) pc t t2 (above b t2) regs has (operand_low n t a h.0 le) high
+        (operand_low n t2 b h.1 le2) (above_high t2 b)
         (value_fits a n slot width vars low_slot low_width h.0 agree.fit) (value_fits b n slot width vars low_slot low_width h.1 agree.fit)
         (brought_runs n pc t a vars regs h.0 le agree (has_front pc ca _ has) (value_runs a n t t pc vars regs h.0 le agree))
         (λ regs' long kept.
         let agree' = still n t vars regs regs' le agree long kept in
         brought_runs n (pc + length ca) t2 b vars regs' h.1 le2 agree' (has_front _ cb _ (has_back pc ca _ has)) (value_runs b n t2 t2 (pc + length ca) vars regs' h.1 le2 agree'))
 
-    pub operand_runs : (e : Expr) (n t pc : ℕ) (vars regs : List ℤ) → IsWithin n e → n ≤ t → Agree size n vars regs → HasAt pc (operand_code e t) → BringsIf pc (pc + length (operand_code e t)) regs (operand e t) t (value_of e slot width vars)
+    pub operand_runs : (e : Expr) (n t pc : ℕ) (vars regs : List ℤ) → IsWithin n e → n ≤ t → Agree size n vars regs → HasAt pc (operand_code e t)
+        → BringsIf pc (pc + length (operand_code e t)) regs (operand e t) t (value_of e slot width vars)
     operand_runs e n t pc vars regs h le agree has = brought_runs n pc t e vars regs h le agree has (value_runs e n t t pc vars regs h le agree)

@@ -4,7 +4,17 @@ use Rattle.job_compiler.proofs.Numbers.{small_fits}
 use Rattle.job_compiler.specs.Worked.{SummedIsFunction, SummedIsValid, SummedGives10}
 
 pub summed_is_function : SummedIsFunction
-summed_is_function g = record { parameters = omega arith; within = (((omega arith, omega arith), (omega arith, (omega arith, omega arith)), (omega arith, (omega arith, small_fits 1 (omega arith)))), omega arith) }
+summed_is_function g = record {
+  parameters = omega arith;
+  within = (
+    (
+      (omega arith, omega arith),
+      (omega arith, (omega arith, omega arith)),
+      (omega arith, (omega arith, small_fits 1 (omega arith))),
+    ),
+    omega arith,
+  );
+}
 
 pub summed_is_valid : SummedIsValid
 summed_is_valid g = record { some = omega arith; most = omega arith; each = search rules; ends = refl }

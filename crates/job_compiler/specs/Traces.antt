@@ -64,5 +64,7 @@ AreAnswers answers = AllByRecursion (λ (a : ℤ × ℤ). FitsSigned w64 a.0 × 
 
 -- With whatever answers, the frame does the same operations as the function, with the same numbers and in the same order. It divides by 0, and goes on for ever, exactly where the function does.
 pub record DoesTheSame (procs : List (List Instr)) (slot width : ℕ) (p : Point) (f : Frame) : Type 0 where
-  pub forth : (answers : List (ℤ × ℤ)) → AreAnswers answers → (n : ℕ) (events : List Event) → source_events slot width n p answers ≡ Some events → (m : ℕ) × (frame_events procs slot width m f answers ≡ Some events)
-  pub back : (answers : List (ℤ × ℤ)) → AreAnswers answers → (m : ℕ) (events : List Event) → frame_events procs slot width m f answers ≡ Some events → (n : ℕ) × (source_events slot width n p answers ≡ Some events)
+  pub forth : (answers : List (ℤ × ℤ)) → AreAnswers answers → (n : ℕ) (events : List Event) → source_events slot width n p answers ≡ Some events
+      → (m : ℕ) × (frame_events procs slot width m f answers ≡ Some events)
+  pub back : (answers : List (ℤ × ℤ)) → AreAnswers answers → (m : ℕ) (events : List Event) → frame_events procs slot width m f answers ≡ Some events
+      → (n : ℕ) × (source_events slot width n p answers ≡ Some events)

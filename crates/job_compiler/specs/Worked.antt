@@ -17,7 +17,8 @@ abbrev pub summed : Box (Unit {0}) Global → Function
 summed g =
     record {
       variables = 3;
-      body = Then' g (Loop' (Holds (Two' Below g (Variable 1) g (Variable 0))) g (Assign 2 (Two' Plus g (Variable 2) g (Variable 1))) g (Assign 1 (Two' Plus g (Variable 1) g (Number (pos 1))))) g (Return (Variable 2));
+      body = Then' g (Loop' (Holds (Two' Below g (Variable 1) g (Variable 0))) g (Assign 2 (Two' Plus g (Variable 2) g (Variable 1))) g (Assign 1 (Two' Plus g (Variable 1) g (Number (pos 1))))) g
+          (Return (Variable 2));
     }
 
 abbrev pub SummedIsFunction : Type 0

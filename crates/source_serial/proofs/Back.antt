@@ -33,7 +33,8 @@ then_extends None y f g v hx hf e = absurd (none-some v e)
 then_extends (Some w) y f g v hx hf e = ap (λ o. then_with o g) (hx w refl) ∙ hf w e
 
 module _ (fs : List Function) where
-  does_extends : (F G : SourceTask → Option ℤ) → ((t : SourceTask) (v : ℤ) → F t ≡ Some v → G t ≡ Some v) → (t : SourceTask) (o : Operation) (v : ℤ) → does_serially F fs t o ≡ Some v → does_serially G fs t o ≡ Some v
+  does_extends : (F G : SourceTask → Option ℤ) → ((t : SourceTask) (v : ℤ) → F t ≡ Some v → G t ≡ Some v) → (t : SourceTask) (o : Operation) (v : ℤ) → does_serially F fs t o ≡ Some v
+      → does_serially G fs t o ≡ Some v
   does_extends F G h t (Spawns g p x y) v e = then_extends _ _ _ _ v (λ w. given_to_extends F G h (task_of (slice_get fs p) x y) w) (λ w. h _ v) e
   does_extends F G h t (Isolates p x y) v e = then_extends _ _ _ _ v (λ w. given_to_extends F G h (task_of (slice_get fs p) x y) w) (λ w. h _ v) e
   does_extends F G h t (Waits g) v e = h _ v e
@@ -57,14 +58,17 @@ module _ (fs : List Function) where
       let z : suc n + j ≡ suc (n + j) = omega arith in
       ap (λ k. source_given k fs t) z ∙ act_extends (source_given n fs) (source_given (n + j) fs) (longer n j) t (act 0 0 t.point) v e
 
-  given_after : (k : ℕ) (p q : Point) (sums : List (Option ℤ)) (n : ℕ) → point_after 0 0 p k ≡ Some q → source_given (k + n) fs (record { point = p; sums = sums }) ≡ source_given n fs (record { point = q; sums = sums })
-  given_after zero p q sums n e = let z : 0 + n ≡ n = omega arith in ap (λ m. source_given m fs (record { point = p; sums = sums })) z ∙ ap (λ (x : Point). source_given n fs (record { point = x; sums = sums })) (same_Some p q e)
+  given_after : (k : ℕ) (p q : Point) (sums : List (Option ℤ)) (n : ℕ) → point_after 0 0 p k ≡ Some q
+      → source_given (k + n) fs (record { point = p; sums = sums }) ≡ source_given n fs (record { point = q; sums = sums })
+  given_after zero p q sums n e = let z : 0 + n ≡ n = omega arith in ap (λ m. source_given m fs (record { point = p; sums = sums })) z
+      ∙ ap (λ (x : Point). source_given n fs (record { point = x; sums = sums })) (same_Some p q e)
   given_after (suc k) p q sums n e = ap (λ m. source_given m fs (record { point = p; sums = sums })) z ∙ by_act (λ x e'. given_after k x q sums n e') (act 0 0 p) e
     where
       z : suc k + n ≡ suc (k + n)
       z = omega arith
 
-      by_act : ((x : Point) → point_after 0 0 x k ≡ Some q → source_given (k + n) fs (record { point = x; sums = sums }) ≡ source_given n fs (record { point = q; sums = sums })) → (a : Act) → if_goes (λ x. point_after 0 0 x k) a ≡ Some q → serially (source_given (k + n) fs) fs (record { point = p; sums = sums }) a ≡ source_given n fs (record { point = q; sums = sums })
+      by_act : ((x : Point) → point_after 0 0 x k ≡ Some q → source_given (k + n) fs (record { point = x; sums = sums }) ≡ source_given n fs (record { point = q; sums = sums })) → (a : Act)
+          → if_goes (λ x. point_after 0 0 x k) a ≡ Some q → serially (source_given (k + n) fs) fs (record { point = p; sums = sums }) a ≡ source_given n fs (record { point = q; sums = sums })
       by_act ih (source.Goes x) e = ih x e
       by_act ih Divides e = absurd (none-some q e)
       by_act ih (Does o) e = absurd (none-some q e)
@@ -124,12 +128,14 @@ module _ (fs : List Function) where
     lower k u w mid e = subst (λ (o : Given). IfSome o (λ p. p.1 < k)) e (takes_instructions procs k u)
 
     -- a task was made, and its maker goes on with its value
-    made_then : (n1 n2 : ℕ) (o : Option SourceTask) (ct t2 : SourceTask) (w v : ℤ) → o ≡ Some ct → source_given n1 fs ct ≡ Some w → source_given n2 fs t2 ≡ Some v → (given_to (source_given (n1 + n2) fs) o ≡ Some w) × (source_given (n1 + n2) fs t2 ≡ Some v)
+    made_then : (n1 n2 : ℕ) (o : Option SourceTask) (ct t2 : SourceTask) (w v : ℤ) → o ≡ Some ct → source_given n1 fs ct ≡ Some w → source_given n2 fs t2 ≡ Some v
+        → (given_to (source_given (n1 + n2) fs) o ≡ Some w) × (source_given (n1 + n2) fs t2 ≡ Some v)
     made_then n1 n2 o ct t2 w v is e1 e2 =
         let z : n1 + n2 ≡ n2 + n1 = omega arith in
         (ap (given_to (source_given (n1 + n2) fs)) is ∙ longer n1 n2 ct w e1, ap (λ k. source_given k fs t2) z ∙ longer n2 n1 t2 v e2)
 
-    module _ (bound : ℕ) (ih : (left : ℕ) → left ≤ bound → (t : SourceTask) (u : SerialTask) → Related t u → (v : ℤ) (rest : ℕ) → given_of procs left u ≡ Some (v, rest) → Found t v) (g : Frame) (q : Point) (sums : List (Option ℤ)) (more : ℕ) (low : more ≤ bound) (regs : RegsFit g.registers) (fit : SumsFit sums) (v : ℤ) (rest : ℕ) where
+    module _ (bound : ℕ) (ih : (left : ℕ) → left ≤ bound → (t : SourceTask) (u : SerialTask) → Related t u → (v : ℤ) (rest : ℕ) → given_of procs left u ≡ Some (v, rest) → Found t v) (g : Frame)
+        (q : Point) (sums : List (Option ℤ)) (more : ℕ) (low : more ≤ bound) (regs : RegsFit g.registers) (fit : SumsFit sums) (v : ℤ) (rest : ℕ) where
       abbrev here : SourceTask
       here = record { point = q; sums = sums }
 
@@ -142,37 +148,59 @@ module _ (fs : List Function) where
       spawned : (gr p a b : ℕ) → Finding (Spawn gr p a b) (Spawns gr p (register g a) (register g b))
       spawned gr p a b goes e = by_first (given_of procs more (new_task (new_frame p (register g a) (register g b)))) refl e
         where
-          by_first : (first : Given) → given_of procs more (new_task (new_frame p (register g a) (register g b))) ≡ first → given_then first (λ w mid. given_of procs mid (record { frame = record g { place = g.place + 1 }; sums = added sums gr w })) ≡ Some (v, rest) → Finds here (Spawns gr p (register g a) (register g b)) v
+          by_first : (first : Given) → given_of procs more (new_task (new_frame p (register g a) (register g b))) ≡ first
+              → given_then first (λ w mid. given_of procs mid (record { frame = record g { place = g.place + 1 }; sums = added sums gr w })) ≡ Some (v, rest)
+              → Finds here (Spawns gr p (register g a) (register g b)) v
           by_first None is e = absurd (none-some (v, rest) e)
           by_first (Some f) is e =
               let ch = child more p (register g a) (register g b) f (regs a) (regs b) is in
               let c1 = ih more low ch.task _ ch.related f.0 f.1 is in
               let t2 : SourceTask = record { point = answered q (pos 0) (pos 0); sums = added sums gr f.0 } in
-              let rel : Related t2 (record { frame = record g { place = g.place + 1 }; sums = added sums gr f.0 }) = record { same = goes refl (pos 0) (pos 0) nought_fits nought_fits; sums = refl; regs = regs; fit = sums_set sums gr _ (wrapped_fits _) fit } in
+              let rel : Related t2 (record { frame = record g { place = g.place + 1 }; sums = added sums gr f.0 }) = record
+              { same = goes refl (pos 0) (pos 0) nought_fits nought_fits; sums = refl; regs = regs; fit = sums_set sums gr _ (wrapped_fits _) fit } in
               let c2 = ih f.1 (omega (arith, low, lower more _ f.0 f.1 is)) t2 _ rel v rest e in
               let both = made_then c1.steps c2.steps (task_of (slice_get fs p) (register g a) (register g b)) ch.task t2 f.0 v ch.is c1.gives c2.gives in
-              record { steps = c1.steps + c2.steps; gives = ap (λ o. then_with o (λ w. source_given (c1.steps + c2.steps) fs (record { point = answered q (pos 0) (pos 0); sums = added sums gr w }))) both.0 ∙ both.1; fits = c2.fits }
+              record {
+                steps = c1.steps + c2.steps;
+                gives = ap (λ o. then_with o
+                    (λ w. source_given (c1.steps + c2.steps) fs (record { point = answered q (pos 0) (pos 0); sums = added sums gr w }))) both.0 ∙ both.1;
+                fits = c2.fits;
+              }
 
       isolated : (d p a b : ℕ) → Finding (Isolate d p a b) (Isolates p (register g a) (register g b))
       isolated d p a b goes e = by_first (given_of procs more (new_task (new_frame p (register g a) (register g b)))) refl e
         where
-          by_first : (first : Given) → given_of procs more (new_task (new_frame p (register g a) (register g b))) ≡ first → given_then first (λ w mid. given_of procs mid (record { frame = record g { place = g.place + 1; registers = set g.registers d w }; sums = sums })) ≡ Some (v, rest) → Finds here (Isolates p (register g a) (register g b)) v
+          by_first : (first : Given) → given_of procs more (new_task (new_frame p (register g a) (register g b))) ≡ first
+              → given_then first (λ w mid. given_of procs mid (record { frame = record g { place = g.place + 1; registers = set g.registers d w }; sums = sums })) ≡ Some (v, rest)
+              → Finds here (Isolates p (register g a) (register g b)) v
           by_first None is e = absurd (none-some (v, rest) e)
           by_first (Some f) is e =
               let ch = child more p (register g a) (register g b) f (regs a) (regs b) is in
               let c1 = ih more low ch.task _ ch.related f.0 f.1 is in
               let t2 : SourceTask = record { point = answered q f.0 (pos 0); sums = sums } in
-              let rel : Related t2 (record { frame = record g { place = g.place + 1; registers = set g.registers d f.0 }; sums = sums }) = record { same = goes refl f.0 (pos 0) c1.fits nought_fits; sums = refl; regs = regs_set g.registers d f.0 c1.fits regs; fit = fit } in
+              let rel : Related t2 (record { frame = record g { place = g.place + 1; registers = set g.registers d f.0 }; sums = sums }) = record
+              { same = goes refl f.0 (pos 0) c1.fits nought_fits; sums = refl; regs = regs_set g.registers d f.0 c1.fits regs; fit = fit } in
               let c2 = ih f.1 (omega (arith, low, lower more _ f.0 f.1 is)) t2 _ rel v rest e in
               let both = made_then c1.steps c2.steps (task_of (slice_get fs p) (register g a) (register g b)) ch.task t2 f.0 v ch.is c1.gives c2.gives in
-              record { steps = c1.steps + c2.steps; gives = ap (λ o. then_with o (λ w. source_given (c1.steps + c2.steps) fs (record { point = answered q w (pos 0); sums = sums }))) both.0 ∙ both.1; fits = c2.fits }
+              record {
+                steps = c1.steps + c2.steps;
+                gives = ap (λ o. then_with o (λ w. source_given (c1.steps + c2.steps) fs (record { point = answered q w (pos 0); sums = sums }))) both.0
+                    ∙ both.1;
+                fits = c2.fits;
+              }
 
       waited : (d e' gr : ℕ) → Finding (Wait d e' gr) (Waits gr)
       waited d e' gr goes e =
           let s = sum_at sums gr in
           let t2 : SourceTask = record { point = answered q s (pos 1); sums = set sums gr None } in
           let u2 : SerialTask = after_wait (record { frame = g; sums = sums }) d e' gr in
-          let rel : Related t2 u2 = record { same = goes refl s (pos 1) (fit gr) one_fits; sums = refl; regs = regs_set (set g.registers d s) e' (pos 1) one_fits (regs_set g.registers d s (fit gr) regs); fit = sums_set sums gr None nought_fits fit } in
+          let rel : Related t2 u2 = record {
+            same = goes refl s (pos 1) (fit gr) one_fits;
+            sums = refl;
+            regs = regs_set (set g.registers d s) e' (pos 1) one_fits
+                (regs_set g.registers d s (fit gr) regs);
+            fit = sums_set sums gr None nought_fits fit;
+          } in
           let c = ih more low t2 u2 rel v rest e in
           record { steps = c.steps; gives = c.gives; fits = c.fits }
 
@@ -214,14 +242,17 @@ module _ (fs : List Function) where
         let s = comes procs (numbers_fit procs compiled.valid) left u (v, rest) r.regs e in
         let m = meets procs 0 0 t.point u.frame r.same s.steps s.frame s.instr s.by s.there s.shared in
         let w = by_instr bound (back bound) s.frame m.point u.sums s.more (omega (arith, le, s.all)) s.fit r.fit v rest s.instr m.operation m.same m.goes_on s.gives in
-        let at_end : does_serially (source_given w.steps fs) fs (record { point = m.point; sums = t.sums }) m.operation ≡ Some v = subst (λ (x : List (Option ℤ)). does_serially (source_given w.steps fs) fs (record { point = m.point; sums = x }) m.operation ≡ Some v) (sym r.sums) w.gives in
+        let at_end : does_serially (source_given w.steps fs) fs (record { point = m.point; sums = t.sums }) m.operation
+        ≡ Some v = subst (λ (x : List (Option ℤ)). does_serially (source_given w.steps fs) fs (record { point = m.point; sums = x }) m.operation ≡ Some v) (sym r.sums) w.gives in
         record {
           steps = m.steps + suc w.steps;
-          gives = given_after m.steps t.point m.point t.sums (suc w.steps) m.there ∙ ap (λ (a : Act). serially (source_given w.steps fs) fs (record { point = m.point; sums = t.sums }) a) m.does ∙ at_end;
+          gives = given_after m.steps t.point m.point t.sums (suc w.steps) m.there ∙ ap (λ (a : Act). serially (source_given w.steps fs) fs (record { point = m.point; sums = t.sums }) a) m.does
+              ∙ at_end;
           fits = w.fits;
         }
 
-pub source_values : (fs : List Function) (procs : List (List Instr)) (args : List ℤ) → IsCompiledProgram fs procs → ((k : ℕ) → FitsSigned w64 (slice_index_or args k (pos 0))) → (left : ℕ) (v : ℤ) → serial_value procs args left ≡ Some v → (n : ℕ) × (source_value fs args n ≡ Some v)
+pub source_values : (fs : List Function) (procs : List (List Instr)) (args : List ℤ) → IsCompiledProgram fs procs → ((k : ℕ) → FitsSigned w64 (slice_index_or args k (pos 0))) → (left : ℕ) (v : ℤ)
+    → serial_value procs args left ≡ Some v → (n : ℕ) × (source_value fs args n ≡ Some v)
 source_values fs procs args compiled fit left v e = by_given (given_of procs left (root_task args)) refl e
   where
     by_given : (o : Given) → given_of procs left (root_task args) ≡ o → option_map (λ (p : ℤ × ℕ). p.0) o ≡ Some v → (n : ℕ) × (source_value fs args n ≡ Some v)

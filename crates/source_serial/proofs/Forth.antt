@@ -49,20 +49,26 @@ given_some F (Some t) w e = (t, refl, e)
 
 module _ (fs : List Function) (procs : List (List Instr)) (compiled : IsCompiledProgram fs procs) where
   -- a private instruction takes one of those that are left
-  one_turn : (h g : Frame) (sums : List (Option ℤ)) (left : ℕ) → next_of procs 0 0 h ≡ Some g → given_of procs (suc left) (record { frame = h; sums = sums }) ≡ given_of procs left (record { frame = g; sums = sums })
+  one_turn : (h g : Frame) (sums : List (Option ℤ)) (left : ℕ) → next_of procs 0 0 h ≡ Some g
+      → given_of procs (suc left) (record { frame = h; sums = sums }) ≡ given_of procs left (record { frame = g; sums = sums })
   one_turn h g sums left e = given_of-suc procs left (record { frame = h; sums = sums }) ∙ by_instr (instr_at procs h) e
     where
-      by_effect : (i : Instr) (x : Effect) → effect i 0 0 h ≡ x → moved_to x ≡ Some g → given_by (given_of procs) left (turn_of i (record { frame = h; sums = sums })) ≡ given_of procs left (record { frame = g; sums = sums })
-      by_effect i (Moves z) is e = ap (given_by (given_of procs) left) (turn_alone i (record { frame = h; sums = sums }) (Moves z) is (shared_moves z)) ∙ ap (λ (y : Frame). given_of procs left (record { frame = y; sums = sums })) (same_Some z g e)
+      by_effect : (i : Instr) (x : Effect) → effect i 0 0 h ≡ x → moved_to x ≡ Some g
+          → given_by (given_of procs) left (turn_of i (record { frame = h; sums = sums })) ≡ given_of procs left (record { frame = g; sums = sums })
+      by_effect i (Moves z) is e = ap (given_by (given_of procs) left) (turn_alone i (record { frame = h; sums = sums }) (Moves z) is (shared_moves z))
+          ∙ ap (λ (y : Frame). given_of procs left (record { frame = y; sums = sums })) (same_Some z g e)
       by_effect i DividesByZero is e = absurd (none-some g e)
       by_effect i IsShared is e = absurd (none-some g e)
 
-      by_instr : (o : Option Instr) → option_and_then (λ i. moved_to (effect i 0 0 h)) o ≡ Some g → given_by (given_of procs) left (turn_at o (record { frame = h; sums = sums })) ≡ given_of procs left (record { frame = g; sums = sums })
+      by_instr : (o : Option Instr) → option_and_then (λ i. moved_to (effect i 0 0 h)) o ≡ Some g
+          → given_by (given_of procs) left (turn_at o (record { frame = h; sums = sums })) ≡ given_of procs left (record { frame = g; sums = sums })
       by_instr None e = absurd (none-some g e)
       by_instr (Some i) e = by_effect i (effect i 0 0 h) refl e
 
-  given_moves : (k : ℕ) (f g : Frame) (sums : List (Option ℤ)) (left : ℕ) → frame_after procs 0 0 f k ≡ Some g → given_of procs (k + left) (record { frame = f; sums = sums }) ≡ given_of procs left (record { frame = g; sums = sums })
-  given_moves zero f g sums left e = let z : 0 + left ≡ left = omega arith in ap (λ m. given_of procs m (record { frame = f; sums = sums })) z ∙ ap (λ (x : Frame). given_of procs left (record { frame = x; sums = sums })) (same_Some f g e)
+  given_moves : (k : ℕ) (f g : Frame) (sums : List (Option ℤ)) (left : ℕ) → frame_after procs 0 0 f k ≡ Some g
+      → given_of procs (k + left) (record { frame = f; sums = sums }) ≡ given_of procs left (record { frame = g; sums = sums })
+  given_moves zero f g sums left e = let z : 0 + left ≡ left = omega arith in ap (λ m. given_of procs m (record { frame = f; sums = sums })) z
+      ∙ ap (λ (x : Frame). given_of procs left (record { frame = x; sums = sums })) (same_Some f g e)
   given_moves (suc k) f g sums left e =
       let b = before_last procs 0 0 f g k e in
       let z : suc k + left ≡ k + suc left = omega arith in
@@ -72,22 +78,35 @@ module _ (fs : List Function) (procs : List (List Instr)) (compiled : IsCompiled
   reached zero f o fit e = absurd (none-some _ e)
   reached (suc m) f o fit e = by_instr (λ g fit' e'. reached m g o fit' e') (instr_at procs f) refl e
     where
-      by_operation : (i : Instr) → instr_at procs f ≡ Some i → effect i 0 0 f ≡ IsShared → (x : Option Operation) → operation_of i f ≡ x → frame_stops (frame_events procs 0 0 m) f x (λ g y z. resumed i y z g) [] ≡ Some (Did o ∷ []) → Reached procs f o
+      by_operation : (i : Instr) → instr_at procs f ≡ Some i → effect i 0 0 f ≡ IsShared → (x : Option Operation) → operation_of i f ≡ x
+          → frame_stops (frame_events procs 0 0 m) f x (λ g y z. resumed i y z g) [] ≡ Some (Did o ∷ []) → Reached procs f o
       by_operation i here shared None is e = absurd (did_lost o (sym (heads Lost (Did o) [] [] (same_Some _ _ e))))
       by_operation i here shared (Some u) is e =
           let same : u ≡ o = did_same u o (heads (Did u) (Did o) [] [] (same_Some _ _ e)) in
           record { steps = 0; frame = f; instr = i; by = refl; there = here; shared = shared; asks = is ∙ ap Some same; fit = fit }
 
-      by_effect : ((g : Frame) → RegsFit g.registers → frame_events procs 0 0 m g [] ≡ Some (Did o ∷ []) → Reached procs g o) → (i : Instr) → instr_at procs f ≡ Some i → (x : Effect) → effect i 0 0 f ≡ x → frame_by (frame_events procs 0 0 m) f x (Some i) [] ≡ Some (Did o ∷ []) → Reached procs f o
+      by_effect : ((g : Frame) → RegsFit g.registers → frame_events procs 0 0 m g [] ≡ Some (Did o ∷ []) → Reached procs g o) → (i : Instr) → instr_at procs f ≡ Some i → (x : Effect)
+          → effect i 0 0 f ≡ x → frame_by (frame_events procs 0 0 m) f x (Some i) [] ≡ Some (Did o ∷ []) → Reached procs f o
       by_effect ih i here (Moves g) is e =
           let fit' : RegsFit g.registers = subst FitsAfter is (effect_fits i f (λ d z eq. numbers_fit procs compiled.valid f d z (here ∙ ap Some eq)) fit) in
           let r = ih g fit' e in
           let goes : next_of procs 0 0 f ≡ Some g = rw (here, is) refl in
-          record { steps = suc r.steps; frame = r.frame; instr = r.instr; by = one_then procs (numbers_fit procs compiled.valid) f g r.frame r.steps goes r.by; there = r.there; shared = r.shared; asks = r.asks; fit = r.fit }
+          record {
+            steps = suc r.steps;
+            frame = r.frame;
+            instr = r.instr;
+            by = one_then procs
+                (numbers_fit procs compiled.valid) f g r.frame r.steps goes r.by;
+            there = r.there;
+            shared = r.shared;
+            asks = r.asks;
+            fit = r.fit;
+          }
       by_effect ih i here DividesByZero is e = absurd (did_divided o (sym (heads Divided (Did o) [] [] (same_Some _ _ e))))
       by_effect ih i here IsShared is e = by_operation i here is (operation_of i f) refl e
 
-      by_instr : ((g : Frame) → RegsFit g.registers → frame_events procs 0 0 m g [] ≡ Some (Did o ∷ []) → Reached procs g o) → (x : Option Instr) → instr_at procs f ≡ x → frame_by (frame_events procs 0 0 m) f (effect_at x 0 0 f) x [] ≡ Some (Did o ∷ []) → Reached procs f o
+      by_instr : ((g : Frame) → RegsFit g.registers → frame_events procs 0 0 m g [] ≡ Some (Did o ∷ []) → Reached procs g o) → (x : Option Instr) → instr_at procs f ≡ x
+          → frame_by (frame_events procs 0 0 m) f (effect_at x 0 0 f) x [] ≡ Some (Did o ∷ []) → Reached procs f o
       by_instr ih None here e = absurd (did_lost o (sym (heads Lost (Did o) [] [] (same_Some _ _ e))))
       by_instr ih (Some i) here e = by_effect ih i here (effect i 0 0 f) refl e
 
@@ -116,16 +135,21 @@ module _ (fs : List Function) (procs : List (List Instr)) (compiled : IsCompiled
   child_of : (p : ℕ) (x y : ℤ) (t : SourceTask) → FitsSigned w64 x → FitsSigned w64 y → task_of (slice_get fs p) x y ≡ Some t → Related fs procs compiled t (new_task (new_frame p x y))
   child_of p x y t fx fy e = by_function (slice_get fs p) (compiled.each p) e
     where
-      by_function : (o : Option Function) → MatchOption o (slice_index_or procs p [] ≡ []) (λ f. IsCompiled f (slice_index_or procs p [])) → task_of o x y ≡ Some t → Related fs procs compiled t (new_task (new_frame p x y))
+      by_function : (o : Option Function) → MatchOption o (slice_index_or procs p [] ≡ []) (λ f. IsCompiled f (slice_index_or procs p [])) → task_of o x y ≡ Some t
+          → Related fs procs compiled t (new_task (new_frame p x y))
       by_function None none e = absurd (none-some t e)
-      by_function (Some f) good e = subst (λ (z : SourceTask). Related fs procs compiled z (new_task (new_frame p x y))) (same_Some _ t e) (record { same = good procs p 0 0 x y refl (omega arith) (omega arith) fx fy; sums = refl; regs = new_regs fs procs compiled p x y fx fy; fit = new_sums 4 })
+      by_function (Some f) good e = subst (λ (z : SourceTask). Related fs procs compiled z (new_task (new_frame p x y))) (same_Some _ t e)
+          (record { same = good procs p 0 0 x y refl (omega arith) (omega arith) fx fy; sums = refl; regs = new_regs fs procs compiled p x y fx fy; fit = new_sums 4 })
 
-  module _ (n : ℕ) (ih : (t : SourceTask) (u : SerialTask) → Related fs procs compiled t u → (v : ℤ) → source_given n fs t ≡ Some v → GivesIt u v) (g : Frame) (q : Point) (sums : List (Option ℤ)) (regs : RegsFit g.registers) (fit : SumsFit sums) (v : ℤ) where
+  module _ (n : ℕ) (ih : (t : SourceTask) (u : SerialTask) → Related fs procs compiled t u → (v : ℤ) → source_given n fs t ≡ Some v → GivesIt u v) (g : Frame) (q : Point) (sums : List (Option ℤ))
+      (regs : RegsFit g.registers) (fit : SumsFit sums) (v : ℤ) where
     abbrev Finding : Instr → Operation → Type 0
-    Finding i o = (is_return o ≡ false → (x y : ℤ) → FitsSigned w64 x → FitsSigned w64 y → DoesTheSame procs 0 0 (answered q x y) (resumed i x y g)) → does_serially (source_given n fs) fs (record { point = q; sums = sums }) o ≡ Some v → TurnGives i (record { frame = g; sums = sums }) v
+    Finding i o = (is_return o ≡ false → (x y : ℤ) → FitsSigned w64 x → FitsSigned w64 y → DoesTheSame procs 0 0 (answered q x y) (resumed i x y g))
+        → does_serially (source_given n fs) fs (record { point = q; sums = sums }) o ≡ Some v → TurnGives i (record { frame = g; sums = sums }) v
 
     -- a task was made, and then its maker goes on
-    made : (u1 u2 : SerialTask) (next : ℤ → ℕ → Given) (w : ℤ) (c1 : GivesIt u1 w) (c2 : GivesIt u2 v) → ((mid : ℕ) → next w mid ≡ given_of procs mid u2) → (left : ℕ) → given_then (given_of procs (c1.count + c2.count + left) u1) next ≡ Some (v, left)
+    made : (u1 u2 : SerialTask) (next : ℤ → ℕ → Given) (w : ℤ) (c1 : GivesIt u1 w) (c2 : GivesIt u2 v) → ((mid : ℕ) → next w mid ≡ given_of procs mid u2) → (left : ℕ)
+        → given_then (given_of procs (c1.count + c2.count + left) u1) next ≡ Some (v, left)
     made u1 u2 next w c1 c2 is left =
         let z : c1.count + c2.count + left ≡ c1.count + (c2.count + left) = omega arith in
         ap (λ k. given_then (given_of procs k u1) next) z ∙ ap (λ (x : Given). given_then x next) (c1.gives (c2.count + left)) ∙ is (c2.count + left) ∙ c2.gives left
@@ -138,7 +162,12 @@ module _ (fs : List Function) (procs : List (List Instr)) (compiled : IsCompiled
         let t2 : SourceTask = record { point = answered q (pos 0) (pos 0); sums = added sums gr x.0 } in
         let u2 : SerialTask = record { frame = record g { place = g.place + 1 }; sums = added sums gr x.0 } in
         let c2 = ih t2 u2 (record { same = goes refl (pos 0) (pos 0) nought_fits nought_fits; sums = refl; regs = regs; fit = sums_set sums gr _ (wrapped_fits _) fit }) v x.2 in
-        record { count = c1.count + c2.count; gives = λ left. made _ u2 (λ w mid. given_of procs mid (record { frame = record g { place = g.place + 1 }; sums = added sums gr w })) x.0 c1 c2 (λ mid. refl) left; fits = c2.fits }
+        record {
+          count = c1.count + c2.count;
+          gives = λ left. made _ u2 (λ w mid. given_of procs mid (record { frame = record g { place = g.place + 1 }; sums = added sums gr w })) x.0 c1 c2
+              (λ mid. refl) left;
+          fits = c2.fits;
+        }
 
     isolated : (d p a b : ℕ) → Finding (Isolate d p a b) (Isolates p (register g a) (register g b))
     isolated d p a b goes e =
@@ -148,17 +177,29 @@ module _ (fs : List Function) (procs : List (List Instr)) (compiled : IsCompiled
         let t2 : SourceTask = record { point = answered q x.0 (pos 0); sums = sums } in
         let u2 : SerialTask = record { frame = record g { place = g.place + 1; registers = set g.registers d x.0 }; sums = sums } in
         let c2 = ih t2 u2 (record { same = goes refl x.0 (pos 0) c1.fits nought_fits; sums = refl; regs = regs_set g.registers d x.0 c1.fits regs; fit = fit }) v x.2 in
-        record { count = c1.count + c2.count; gives = λ left. made _ u2 (λ w mid. given_of procs mid (record { frame = record g { place = g.place + 1; registers = set g.registers d w }; sums = sums })) x.0 c1 c2 (λ mid. refl) left; fits = c2.fits }
+        record {
+          count = c1.count + c2.count;
+          gives = λ left. made _ u2
+              (λ w mid. given_of procs mid (record { frame = record g { place = g.place + 1; registers = set g.registers d w }; sums = sums })) x.0 c1 c2 (λ mid. refl) left;
+          fits = c2.fits;
+        }
 
     waited : (d e' gr : ℕ) → Finding (Wait d e' gr) (Waits gr)
     waited d e' gr goes e =
         let s = sum_at sums gr in
         let t2 : SourceTask = record { point = answered q s (pos 1); sums = set sums gr None } in
         let u2 : SerialTask = after_wait (record { frame = g; sums = sums }) d e' gr in
-        let c = ih t2 u2 (record { same = goes refl s (pos 1) (fit gr) one_fits; sums = refl; regs = regs_set (set g.registers d s) e' (pos 1) one_fits (regs_set g.registers d s (fit gr) regs); fit = sums_set sums gr None nought_fits fit }) v e in
+        let c = ih t2 u2 (record {
+          same = goes refl s (pos 1) (fit gr) one_fits;
+          sums = refl;
+          regs = regs_set (set g.registers d s) e' (pos 1) one_fits
+              (regs_set g.registers d s (fit gr) regs);
+          fit = sums_set sums gr None nought_fits fit;
+        }) v e in
         record { count = c.count; gives = c.gives; fits = c.fits }
 
-    owing_gives : (b : Bool) (x : ℤ) → FitsSigned w64 x → (if b then None else Some x) ≡ Some v → ((left : ℕ) → given_by (given_of procs) (0 + left) (if b then Fails else Gives x) ≡ Some (v, left)) × FitsSigned w64 v
+    owing_gives : (b : Bool) (x : ℤ) → FitsSigned w64 x → (if b then None else Some x) ≡ Some v
+        → ((left : ℕ) → given_by (given_of procs) (0 + left) (if b then Fails else Gives x) ≡ Some (v, left)) × FitsSigned w64 v
     owing_gives true x fx e = absurd (none-some v e)
     owing_gives false x fx e =
         let same : x ≡ v = same_Some x v e in
@@ -194,24 +235,30 @@ module _ (fs : List Function) (procs : List (List Instr)) (compiled : IsCompiled
   forth zero t u r v e = absurd (none-some v e)
   forth (suc n) t u r v e = by_act (λ t' u' r' v' e'. forth n t' u' r' v' e') (act 0 0 t.point) refl e
     where
-      by_act : ((t' : SourceTask) (u' : SerialTask) → Related fs procs compiled t' u' → (v' : ℤ) → source_given n fs t' ≡ Some v' → GivesIt u' v') → (a : Act) → act 0 0 t.point ≡ a → serially (source_given n fs) fs t a ≡ Some v → GivesIt u v
+      by_act : ((t' : SourceTask) (u' : SerialTask) → Related fs procs compiled t' u' → (v' : ℤ) → source_given n fs t' ≡ Some v' → GivesIt u' v') → (a : Act) → act 0 0 t.point ≡ a
+          → serially (source_given n fs) fs t a ≡ Some v → GivesIt u v
       by_act ih (source.Goes q) is e = ih (record { point = q; sums = t.sums }) u (record { same = moved_on t.point q u.frame is r.same; sums = r.sums; regs = r.regs; fit = r.fit }) v e
       by_act ih Divides is e = absurd (none-some v e)
       by_act ih (Does o) is e =
           let said = r.same.forth [] tt 1 (Did o ∷ []) (ap (λ a. source_by (source_events 0 0 0) t.point a []) is) in
           let s = reached said.0 u.frame o r.regs said.1 in
-          let goes = λ (not_last : is_return o ≡ false) (x y : ℤ) (fx : FitsSigned w64 x) (fy : FitsSigned w64 y). on procs 0 0 t.point t.point u.frame s.frame s.steps 0 s.instr o s.by refl s.there s.shared s.asks is not_last r.same x y fx fy in
-          let e2 : does_serially (source_given n fs) fs (record { point = t.point; sums = u.sums }) o ≡ Some v = subst (λ (z : List (Option ℤ)). does_serially (source_given n fs) fs (record { point = t.point; sums = z }) o ≡ Some v) r.sums e in
+          let goes = λ (not_last : is_return o ≡ false) (x y : ℤ) (fx : FitsSigned w64 x)
+          (fy : FitsSigned w64 y). on procs 0 0 t.point t.point u.frame s.frame s.steps 0 s.instr o s.by refl s.there s.shared s.asks is not_last r.same x y fx fy in
+          let e2 : does_serially (source_given n fs) fs (record { point = t.point; sums = u.sums }) o
+          ≡ Some v = subst (λ (z : List (Option ℤ)). does_serially (source_given n fs) fs (record { point = t.point; sums = z }) o ≡ Some v) r.sums e in
           let c = by_instr n ih s.frame t.point u.sums s.fit r.fit v s.instr o s.asks goes e2 in
           record {
             count = s.steps + suc c.count;
             gives = λ left.
                 let z : s.steps + suc c.count + left ≡ s.steps + suc (c.count + left) = omega arith in
-                ap (λ k. given_of procs k u) z ∙ given_moves s.steps u.frame s.frame u.sums (suc (c.count + left)) s.by ∙ given_of-suc procs (c.count + left) (record { frame = s.frame; sums = u.sums }) ∙ ap (λ o. given_by (given_of procs) (c.count + left) (turn_at o (record { frame = s.frame; sums = u.sums }))) s.there ∙ c.gives left;
+                ap (λ k. given_of procs k u) z ∙ given_moves s.steps u.frame s.frame u.sums (suc (c.count + left)) s.by
+                ∙ given_of-suc procs (c.count + left) (record { frame = s.frame; sums = u.sums })
+                ∙ ap (λ o. given_by (given_of procs) (c.count + left) (turn_at o (record { frame = s.frame; sums = u.sums }))) s.there ∙ c.gives left;
             fits = c.fits;
           }
 
-pub source_is_enough : (fs : List Function) (procs : List (List Instr)) (args : List ℤ) → IsCompiledProgram fs procs → ((k : ℕ) → FitsSigned w64 (slice_index_or args k (pos 0))) → (n : ℕ) (v : ℤ) → source_value fs args n ≡ Some v → (left : ℕ) × (serial_value procs args left ≡ Some v)
+pub source_is_enough : (fs : List Function) (procs : List (List Instr)) (args : List ℤ) → IsCompiledProgram fs procs → ((k : ℕ) → FitsSigned w64 (slice_index_or args k (pos 0))) → (n : ℕ) (v : ℤ)
+    → source_value fs args n ≡ Some v → (left : ℕ) × (serial_value procs args left ≡ Some v)
 source_is_enough fs procs args compiled fit n v e =
     let x = slice_index_or args 0 (pos 0) in
     let y = slice_index_or args 1 (pos 0) in

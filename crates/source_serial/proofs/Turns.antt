@@ -72,7 +72,8 @@ numbers_fit procs valid f d z e = ⊎_elim within past (cases_lt f.procedure (le
     within low =
         let instrs = slice_index_or procs f.procedure [] in
         let good : IsValidProc instrs = All-get_or IsValidProc procs f.procedure [] low valid.each in
-        let found : IsInRange (length instrs) (get_or instrs f.place (Set d z)) = All-get_or (IsInRange (length instrs)) instrs f.place (Set d z) (slice_get_within instrs f.place (Set d z) e) good.each in
+        let found : IsInRange (length instrs) (get_or instrs f.place (Set d z)) = All-get_or (IsInRange (length instrs)) instrs f.place (Set d z)
+        (slice_get_within instrs f.place (Set d z) e) good.each in
         let same : IsInRange (length instrs) (Set d z) = subst (IsInRange (length instrs)) (get_or_from_slice_get instrs f.place (Set d z) (Set d z) e) found in
         same.1
 
@@ -162,17 +163,31 @@ module _ (procs : List (List Instr)) (numbers : (f : Frame) (d : ℕ) (z : ℤ) 
   comes zero t given fit e = absurd (none-some given (sym (given_of-zero procs t) ∙ e))
   comes (suc left) t given fit e = by_instr (λ u fit' e'. comes left u given fit' e') (instr_at procs t.frame) refl (sym (given_of-suc procs left t) ∙ e)
     where
-      by_effect : ((u : SerialTask) → RegsFit u.frame.registers → given_of procs left u ≡ Some given → Comes procs u left given) → (i : Instr) → instr_at procs t.frame ≡ Some i → (x : Effect) → effect i 0 0 t.frame ≡ x → given_by (given_of procs) left (turn_of i t) ≡ Some given → Comes procs t (suc left) given
+      by_effect : ((u : SerialTask) → RegsFit u.frame.registers → given_of procs left u ≡ Some given → Comes procs u left given) → (i : Instr) → instr_at procs t.frame ≡ Some i → (x : Effect)
+          → effect i 0 0 t.frame ≡ x → given_by (given_of procs) left (turn_of i t) ≡ Some given → Comes procs t (suc left) given
       by_effect ih i here (Moves g) is e =
           let u : SerialTask = record { frame = g; sums = t.sums } in
           let fit' : RegsFit g.registers = subst FitsAfter is (effect_fits i t.frame (λ d z eq. numbers t.frame d z (here ∙ ap Some eq)) fit) in
           let turn : turn_of i t ≡ Goes u = turn_alone i t (Moves g) is (shared_moves g) in
           let r = ih u fit' (ap (given_by (given_of procs) left) (sym turn) ∙ e) in
           let goes : next_of procs 0 0 t.frame ≡ Some g = rw (here, is) refl in
-          record { steps = suc r.steps; more = r.more; frame = r.frame; instr = r.instr; by = one_then t.frame g r.frame r.steps goes r.by; there = r.there; shared = r.shared; all = omega (arith, r.all); gives = r.gives; fit = r.fit }
+          record {
+            steps = suc r.steps;
+            more = r.more;
+            frame = r.frame;
+            instr = r.instr;
+            by = one_then t.frame g r.frame r.steps goes r.by;
+            there = r.there;
+            shared = r.shared;
+            all = omega
+                (arith, r.all);
+            gives = r.gives;
+            fit = r.fit;
+          }
       by_effect ih i here DividesByZero is e = absurd (none-some given (ap (given_by (given_of procs) left) (sym (turn_alone i t DividesByZero is shared_divides)) ∙ e))
       by_effect ih i here IsShared is e = record { steps = 0; more = left; frame = t.frame; instr = i; by = refl; there = here; shared = is; all = omega arith; gives = e; fit = fit }
 
-      by_instr : ((u : SerialTask) → RegsFit u.frame.registers → given_of procs left u ≡ Some given → Comes procs u left given) → (o : Option Instr) → instr_at procs t.frame ≡ o → given_by (given_of procs) left (turn_at o t) ≡ Some given → Comes procs t (suc left) given
+      by_instr : ((u : SerialTask) → RegsFit u.frame.registers → given_of procs left u ≡ Some given → Comes procs u left given) → (o : Option Instr) → instr_at procs t.frame ≡ o
+          → given_by (given_of procs) left (turn_at o t) ≡ Some given → Comes procs t (suc left) given
       by_instr ih None here e = absurd (none-some given e)
       by_instr ih (Some i) here e = by_effect ih i here (effect i 0 0 t.frame) refl e

@@ -25,6 +25,7 @@ pub record IsCompiledProgram (fs : List Function) (procs : List (List Instr)) : 
 -- At each moment of a run: a serial job that an ask of the run brought, whose program is compiled, and that is complete, has the value of its source.
 abbrev pub KeepsSourceValues : State → List Step → Type 0
 KeepsSourceValues s xs =
-    (ys zs ws : List Step) (r : Request) (b : Job) (j : ℕ) (v : ℤ) (fs : List Function) → xs ≡ ys ++ Ask r ∷ zs ++ ws → job_of r ≡ Some b → IsValidProgram b.program → number_made (ask (after s ys) r).0 ≡ Some j → is_serial b.program ≡ true
+    (ys zs ws : List Step) (r : Request) (b : Job) (j : ℕ) (v : ℤ) (fs : List Function) → xs ≡ ys ++ Ask r ∷ zs ++ ws → job_of r ≡ Some b → IsValidProgram b.program
+    → number_made (ask (after s ys) r).0 ≡ Some j → is_serial b.program ≡ true
     → status (after s (ys ++ Ask r ∷ zs)).rows j (job (after s (ys ++ Ask r ∷ zs)).jobs j) ≡ Complete v
     → IsCompiledProgram fs b.program → ((k : ℕ) → FitsSigned w64 (slice_index_or b.args k (pos 0))) → (n : ℕ) × (source_value fs b.args n ≡ Some v)

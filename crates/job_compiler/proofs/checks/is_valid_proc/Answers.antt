@@ -9,11 +9,13 @@ pub loop-instr-preserved : goal.loop-instr-preserved
 loop-instr-preserved c =
     let within : c.loop-instr.instr-index < length c.args.instrs.now = omega arith in
     let fine : IsInRange (length c.args.instrs.now) c.instr-item.result = search rules in
-    All-more (IsInRange (length c.args.instrs.now)) c.args.instrs.now c.loop-instr.instr-index c.instr-item.result within c.loop-instr.invariant (subst (IsInRange (length c.args.instrs.now)) c.instr-item.is fine)
+    All-more (IsInRange (length c.args.instrs.now)) c.args.instrs.now c.loop-instr.instr-index c.instr-item.result within c.loop-instr.invariant
+    (subst (IsInRange (length c.args.instrs.now)) c.instr-item.is fine)
 
 pub returns : goal.returns
 returns c =
-    let here : slice_get c.args.instrs.now (length c.args.instrs.now - 1) ≡ Some c.index-instrs-len.result = slice_get-get_or c.args.instrs.now (length c.args.instrs.now - 1) c.index-instrs-len.result (omega arith) ∙ ap Some (sym c.index-instrs-len.is) in (
+    let here : slice_get c.args.instrs.now (length c.args.instrs.now - 1)
+    ≡ Some c.index-instrs-len.result = slice_get-get_or c.args.instrs.now (length c.args.instrs.now - 1) c.index-instrs-len.result (omega arith) ∙ ap Some (sym c.index-instrs-len.is) in (
       λ last. record {
         some = omega arith;
         most = omega arith;
