@@ -21,7 +21,7 @@ use Rattle.job_compiler.specs.declared.labels.Label.{Label}
 use Rattle.job_compiler.specs.Code.{op_code, operand, above, operand_code, value_code, jump_instrs, test_size, test_code, make_instr, read_instr, stmt_size, stmt_code, loop_test, loop_end, loop_label, function_code}
 use Rattle.job_compiler.specs.Registers.{IsOpLow, IsOperandLow, IsValueLow, IsTestLow, IsMakerLow, IsStmtLow, UsesFewRegisters}
 
-all_of : {X : Type 0} (P : X → Type 0) (xs : List X) → All P xs → AllByRecursion P xs
+pub all_of : {X : Type 0} (P : X → Type 0) (xs : List X) → All P xs → AllByRecursion P xs
 all_of P [] h = tt
 all_of P (x ∷ xs) h = (h 0 x (omega arith), all_of P xs (λ k d low. h (suc k) d (omega (arith, low))))
 

@@ -10,4 +10,5 @@ pub mod RunsFollow
 pub mod Colours
 pub mod FewRegisters
 pub mod Emitted
+pub mod WholePrograms
 pub mod WorkedProofs

@@ -7,4 +7,5 @@ pub mod Runs
 pub mod Wanted
 pub mod Colours
 pub mod Registers
+pub mod Programs
 pub mod Worked

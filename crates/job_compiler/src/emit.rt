@@ -24,6 +24,7 @@ use std::alloc::Global;
 pub fn compile_function(alloc: Global, function: &Function) -> Result<Proc, CompileError>
     ensures code { IfOk result (λ proc. proc ≡ function_code function.now) }
     ensures compiled { IfOk result (IsCompiled function.now) }
+    ensures function { OnOk result (IsFunction function.now) }
     ensures no_function { (result ≡ Err CompileError.NoFunction) ↔ (¬ IsFunction function.now) }
     ensures registers { (result ≡ Err CompileError.TooManyRegisters)
         ↔ (IsFunction function.now × (¬ UsesFewRegisters function.now)) }

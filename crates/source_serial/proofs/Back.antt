@@ -21,7 +21,7 @@ use Rattle.job_compiler.specs.Compiled.{IsCompiled}
 use Rattle.job_compiler.specs.Runs.{point_after, if_goes}
 use Rattle.job_compiler.proofs.RunsFollow.{meets}
 use Rattle.source_serial.specs.SourceSerial.{SourceTask, sum_at, added, owes, task_of, given_to, then_with, does_serially, serially, source_given, source_value}
-use Rattle.source_serial.specs.Agree.{IsCompiledProgram}
+use Rattle.job_compiler.specs.Programs.{IsCompiledProgram}
 use Rattle.source_serial.proofs.Turns.{numbers_fit, RegsFit, SumsFit, wrapped_fits, nought_fits, one_fits, regs_set, sums_set, new_sums, comes}
 
 given_to_extends : (F G : SourceTask → Option ℤ) → ((t : SourceTask) (v : ℤ) → F t ≡ Some v → G t ≡ Some v) → (o : Option SourceTask) (w : ℤ) → given_to F o ≡ Some w → given_to G o ≡ Some w

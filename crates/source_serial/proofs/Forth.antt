@@ -24,7 +24,7 @@ use Rattle.job_compiler.specs.Compiled.{IsCompiled}
 use Rattle.job_compiler.proofs.Events.{before_last}
 use Rattle.job_compiler.proofs.RunsFollow.{on, heads, did_same, did_divided, did_lost}
 use Rattle.source_serial.specs.SourceSerial.{SourceTask, sum_at, added, owes, task_of, given_to, then_with, does_serially, serially, source_given, source_value}
-use Rattle.source_serial.specs.Agree.{IsCompiledProgram}
+use Rattle.job_compiler.specs.Programs.{IsCompiledProgram}
 use Rattle.source_serial.proofs.Turns.{numbers_fit, RegsFit, SumsFit, wrapped_fits, nought_fits, one_fits, regs_set, sums_set, new_sums, turn_alone, shared_moves, one_then, effect_fits, FitsAfter}
 use Rattle.source_serial.proofs.Back.{Related, new_regs}
 

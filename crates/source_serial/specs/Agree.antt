@@ -1,9 +1,9 @@
--- A program that is compiled function by function.
+-- The value of a serial job whose program is compiled.
 use Rattle.std.specs.Prelude.{◌≡◌, ℕ, ℤ, pos, true, List, [], ◌∷◌, ◌++◌, Option, Some, MatchOption, slice_get, slice_index_or, FitsSigned}
 use Rattle.std.specs.Int.{w64}
 use Rattle.job_language.specs.declared.instructions.Instr.{Instr}
 use Rattle.source_language.specs.declared.syntax.Function.{Function}
-use Rattle.job_compiler.specs.Compiled.{IsCompiled}
+use Rattle.job_compiler.specs.Programs.{IsCompiledProgram}
 use Rattle.job_language.specs.Brought.{job_of}
 use Rattle.job_language.specs.Program.{IsValidProgram}
 use Rattle.job_language.specs.Serial.{is_serial}
@@ -17,10 +17,6 @@ use Rattle.tenant_model.specs.Asks.{ask, status}
 use Rattle.tenant_model.specs.Solo.{after}
 use Rattle.serial_law.specs.SerialValues.{number_made}
 use Rattle.source_serial.specs.SourceSerial.{source_value}
-
-pub record IsCompiledProgram (fs : List Function) (procs : List (List Instr)) : Type 0 where
-  pub each : (p : ℕ) → MatchOption (slice_get fs p) (slice_index_or procs p [] ≡ []) (λ f. IsCompiled f (slice_index_or procs p []))
-  pub valid : IsValidProgram procs
 
 -- At each moment of a run: a serial job that an ask of the run brought, whose program is compiled, and that is complete, has the value of its source.
 abbrev pub KeepsSourceValues : State → List Step → Type 0
