@@ -14,7 +14,7 @@ use Rattle.job_step.specs.Run.{effect_at}
 use Rattle.source_language.specs.Meaning.{Operation, Spawns, Posts, Isolates, Stores, Returns}
 use Rattle.job_compiler.specs.Operations.{operation_of, resumed}
 use Rattle.job_compiler.specs.Traces.{Event, Did, Divided, Lost, is_return, events_after, frame_by, frame_at, frame_stops, frame_events}
-use Rattle.job_compiler.specs.Colours.{renamed, reads, writes, leads_to, IsIn, Flows, IsColoured, Same}
+use Rattle.job_compiler.specs.Colours.{renamed, reads, writes, leads_to, IsAmong, Flows, IsColoured, Same}
 
 events_alike : (o : Operation) (answers : List (ℤ × ℤ)) (G H : (ℤ × ℤ) → List (ℤ × ℤ) → Option (List Event)) → ((a : ℤ × ℤ) (rest : List (ℤ × ℤ)) → G a rest ≡ H a rest)
     → events_after o answers G ≡ events_after o answers H

@@ -168,7 +168,7 @@ module _ (procs : List (List Instr)) (slot width p size n ret : ℕ) where
   }
   next_place (Next c b s ∷ todo) (suc k) labels q h = subst (λ ls. Place (next_of (slice_get ls (suc k)) ret) (next_turn todo k)) (sym h.4) (next_place todo k h.1 h.5 h.7)
 
-  -- a frame comes to where a function is
+  -- a frame gets to where a function is
   pub record Stands (f : Frame) (point : Point) : Type 0 where
     pub labels : List Label
     pub q : ℕ
@@ -183,7 +183,7 @@ module _ (procs : List (List Instr)) (slot width p size n ret : ℕ) where
     pub next : Stands f next_point
     pub progress : (s.comes.steps < next.comes.steps) ⊎ ((s.comes.steps ≤ next.comes.steps) × (weight next_point.todo < weight point.todo))
 
-  -- the frame comes to the operation, and goes on from there as the function does
+  -- the frame reaches the operation, and goes on from there as the function does
   pub record Stops (f : Frame) (point : Point) (o : Operation) : Type 0 where
     pub last : Frame
     pub comes : Comes procs slot width p size f last

@@ -63,7 +63,7 @@ module _ (procs : List (List Instr)) (slot width p size : ℕ) where
     pub steps : ℕ
     pub by : frame_after procs slot width f steps ≡ Some g
 
-  -- the frame f comes to a division by 0
+  -- the frame f reaches a division by 0
   pub record Fails (f : Frame) : Type 0 where
     pub end : Frame
     pub comes : Comes f end

@@ -67,13 +67,13 @@ leads_to (Jmp t) k = t ∷ []
 leads_to (Ret a) k = []
 leads_to i k = (k + 1) ∷ []
 
-abbrev pub IsIn : ℕ → List ℕ → Type 0
-IsIn u [] = ⊥
-IsIn u (d ∷ ds) = (u ≡ d) ⊎ IsIn u ds
+abbrev pub IsAmong : ℕ → List ℕ → Type 0
+IsAmong u [] = ⊥
+IsAmong u (d ∷ ds) = (u ≡ d) ⊎ IsAmong u ds
 
 -- What is read later was read later before, or is written here; and what is written here lies on nothing else that is read later.
 abbrev pub Flows : (c : ℕ → ℕ) (live : ℕ → ℕ → Bool) (written : List ℕ) (place next : ℕ) → Type 0
-Flows c live ws k next = (u : ℕ) → live next u ≡ true → (IsIn u ws ⊎ (live k u ≡ true)) × AllByRecursion (λ d. u ≢ d → c u ≢ c d) ws
+Flows c live ws k next = (u : ℕ) → live next u ≡ true → (IsAmong u ws ⊎ (live k u ≡ true)) × AllByRecursion (λ d. u ≢ d → c u ≢ c d) ws
 
 -- an instruction writes registers below a number
 abbrev pub WritesBelow : ℕ → Instr → Type 0

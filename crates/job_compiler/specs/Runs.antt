@@ -19,7 +19,7 @@ abbrev pub point_after : (slot width : ℕ) → Point → ℕ → Option Point
 point_after slot width p zero = Some p
 point_after slot width p (suc n) = if_goes (λ q. point_after slot width q n) (act slot width p)
 
--- The function comes to the same operation, and the frame goes on from it as the function does.
+-- The function reaches the same operation, and the frame goes on from it as the function does.
 pub record Meets (procs : List (List Instr)) (slot width : ℕ) (p : Point) (end : Frame) (i : Instr) : Type 0 where
   pub point : Point
   pub steps : ℕ

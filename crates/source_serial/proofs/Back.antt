@@ -127,7 +127,7 @@ module _ (fs : List Function) where
     unfolding TakesInstructions
     lower k u w mid e = subst (λ (o : Given). IfSome o (λ p. p.1 < k)) e (takes_instructions procs k u)
 
-    -- a task was made, and its maker goes on with its value
+    -- a task was made, and its maker continues with its value
     made_then : (n1 n2 : ℕ) (o : Option SourceTask) (ct t2 : SourceTask) (w v : ℤ) → o ≡ Some ct → source_given n1 fs ct ≡ Some w → source_given n2 fs t2 ≡ Some v
         → (given_to (source_given (n1 + n2) fs) o ≡ Some w) × (source_given (n1 + n2) fs t2 ≡ Some v)
     made_then n1 n2 o ct t2 w v is e1 e2 =

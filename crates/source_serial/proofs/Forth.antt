@@ -28,7 +28,7 @@ use Rattle.job_compiler.specs.Programs.{IsCompiledProgram}
 use Rattle.source_serial.proofs.Turns.{numbers_fit, RegsFit, SumsFit, wrapped_fits, nought_fits, one_fits, regs_set, sums_set, new_sums, turn_alone, shared_moves, one_then, effect_fits, FitsAfter}
 use Rattle.source_serial.proofs.Back.{Related, new_regs}
 
--- where a frame comes to an operation
+-- where a frame reaches an operation
 record Reached (procs : List (List Instr)) (f : Frame) (o : Operation) : Type 0 where
   steps : ℕ
   frame : Frame

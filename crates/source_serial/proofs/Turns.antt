@@ -142,7 +142,7 @@ shared_moves g e = grind arith
 shared_divides : IsShared ≡ DividesByZero → ⊥
 shared_divides e = grind arith
 
--- where a task that gives a value comes to a shared instruction
+-- where a task that gives a value reaches a shared instruction
 pub record Comes (procs : List (List Instr)) (t : SerialTask) (left : ℕ) (given : ℤ × ℕ) : Type 0 where
   pub steps : ℕ
   pub more : ℕ
