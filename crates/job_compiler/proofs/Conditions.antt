@@ -1,0 +1,145 @@
+-- What the code of a condition does.
+use Rattle.std.proofs.Common.{◌≡◌, ◌≢◌, ℕ, zero, suc, ◌+◌, ◌<◌, ◌≤◌, ◌^◌, ℤ, pos, negsuc, Bool, true, false, not, if◌then◌else◌, List, [], ◌∷◌, ◌++◌, length, get_or, Option, Some, None, option_map, refl, sym, ap, subst, ◌∙◌, arith, length-append}
+use Rattle.std.specs.Prelude.{slice_get, slice_index_or}
+use Rattle.job_compiler.specs.Colours.{WritesBelow}
+use Rattle.job_language.specs.declared.instructions.Instr.{Instr}
+use Rattle.job_language.specs.declared.instructions.Instr.TheVariants as instr
+use Rattle.job_step.specs.declared.frames.Frame.{Frame}
+use Rattle.source_language.specs.declared.syntax.Expr.{Expr}
+use Rattle.source_language.specs.declared.syntax.Test.{Test}
+use Rattle.source_language.specs.declared.syntax.Test.TheVariants.{Holds, Not', Both', Either'}
+use Rattle.source_language.specs.Meaning.{is_nought, value_of, if_true, if_false, test_of}
+use Rattle.job_compiler.specs.Within.{IsWithin, IsTestWithin}
+use Rattle.job_compiler.specs.Code.{operand, operand_code, jump_instrs, test_size, test_code}
+use Rattle.job_compiler.proofs.Steps.{AreAllKept, Agree, at, HasAt, has_front, has_back, Comes, Fails, comes_on, fails_on, one_step, BringsIf, Brings, operand_runs, still}
+
+pub test_length : (c : Test) (w : Bool) (to t at : ℕ) → length (test_code c w to t at) ≡ test_size c w t
+test_length (Holds e) true to t at = length-append (operand_code e t) (jump_instrs true (operand e t) to (at + length (operand_code e t)))
+test_length (Holds e) false to t at = length-append (operand_code e t) (jump_instrs false (operand e t) to (at + length (operand_code e t)))
+test_length (Not' p c) w to t at = test_length c (not w) to t at
+test_length (Both' p a q b) w to t at =
+    let m = at + test_size a false t in
+    let ca = test_code a false (if w then m + test_size b w t else to) t at in
+    let cb = test_code b w to t m in
+    let la : length ca ≡ test_size a false t = test_length a false (if w then m + test_size b w t else to) t at in
+    let lb : length cb ≡ test_size b w t = test_length b w to t m in
+    omega (arith, length-append ca cb, la, lb)
+test_length (Either' p a q b) w to t at =
+    let m = at + test_size a true t in
+    let ca = test_code a true (if w then to else m + test_size b w t) t at in
+    let cb = test_code b w to t m in
+    let la : length ca ≡ test_size a true t = test_length a true (if w then to else m + test_size b w t) t at in
+    let lb : length cb ≡ test_size b w t = test_length b w to t m in
+    omega (arith, length-append ca cb, la, lb)
+
+module _ (procs : List (List Instr)) (slot width p size : ℕ) where
+  -- the code leads from a place to another one, and changes no register below t
+  pub record Jumps (pc pc' : ℕ) (regs : List ℤ) (t : ℕ) : Type 0 where
+    pub regs' : List ℤ
+    pub comes : Comes procs slot width p size (at procs slot width p size pc regs) (at procs slot width p size pc' regs')
+    pub some : 0 < comes.steps
+    pub long : length regs' ≡ size
+    pub kept : AreAllKept t regs regs'
+
+  abbrev pub JumpsIf : (pc to end : ℕ) (regs : List ℤ) (t : ℕ) (w : Bool) → Option Bool → Type 0
+  JumpsIf pc to end regs t w None = Fails procs slot width p size (at procs slot width p size pc regs)
+  JumpsIf pc to end regs t true (Some true) = Jumps pc to regs t
+  JumpsIf pc to end regs t true (Some false) = Jumps pc end regs t
+  JumpsIf pc to end regs t false (Some true) = Jumps pc end regs t
+  JumpsIf pc to end regs t false (Some false) = Jumps pc to regs t
+
+  flipped : (pc to end : ℕ) (regs : List ℤ) (t : ℕ) (w : Bool) (o : Option Bool) → JumpsIf pc to end regs t (not w) o → JumpsIf pc to end regs t w (option_map not o)
+  flipped pc to end regs t w None j = j
+  flipped pc to end regs t true (Some true) j = j
+  flipped pc to end regs t true (Some false) j = j
+  flipped pc to end regs t false (Some true) j = j
+  flipped pc to end regs t false (Some false) j = j
+
+  jumps_on : (pc pc1 pc2 : ℕ) (regs : List ℤ) (t : ℕ) (a : Jumps pc pc1 regs t) → Jumps pc1 pc2 a.regs' t → Jumps pc pc2 regs t
+  jumps_on pc pc1 pc2 regs t a b = record {
+    regs' = b.regs';
+    comes = comes_on procs slot width p size _ _ _ a.comes b.comes;
+    some = omega (arith, a.some);
+    long = b.long;
+    kept = λ r low. b.kept r low ∙ a.kept r low;
+  }
+
+  jumps_on_if : (pc pc1 to end : ℕ) (regs : List ℤ) (t : ℕ) (w : Bool) (o : Option Bool) (a : Jumps pc pc1 regs t) → JumpsIf pc1 to end a.regs' t w o → JumpsIf pc to end regs t w o
+  jumps_on_if pc pc1 to end regs t w None a b = fails_on procs slot width p size _ _ a.comes b
+  jumps_on_if pc pc1 to end regs t true (Some true) a b = jumps_on pc pc1 to regs t a b
+  jumps_on_if pc pc1 to end regs t true (Some false) a b = jumps_on pc pc1 end regs t a b
+  jumps_on_if pc pc1 to end regs t false (Some true) a b = jumps_on pc pc1 end regs t a b
+  jumps_on_if pc pc1 to end regs t false (Some false) a b = jumps_on pc pc1 to regs t a b
+
+  -- the last step of a condition
+  jump : (pc pc1 pc2 r t : ℕ) (regs : List ℤ) (v : ℤ) (b : Brings procs slot width p size pc pc1 regs r t v)
+      → (c : Comes procs slot width p size (at procs slot width p size pc1 b.regs') (at procs slot width p size pc2 b.regs')) → 0 < c.steps → Jumps pc pc2 regs t
+  jump pc pc1 pc2 r t regs v b c some = record { regs' = b.regs'; comes = comes_on procs slot width p size _ _ _ b.comes c; some = omega (arith, some); long = b.long; kept = b.kept }
+
+  holds_runs : (w : Bool) (to r pc pc1 t : ℕ) (regs : List ℤ) (o : Option ℤ) → HasAt procs slot width p size pc1 (jump_instrs w r to pc1) → BringsIf procs slot width p size pc pc1 regs r t o
+      → JumpsIf pc to (pc1 + (if w then 2 else 1)) regs t w (option_map (λ v. not (is_nought v)) o)
+  holds_runs w to r pc pc1 t regs None has b = b
+  holds_runs false to r pc pc1 t regs (Some (pos zero)) has b = jump pc pc1 to r t regs (pos zero) b
+      (one_step procs slot width p size pc1 b.regs' (instr.Jz r to) (at procs slot width p size to b.regs') has.0 (rw b.value refl)) (omega arith)
+  holds_runs false to r pc pc1 t regs (Some (pos (suc n))) has b = jump pc pc1 (pc1 + 1) r t regs (pos (suc n)) b
+      (one_step procs slot width p size pc1 b.regs' (instr.Jz r to) (at procs slot width p size (pc1 + 1) b.regs') has.0 (rw b.value refl)) (omega arith)
+  holds_runs false to r pc pc1 t regs (Some (negsuc n)) has b = jump pc pc1 (pc1 + 1) r t regs (negsuc n) b
+      (one_step procs slot width p size pc1 b.regs' (instr.Jz r to) (at procs slot width p size (pc1 + 1) b.regs') has.0 (rw b.value refl)) (omega arith)
+  holds_runs true to r pc pc1 t regs (Some (pos zero)) has b = jump pc pc1 (pc1 + 2) r t regs (pos zero) b
+      (one_step procs slot width p size pc1 b.regs' (instr.Jz r (pc1 + 2)) (at procs slot width p size (pc1 + 2) b.regs') has.0 (rw b.value refl)) (omega arith)
+  holds_runs true to r pc pc1 t regs (Some (pos (suc n))) has b =
+      jump pc pc1 to r t regs (pos (suc n)) b (comes_on procs slot width p size _ _ _
+      (one_step procs slot width p size pc1 b.regs' (instr.Jz r (pc1 + 2)) (at procs slot width p size (pc1 + 1) b.regs') has.0 (rw b.value refl))
+      (one_step procs slot width p size (pc1 + 1) b.regs' (instr.Jmp to) (at procs slot width p size to b.regs') has.1.0 refl)) (omega arith)
+  holds_runs true to r pc pc1 t regs (Some (negsuc n)) has b =
+      jump pc pc1 to r t regs (negsuc n) b (comes_on procs slot width p size _ _ _
+      (one_step procs slot width p size pc1 b.regs' (instr.Jz r (pc1 + 2)) (at procs slot width p size (pc1 + 1) b.regs') has.0 (rw b.value refl))
+      (one_step procs slot width p size (pc1 + 1) b.regs' (instr.Jmp to) (at procs slot width p size to b.regs') has.1.0 refl)) (omega arith)
+
+  both_run : (w : Bool) (pc m to end : ℕ) (regs : List ℤ) (t : ℕ) (oa ob : Option Bool) → JumpsIf pc (if w then end else to) m regs t false oa
+      → ((regs' : List ℤ) → length regs' ≡ size → AreAllKept t regs regs' → JumpsIf m to end regs' t w ob) → JumpsIf pc to end regs t w (if_true oa ob)
+  both_run w pc m to end regs t None ob a b = a
+  both_run true pc m to end regs t (Some false) ob a b = a
+  both_run false pc m to end regs t (Some false) ob a b = a
+  both_run w pc m to end regs t (Some true) ob a b = jumps_on_if pc m to end regs t w ob a (b a.regs' a.long a.kept)
+
+  either_runs : (w : Bool) (pc m to end : ℕ) (regs : List ℤ) (t : ℕ) (oa ob : Option Bool) → JumpsIf pc (if w then to else end) m regs t true oa
+      → ((regs' : List ℤ) → length regs' ≡ size → AreAllKept t regs regs' → JumpsIf m to end regs' t w ob) → JumpsIf pc to end regs t w (if_false oa ob)
+  either_runs w pc m to end regs t None ob a b = a
+  either_runs true pc m to end regs t (Some true) ob a b = a
+  either_runs false pc m to end regs t (Some true) ob a b = a
+  either_runs w pc m to end regs t (Some false) ob a b = jumps_on_if pc m to end regs t w ob a (b a.regs' a.long a.kept)
+
+  ends_at : (pc to end end' : ℕ) (regs : List ℤ) (t : ℕ) (w : Bool) (o : Option Bool) → end ≡ end' → JumpsIf pc to end regs t w o → JumpsIf pc to end' regs t w o
+  ends_at pc to end end' regs t w o e j = subst (λ q. JumpsIf pc to q regs t w o) e j
+
+  module _ (valid : (k : ℕ) (i : Instr) → slice_get (slice_index_or procs p []) k ≡ Some i → WritesBelow size i) (low_slot : slot < 2 ^ 8) (low_width : width < 2 ^ 8) where
+    pub test_runs : (c : Test) (w : Bool) (n to t pc : ℕ) (vars regs : List ℤ) → IsTestWithin n c → n ≤ t → Agree size n vars regs → HasAt procs slot width p size pc (test_code c w to t pc)
+        → JumpsIf pc to (pc + test_size c w t) regs t w (test_of c slot width vars)
+    test_runs (Holds e) w n to t pc vars regs h le agree has =
+        let ce = operand_code e t in
+        let e1 : pc + length ce + (if w then 2 else 1) ≡ pc + (length ce + (if w then 2 else 1)) = omega arith in
+        ends_at pc to _ _ regs t w (test_of (Holds e) slot width vars) e1
+        (holds_runs w to (operand e t) pc (pc + length ce) t regs (value_of e slot width vars) (has_back procs slot width p size pc ce _ has)
+        (operand_runs procs slot width p size valid low_slot low_width e n t pc vars regs h le agree (has_front procs slot width p size pc ce _ has)))
+    test_runs (Not' q c) w n to t pc vars regs h le agree has = flipped pc to _ regs t w (test_of c slot width vars) (test_runs c (not w) n to t pc vars regs h le agree has)
+    test_runs (Both' q a r b) w n to t pc vars regs h le agree has =
+        let m = pc + test_size a false t in
+        let ta = if w then m + test_size b w t else to in
+        let ca = test_code a false ta t pc in
+        let la : pc + length ca ≡ m = ap (λ k. pc + k) (test_length a false ta t pc) in
+        let e1 : m + test_size b w t ≡ pc + (test_size a false t + test_size b w t) = omega arith in
+        let hb : HasAt procs slot width p size m (test_code b w to t m) = subst (λ k. HasAt procs slot width p size k (test_code b w to t m)) la (has_back procs slot width p size pc ca _ has) in
+        ends_at pc to _ _ regs t w (test_of (Both' q a r b) slot width vars) e1 (both_run w pc m to (m + test_size b w t) regs t (test_of a slot width vars) (test_of b slot width vars)
+        (test_runs a false n ta t pc vars regs h.0 le agree (has_front procs slot width p size pc ca _ has))
+        (λ regs' long kept. test_runs b w n to t m vars regs' h.1 le (still procs slot width p size valid low_slot low_width n t vars regs regs' le agree long kept) hb))
+    test_runs (Either' q a r b) w n to t pc vars regs h le agree has =
+        let m = pc + test_size a true t in
+        let ta = if w then to else m + test_size b w t in
+        let ca = test_code a true ta t pc in
+        let la : pc + length ca ≡ m = ap (λ k. pc + k) (test_length a true ta t pc) in
+        let e1 : m + test_size b w t ≡ pc + (test_size a true t + test_size b w t) = omega arith in
+        let hb : HasAt procs slot width p size m (test_code b w to t m) = subst (λ k. HasAt procs slot width p size k (test_code b w to t m)) la (has_back procs slot width p size pc ca _ has) in
+        ends_at pc to _ _ regs t w (test_of (Either' q a r b) slot width vars) e1 (either_runs w pc m to (m + test_size b w t) regs t (test_of a slot width vars) (test_of b slot width vars)
+        (test_runs a true n ta t pc vars regs h.0 le agree (has_front procs slot width p size pc ca _ has))
+        (λ regs' long kept. test_runs b w n to t m vars regs' h.1 le (still procs slot width p size valid low_slot low_width n t vars regs regs' le agree long kept) hb))

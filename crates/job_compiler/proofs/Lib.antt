@@ -1,0 +1,14 @@
+pub mod Numbers
+pub mod Steps
+pub mod Conditions
+pub mod Values
+pub mod Stands
+pub mod Follows
+pub mod Events
+pub mod Start
+pub mod RunsFollow
+pub mod Colours
+pub mod FewRegisters
+pub mod Emitted
+pub mod WholePrograms
+pub mod WorkedProofs

@@ -1,0 +1,161 @@
+-- The instructions of a function. Variables are registers, and values on the way are in those from `free` on.
+use Rattle.std.specs.Prelude.{ℕ, ◌+◌, pos, Bool, true, false, not, if◌then◌else◌, List, [], ◌∷◌, ◌++◌, length, Option, Some, None, slice_get}
+use Rattle.job_language.specs.declared.instructions.Instr.{Instr}
+use Rattle.job_language.specs.declared.instructions.Instr.TheVariants as instr
+use Rattle.source_language.specs.declared.syntax.Operator.{Operator}
+use Rattle.source_language.specs.declared.syntax.Operator.TheVariants.{Plus, Minus, Times, Over, Remainder, Below}
+use Rattle.source_language.specs.declared.syntax.Expr.{Expr}
+use Rattle.source_language.specs.declared.syntax.Expr.TheVariants.{Number, Variable, Slot, Width, Two'}
+use Rattle.source_language.specs.declared.syntax.Test.{Test}
+use Rattle.source_language.specs.declared.syntax.Test.TheVariants.{Holds, Not', Both', Either'}
+use Rattle.source_language.specs.declared.syntax.Maker.{Maker}
+use Rattle.source_language.specs.declared.syntax.Maker.TheVariants.{Spawn, Post, Isolate}
+use Rattle.source_language.specs.declared.syntax.Question.{Question}
+use Rattle.source_language.specs.declared.syntax.Question.TheVariants.{Cancelled, Cell, CellSum, CellCount}
+use Rattle.source_language.specs.declared.syntax.Stmt.{Stmt}
+use Rattle.source_language.specs.declared.syntax.Stmt.TheVariants.{Skip, Then', Assign, If', Loop', Repeat', Break, Continue, Return, Make, Wait, Cancel, Read, Store}
+use Rattle.source_language.specs.declared.syntax.Function.{Function}
+use Rattle.job_compiler.specs.declared.labels.Label.{Label}
+
+-- the instructions of an operator, of which a remainder uses the free register t
+abbrev pub op_code : Operator → (d a b t : ℕ) → List Instr
+op_code Plus d a b t = instr.Add d a b ∷ []
+op_code Minus d a b t = instr.Sub d a b ∷ []
+op_code Times d a b t = instr.Mul d a b ∷ []
+op_code Over d a b t = instr.Div d a b ∷ []
+op_code Remainder d a b t = instr.Div t a b ∷ instr.Mul t t b ∷ instr.Sub d a t ∷ []
+op_code Below d a b t = instr.Lt d a b ∷ []
+
+-- the register of an operand: a variable's own, and else the first free one
+abbrev pub operand : Expr → (free : ℕ) → ℕ
+operand (Variable x) t = x
+operand e t = t
+
+-- the first free register beside an operand
+abbrev pub above : Expr → (free : ℕ) → ℕ
+above (Variable x) t = t
+above e t = t + 1
+
+-- the code of an operand, of which a variable has none
+abbrev pub brought : Expr → List Instr → List Instr
+brought (Variable x) code = []
+brought e code = code
+
+abbrev pub value_code : Expr → (into free : ℕ) → List Instr
+value_code (Number n) d t = instr.Set d n ∷ []
+value_code (Variable x) d t = instr.Set t (pos 0) ∷ instr.Add d x t ∷ []
+value_code Slot d t = instr.Slot d ∷ []
+value_code Width d t = instr.Width d ∷ []
+value_code (Two' op p a q b) d t =
+    brought a (value_code a t t) ++ (brought b (value_code b (above a t) (above a t)) ++ op_code op d (operand a t) (operand b (above a t)) (above b (above a t)))
+
+abbrev pub operand_code : Expr → (free : ℕ) → List Instr
+operand_code e t = brought e (value_code e t t)
+
+-- the register of a number that goes to a variable, or nowhere
+abbrev pub register_for : Option ℕ → (free : ℕ) → ℕ
+register_for None t = t
+register_for (Some d) t = d
+
+-- the last instructions of a condition: they jump if the number in the register is not 0, or if it is 0
+abbrev pub jump_instrs : Bool → (r to at : ℕ) → List Instr
+jump_instrs true r to at = instr.Jz r (at + 2) ∷ instr.Jmp to ∷ []
+jump_instrs false r to at = instr.Jz r to ∷ []
+
+abbrev pub test_size : Test → (want : Bool) → (free : ℕ) → ℕ
+test_size (Holds e) w t = length (operand_code e t) + (if w then 2 else 1)
+test_size (Not' p c) w t = test_size c (not w) t
+test_size (Both' p a q b) w t = test_size a false t + test_size b w t
+test_size (Either' p a q b) w t = test_size a true t + test_size b w t
+
+-- jumps to `to` if the condition is as wanted, and goes on behind the code if not
+abbrev pub test_code : Test → (want : Bool) → (to free at : ℕ) → List Instr
+test_code (Holds e) w to t at = operand_code e t ++ jump_instrs w (operand e t) to (at + length (operand_code e t))
+test_code (Not' p c) w to t at = test_code c (not w) to t at
+test_code (Both' p a q b) w to t at =
+    let m = at + test_size a false t in test_code a false (if w then m + test_size b w t else to) t at ++ test_code b w to t m
+test_code (Either' p a q b) w to t at =
+    let m = at + test_size a true t in test_code a true (if w then to else m + test_size b w t) t at ++ test_code b w to t m
+
+abbrev pub make_instr : Maker → (p a b : ℕ) → Instr
+make_instr (Spawn g) p a b = instr.Spawn g p a b
+make_instr Post p a b = instr.Post p a b
+make_instr (Isolate d) p a b = instr.Isolate d p a b
+
+abbrev pub make_code : Maker → (p : ℕ) → (a b : Expr) → (free : ℕ) → List Instr
+make_code m p a b t = operand_code a t ++ (operand_code b (above a t) ++ make_instr m p (operand a t) (operand b (above a t)) ∷ [])
+
+abbrev pub read_instr : (d : ℕ) → Question → Instr
+read_instr d Cancelled = instr.Ask d
+read_instr d (Cell k) = instr.Load d k
+read_instr d (CellSum k) = instr.Sum d k
+read_instr d (CellCount k) = instr.Count d k
+
+abbrev pub stmt_size : Stmt → (free : ℕ) → ℕ
+stmt_size Skip t = 0
+stmt_size (Then' p a q b) t = stmt_size a t + stmt_size b t
+stmt_size (Assign x e) t = length (value_code e x t)
+stmt_size (If' c p a q b) t = test_size c false t + stmt_size a t + 1 + stmt_size b t
+stmt_size (Loop' c p b q s) t = 1 + (stmt_size b t + stmt_size s t + test_size c true t)
+stmt_size (Repeat' c p b q s) t = stmt_size b t + stmt_size s t + test_size c true t
+stmt_size (Break k) t = 1
+stmt_size (Continue k) t = 1
+stmt_size (Return e) t = length (operand_code e t) + 1
+stmt_size (Make m p a b) t = length (operand_code a t) + length (operand_code b (above a t)) + 1
+stmt_size (Wait d e g) t = 1
+stmt_size (Cancel g) t = 1
+stmt_size (Read d q) t = 1
+stmt_size (Store k e) t = length (operand_code e t) + 1
+
+-- where the condition of a loop is whose body is at `at`, and what follows the loop
+abbrev pub loop_test : (body step : Stmt) → (free at : ℕ) → ℕ
+loop_test b s t at = at + stmt_size b t + stmt_size s t
+
+abbrev pub loop_end : Test → (body step : Stmt) → (free at : ℕ) → ℕ
+loop_end c b s t at = loop_test b s t at + test_size c true t
+
+-- where `continue` and `break` lead in its body
+abbrev pub loop_label : Test → (body step : Stmt) → (free at : ℕ) → Label
+loop_label c b s t at = record { next = at + stmt_size b t; after = loop_end c b s t at }
+
+-- where `break` leads, and `continue`: with no loop around, to the end
+abbrev pub after_of : Option Label → (ret : ℕ) → ℕ
+after_of None ret = ret
+after_of (Some l) ret = l.after
+
+abbrev pub next_of : Option Label → (ret : ℕ) → ℕ
+next_of None ret = ret
+next_of (Some l) ret = l.next
+
+-- a body, a step, and a condition that jumps back to the body
+abbrev pub loop_code : (body step test : List Instr) → List Instr
+loop_code body step test = body ++ (step ++ test)
+
+-- a statement's code at a place, with the labels of the loops around it, the innermost first, in a function whose end is at `ret`
+abbrev pub stmt_code : Stmt → (free at : ℕ) → (labels : List Label) → (ret : ℕ) → List Instr
+stmt_code Skip t at labels ret = []
+stmt_code (Then' p a q b) t at labels ret = stmt_code a t at labels ret ++ stmt_code b t (at + stmt_size a t) labels ret
+stmt_code (Assign x e) t at labels ret = value_code e x t
+stmt_code (If' c p a q b) t at labels ret =
+    let m = at + test_size c false t in
+    let other = m + stmt_size a t + 1 in
+    test_code c false other t at ++ (stmt_code a t m labels ret ++ instr.Jmp (other + stmt_size b t) ∷ stmt_code b t other labels ret)
+stmt_code (Loop' c p b q s) t at labels ret =
+    let k = at + 1 in
+    instr.Jmp (loop_test b s t k)
+    ∷ loop_code (stmt_code b t k (loop_label c b s t k ∷ labels) ret) (stmt_code s t (k + stmt_size b t) labels ret) (test_code c true k t (loop_test b s t k))
+stmt_code (Repeat' c p b q s) t at labels ret =
+    loop_code (stmt_code b t at (loop_label c b s t at ∷ labels) ret) (stmt_code s t (at + stmt_size b t) labels ret) (test_code c true at t (loop_test b s t at))
+stmt_code (Break k) t at labels ret = instr.Jmp (after_of (slice_get labels k) ret) ∷ []
+stmt_code (Continue k) t at labels ret = instr.Jmp (next_of (slice_get labels k) ret) ∷ []
+stmt_code (Return e) t at labels ret = operand_code e t ++ instr.Ret (operand e t) ∷ []
+stmt_code (Make m p a b) t at labels ret = make_code m p a b t
+stmt_code (Wait d e g) t at labels ret = instr.Wait (register_for d t) (register_for e t) g ∷ []
+stmt_code (Cancel g) t at labels ret = instr.Cancel g ∷ []
+stmt_code (Read d q) t at labels ret = read_instr d q ∷ []
+stmt_code (Store k e) t at labels ret = operand_code e t ++ instr.Store k (operand e t) ∷ []
+
+-- the body, and then a return of 0
+abbrev pub function_code : Function → List Instr
+function_code f =
+    let end = stmt_size f.body f.variables in stmt_code f.body f.variables 0 [] end ++ (instr.Set 0 (pos 0) ∷ instr.Ret 0 ∷ [])

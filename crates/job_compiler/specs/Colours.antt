@@ -1,0 +1,98 @@
+-- When a procedure is another one with fewer registers: each register has one of the few, and none that is still read is overwritten.
+use Rattle.std.specs.Prelude.{◌≡◌, ◌≢◌, ℕ, ◌+◌, ◌<◌, ◌⊎◌, Bool, true, List, [], ◌∷◌, length, Option, Some, None, slice_get, slice_index_or, ℤ, pos}
+use Rattle.std.specs.List.{AllByRecursion}
+use Rattle.job_language.specs.declared.instructions.Instr.{Instr}
+use Rattle.job_language.specs.declared.instructions.Instr.TheVariants.{Set, Add, Sub, Mul, Div, Lt, Jz, Jmp, Slot, Width, Spawn, Post, Wait, Cancel, Ask, Isolate, Load, Store, Sum, Count, Ret}
+
+abbrev pub renamed : (ℕ → ℕ) → Instr → Instr
+renamed c (Set d n) = Set (c d) n
+renamed c (Add d a b) = Add (c d) (c a) (c b)
+renamed c (Sub d a b) = Sub (c d) (c a) (c b)
+renamed c (Mul d a b) = Mul (c d) (c a) (c b)
+renamed c (Div d a b) = Div (c d) (c a) (c b)
+renamed c (Lt d a b) = Lt (c d) (c a) (c b)
+renamed c (Jz a t) = Jz (c a) t
+renamed c (Jmp t) = Jmp t
+renamed c (Slot d) = Slot (c d)
+renamed c (Width d) = Width (c d)
+renamed c (Spawn g p a b) = Spawn g p (c a) (c b)
+renamed c (Post p a b) = Post p (c a) (c b)
+renamed c (Wait d e g) = Wait (c d) (c e) g
+renamed c (Cancel g) = Cancel g
+renamed c (Ask d) = Ask (c d)
+renamed c (Isolate d p a b) = Isolate (c d) p (c a) (c b)
+renamed c (Load d k) = Load (c d) k
+renamed c (Store k a) = Store k (c a)
+renamed c (Sum d k) = Sum (c d) k
+renamed c (Count d k) = Count (c d) k
+renamed c (Ret a) = Ret (c a)
+
+-- the registers that an instruction reads
+abbrev pub reads : Instr → List ℕ
+reads (Add d a b) = a ∷ b ∷ []
+reads (Sub d a b) = a ∷ b ∷ []
+reads (Mul d a b) = a ∷ b ∷ []
+reads (Div d a b) = a ∷ b ∷ []
+reads (Lt d a b) = a ∷ b ∷ []
+reads (Jz a t) = a ∷ []
+reads (Spawn g p a b) = a ∷ b ∷ []
+reads (Post p a b) = a ∷ b ∷ []
+reads (Isolate d p a b) = a ∷ b ∷ []
+reads (Store k a) = a ∷ []
+reads (Ret a) = a ∷ []
+reads i = []
+
+-- the registers that it writes, in this order
+abbrev pub writes : Instr → List ℕ
+writes (Set d n) = d ∷ []
+writes (Add d a b) = d ∷ []
+writes (Sub d a b) = d ∷ []
+writes (Mul d a b) = d ∷ []
+writes (Div d a b) = d ∷ []
+writes (Lt d a b) = d ∷ []
+writes (Slot d) = d ∷ []
+writes (Width d) = d ∷ []
+writes (Wait d e g) = d ∷ e ∷ []
+writes (Ask d) = d ∷ []
+writes (Isolate d p a b) = d ∷ []
+writes (Load d k) = d ∷ []
+writes (Sum d k) = d ∷ []
+writes (Count d k) = d ∷ []
+writes i = []
+
+-- where it may go on
+abbrev pub leads_to : Instr → (place : ℕ) → List ℕ
+leads_to (Jz a t) k = t ∷ (k + 1) ∷ []
+leads_to (Jmp t) k = t ∷ []
+leads_to (Ret a) k = []
+leads_to i k = (k + 1) ∷ []
+
+abbrev pub IsAmong : ℕ → List ℕ → Type 0
+IsAmong u [] = ⊥
+IsAmong u (d ∷ ds) = (u ≡ d) ⊎ IsAmong u ds
+
+-- What is read later was read later before, or is written here; and what is written here lies on nothing else that is read later.
+abbrev pub Flows : (c : ℕ → ℕ) (live : ℕ → ℕ → Bool) (written : List ℕ) (place next : ℕ) → Type 0
+Flows c live ws k next = (u : ℕ) → live next u ≡ true → (IsAmong u ws ⊎ (live k u ≡ true)) × AllByRecursion (λ d. u ≢ d → c u ≢ c d) ws
+
+-- an instruction writes registers below a number
+abbrev pub WritesBelow : ℕ → Instr → Type 0
+WritesBelow size i = AllByRecursion (λ d. d < size) (writes i)
+
+-- At the beginning only the two arguments are read later, and they are in the first two registers.
+abbrev pub BeginsWith : (c : ℕ → ℕ) (live : ℕ → ℕ → Bool) → Type 0
+BeginsWith c live = (u : ℕ) → live 0 u ≡ true → (u < 2) × (c u ≡ u)
+
+-- vs has registers below `most`, and rs is vs with c for its registers; `live` says which registers are read later
+pub record IsColoured (most : ℕ) (vs rs : List Instr) (c : ℕ → ℕ) (live : ℕ → ℕ → Bool) : Type 0 where
+  pub renames : (k : ℕ) (i : Instr) → slice_get vs k ≡ Some i → slice_get rs k ≡ Some (renamed c i)
+  pub nowhere : (k : ℕ) → slice_get vs k ≡ None → slice_get rs k ≡ None
+  pub read : (k : ℕ) (i : Instr) → slice_get vs k ≡ Some i → AllByRecursion (λ u. live k u ≡ true) (reads i)
+  pub low : (k : ℕ) (i : Instr) → slice_get vs k ≡ Some i → AllByRecursion (λ d. (d < most) × (c d < 8)) (writes i)
+  pub flow : (k : ℕ) (i : Instr) → slice_get vs k ≡ Some i → AllByRecursion (Flows c live (writes i) k) (leads_to i k)
+
+-- what is read later is the same in both
+pub record Same (c : ℕ → ℕ) (live : ℕ → ℕ → Bool) (most k : ℕ) (vregs regs : List ℤ) : Type 0 where
+  pub all : length vregs ≡ most
+  pub long : length regs ≡ 8
+  pub same : (u : ℕ) → live k u ≡ true → slice_index_or vregs u (pos 0) ≡ slice_index_or regs (c u) (pos 0)

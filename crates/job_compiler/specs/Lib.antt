@@ -1,0 +1,11 @@
+pub mod Code
+pub mod Within
+pub mod Operations
+pub mod Traces
+pub mod Compiled
+pub mod Runs
+pub mod Wanted
+pub mod Colours
+pub mod Registers
+pub mod Programs
+pub mod Worked

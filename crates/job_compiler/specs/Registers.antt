@@ -1,0 +1,71 @@
+-- Which functions keep to the registers below a number.
+use Rattle.std.specs.Prelude.{ℕ, ◌<◌, Option, Some, None}
+use Rattle.job_language.specs.declared.instructions.TheConstants.{REGISTERS}
+use Rattle.source_language.specs.declared.syntax.Operator.{Operator}
+use Rattle.source_language.specs.declared.syntax.Operator.TheVariants.{Plus, Minus, Times, Over, Remainder, Below}
+use Rattle.source_language.specs.declared.syntax.Expr.{Expr}
+use Rattle.source_language.specs.declared.syntax.Expr.TheVariants.{Number, Variable, Slot, Width, Two'}
+use Rattle.source_language.specs.declared.syntax.Test.{Test}
+use Rattle.source_language.specs.declared.syntax.Test.TheVariants.{Holds, Not', Both', Either'}
+use Rattle.source_language.specs.declared.syntax.Maker.{Maker}
+use Rattle.source_language.specs.declared.syntax.Maker.TheVariants.{Spawn, Post, Isolate}
+use Rattle.source_language.specs.declared.syntax.Stmt.{Stmt}
+use Rattle.source_language.specs.declared.syntax.Stmt.TheVariants.{Skip, Then', Assign, If', Loop', Repeat', Break, Continue, Return, Make, Wait, Cancel, Read, Store}
+use Rattle.source_language.specs.declared.syntax.Function.{Function}
+use Rattle.job_compiler.specs.Code.{operand, above, register_for}
+
+-- a remainder needs the free register t
+abbrev pub IsOpLow : (most : ℕ) → Operator → (free : ℕ) → Type 0
+IsOpLow m Plus t = Unit {0}
+IsOpLow m Minus t = Unit {0}
+IsOpLow m Times t = Unit {0}
+IsOpLow m Over t = Unit {0}
+IsOpLow m Remainder t = t < m
+IsOpLow m Below t = Unit {0}
+
+-- an operand, and what its code writes
+abbrev pub IsOperandLow : (most : ℕ) → Expr → (free : ℕ) → Type 0
+IsOperandLow m (Number z) t = t < m
+IsOperandLow m (Variable x) t = x < m
+IsOperandLow m Slot t = t < m
+IsOperandLow m Width t = t < m
+IsOperandLow m (Two' op p a q b) t = IsOperandLow m a t × IsOperandLow m b (above a t) × IsOpLow m op (above b (above a t)) × (t < m)
+
+-- a value that goes to a variable that is there: a copy of another one needs the free register
+abbrev pub IsValueLow : (most : ℕ) → Expr → (free : ℕ) → Type 0
+IsValueLow m (Number z) t = Unit {0}
+IsValueLow m (Variable x) t = (x < m) × (t < m)
+IsValueLow m Slot t = Unit {0}
+IsValueLow m Width t = Unit {0}
+IsValueLow m (Two' op p a q b) t = IsOperandLow m a t × IsOperandLow m b (above a t) × IsOpLow m op (above b (above a t))
+
+abbrev pub IsTestLow : (most : ℕ) → Test → (free : ℕ) → Type 0
+IsTestLow m (Holds e) t = IsOperandLow m e t
+IsTestLow m (Not' p c) t = IsTestLow m c t
+IsTestLow m (Both' p a q b) t = IsTestLow m a t × IsTestLow m b t
+IsTestLow m (Either' p a q b) t = IsTestLow m a t × IsTestLow m b t
+
+abbrev pub IsMakerLow : (most : ℕ) → Maker → Type 0
+IsMakerLow m (Spawn g) = Unit {0}
+IsMakerLow m Post = Unit {0}
+IsMakerLow m (Isolate d) = d < m
+
+abbrev pub IsStmtLow : (most : ℕ) → Stmt → (free : ℕ) → Type 0
+IsStmtLow m Skip t = Unit {0}
+IsStmtLow m (Then' p a q b) t = IsStmtLow m a t × IsStmtLow m b t
+IsStmtLow m (Assign x e) t = (x < m) × IsValueLow m e t
+IsStmtLow m (If' c p a q b) t = IsTestLow m c t × IsStmtLow m a t × IsStmtLow m b t
+IsStmtLow m (Loop' c p b q s) t = IsTestLow m c t × IsStmtLow m b t × IsStmtLow m s t
+IsStmtLow m (Repeat' c p b q s) t = IsTestLow m c t × IsStmtLow m b t × IsStmtLow m s t
+IsStmtLow m (Break k) t = Unit {0}
+IsStmtLow m (Continue k) t = Unit {0}
+IsStmtLow m (Return e) t = IsOperandLow m e t
+IsStmtLow m (Make k p a b) t = IsMakerLow m k × IsOperandLow m a t × IsOperandLow m b (above a t)
+IsStmtLow m (Wait d e g) t = (register_for d t < m) × (register_for e t < m)
+IsStmtLow m (Cancel g) t = Unit {0}
+IsStmtLow m (Read d q) t = d < m
+IsStmtLow m (Store k e) t = IsOperandLow m e t
+
+-- Its variables and the values on the way fit the registers of a frame.
+abbrev pub UsesFewRegisters : Function → Type 0
+UsesFewRegisters f = IsStmtLow REGISTERS f.body f.variables

@@ -1,0 +1,135 @@
+// Whether a function keeps to the registers of a frame.
+ghost use Rattle.std.specs.Prelude.{IsTrue, ◌≡◌, ◌+◌, ◌<◌, ◌↔◌, SomeIff};
+ghost use Rattle.job_compiler.specs.Code.{above, register_for};
+ghost use Rattle.job_compiler.specs.Registers.{IsOpLow, IsOperandLow, IsValueLow, IsTestLow, IsMakerLow, IsStmtLow};
+
+use job_language::REGISTERS;
+use source_language::{Expr, Maker, Operator, Stmt, Test};
+
+// Whether a frame has a register of this number.
+fn is_low(number: u8) -> bool
+    ensures { IsTrue result ↔ (number < REGISTERS) }
+{
+    usize::from(number) < REGISTERS
+}
+
+fn op_low(op: Operator, free: u8) -> bool
+    ensures { IsTrue result ↔ IsOpLow REGISTERS op free }
+{
+    match op {
+        Operator::Plus => true,
+        Operator::Minus => true,
+        Operator::Times => true,
+        Operator::Over => true,
+        Operator::Remainder => is_low(free),
+        Operator::Below => true,
+    }
+}
+
+// The next free register beside what is written into the first free one.
+fn next_low(free: u8) -> Option<u8>
+    ensures { SomeIff result (free < REGISTERS) (free + 1) }
+{
+    if is_low(free) { Some(free + 1) } else { None }
+}
+
+/// The first free register beside an operand, if there are enough registers for it.
+fn operand_low(e: &Expr, free: u8) -> Option<u8>
+    ensures { SomeIff result (IsOperandLow REGISTERS e.now free) (above e.now free) }
+{
+    match e {
+        Expr::Number(_) => next_low(free),
+        Expr::Variable(x) => { if is_low(*x) { Some(free) } else { None } }
+        Expr::Slot => next_low(free),
+        Expr::Width => next_low(free),
+        Expr::Two(op, a, b) => {
+            let second = operand_low(a, free)?;
+            let last = operand_low(b, second)?;
+            if op_low(*op, last) {
+                next_low(free)
+            } else {
+                None
+            }
+        }
+    }
+}
+
+fn value_low(e: &Expr, free: u8) -> bool
+    ensures { IsTrue result ↔ IsValueLow REGISTERS e.now free }
+{
+    match e {
+        Expr::Number(_) => true,
+        Expr::Variable(x) => is_low(*x) && is_low(free),
+        Expr::Slot => true,
+        Expr::Width => true,
+        Expr::Two(op, a, b) => match operand_low(a, free) {
+            Some(second) => match operand_low(b, second) {
+                Some(last) => op_low(*op, last),
+                None => false,
+            },
+            None => false,
+        },
+    }
+}
+
+fn test_low(c: &Test, free: u8) -> bool
+    ensures { IsTrue result ↔ IsTestLow REGISTERS c.now free }
+{
+    match c {
+        Test::Holds(e) => operand_low(e, free).is_some(),
+        Test::Not(t) => test_low(t, free),
+        Test::Both(a, b) => test_low(a, free) && test_low(b, free),
+        Test::Either(a, b) => test_low(a, free) && test_low(b, free),
+    }
+}
+
+fn maker_low(m: Maker) -> bool
+    ensures { IsTrue result ↔ IsMakerLow REGISTERS m }
+{
+    match m {
+        Maker::Isolate(d) => is_low(d),
+        Maker::Spawn(_) => true,
+        Maker::Post => true,
+    }
+}
+
+fn two_low(a: &Expr, b: &Expr, free: u8) -> bool
+    ensures { IsTrue result
+        ↔ (IsOperandLow REGISTERS a.now free × IsOperandLow REGISTERS b.now (above a.now free)) }
+{
+    match operand_low(a, free) {
+        Some(second) => operand_low(b, second).is_some(),
+        None => false,
+    }
+}
+
+fn one_low(into: Option<u8>, free: u8) -> bool
+    ensures { IsTrue result ↔ (register_for into free < REGISTERS) }
+{
+    match into {
+        Some(d) => is_low(d),
+        None => is_low(free),
+    }
+}
+
+/// Whether a statement's variables and the values on the way fit the registers of a frame.
+pub(crate) fn stmt_low(s: &Stmt, free: u8) -> bool
+    ensures { IsTrue result ↔ IsStmtLow REGISTERS s.now free }
+{
+    match s {
+        Stmt::Skip => true,
+        Stmt::Then(a, b) => stmt_low(a, free) && stmt_low(b, free),
+        Stmt::Assign(x, e) => is_low(*x) && value_low(e, free),
+        Stmt::If(c, a, b) => test_low(c, free) && stmt_low(a, free) && stmt_low(b, free),
+        Stmt::Loop(c, b, s) => test_low(c, free) && stmt_low(b, free) && stmt_low(s, free),
+        Stmt::Repeat(c, b, s) => test_low(c, free) && stmt_low(b, free) && stmt_low(s, free),
+        Stmt::Break(_) => true,
+        Stmt::Continue(_) => true,
+        Stmt::Return(e) => operand_low(e, free).is_some(),
+        Stmt::Make(m, _, a, b) => maker_low(*m) && two_low(a, b, free),
+        Stmt::Wait(d, e, _) => one_low(*d, free) && one_low(*e, free),
+        Stmt::Cancel(_) => true,
+        Stmt::Read(d, _) => is_low(*d),
+        Stmt::Store(_, e) => operand_low(e, free).is_some(),
+    }
+}

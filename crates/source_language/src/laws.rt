@@ -1,0 +1,10 @@
+// Worked examples.
+ghost use Rattle.source_language.specs.Worked.{RoundsTowardZero, StopsEarly, LeavesLoops};
+
+/// What the definitions give for a few expressions, conditions and jumps. It does nothing: its
+/// contract says it.
+pub fn worked_examples()
+    ensures rounding { RoundsTowardZero }
+    ensures early { StopsEarly }
+    ensures loops { LeavesLoops }
+{}

@@ -1,0 +1,4 @@
+pub mod Turns
+pub mod Back
+pub mod Forth
+pub mod Arguments

@@ -1,0 +1,2 @@
+pub mod SourceSerial
+pub mod Agree
