@@ -2,7 +2,7 @@
 use Rattle.std.specs.Prelude.{◌≡◌, ◌≢◌, ℕ, ◌+◌, ◌<◌, ◌⊎◌, Bool, true, List, [], ◌∷◌, length, Option, Some, None, slice_get, slice_index_or, ℤ, pos}
 use Rattle.std.specs.List.{AllByRecursion}
 use Rattle.job_language.specs.declared.instructions.Instr.{Instr}
-use Rattle.job_language.specs.declared.instructions.Instr.TheVariants.{Set, Add, Sub, Mul, Div, Lt, Jz, Jmp, Slot, Width, Spawn, Post, Wait, Cancel, Ask, Isolate, Load, Store, Sum, Count, Ret}
+use Rattle.job_language.specs.declared.instructions.Instr.TheVariants.{Set, Add, Sub, Mul, Div, Lt, Rem, And, Or, Xor, Shl, Shr, Eq, Le, Jz, Jmp, Slot, Width, Spawn, Post, Wait, Cancel, Ask, Isolate, Load, Store, Sum, Count, Ret}
 
 abbrev pub renamed : (ℕ → ℕ) → Instr → Instr
 renamed c (Set d n) = Set (c d) n
@@ -11,6 +11,14 @@ renamed c (Sub d a b) = Sub (c d) (c a) (c b)
 renamed c (Mul d a b) = Mul (c d) (c a) (c b)
 renamed c (Div d a b) = Div (c d) (c a) (c b)
 renamed c (Lt d a b) = Lt (c d) (c a) (c b)
+renamed c (Rem d a b) = Rem (c d) (c a) (c b)
+renamed c (And d a b) = And (c d) (c a) (c b)
+renamed c (Or d a b) = Or (c d) (c a) (c b)
+renamed c (Xor d a b) = Xor (c d) (c a) (c b)
+renamed c (Shl d a b) = Shl (c d) (c a) (c b)
+renamed c (Shr d a b) = Shr (c d) (c a) (c b)
+renamed c (Eq d a b) = Eq (c d) (c a) (c b)
+renamed c (Le d a b) = Le (c d) (c a) (c b)
 renamed c (Jz a t) = Jz (c a) t
 renamed c (Jmp t) = Jmp t
 renamed c (Slot d) = Slot (c d)
@@ -34,6 +42,14 @@ reads (Sub d a b) = a ∷ b ∷ []
 reads (Mul d a b) = a ∷ b ∷ []
 reads (Div d a b) = a ∷ b ∷ []
 reads (Lt d a b) = a ∷ b ∷ []
+reads (Rem d a b) = a ∷ b ∷ []
+reads (And d a b) = a ∷ b ∷ []
+reads (Or d a b) = a ∷ b ∷ []
+reads (Xor d a b) = a ∷ b ∷ []
+reads (Shl d a b) = a ∷ b ∷ []
+reads (Shr d a b) = a ∷ b ∷ []
+reads (Eq d a b) = a ∷ b ∷ []
+reads (Le d a b) = a ∷ b ∷ []
 reads (Jz a t) = a ∷ []
 reads (Spawn g p a b) = a ∷ b ∷ []
 reads (Post p a b) = a ∷ b ∷ []
@@ -50,6 +66,14 @@ writes (Sub d a b) = d ∷ []
 writes (Mul d a b) = d ∷ []
 writes (Div d a b) = d ∷ []
 writes (Lt d a b) = d ∷ []
+writes (Rem d a b) = d ∷ []
+writes (And d a b) = d ∷ []
+writes (Or d a b) = d ∷ []
+writes (Xor d a b) = d ∷ []
+writes (Shl d a b) = d ∷ []
+writes (Shr d a b) = d ∷ []
+writes (Eq d a b) = d ∷ []
+writes (Le d a b) = d ∷ []
 writes (Slot d) = d ∷ []
 writes (Width d) = d ∷ []
 writes (Wait d e g) = d ∷ e ∷ []

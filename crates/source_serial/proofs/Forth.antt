@@ -4,7 +4,7 @@ use Rattle.std.specs.Prelude.{slice_get, slice_index_or}
 use Rattle.std.specs.Int.{w64}
 use Rattle.std.proofs.lemmas.Option.{none-some, same_Some}
 use Rattle.job_language.specs.declared.instructions.Instr.{Instr}
-use Rattle.job_language.specs.declared.instructions.Instr.TheVariants.{Set, Add, Sub, Mul, Div, Lt, Jz, Jmp, Slot, Width, Spawn, Post, Wait, Cancel, Ask, Isolate, Load, Store, Sum, Count, Ret}
+use Rattle.job_language.specs.declared.instructions.Instr.TheVariants.{Set, Add, Sub, Mul, Div, Lt, Rem, And, Or, Xor, Shl, Shr, Eq, Le, Jz, Jmp, Slot, Width, Spawn, Post, Wait, Cancel, Ask, Isolate, Load, Store, Sum, Count, Ret}
 use Rattle.job_step.specs.declared.frames.Frame.{Frame}
 use Rattle.job_step.specs.declared.effects.Effect.{Effect}
 use Rattle.job_step.specs.declared.effects.Effect.TheVariants.{Moves, DividesByZero, IsShared}
@@ -226,6 +226,14 @@ module _ (fs : List Function) (procs : List (List Instr)) (compiled : IsCompiled
     by_instr (Mul d a b) o is = absurd (none-some o is)
     by_instr (Div d a b) o is = absurd (none-some o is)
     by_instr (Lt d a b) o is = absurd (none-some o is)
+    by_instr (Rem d a b) o is = absurd (none-some o is)
+    by_instr (And d a b) o is = absurd (none-some o is)
+    by_instr (Or d a b) o is = absurd (none-some o is)
+    by_instr (Xor d a b) o is = absurd (none-some o is)
+    by_instr (Shl d a b) o is = absurd (none-some o is)
+    by_instr (Shr d a b) o is = absurd (none-some o is)
+    by_instr (Eq d a b) o is = absurd (none-some o is)
+    by_instr (Le d a b) o is = absurd (none-some o is)
     by_instr (Jz a t) o is = absurd (none-some o is)
     by_instr (Jmp t) o is = absurd (none-some o is)
     by_instr (Slot d) o is = absurd (none-some o is)

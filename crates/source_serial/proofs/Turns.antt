@@ -1,7 +1,9 @@
 -- Turns of tasks, and numbers that fit 64 bits.
 use Rattle.std.proofs.Common.{◌≡◌, ℕ, zero, suc, ◌+◌, ◌<◌, ◌≤◌, ◌^◌, ℤ, pos, negsuc, Bool, true, false, if◌then◌else◌, List, [], ◌∷◌, get_or, set, replicate, Option, Some, None, refl, sym, ap, subst, ◌∙◌, arith, FitsSigned}
-use Rattle.std.specs.Prelude.{int_lt, unwrap_or, slice_index_or, option_and_then}
+use Rattle.std.specs.Prelude.{int_lt, int_le, unwrap_or, slice_index_or, option_and_then}
 use Rattle.std.specs.Int.{cast_signed, w64}
+use Rattle.std.specs.Ordering.{int_eq}
+use Rattle.core.proofs.num.Signs.{rem-fits, shr_fits}
 use borrow.Author.Differences.{fits_in, read_fits}
 use Rattle.std.proofs.Common.{◌⊎◌, ⊎_elim, length}
 use Rattle.std.specs.Prelude.{slice_get}
@@ -11,11 +13,11 @@ use Rattle.std.proofs.lemmas.List.Elements.{All-get_or}
 use Rattle.job_language.specs.Program.{IsValidProgram, IsValidProc, IsInRange}
 use Rattle.std.proofs.lemmas.Option.{none-some, same_Some, slice_get_within, get_or_from_slice_get}
 use Rattle.job_language.specs.declared.instructions.Instr.{Instr}
-use Rattle.job_language.specs.declared.instructions.Instr.TheVariants.{Set, Add, Sub, Mul, Div, Lt, Jz, Jmp, Slot, Width, Spawn, Post, Wait, Cancel, Ask, Isolate, Load, Store, Sum, Count, Ret}
+use Rattle.job_language.specs.declared.instructions.Instr.TheVariants.{Set, Add, Sub, Mul, Div, Lt, Rem, And, Or, Xor, Shl, Shr, Eq, Le, Jz, Jmp, Slot, Width, Spawn, Post, Wait, Cancel, Ask, Isolate, Load, Store, Sum, Count, Ret}
 use Rattle.job_step.specs.declared.frames.Frame.{Frame}
 use Rattle.job_step.specs.declared.effects.Effect.{Effect}
 use Rattle.job_step.specs.declared.effects.Effect.TheVariants.{Moves, DividesByZero, IsShared}
-use Rattle.job_step.specs.Frame.{instr_at, effect, register, write_and_step, is_zero}
+use Rattle.job_step.specs.Frame.{instr_at, effect, register, write_and_step, is_zero, shift_count}
 use Rattle.job_step.specs.Least.{next_of, frame_after}
 use Rattle.tenant_model.specs.declared.serials.SerialTask.{SerialTask}
 use Rattle.tenant_model.specs.declared.serials.SerialTurn.{SerialTurn}
@@ -96,6 +98,14 @@ effect_fits (Sub d a b) f number fit = regs_set f.registers d _ (wrapped_fits _)
 effect_fits (Mul d a b) f number fit = regs_set f.registers d _ (wrapped_fits _) fit
 effect_fits (Div d a b) f number fit = div_fits (is_zero (register f b)) _ (regs_set f.registers d _ (wrapped_fits _) fit)
 effect_fits (Lt d a b) f number fit = regs_set f.registers d _ (bit_fits (int_lt (register f a) (register f b))) fit
+effect_fits (Rem d a b) f number fit = div_fits (is_zero (register f b)) _ (regs_set f.registers d _ (rem-fits w64 (register f a) (register f b) (fit a)) fit)
+effect_fits (And d a b) f number fit = regs_set f.registers d _ (wrapped_fits _) fit
+effect_fits (Or d a b) f number fit = regs_set f.registers d _ (wrapped_fits _) fit
+effect_fits (Xor d a b) f number fit = regs_set f.registers d _ (wrapped_fits _) fit
+effect_fits (Shl d a b) f number fit = regs_set f.registers d _ (wrapped_fits _) fit
+effect_fits (Shr d a b) f number fit = regs_set f.registers d _ (shr_fits w64 (register f a) (2 ^ shift_count (register f b)) (fit a)) fit
+effect_fits (Eq d a b) f number fit = regs_set f.registers d _ (bit_fits (int_eq (register f a) (register f b))) fit
+effect_fits (Le d a b) f number fit = regs_set f.registers d _ (bit_fits (int_le (register f a) (register f b))) fit
 effect_fits (Jz a t) f number fit = fit
 effect_fits (Jmp t) f number fit = fit
 effect_fits (Slot d) f number fit = regs_set f.registers d _ nought_fits fit
@@ -120,6 +130,14 @@ turn_alone (Sub d a b) t e is other = ap (turn_by t) is
 turn_alone (Mul d a b) t e is other = ap (turn_by t) is
 turn_alone (Div d a b) t e is other = ap (turn_by t) is
 turn_alone (Lt d a b) t e is other = ap (turn_by t) is
+turn_alone (Rem d a b) t e is other = ap (turn_by t) is
+turn_alone (And d a b) t e is other = ap (turn_by t) is
+turn_alone (Or d a b) t e is other = ap (turn_by t) is
+turn_alone (Xor d a b) t e is other = ap (turn_by t) is
+turn_alone (Shl d a b) t e is other = ap (turn_by t) is
+turn_alone (Shr d a b) t e is other = ap (turn_by t) is
+turn_alone (Eq d a b) t e is other = ap (turn_by t) is
+turn_alone (Le d a b) t e is other = ap (turn_by t) is
 turn_alone (Jz a q) t e is other = ap (turn_by t) is
 turn_alone (Jmp q) t e is other = ap (turn_by t) is
 turn_alone (Slot d) t e is other = ap (turn_by t) is
