@@ -1,21 +1,17 @@
 -- A procedure with its registers chosen does the same as before.
-use Rattle.std.proofs.Common.{◌≡◌, ◌≢◌, ℕ, zero, suc, ◌+◌, ◌<◌, ◌⊎◌, ℤ, pos, negsuc, Bool, true, false, if◌then◌else◌, List, [], ◌∷◌, length, get_or, set, Option, Some, None, option_map, refl, sym, ap, subst, ◌∙◌, arith, ⊎_elim, inl, inr, length-set, get_or-set_same, get_or-set_other}
-use Rattle.std.specs.Prelude.{slice_get, slice_set, slice_index_or, int_lt, int_le, int_rem}
-use Rattle.std.specs.List.{AllByRecursion}
+use Rattle.std.proofs.Common.{◌≡◌, ℕ, zero, suc, ◌+◌, ◌<◌, ℤ, pos, negsuc, Bool, true, false, if◌then◌else◌, List, [], ◌∷◌, get_or, set, Option, Some, None, option_map, refl, sym, ap, subst, ◌∙◌, arith, ⊎_elim, length-set, get_or-set_same, get_or-set_other}
+use Rattle.std.specs.Prelude.{slice_get, slice_index_or, int_lt, int_le, int_rem}
 use Rattle.std.specs.Int.{int_wrapping_add, int_wrapping_sub, int_wrapping_mul, int_wrapping_div, int_bit_and, int_bit_or, int_bit_xor, int_shl, int_shr, w64}
 use Rattle.std.specs.Ordering.{int_eq}
 use Rattle.std.proofs.lemmas.Bool.{cases_eq}
 use Rattle.job_language.specs.declared.instructions.Instr.{Instr}
 use Rattle.job_language.specs.declared.instructions.Instr.TheVariants.{Set, Add, Sub, Mul, Div, Lt, Rem, And, Or, Xor, Shl, Shr, Eq, Le, Jz, Jmp, Slot, Width, Spawn, Post, Wait, Cancel, Ask, Isolate, Load, Store, Sum, Count, Ret}
 use Rattle.job_step.specs.declared.frames.Frame.{Frame}
-use Rattle.job_step.specs.declared.effects.Effect.{Effect}
-use Rattle.job_step.specs.declared.effects.Effect.TheVariants.{Moves, DividesByZero, IsShared}
-use Rattle.job_step.specs.Frame.{instr_at, effect, is_zero, shift_count}
-use Rattle.job_step.specs.Run.{effect_at}
+use Rattle.job_step.specs.declared.effects.Effect.TheVariants.{Moves, DividesByZero}
+use Rattle.job_step.specs.Frame.{effect, is_zero, shift_count}
 use Rattle.source_language.specs.Meaning.{Operation, Spawns, Posts, Isolates, Stores, Returns}
-use Rattle.job_compiler.specs.Operations.{operation_of, resumed}
-use Rattle.job_compiler.specs.Traces.{Event, Did, Divided, Lost, is_return, events_after, frame_by, frame_at, frame_stops, frame_events}
-use Rattle.job_compiler.specs.Colours.{renamed, reads, writes, leads_to, IsAmong, Flows, IsColoured, Same}
+use Rattle.job_compiler.specs.Traces.{Event, Did, is_return, events_after, frame_by, frame_events}
+use Rattle.job_compiler.specs.Colours.{renamed, Flows, IsColoured, Same}
 
 events_alike : (o : Operation) (answers : List (ℤ × ℤ)) (G H : (ℤ × ℤ) → List (ℤ × ℤ) → Option (List Event)) → ((a : ℤ × ℤ) (rest : List (ℤ × ℤ)) → G a rest ≡ H a rest)
     → events_after o answers G ≡ events_after o answers H

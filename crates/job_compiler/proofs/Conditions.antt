@@ -1,15 +1,13 @@
 -- What the code of a condition does.
-use Rattle.std.proofs.Common.{◌≡◌, ◌≢◌, ℕ, zero, suc, ◌+◌, ◌<◌, ◌≤◌, ◌^◌, ℤ, pos, negsuc, Bool, true, false, not, if◌then◌else◌, List, [], ◌∷◌, ◌++◌, length, get_or, Option, Some, None, option_map, refl, sym, ap, subst, ◌∙◌, arith, length-append}
+use Rattle.std.proofs.Common.{◌≡◌, ℕ, zero, suc, ◌+◌, ◌<◌, ◌≤◌, ◌^◌, ℤ, pos, negsuc, Bool, true, false, not, if◌then◌else◌, List, [], length, Option, Some, None, option_map, refl, ap, subst, ◌∙◌, arith, length-append}
 use Rattle.std.specs.Prelude.{slice_get, slice_index_or}
 use Rattle.job_compiler.specs.Colours.{WritesBelow}
 use Rattle.job_language.specs.declared.instructions.Instr.{Instr}
 use Rattle.job_language.specs.declared.instructions.Instr.TheVariants as instr
-use Rattle.job_step.specs.declared.frames.Frame.{Frame}
-use Rattle.source_language.specs.declared.syntax.Expr.{Expr}
 use Rattle.source_language.specs.declared.syntax.Test.{Test}
 use Rattle.source_language.specs.declared.syntax.Test.TheVariants.{Holds, Not', Both', Either'}
 use Rattle.source_language.specs.Meaning.{is_nought, value_of, if_true, if_false, test_of}
-use Rattle.job_compiler.specs.Within.{IsWithin, IsTestWithin}
+use Rattle.job_compiler.specs.Within.{IsTestWithin}
 use Rattle.job_compiler.specs.Code.{operand, operand_code, jump_instrs, test_size, test_code}
 use Rattle.job_compiler.proofs.Steps.{AreAllKept, Agree, at, HasAt, has_front, has_back, Comes, Fails, comes_on, fails_on, one_step, BringsIf, Brings, operand_runs, still}
 

@@ -1,12 +1,8 @@
 -- A frame that gets to where a function is does the same operations.
-use Rattle.std.proofs.Common.{◌≡◌, ℕ, zero, suc, ◌+◌, ◌-◌, ◌<◌, ◌≤◌, ◌^◌, ◌⊎◌, ℤ, pos, Bool, true, false, true≢false, if◌then◌else◌, List, [], ◌∷◌, length, Option, Some, None, option_map, option_and_then, refl, sym, ap, subst, ◌∙◌, arith, ⊎_elim, inl, inr, FitsSigned}
-use Rattle.std.specs.Prelude.{slice_get, slice_index_or}
-use Rattle.std.specs.Int.{w64}
+use Rattle.std.proofs.Common.{◌≡◌, ℕ, zero, suc, ◌+◌, ◌-◌, ◌<◌, ◌≤◌, ℤ, Bool, true, false, if◌then◌else◌, List, [], ◌∷◌, Option, Some, None, option_map, option_and_then, refl, sym, ap, subst, ◌∙◌, arith, ⊎_elim}
 use Rattle.std.proofs.lemmas.Bool.{cases_lt}
 use Rattle.std.proofs.lemmas.Option.{none-some, same_Some}
-use Rattle.job_compiler.specs.Colours.{WritesBelow}
 use Rattle.job_language.specs.declared.instructions.Instr.{Instr}
-use Rattle.job_language.specs.declared.instructions.Instr.TheVariants as ins
 use Rattle.job_step.specs.declared.frames.Frame.{Frame}
 use Rattle.job_step.specs.declared.effects.Effect.{Effect}
 use Rattle.job_step.specs.declared.effects.Effect.TheVariants.{Moves, DividesByZero, IsShared}
@@ -15,10 +11,9 @@ use Rattle.job_step.specs.Run.{effect_at}
 use Rattle.job_step.specs.Least.{moved_to, next_of, frame_after}
 use Rattle.source_language.specs.Meaning.{Operation, Point, Act, Goes, Divides, Does, act, answered}
 use Rattle.job_compiler.specs.Operations.{operation_of, resumed}
-use Rattle.job_compiler.specs.Traces.{Event, Did, Divided, Lost, is_return, events_after, Events, source_by, source_events, frame_stops, frame_at, frame_by, frame_events, AreAnswers, DoesTheSame}
-use Rattle.job_compiler.proofs.Steps.{HasAt, Comes, Fails}
-use Rattle.job_compiler.proofs.Stands.{weight, Stands, Continues, Stops, Follows}
-use Rattle.job_compiler.proofs.Follows.{follows}
+use Rattle.job_compiler.specs.Traces.{Event, Did, Divided, is_return, events_after, Events, source_by, source_events, frame_stops, frame_at, frame_by, frame_events, AreAnswers, DoesTheSame}
+use Rattle.job_compiler.proofs.Steps.{Fails}
+use Rattle.job_compiler.proofs.Stands.{weight, Stands, Stops, Follows}
 
 nil_cons : {X : Type 0} (a : X) (rest : List X) → [] ≡ a ∷ rest → ⊥
 nil_cons a rest e = grind arith

@@ -1,8 +1,7 @@
 -- A function whose code is a procedure keeps to the registers of a frame.
-use Rattle.std.proofs.Common.{◌≡◌, ℕ, zero, suc, ◌+◌, ◌<◌, Bool, true, false, not, if◌then◌else◌, List, [], ◌∷◌, ◌++◌, length, Option, Some, None, arith, All}
+use Rattle.std.proofs.Common.{ℕ, suc, ◌+◌, ◌<◌, Bool, true, false, not, if◌then◌else◌, List, [], ◌∷◌, ◌++◌, length, arith, All}
 use Rattle.std.specs.List.{AllByRecursion}
 use Rattle.job_language.specs.declared.instructions.Instr.{Instr}
-use Rattle.job_language.specs.declared.instructions.Instr.TheVariants as instr
 use Rattle.job_language.specs.Program.{IsInRange, IsValidProc}
 use Rattle.source_language.specs.declared.syntax.Operator.{Operator}
 use Rattle.source_language.specs.declared.syntax.Operator.TheVariants.{Plus, Minus, Times, Over, Remainder, Below}
@@ -18,7 +17,7 @@ use Rattle.source_language.specs.declared.syntax.Stmt.{Stmt}
 use Rattle.source_language.specs.declared.syntax.Stmt.TheVariants.{Skip, Then', Assign, If', Loop', Repeat', Break, Continue, Return, Make, Wait, Cancel, Read, Store}
 use Rattle.source_language.specs.declared.syntax.Function.{Function}
 use Rattle.job_compiler.specs.declared.labels.Label.{Label}
-use Rattle.job_compiler.specs.Code.{op_code, operand, above, operand_code, value_code, jump_instrs, test_size, test_code, make_instr, read_instr, stmt_size, stmt_code, loop_test, loop_end, loop_label, function_code}
+use Rattle.job_compiler.specs.Code.{op_code, operand, above, operand_code, value_code, jump_instrs, test_size, test_code, make_instr, read_instr, stmt_size, stmt_code, loop_test, loop_label, function_code}
 use Rattle.job_compiler.specs.Registers.{IsOpLow, IsOperandLow, IsValueLow, IsTestLow, IsMakerLow, IsStmtLow, UsesFewRegisters}
 
 pub all_of : {X : Type 0} (P : X → Type 0) (xs : List X) → All P xs → AllByRecursion P xs

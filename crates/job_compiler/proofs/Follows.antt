@@ -1,5 +1,5 @@
 -- A frame that has come to where a function is does what the function does next.
-use Rattle.std.proofs.Common.{◌≡◌, ◌≢◌, ℕ, zero, suc, ◌+◌, ◌<◌, ◌≤◌, ◌^◌, ◌⊎◌, ℤ, pos, Bool, true, false, true≢false, List, [], ◌∷◌, ◌++◌, length, get_or, set, Option, Some, None, refl, sym, ap, subst, ◌∙◌, arith, ⊎_elim, inl, inr, length-append, length-set, FitsSigned}
+use Rattle.std.proofs.Common.{◌≡◌, ℕ, ◌+◌, ◌<◌, ◌≤◌, ◌^◌, ℤ, pos, Bool, true, false, true≢false, List, [], ◌∷◌, ◌++◌, length, get_or, set, Option, Some, None, refl, sym, ap, subst, ◌∙◌, arith, inl, inr, length-set, FitsSigned}
 use Rattle.std.specs.Prelude.{slice_get, slice_set, slice_index_or}
 use Rattle.std.specs.Int.{w64}
 use Rattle.job_compiler.specs.Colours.{WritesBelow}
@@ -7,7 +7,7 @@ use Rattle.job_language.specs.declared.instructions.Instr.{Instr}
 use Rattle.job_language.specs.declared.instructions.Instr.TheVariants as ins
 use Rattle.job_step.specs.declared.frames.Frame.{Frame}
 use Rattle.job_step.specs.declared.effects.Effect.TheVariants.{IsShared}
-use Rattle.job_step.specs.Frame.{instr_at, effect}
+use Rattle.job_step.specs.Frame.{effect}
 use Rattle.source_language.specs.declared.syntax.Expr.{Expr}
 use Rattle.source_language.specs.declared.syntax.Test.{Test}
 use Rattle.source_language.specs.declared.syntax.Stmt.{Stmt}
@@ -16,15 +16,15 @@ use Rattle.source_language.specs.declared.syntax.Maker.{Maker}
 use Rattle.source_language.specs.declared.syntax.Maker.TheVariants.{Spawn, Post, Isolate}
 use Rattle.source_language.specs.declared.syntax.Question.{Question}
 use Rattle.source_language.specs.declared.syntax.Question.TheVariants.{Cancelled, Cell, CellSum, CellCount}
-use Rattle.source_language.specs.Meaning.{Operation, Returns, Waits, Cancels, Stores, Todo, Do, Turn, Next, Point, Act, Goes, Divides, Does, next_turn, past_loop, with_value, with_test, goes, made_by, asked_by, put_into, act_of, act_on, act, answered, value_of, test_of}
-use Rattle.job_compiler.specs.Within.{IsWithin, IsTestWithin, IsStmtWithin, IsMakerWithin}
-use Rattle.job_compiler.specs.Code.{operand, operand_code, above, value_code, make_instr, read_instr, test_size, test_code, stmt_size, loop_test, loop_end, loop_label, after_of, next_of, loop_code, register_for, stmt_code}
+use Rattle.source_language.specs.Meaning.{Returns, Stores, Todo, Do, Turn, Next, Point, Act, Does, next_turn, past_loop, with_value, with_test, goes, made_by, asked_by, put_into, act_of, act_on, answered, value_of, test_of}
+use Rattle.job_compiler.specs.Within.{IsStmtWithin, IsMakerWithin}
+use Rattle.job_compiler.specs.Code.{operand, operand_code, above, value_code, make_instr, read_instr, test_size, test_code, stmt_size, loop_test, loop_end, loop_label, after_of, next_of, register_for, stmt_code}
 use Rattle.job_compiler.specs.declared.labels.Label.{Label}
 use Rattle.job_compiler.specs.Operations.{operation_of, resumed}
 use Rattle.job_compiler.proofs.Values.{FitsIf, value_fits}
-use Rattle.job_compiler.proofs.Steps.{AreKept, AreAllKept, Agree, at, HasAt, has_front, has_back, Comes, Fails, comes_on, fails_on, stays, one_step, write, WritesIf, BringsIf, value_runs, operand_runs, operand_low, above_high, still}
+use Rattle.job_compiler.proofs.Steps.{AreAllKept, Agree, at, HasAt, has_front, has_back, Comes, comes_on, fails_on, stays, one_step, write, WritesIf, BringsIf, value_runs, operand_runs, operand_low, above_high, still}
 use Rattle.job_compiler.proofs.Conditions.{JumpsIf, test_runs, test_length}
-use Rattle.job_compiler.proofs.Stands.{stmt_length, weight, agree_written, agree_set, agree_put, put_long, Reaches, IsLoop, IsAt, Place, past_place, next_place, Stands, Continues, Stops, Follows, continues, resumes_at}
+use Rattle.job_compiler.proofs.Stands.{stmt_length, agree_written, agree_set, agree_put, put_long, Reaches, IsLoop, IsAt, past_place, next_place, Stands, Stops, Follows, continues, resumes_at}
 
 abbrev pt : List ℤ → List Todo → Point
 pt vars todo = record { vars = vars; todo = todo }

@@ -1,5 +1,5 @@
 -- A private run of a frame that does the same as a function.
-use Rattle.std.proofs.Common.{◌≡◌, ℕ, zero, suc, ◌+◌, ◌-◌, ◌<◌, ◌≤◌, ◌⊎◌, ℤ, pos, Bool, true, false, if◌then◌else◌, List, [], ◌∷◌, Option, Some, None, option_map, refl, sym, ap, subst, ◌∙◌, arith, ⊎_elim, inl, inr, FitsSigned}
+use Rattle.std.proofs.Common.{◌≡◌, ℕ, zero, suc, ◌+◌, ◌-◌, ◌<◌, ◌≤◌, ℤ, false, List, [], ◌∷◌, Option, Some, None, option_map, refl, sym, ap, ◌∙◌, arith, ⊎_elim, FitsSigned}
 use Rattle.std.specs.Int.{w64}
 use Rattle.std.proofs.lemmas.Bool.{cases_lt}
 use Rattle.std.proofs.lemmas.Option.{none-some, same_Some}
@@ -8,12 +8,12 @@ use Rattle.job_step.specs.declared.frames.Frame.{Frame}
 use Rattle.job_step.specs.declared.runs.Run.{Run}
 use Rattle.job_step.specs.declared.runs.Stop.{Stop}
 use Rattle.job_step.specs.declared.runs.Stop.TheVariants.{Shared, Yield, Fault}
-use Rattle.job_step.specs.declared.effects.Effect.TheVariants.{Moves, DividesByZero, IsShared}
+use Rattle.job_step.specs.declared.effects.Effect.TheVariants.{DividesByZero, IsShared}
 use Rattle.job_step.specs.Frame.{instr_at, effect}
 use Rattle.job_step.specs.Least.{frame_after, moves_of, StopsAt, IsLeastRun}
 use Rattle.source_language.specs.Meaning.{Operation, Point, Act, Goes, Divides, Does, act, answered}
 use Rattle.job_compiler.specs.Operations.{operation_of, resumed}
-use Rattle.job_compiler.specs.Traces.{Event, Did, Divided, Lost, is_return, events_after, source_by, source_events, frame_events, frame_stops, AreAnswers, DoesTheSame}
+use Rattle.job_compiler.specs.Traces.{Event, Did, Divided, Lost, is_return, events_after, source_by, source_events, frame_events, DoesTheSame}
 use Rattle.job_compiler.specs.Runs.{if_goes, point_after, Meets, Fails, StopFollows, RunFollows}
 use Rattle.job_compiler.proofs.Events.{does_after, nothing_yet, map_some}
 

@@ -1,6 +1,6 @@
 -- A frame has come to where a function is.
-use Rattle.std.proofs.Common.{◌≡◌, ◌≢◌, ℕ, zero, suc, ◌+◌, ◌<◌, ◌≤◌, ◌⊎◌, ℤ, pos, Bool, true, false, List, [], ◌∷◌, ◌++◌, length, get_or, set, Option, Some, None, refl, sym, ap, subst, ◌∙◌, arith, ⊎_elim, inl, inr, length-append, length-set, get_or-set_same, get_or-set_other, FitsSigned}
-use Rattle.std.specs.Prelude.{slice_get, slice_index_or}
+use Rattle.std.proofs.Common.{◌≡◌, ℕ, zero, suc, ◌+◌, ◌<◌, ◌≤◌, ◌⊎◌, ℤ, pos, true, false, List, [], ◌∷◌, ◌++◌, length, get_or, set, Option, Some, None, refl, sym, subst, ◌∙◌, arith, ⊎_elim, inl, inr, length-append, length-set, get_or-set_same, get_or-set_other, FitsSigned}
+use Rattle.std.specs.Prelude.{slice_get}
 use Rattle.std.specs.Int.{w64}
 use Rattle.std.proofs.lemmas.Bool.{cases_eq}
 use Rattle.job_language.specs.declared.instructions.Instr.{Instr}
@@ -11,11 +11,9 @@ use Rattle.job_step.specs.Frame.{instr_at, effect}
 use Rattle.source_language.specs.declared.syntax.Test.{Test}
 use Rattle.source_language.specs.declared.syntax.Stmt.{Stmt}
 use Rattle.source_language.specs.declared.syntax.Stmt.TheVariants.{Skip, Then', Assign, If', Loop', Repeat', Break, Continue, Return, Make, Wait, Cancel, Read, Store}
-use Rattle.source_language.specs.declared.syntax.Maker.{Maker}
-use Rattle.source_language.specs.declared.syntax.Maker.TheVariants.{Spawn, Post, Isolate}
-use Rattle.source_language.specs.Meaning.{Operation, Returns, Todo, Do, Turn, Next, Point, Act, Goes, Divides, Does, next_turn, past_loop, put_into, answered}
+use Rattle.source_language.specs.Meaning.{Operation, Todo, Do, Turn, Next, Point, Act, Goes, Divides, Does, next_turn, past_loop, put_into, answered}
 use Rattle.job_compiler.specs.Within.{IsTestWithin, IsStmtWithin, IsOneWithin}
-use Rattle.job_compiler.specs.Code.{operand, operand_code, above, value_code, make_instr, test_size, test_code, stmt_size, loop_test, loop_end, loop_label, after_of, next_of, loop_code, register_for, stmt_code}
+use Rattle.job_compiler.specs.Code.{operand, operand_code, above, make_instr, test_size, test_code, stmt_size, loop_test, loop_end, loop_label, after_of, next_of, loop_code, register_for, stmt_code}
 use Rattle.job_compiler.specs.declared.labels.Label.{Label}
 use Rattle.job_compiler.specs.Operations.{operation_of, resumed}
 use Rattle.job_compiler.specs.Traces.{is_return}

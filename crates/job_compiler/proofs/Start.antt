@@ -1,5 +1,5 @@
 -- A new frame stands where its function begins.
-use Rattle.std.proofs.Common.{◌≡◌, ℕ, zero, suc, ◌+◌, ◌-◌, ◌<◌, ◌≤◌, ◌^◌, ℤ, pos, Bool, List, [], ◌∷◌, ◌++◌, length, get_or, replicate, Option, Some, None, refl, sym, ap, subst, ◌∙◌, arith, append_assoc, length-append, FitsSigned}
+use Rattle.std.proofs.Common.{◌≡◌, ℕ, zero, suc, ◌+◌, ◌-◌, ◌<◌, ◌≤◌, ◌^◌, ℤ, pos, Bool, List, [], ◌∷◌, ◌++◌, length, get_or, replicate, Some, refl, sym, ap, subst, ◌∙◌, arith, append_assoc, length-append, FitsSigned}
 use Rattle.std.specs.Prelude.{slice_get, slice_index_or}
 use Rattle.std.specs.Int.{w64}
 use Rattle.std.proofs.lemmas.List.{get_or_at, length-replicate, get_or-replicate}
@@ -7,11 +7,9 @@ use Rattle.std.proofs.lemmas.Option.{slice_get-get_or, slice_get_within, get_or_
 use Rattle.job_language.specs.Program.{IsInRange, IsValidProc}
 use Rattle.job_language.specs.declared.instructions.Instr.{Instr}
 use Rattle.job_language.specs.declared.instructions.Instr.TheVariants as ins
-use Rattle.job_step.specs.declared.frames.Frame.{Frame}
 use Rattle.job_step.specs.Frame.{new_frame}
-use Rattle.source_language.specs.declared.syntax.Stmt.{Stmt}
 use Rattle.source_language.specs.declared.syntax.Function.{Function}
-use Rattle.source_language.specs.Meaning.{start, Do, Point}
+use Rattle.source_language.specs.Meaning.{start}
 use Rattle.job_compiler.specs.Code.{stmt_size, stmt_code, function_code}
 use Rattle.job_compiler.specs.Compiled.{IsFunction, IsCompiled}
 use Rattle.job_compiler.specs.Traces.{DoesTheSame, frame_events}
@@ -20,7 +18,7 @@ use Rattle.job_step.specs.InsideRun.{frame_of}
 use Rattle.std.specs.List.{AllByRecursion}
 use Rattle.job_compiler.proofs.Colours.{alike}
 use Rattle.job_compiler.proofs.Numbers.{small_fits}
-use Rattle.job_compiler.proofs.Steps.{Agree, at, HasAt, has_front, has_back, Comes, stays}
+use Rattle.job_compiler.proofs.Steps.{HasAt, has_front, has_back, stays}
 use Rattle.job_compiler.proofs.Stands.{stmt_length, Reaches, Stands}
 use Rattle.job_compiler.proofs.Follows.{follows}
 use Rattle.job_compiler.proofs.Events.{does_the_same}

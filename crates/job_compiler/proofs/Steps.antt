@@ -1,24 +1,21 @@
 -- How a frame of a procedure goes on, and what the code of an expression and of a condition does.
-use Rattle.std.proofs.Common.{◌≡◌, ◌≢◌, ℕ, zero, suc, ◌+◌, ◌<◌, ◌≤◌, ◌^◌, ℤ, pos, negsuc, Bool, true, false, not, if◌then◌else◌, List, [], ◌∷◌, ◌++◌, length, get_or, set, Option, Some, None, option_map, refl, sym, ap, subst, ◌∙◌, arith, append_assoc, length-append, length-set, get_or-set_same, get_or-set_other, FitsSigned}
-use Rattle.std.specs.Prelude.{slice_get, slice_set, slice_index_or, option_and_then, int_lt, int_rem, unsigned_abs}
+use Rattle.std.proofs.Common.{◌≡◌, ◌≢◌, ℕ, zero, suc, ◌+◌, ◌<◌, ◌≤◌, ◌^◌, ℤ, pos, negsuc, List, [], ◌∷◌, ◌++◌, length, get_or, Option, Some, None, refl, ap, subst, ◌∙◌, arith, length-append, length-set, get_or-set_same, get_or-set_other, FitsSigned}
+use Rattle.std.specs.Prelude.{slice_get, slice_set, slice_index_or, option_and_then, int_rem, unsigned_abs}
 use Rattle.std.specs.Int.{int_wrapping_add, int_wrapping_sub, int_wrapping_mul, int_wrapping_div, w64}
 use Rattle.job_compiler.specs.Colours.{WritesBelow}
 use Rattle.job_language.specs.declared.instructions.Instr.{Instr}
 use Rattle.job_language.specs.declared.instructions.Instr.TheVariants as instr
 use Rattle.job_step.specs.declared.frames.Frame.{Frame}
-use Rattle.job_step.specs.declared.effects.Effect.{Effect}
-use Rattle.job_step.specs.declared.effects.Effect.TheVariants.{Moves, DividesByZero, IsShared}
-use Rattle.job_step.specs.Frame.{instr_at, effect, at_place, write_and_step, is_zero}
-use Rattle.job_step.specs.Least.{moved_to, next_of, frame_after}
+use Rattle.job_step.specs.declared.effects.Effect.TheVariants.{Moves, DividesByZero}
+use Rattle.job_step.specs.Frame.{instr_at, effect, write_and_step}
+use Rattle.job_step.specs.Least.{next_of, frame_after}
 use Rattle.source_language.specs.declared.syntax.Operator.{Operator}
 use Rattle.source_language.specs.declared.syntax.Operator.TheVariants.{Plus, Minus, Times, Over, Remainder, Below}
 use Rattle.source_language.specs.declared.syntax.Expr.{Expr}
 use Rattle.source_language.specs.declared.syntax.Expr.TheVariants.{Number, Variable, Slot, Width, Two'}
-use Rattle.source_language.specs.declared.syntax.Test.{Test}
-use Rattle.source_language.specs.declared.syntax.Test.TheVariants.{Holds, Not', Both', Either'}
-use Rattle.source_language.specs.Meaning.{is_nought, result_of, on_both, value_of, if_true, if_false, test_of}
-use Rattle.job_compiler.specs.Within.{IsWithin, IsTestWithin}
-use Rattle.job_compiler.specs.Code.{op_code, operand, above, brought, value_code, operand_code, jump_instrs, test_size, test_code}
+use Rattle.source_language.specs.Meaning.{result_of, on_both, value_of}
+use Rattle.job_compiler.specs.Within.{IsWithin}
+use Rattle.job_compiler.specs.Code.{op_code, operand, above, value_code, operand_code}
 use Rattle.job_compiler.proofs.Numbers.{add_nought, remainder_is}
 use Rattle.job_compiler.proofs.Values.{FitsIf, value_fits, wrapped_fits}
 

@@ -1,5 +1,5 @@
 -- The values of expressions fit 64 bits.
-use Rattle.std.proofs.Common.{◌≡◌, ℕ, ◌<◌, ◌^◌, zero, suc, ℤ, pos, negsuc, Bool, true, false, if◌then◌else◌, List, get_or, Option, Some, None, refl, sym, ap, subst, ◌∙◌, arith, FitsSigned}
+use Rattle.std.proofs.Common.{ℕ, ◌<◌, ◌^◌, zero, suc, ℤ, pos, negsuc, Bool, true, false, if◌then◌else◌, List, get_or, Option, Some, None, arith, FitsSigned}
 use Rattle.std.specs.Prelude.{int_lt}
 use Rattle.std.specs.Int.{cast_signed, w64}
 use borrow.Author.Differences.{fits_in, read_fits}

@@ -4,7 +4,7 @@ use Rattle.std.proofs.lemmas.List.{length-map, map-append, take_more}
 use Rattle.std.specs.Prelude.{MatchOption, slice_get, slice_index_or}
 use Rattle.std.specs.List.{AllByRecursion}
 use Rattle.job_language.specs.declared.instructions.Instr.{Instr}
-use Rattle.job_language.specs.Program.{Calls, IsValidProc, IsValidProgram}
+use Rattle.job_language.specs.Program.{Calls, IsValidProc}
 use Rattle.source_language.specs.declared.syntax.Function.{Function}
 use Rattle.job_compiler.specs.Code.{function_code}
 use Rattle.job_compiler.specs.Compiled.{IsFunction, IsCompiled}

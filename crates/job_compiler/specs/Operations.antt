@@ -1,5 +1,5 @@
 -- What a frame asks for at a shared instruction, and where it goes on.
-use Rattle.std.specs.Prelude.{ℕ, ◌+◌, ℤ, Option, Some, None, slice_set}
+use Rattle.std.specs.Prelude.{◌+◌, ℤ, Option, Some, None, slice_set}
 use Rattle.job_language.specs.declared.instructions.Instr.{Instr}
 use Rattle.job_language.specs.declared.instructions.Instr.TheVariants as instr
 use Rattle.job_step.specs.declared.frames.Frame.{Frame}

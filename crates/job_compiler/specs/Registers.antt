@@ -1,5 +1,5 @@
 -- Which functions keep to the registers below a number.
-use Rattle.std.specs.Prelude.{ℕ, ◌<◌, Option, Some, None}
+use Rattle.std.specs.Prelude.{ℕ, ◌<◌}
 use Rattle.job_language.specs.declared.instructions.TheConstants.{REGISTERS}
 use Rattle.source_language.specs.declared.syntax.Operator.{Operator}
 use Rattle.source_language.specs.declared.syntax.Operator.TheVariants.{Plus, Minus, Times, Over, Remainder, Below}
@@ -12,7 +12,7 @@ use Rattle.source_language.specs.declared.syntax.Maker.TheVariants.{Spawn, Post,
 use Rattle.source_language.specs.declared.syntax.Stmt.{Stmt}
 use Rattle.source_language.specs.declared.syntax.Stmt.TheVariants.{Skip, Then', Assign, If', Loop', Repeat', Break, Continue, Return, Make, Wait, Cancel, Read, Store}
 use Rattle.source_language.specs.declared.syntax.Function.{Function}
-use Rattle.job_compiler.specs.Code.{operand, above, register_for}
+use Rattle.job_compiler.specs.Code.{above, register_for}
 
 -- a remainder needs the free register t
 abbrev pub IsOpLow : (most : ℕ) → Operator → (free : ℕ) → Type 0

@@ -6,7 +6,7 @@ use Rattle.source_language.specs.declared.syntax.Expr.TheVariants.{Number, Varia
 use Rattle.source_language.specs.declared.syntax.Test.{Test}
 use Rattle.source_language.specs.declared.syntax.Test.TheVariants.{Holds, Not', Both', Either'}
 use Rattle.source_language.specs.declared.syntax.Maker.{Maker}
-use Rattle.source_language.specs.declared.syntax.Maker.TheVariants.{Spawn, Post, Isolate}
+use Rattle.source_language.specs.declared.syntax.Maker.TheVariants.{Isolate}
 use Rattle.source_language.specs.declared.syntax.Stmt.{Stmt}
 use Rattle.source_language.specs.declared.syntax.Stmt.TheVariants.{Skip, Then', Assign, If', Loop', Repeat', Break, Continue, Return, Make, Wait, Cancel, Read, Store}
 

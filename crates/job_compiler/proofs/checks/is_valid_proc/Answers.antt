@@ -1,8 +1,8 @@
-use Rattle.std.proofs.Common.{rules, IsTrue, IfSome, ◌≡◌, ◌≤◌, ◌<◌, ◌-◌, length, Some, All, sym, ap, subst, ◌∙◌, arith, take_all}
+use Rattle.std.proofs.Common.{rules, IsTrue, IfSome, ◌≡◌, ◌<◌, ◌-◌, length, Some, All, sym, ap, subst, ◌∙◌, arith, take_all}
 use Rattle.std.specs.Prelude.{slice_get}
 use Rattle.std.proofs.lemmas.List.Elements.{All-more}
 use Rattle.std.proofs.lemmas.Option.{slice_get-get_or}
-use Rattle.job_language.specs.Program.{IsInRange, IsValidProc, is_last}
+use Rattle.job_language.specs.Program.{IsInRange, is_last}
 use Rattle.job_compiler.proofs.checks.is_valid_proc.Goals as goal
 
 pub loop-instr-preserved : goal.loop-instr-preserved

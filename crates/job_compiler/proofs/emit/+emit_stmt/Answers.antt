@@ -1,6 +1,6 @@
 use Rattle.std.proofs.Common.{◌≡◌, ◌+◌, ◌++◌, length, false, refl, sym, ap, ◌∙◌}
 use Rattle.std.proofs.lemmas.Result.{on_ok_weaker}
-use Rattle.job_compiler.specs.Code.{test_size, test_code, stmt_size, stmt_code, loop_test, loop_end}
+use Rattle.job_compiler.specs.Code.{test_size, stmt_size, stmt_code, loop_test, loop_end}
 use Rattle.job_compiler.proofs.Emitted.{emitted_then, emitted_if, emitted_loop, emitted_while}
 use Rattle.job_compiler.proofs.emit.+emit_stmt.Goals as goal
 

@@ -1,8 +1,7 @@
-use Rattle.std.proofs.Common.{rules, IsTrue, ◌≡◌, ◌+◌, length, subst, ◌∙◌, arith}
+use Rattle.std.proofs.Common.{rules, IsTrue, ◌≡◌, subst, ◌∙◌, arith}
 use Rattle.job_language.specs.Program.{IsValidProc}
-use Rattle.job_compiler.specs.Code.{stmt_size, function_code}
+use Rattle.job_compiler.specs.Code.{function_code}
 use Rattle.job_compiler.specs.Compiled.{IsFunction}
-use Rattle.job_compiler.specs.Registers.{UsesFewRegisters}
 use Rattle.job_compiler.proofs.Emitted.{function_length}
 use Rattle.job_compiler.proofs.FewRegisters.{valid_is_low}
 use Rattle.job_compiler.proofs.Start.{is_compiled}

@@ -1,5 +1,3 @@
-use Rattle.std.proofs.Common.{◌≡◌, ◌∙◌}
-use Rattle.job_compiler.specs.Code.{function_code}
 use Rattle.job_compiler.proofs.Emitted.{emitted_function}
 use Rattle.job_compiler.proofs.emit.emit_function.Goals as goal
 

@@ -1,4 +1,4 @@
-use Rattle.std.proofs.Common.{rules, ◌<◌, length, map, All, subst, arith}
+use Rattle.std.proofs.Common.{length, All, subst}
 use Rattle.std.proofs.lemmas.List.Elements.{All-more, All-push}
 use Rattle.job_language.specs.Program.{Calls, IsValidProc}
 use Rattle.job_compiler.specs.Compiled.{IsFunction}

@@ -1,7 +1,6 @@
-use Rattle.std.proofs.Common.{◌≡◌, ◌+◌, length, Option, ℕ, Some, None, refl, sym, ap, ◌∙◌, arith}
+use Rattle.std.proofs.Common.{◌≡◌, ◌+◌, length, sym, ap, ◌∙◌}
 use Rattle.std.proofs.lemmas.Result.{IfOk-weaker}
-use Rattle.source_language.specs.declared.syntax.Expr.TheVariants.{Two'}
-use Rattle.job_compiler.specs.Code.{operand, above, operand_code}
+use Rattle.job_compiler.specs.Code.{above, operand_code}
 use Rattle.job_compiler.specs.Wanted.{wanted_code}
 use Rattle.job_compiler.proofs.Emitted.{wanted_two_size}
 use Rattle.job_compiler.proofs.sizes.+expr_size.Goals as goal
