@@ -62,7 +62,7 @@ def jobs_are_run(it):
     it.call("info", "--json", out='{"priority":"normal","reserved":1,"slots":2}\n')
     it.call("retire", out="epoch 1\n")
     it.call("poll", "9", status=26, err="^arena: poll 9: error 6, unknown_job: no job has that number, or it is "
-            "retired\n$")
+            "retired or released\n$")
 
 
 def waiting_jobs_are_looked_after(it):

@@ -144,9 +144,14 @@ class Client:
         """A job's status now. Each poll is an entry of the tenant's history: to wait for a job, collect it."""
         return await self.ask(requests.poll(number))
 
-    async def collect(self, number: int, *, timeout: float | None = None) -> Outcome:
-        """A job's outcome. HOLDS the connection until there is one."""
-        return await self.ask(requests.collect(number), timeout)
+    async def collect(self, number: int, *, release: bool = False, timeout: float | None = None) -> Outcome:
+        """A job's outcome. HOLDS the connection until there is one. With `release` the server forgets the job in the same
+        step."""
+        return await self.ask(requests.collect(number, release), timeout)
+
+    async def release(self, number: int) -> None:
+        """As arena.Client.release."""
+        return await self.ask(requests.release(number))
 
     async def cancel(self, number: int) -> bool:
         """Cancels a job. True if this call did it."""

@@ -118,9 +118,15 @@ class Client:
         """A job's status, at once. Each poll is an entry of the tenant's history: to wait for a job, collect it."""
         return self.ask(requests.poll(number))
 
-    def collect(self, number: int, *, timeout: float | None = None) -> Outcome:
-        """A job's outcome. HOLDS the connection until there is one. The job stays, and can be collected again."""
-        return self.ask(requests.collect(number), timeout)
+    def collect(self, number: int, *, release: bool = False, timeout: float | None = None) -> Outcome:
+        """A job's outcome. HOLDS the connection until there is one. The job stays, and can be collected again, unless
+        `release` is set: then the server forgets it in the same step."""
+        return self.ask(requests.collect(number, release), timeout)
+
+    def release(self, number: int) -> None:
+        """Makes the server forget a job that has its outcome, so that it counts no more among the tenant's jobs. Raises Busy
+        if it has none yet, and UnknownJob if no job has that number, or not any more."""
+        return self.ask(requests.release(number))
 
     def cancel(self, number: int) -> bool:
         """Cancels a job, at once: rows that wait are dropped, running ones run on. True if this call cancelled it;
@@ -318,9 +324,13 @@ class Pipeline:
         """As Client.poll."""
         return self._put(requests.poll(number))
 
-    def collect(self, number: int) -> Pending[Outcome]:
+    def collect(self, number: int, *, release: bool = False) -> Pending[Outcome]:
         """As Client.collect."""
-        return self._put(requests.collect(number))
+        return self._put(requests.collect(number, release))
+
+    def release(self, number: int) -> Pending[None]:
+        """As Client.release."""
+        return self._put(requests.release(number))
 
     def cancel(self, number: int) -> Pending[bool]:
         """As Client.cancel."""

@@ -30,6 +30,8 @@ class JobsMade:
             raise
         if request.made is not None:
             self._made[request.made(value)] = connection
+        if request.releases and request.job is not None:
+            self._made.pop(request.job, None)
         if request.retires:
             self._made.clear()
         return value

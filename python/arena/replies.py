@@ -189,7 +189,7 @@ class UnknownJob(Refused):
     """Error 6."""
 
     code, name = 6, "unknown_job"
-    advice = "no job has that number, or it is retired"
+    advice = "no job has that number, or it is retired or released"
 
 
 class LostJob(UnknownJob):
@@ -203,7 +203,7 @@ class JobLimit(Refused):
     """Error 7."""
 
     code, name = 7, "job_limit"
-    advice = "the tenant has 256 jobs; retire them once none is running"
+    advice = "the tenant has 256 jobs; release those that are done, or retire all once none is running"
 
 
 class HistoryFull(Refused):
@@ -239,7 +239,7 @@ class Busy(Refused):
     """Error 12."""
 
     code, name = 12, "busy"
-    advice = "a row is open; wait for all jobs, or cancel them, and retire again"
+    advice = "a row is open; wait for the job, or for all jobs before a `retire`, or cancel, and ask again"
 
 
 class ConnectionLimit(Refused):

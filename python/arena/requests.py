@@ -45,7 +45,7 @@ def line_of(value: object) -> bytes:
 class Request(Generic[Value]):
     """A line to send. `what` names the request in errors; `read` makes a value of a reply that is no error. `job` is
     the number that it asks about; `made` gives the number of the job that it made by the value; `retires` is whether
-    it makes the server forget all jobs; `program` is the JOB in it."""
+    it makes the server forget all jobs, and `releases` whether it makes it forget this one; `program` is the JOB in it."""
 
     what: str
     line: bytes
@@ -53,6 +53,7 @@ class Request(Generic[Value]):
     job: int | None = None
     made: Callable[[Value], int] | None = None
     retires: bool = False
+    releases: bool = False
     program: Mapping[str, Any] | None = None
 
     def value(self, line: bytes) -> Value:
@@ -105,6 +106,11 @@ def _first(reply: dict[str, Any], number: int) -> bool:
     return first
 
 
+def _released(reply: dict[str, Any], number: int) -> None:
+    (released,) = members(reply, "released")
+    number_of(released, number)
+
+
 def hello(tenant: str) -> Request[str]:
     """Binds the connection to a tenant."""
     return _asked("hello", lambda reply: _same_tenant(reply, tenant), tenant=tenant)
@@ -128,9 +134,20 @@ def poll(number: int) -> Request[Status]:
     return _asked("poll", lambda reply: status_of(reply, number), job=number)
 
 
-def collect(number: int) -> Request[Outcome]:
-    """A job's outcome, once it has one."""
-    return _asked("collect", lambda reply: outcome_of(reply, number), job=number)
+def collect(number: int, release: bool = False) -> Request[Outcome]:
+    """A job's outcome, once it has one; with `release` the job is released in the same step."""
+    def read(reply: dict[str, Any]) -> Outcome:
+        """The outcome of this job."""
+        return outcome_of(reply, number)
+
+    if not release:
+        return _asked("collect", read, job=number)
+    return replace(_asked("collect", read, job=number, release=True), releases=True)
+
+
+def release(number: int) -> Request[None]:
+    """Forgets a job that has its outcome."""
+    return replace(_asked("release", lambda reply: _released(reply, number), job=number), releases=True)
 
 
 def cancel(number: int) -> Request[bool]:

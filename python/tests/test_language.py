@@ -112,6 +112,16 @@ class Values(unittest.TestCase):
         for n, turns in ((5, 0), (5, 1), (-7, 3), (2**62, 4)):
             self.assertEqual(outcome(source, n, turns), Complete(wanted(n, turns), 1))
 
+    def test_loop_after_branch(self) -> None:
+        """A loop that is jumped to from a branch before it has its constants all the same."""
+        source = "fn main(a, b) {{ let n = 0; if a {{ b = 7 }}; {} {{ b += 3; n += b * 3; n -= 100 }}; return n + b * 3 }}"
+        for loop in ("while b <= 100", "while !(b > 100)", "while 101 > b", "while b != 103 && b != 100"):
+            for a, b in ((0, 4), (1, 5)):
+                n, at = 0, 7 if a else b
+                while at <= 100 if "&&" not in loop else at not in (100, 103):
+                    at, n = at + 3, n + (at + 3) * 3 - 100
+                self.assertEqual(outcome(source.format(loop), a, b), Complete(n + at * 3, 1), loop)
+
     def test_faults(self) -> None:
         """A remainder by 0 is fault 1."""
         for sign in "/%":

@@ -12,7 +12,7 @@ ABOUT = ("Runs jobs on arena-server, looks after them, and shows what happened t
          "tenant are given by options or by ARENA_SOCKET and ARENA_TENANT. It also looks after arena-host, whose run "
          "folder D is given by a word or, if it may be left out, by ARENA_RUN.")
 
-MODULES = {"jobs": ("run", "submit", "wait", "poll", "cancel", "cells", "info", "retire"),
+MODULES = {"jobs": ("run", "submit", "wait", "release", "poll", "cancel", "cells", "info", "retire"),
            "building": ("build", "asm", "dis", "lint"), "authoring": ("test", "fmt", "doc"), "advise": ("advise",),
            "shell": ("shell",), "bench": ("bench",), "dumps": ("check", "stat", "timeline"), "host": ("status", "top"),
            "metrics": ("metrics",), "orders": ("stop", "rotate"), "series": ("check-dumps",), "pages": ("pages",)}

@@ -107,7 +107,15 @@ def submit(call: Call) -> int:
 
 def wait(call: Call) -> int:
     """Waits for a job."""
-    return tell(call, call.client.collect(call.words.JOB))
+    return tell(call, call.client.collect(call.words.JOB, release=call.words.release))
+
+
+def release(call: Call) -> int:
+    """Makes the server forget a job."""
+    number = call.words.JOB
+    call.client.release(number)
+    call.output.say(f"job {number}: released", {"released": number})
+    return Status.DONE
 
 
 def poll(call: Call) -> int:
@@ -161,9 +169,12 @@ COMMANDS = (
             "Makes a job that waits for a worker, and prints its number at once. A tenant without slots for workers "
             "never runs it.", "arena submit examples/jobs/fib.job --args 20", submit, JOB_WORDS, in_shell=True),
     Command("wait", "wait for a job's outcome, and print its value",
-            "Waits until a job has its outcome, and prints it as `run` does.", "arena wait 1 --timeout 10", wait,
-            (NUMBER,),
-            in_shell=True),
+            "Waits until a job has its outcome, and prints it as `run` does. With --release the server forgets the job in the "
+            "same step, so that it counts no more among the tenant's 256 jobs.", "arena wait 1 --timeout 10", wait,
+            (NUMBER, option("--release", help="make the server forget the job", action="store_true")), in_shell=True),
+    Command("release", "make the server forget a job that has ended",
+            "Makes the server forget a job that has its outcome, so that it counts no more among the tenant's 256 jobs. The "
+            "server refuses it while the job is running.", "arena release 1", release, (NUMBER,), in_shell=True),
     Command("poll", "print a job's status now",
             "Prints a job's status as it is now. Each poll is an entry of the tenant's history: to wait for a job, use "
             "`wait`.",

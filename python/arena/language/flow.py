@@ -28,11 +28,12 @@ def tidied(code: Code) -> Code:
 
 
 def _threaded(code: Code) -> Code:
-    """Jumps to a jump go where that one goes."""
+    """Jumps to a jump go where that one goes. A jump to the place before a loop stays one: what is computed once for the
+    loop will stand there."""
     final = {}
     for at, step in enumerate(code):
         if step.name == LABEL:
-            following = next((it for it in code[at:] if it.name not in NO_OPERATION), None)
+            following = next((it for it in code[at:] if it.name != LABEL), None)
             final[step.target] = following.target if following and following.name == "jmp" else step.target
     return [replace(it, target=_end(final, it.target)) if it.name in ("jmp", "jz") else it for it in code]
 

@@ -7,11 +7,11 @@ from typing import Any, BinaryIO
 
 from arena.lint import NAME, PRIORITIES
 
-OPS = frozenset({"submit", "execute", "poll", "collect", "cancel", "cells", "arena", "retire"})
+OPS = frozenset({"submit", "execute", "poll", "collect", "cancel", "cells", "arena", "retire", "release"})
 """The requests that a history has."""
 
 NUMBERS_OF_REPLIES = frozenset({"job", "slot", "value", "fault", "code", "count", "key", "sum", "epoch", "reserved",
-                                "slots"})
+                                "slots", "released"})
 """The members of replies that are whole numbers."""
 
 

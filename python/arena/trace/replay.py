@@ -1,6 +1,6 @@
 """Replays a history: which row ran in each entry, what it made, and what ended.
 
-The state holds what is open, the jobs that are not retired, and the cells. Each entry costs its instructions and the
+The state holds what is open, the jobs that are not retired or released, and the cells. Each entry costs its instructions and the
 rows that it ends: no walk over all rows, and none over the makers of a row. """
 from collections.abc import Iterable, Iterator
 from typing import Any
@@ -28,7 +28,7 @@ class Replay:
     """A tenant that has done nothing yet, and then what its entries made of it.
 
     `stacks` has for each slot its live rows, the topmost last; `waiting` the rows that wait, by their numbers; `jobs`
-    those that are not retired; `cells` a number for each key and slot. """
+    those that are not retired or released; `cells` a number for each key and slot. """
 
     def __init__(self, tenant: Tenant, file: str = "<dump>") -> None:
         self.tenant, self.file = tenant, file
@@ -91,7 +91,18 @@ class Replay:
             self.epoch += 1
         elif op in ("poll", "collect"):
             happening.job = self._known(reply)
+            if op == "collect" and entry.request.get("release") is True:
+                self._release(happening.job)
+        elif op == "release":
+            happening.job = self._known({"job": reply.get("released")})
+            self._release(happening.job)
         return happening
+
+    def _release(self, job: Job) -> None:
+        """Forgets a job, which has its outcome."""
+        if job.open:
+            raise Impossible(f"job {job.number} has no outcome")
+        del self.jobs[job.number]
 
     def _known(self, reply: dict[str, Any]) -> Job:
         number = reply.get("job")
