@@ -72,10 +72,6 @@ module _ (vprocs procs : List (List Instr)) (slot width p most : ℕ) (c : ℕ �
   Alike n = (k : ℕ) (vregs regs : List ℤ) (answers : List (ℤ × ℤ)) → Same c live most k vregs regs → frame_events vprocs slot width n (at k vregs) answers
       ≡ frame_events procs slot width n (at k regs) answers
 
-  -- the value of an operator of the machine
-  abbrev WritesBy : Instr → (d a b : ℕ) → (ℤ → ℤ → ℤ) → Type 0
-  WritesBy i d a b f = (k : ℕ) (regs : List ℤ) → effect i slot width (at k regs) ≡ Moves (at (k + 1) (set regs d (f (get_or regs a (pos 0)) (get_or regs b (pos 0)))))
-
   module _ (n : ℕ) (ih : Alike n) (k : ℕ) (vregs regs : List ℤ) (answers : List (ℤ × ℤ)) (s : Same c live most k vregs regs) where
     abbrev By : Instr → Type 0
     By i = slice_get (slice_index_or vprocs p []) k ≡ Some i → frame_by (frame_events vprocs slot width n) (at k vregs) (effect i slot width (at k vregs)) (Some i) answers
