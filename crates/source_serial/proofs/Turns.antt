@@ -1,9 +1,10 @@
 -- Turns of tasks, and numbers that fit 64 bits.
 use Rattle.std.proofs.Common.{◌≡◌, ℕ, zero, suc, ◌+◌, ◌<◌, ◌≤◌, ◌^◌, ℤ, pos, negsuc, Bool, true, false, if◌then◌else◌, List, [], ◌∷◌, get_or, set, replicate, Option, Some, None, refl, sym, ap, subst, ◌∙◌, arith, FitsSigned}
-use Rattle.std.specs.Prelude.{int_lt, int_le, unwrap_or, slice_index_or, option_and_then}
-use Rattle.std.specs.Int.{cast_signed, w64}
+use Rattle.std.specs.Prelude.{int_lt, int_le, int_rem, unwrap_or, slice_index_or, option_and_then}
+use Rattle.std.specs.Int.{cast_signed, int_shr, w64}
 use Rattle.std.specs.Ordering.{int_eq}
-use Rattle.core.proofs.num.Signs.{rem-fits, shr_fits}
+use lib.Signed.{mag_rem, mag_shr}
+use mir.ValLaws.{sfits_le}
 use borrow.Author.Differences.{fits_in, read_fits}
 use Rattle.std.proofs.Common.{◌⊎◌, ⊎_elim, length}
 use Rattle.std.specs.Prelude.{slice_get}
@@ -91,6 +92,13 @@ div_fits : (b : Bool) (g : Frame) → RegsFit g.registers → FitsAfter (if b th
 div_fits true g fit = tt
 div_fits false g fit = fit
 
+-- what a division leaves, and a number that is shifted to the right, are no larger than the number
+rem_fits : (x y : ℤ) → FitsSigned w64 x → FitsSigned w64 (int_rem x y)
+rem_fits x y f = sfits_le (mag_rem x y) f
+
+shr_fits : (x : ℤ) (k : ℕ) → FitsSigned w64 x → FitsSigned w64 (int_shr x k)
+shr_fits x k f = sfits_le (mag_shr x (2 ^ k)) f
+
 pub effect_fits : (i : Instr) (f : Frame) → ((d : ℕ) (z : ℤ) → i ≡ Set d z → FitsSigned w64 z) → RegsFit f.registers → FitsAfter (effect i 0 0 f)
 effect_fits (Set d z) f number fit = regs_set f.registers d z (number d z refl) fit
 effect_fits (Add d a b) f number fit = regs_set f.registers d _ (wrapped_fits _) fit
@@ -98,12 +106,12 @@ effect_fits (Sub d a b) f number fit = regs_set f.registers d _ (wrapped_fits _)
 effect_fits (Mul d a b) f number fit = regs_set f.registers d _ (wrapped_fits _) fit
 effect_fits (Div d a b) f number fit = div_fits (is_zero (register f b)) _ (regs_set f.registers d _ (wrapped_fits _) fit)
 effect_fits (Lt d a b) f number fit = regs_set f.registers d _ (bit_fits (int_lt (register f a) (register f b))) fit
-effect_fits (Rem d a b) f number fit = div_fits (is_zero (register f b)) _ (regs_set f.registers d _ (rem-fits w64 (register f a) (register f b) (fit a)) fit)
+effect_fits (Rem d a b) f number fit = div_fits (is_zero (register f b)) _ (regs_set f.registers d _ (rem_fits (register f a) (register f b) (fit a)) fit)
 effect_fits (And d a b) f number fit = regs_set f.registers d _ (wrapped_fits _) fit
 effect_fits (Or d a b) f number fit = regs_set f.registers d _ (wrapped_fits _) fit
 effect_fits (Xor d a b) f number fit = regs_set f.registers d _ (wrapped_fits _) fit
 effect_fits (Shl d a b) f number fit = regs_set f.registers d _ (wrapped_fits _) fit
-effect_fits (Shr d a b) f number fit = regs_set f.registers d _ (shr_fits w64 (register f a) (2 ^ shift_count (register f b)) (fit a)) fit
+effect_fits (Shr d a b) f number fit = regs_set f.registers d _ (shr_fits (register f a) (shift_count (register f b)) (fit a)) fit
 effect_fits (Eq d a b) f number fit = regs_set f.registers d _ (bit_fits (int_eq (register f a) (register f b))) fit
 effect_fits (Le d a b) f number fit = regs_set f.registers d _ (bit_fits (int_le (register f a) (register f b))) fit
 effect_fits (Jz a t) f number fit = fit
