@@ -20,6 +20,8 @@ PROMISES = [
     ("regions protect cells", ["tenant_model::regions_protect_cells"]),
     ("serial values", ["serial_law::serial_values"]),
     ("the check of a history", ["solo_eval::check"]),
+    ("functions that are compiled", ["job_compiler::compile_function", "job_compiler::compile_program"]),
+    ("values of functions", ["source_serial::value", "source_serial::source_values", "source_serial::jobs_have_source_values"]),
     ("lines in", ["request_reader::LineReader", "request_reader::read_request"]),
     ("lines out", ["reply_writer::reply_line", "reply_writer::answer_line"]),
     ("the program's scripts", ["arena_script::script"]),
