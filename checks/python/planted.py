@@ -80,7 +80,7 @@ PLANTED = [
             "self._scopes[0].names[name] = meaning", NESTED),
     Planted("statements.py", "`continue` leaves the loop",
             "self.jump(loop.end if isinstance(it, Break) else loop.more, it.place)",
-            "self.jump(loop.end, it.place)", NESTED),
+            "self.jump(loop.end, it.place)", RANGES),
     Planted("loops.py", "a loop down counts up to its end",
             'high, end, "<" if step > 0 else ">")',
             'high, end, "<")'),
