@@ -9,8 +9,6 @@ mod laws;
 mod programs;
 mod registers;
 mod sizes;
-#[cfg(test)]
-mod tests;
 
 pub use emit::compile_function;
 pub use errors::{CompileError, ProgramError};
