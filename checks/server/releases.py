@@ -10,7 +10,7 @@ UNKNOWN = {"code": 6, "error": "unknown_job"}
 BUSY = {"code": 12, "error": "busy"}
 # A job that runs until it is cancelled, or its fuel is spent.
 LONG = {"args": [0, 0], "fuel": 1_000_000, "procs": [[["jmp", 0]]]}
-CONNECTIONS, CLIENTS, ROUNDS = 8, 48, 40
+CONNECTIONS, CLIENTS, ROUNDS = 8, 48, 12
 
 
 def take(job: int) -> dict:
@@ -46,7 +46,7 @@ def running_job_is_kept() -> None:
 
 def one_of_two_that_wait_takes_the_outcome() -> None:
     """Both wait for a job whose only slot is reserved. Once it is cancelled, one has the outcome and the other none."""
-    server = Server([tenant("acme", 1, 1)], 1, 3)
+    server = Server([tenant("acme", 1, 1)], 1, 4)
     assert server.ask(HELLO, {"op": "submit", "job": LONG})[1] == {"job": 1}
     asked = threading.Barrier(3)
 
@@ -68,7 +68,7 @@ def one_of_two_that_wait_takes_the_outcome() -> None:
 
 
 def clients_that_take_their_jobs_lose_none() -> None:
-    """48 clients on 8 connections make and take far more jobs than a tenant may have at once: each gets its own
+    """48 clients on 8 connections make and take twice as many jobs as a tenant may have at once: each gets its own
     outcome, none meets a limit, and nobody retires."""
     server = Server([{**tenant("acme", 4, 0), "steps": 1_000_000}], 4, CONNECTIONS + 1)
 
