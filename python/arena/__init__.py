@@ -14,7 +14,8 @@ from typing import TYPE_CHECKING
 from arena.version import VERSION as __version__
 
 if TYPE_CHECKING:
-    from arena.client import Client, Pipeline
+    from arena.client import Client, Pipeline, Reply
+    from arena.prepared import Prepared
     from arena.replies import (
         ArenaError, BadJson, BadProgram, BadRequest, Busy, Canceled, Cells, Complete, ConnectionLimit, ConnectionLost, Fault,
         FaultCode, HistoryFull, InUse, JobLimit, Limits, LineTooLong, LostJob, NoMemory, NoTenant, Outcome, Refused, Running,
@@ -23,16 +24,18 @@ if TYPE_CHECKING:
 __all__ = [
     "ArenaError", "BadJson", "BadProgram", "BadRequest", "Busy", "Canceled", "Cells", "Client", "Complete",
     "ConnectionLimit", "ConnectionLost", "Fault", "FaultCode", "HistoryFull", "InUse", "JobLimit", "Limits",
-    "LineTooLong", "LostJob", "NoMemory", "NoTenant", "Outcome", "Pipeline", "Refused", "Running", "Status",
-    "StrangeReply", "TaskLimit", "TimedOut",
-    "UnknownJob", "UnknownTenant"]
+    "LineTooLong", "LostJob", "NoMemory", "NoTenant", "Outcome", "Pipeline", "Prepared", "Refused", "Reply", "Running",
+    "Status", "StrangeReply", "TaskLimit", "TimedOut", "UnknownJob", "UnknownTenant"]
+
+_MODULES = {"Client": "arena.client", "Pipeline": "arena.client", "Reply": "arena.client", "Prepared": "arena.prepared"}
+"""Where the names are that are not in `arena.replies`."""
 
 
 def __getattr__(name: str) -> object:
     """What the package has, loaded when it is asked for: the command needs little of it for most of what it does."""
     if name not in __all__:
         raise AttributeError(f"module {__name__!r} has no attribute {name!r}")
-    return getattr(import_module("arena.client" if name in ("Client", "Pipeline") else "arena.replies"), name)
+    return getattr(import_module(_MODULES.get(name, "arena.replies")), name)
 
 
 def __dir__() -> list[str]:

@@ -13,12 +13,14 @@ from dataclasses import dataclass
 from typing import Any, Self, TYPE_CHECKING, TypeVar
 
 from arena import requests
-from arena.connection import check_path
 from arena.made import JobsMade
+from arena.places import MadeSocket, Place, place_of
 from arena.replies import Cells, ConnectionLost, InUse, Limits, Outcome, Refused, Status, StrangeReply, TimedOut
 from arena.requests import JobLike, Request
 
 if TYPE_CHECKING:
+    import socket
+
     from arena.language import Compiled
 
 Value = TypeVar("Value")
@@ -37,8 +39,8 @@ class Waiting:
 
 
 class Client:
-    """A connection to the server at a path, which is bound to a tenant unless that is left out. It connects when the
-    `async with` block begins, or by `connect`. It belongs to the event loop in which it connects.
+    """A connection to the server at a path, or another place (`arena.tls.Tls`), which is bound to a tenant unless that is
+    left out. It connects when the `async with` block begins, or by `connect`. It belongs to the event loop in which it connects.
 
     `timeout`, in seconds, is how long each reply may take, from when its request is made, and how long to connect may
     take. After `TimedOut`, or if a task that waits for a reply is cancelled, the connection goes on, and the late reply
@@ -46,8 +48,10 @@ class Client:
     without late replies. `late_jobs` has the numbers of jobs that were made by such calls, once their replies have
     come. """
 
-    def __init__(self, path: str | os.PathLike[str], tenant: str | None = None, *, timeout: float | None = None) -> None:
-        self.path, self.tenant, self.timeout = os.fspath(path), tenant, timeout
+    def __init__(self, path: str | os.PathLike[str] | Place, tenant: str | None = None, *,
+                 timeout: float | None = None) -> None:
+        self._place = place_of(path)
+        self.path, self.tenant, self.timeout = self._place.name, tenant, timeout
         self.late_jobs: list[int] = []
         self._waiting: collections.deque[Waiting] = collections.deque()
         self._lost = "not connected; use `async with`, or call connect"
@@ -55,6 +59,12 @@ class Client:
         self._writer: asyncio.StreamWriter | None = None
         self._task: asyncio.Task[None] | None = None
         self._is_connecting = False
+
+    @classmethod
+    def over(cls, made: "socket.socket", tenant: str | None = None, *, timeout: float | None = None) -> Self:
+        """A client over a connected socket, which does not speak TLS and is the client's from then on. It can't
+        reconnect."""
+        return cls(MadeSocket(made), tenant, timeout=timeout)
 
     async def __aenter__(self) -> Self:
         await self.connect()
@@ -74,7 +84,7 @@ class Client:
                 await self._connect()
         except TimeoutError:
             self._abort()
-            raise TimedOut(f"{self.path}: not connected within {self.timeout} s") from None
+            raise TimedOut(f"{self.path}: not connected within {self.timeout} s").undone() from None
         except BaseException:
             self._abort()
             raise
@@ -82,9 +92,8 @@ class Client:
             self._is_connecting = False
 
     async def _connect(self) -> None:
-        check_path(self.path)
         try:
-            reader, self._writer = await asyncio.open_unix_connection(self.path)
+            reader, self._writer = await self._place.open()
         except OSError as fault:
             raise ConnectionLost.at(self.path, fault) from None
         self._lost, self._loop = "", asyncio.get_running_loop()
@@ -180,7 +189,7 @@ class Client:
     async def ask(self, request: Request[Value], timeout: float | None = None) -> Value:
         """Sends one request and waits for its reply."""
         if self._writer is None or self._lost:
-            raise ConnectionLost(f"{request.what}: not sent: {self._lost}")
+            raise ConnectionLost(f"{request.what}: not sent: {self._lost}").undone()
         if asyncio.get_running_loop() is not self._loop:
             raise InUse(f"{request.what}: the client belongs to another event loop")
         limit, connection = self.timeout if timeout is None else timeout, self._jobs.connection

@@ -11,15 +11,19 @@ import os
 import threading
 from collections.abc import Iterator, Mapping, Sequence
 from contextlib import contextmanager
+from dataclasses import dataclass
 from typing import Any, Generic, Self, TYPE_CHECKING, TypeVar, cast
 
 from arena import requests
-from arena.connection import Connection, Deadline, DeadlineOver
+from arena.connection import Connection
 from arena.made import JobsMade
+from arena.places import Deadline, DeadlineOver, MadeSocket, Place, place_of
 from arena.replies import ArenaError, Cells, InUse, Limits, Outcome, Refused, Status, StrangeReply, TimedOut
 from arena.requests import JobLike, Request
 
 if TYPE_CHECKING:
+    import socket
+
     from arena.language import Compiled
 
 Value = TypeVar("Value")
@@ -29,8 +33,23 @@ Value = TypeVar("Value")
 OUTSTANDING = 256
 
 
+@dataclass(frozen=True, slots=True)
+class Reply:
+    """The reply to a request that was sent without waiting."""
+
+    request: Request[Any]
+    answer: Any
+    """What the reply says, or its `Refused`."""
+
+    @property
+    def fault(self) -> Refused | None:
+        """The error, if the reply is one."""
+        return self.answer if isinstance(self.answer, Refused) else None
+
+
 class Client:
-    """A connection to the server at a path, which is bound to a tenant unless that is left out.
+    """A connection to the server at a path, or another place (`arena.tls.Tls`), which is bound to a tenant unless that is
+    left out.
 
     `timeout`, in seconds, is how long a call may take, from its request's first byte to its reply; without it a call
     waits for as long as the server does. A call may be given a timeout of its own.
@@ -39,18 +58,26 @@ class Client:
     `late` says how many. The server answers in order, so the next call waits for these first, and does so for as long
     as a job that was to be collected runs; `reconnect` gives a connection without them. """
 
-    def __init__(self, path: str | os.PathLike[str], tenant: str | None = None, *, timeout: float | None = None) -> None:
-        self.path, self.tenant, self.timeout = os.fspath(path), None, timeout
+    def __init__(self, path: str | os.PathLike[str] | Place, tenant: str | None = None, *,
+                 timeout: float | None = None) -> None:
+        self._place = place_of(path)
+        self.path, self.tenant, self.timeout = self._place.name, None, timeout
         self.late_jobs: list[int] = []
         """The numbers of the jobs that were made by a `submit` or `execute` that timed out or was interrupted: they are
         known once a later call has read the late reply."""
-        self._late, self._jobs, self._lock = 0, JobsMade(), threading.Lock()
+        self._late, self._jobs, self._lock, self._apart = 0, JobsMade(), threading.Lock(), False
         with self._turn():
             self._connect(tenant)
 
+    @classmethod
+    def over(cls, made: "socket.socket", tenant: str | None = None, *, timeout: float | None = None) -> Self:
+        """A client over a connected socket, plain or of the module ssl, which is the client's from then on. It can't
+        reconnect."""
+        return cls(MadeSocket(made), tenant, timeout=timeout)
+
     def _connect(self, tenant: str | None) -> None:
         deadline = Deadline(self.timeout)
-        self._connection = Connection(self.path, deadline)
+        self._connection, self._apart = Connection(self._place, deadline), False
         if tenant is not None:
             try:
                 self.tenant = self._ask(requests.hello(tenant), deadline)
@@ -157,6 +184,44 @@ class Client:
         """Requests that are sent together, at the end of the `with` block, and answered in their order."""
         return Pipeline(self, raises)
 
+    # Without waiting.
+
+    def fileno(self) -> int:
+        """The descriptor of the connection's socket, for `select`, for those who send without waiting."""
+        return self._connection.fileno()
+
+    def send_requests(self, asked: Sequence[Request[Any]]) -> None:
+        """Sends requests as far as the socket has room, and never waits; `flush` sends the rest. Their replies come by
+        `replies`, and until all have come, the calls that wait raise InUse. Raises ConnectionLost."""
+        with self._turn(apart=True):
+            self._connection.put(asked)
+            self._apart = True
+            self._connection.flush()
+
+    @property
+    def has_unsent(self) -> bool:
+        """Whether something is left to be sent: wait until the socket takes more, and call `flush`."""
+        return self._connection.has_unsent
+
+    def flush(self) -> None:
+        """Sends what there is room for, without waiting. Raises ConnectionLost."""
+        with self._turn(apart=True):
+            self._connection.flush()
+
+    def replies(self) -> list[Reply]:
+        """The replies that have come, in the order of their requests; none if nothing has come. It never waits. Raises
+        ConnectionLost and StrangeReply, and then the connection has ended."""
+        with self._turn(apart=True):
+            found = [Reply(request, self._answer(request, line)) for request, line in self._connection.come()]
+            self._apart = bool(self._connection.owed)
+            return found
+
+    def _answer(self, request: Request[Any], line: bytes) -> Any:
+        try:
+            return self._value(request, line)
+        except Refused as fault:
+            return fault.with_traceback(None)
+
     # Lines.
 
     def ask(self, request: Request[Value], timeout: float | None = None) -> Value:
@@ -174,12 +239,15 @@ class Client:
             return self._reply(request.what, deadline)
 
     @contextmanager
-    def _turn(self) -> Iterator[None]:
-        """The time of one call. Replies are told apart by their order alone, so no other call may come in between."""
+    def _turn(self, apart: bool = False) -> Iterator[None]:
+        """The time of one call. Replies are told apart by their order alone, so no other call may come in between, nor one
+        that waits while replies are owed to requests that were sent without waiting."""
         if not self._lock.acquire(blocking=False):
             raise InUse("another call on this client is under way, on another thread or in what a signal interrupted: "
                         "give each thread a client of its own")
         try:
+            if self._apart and not apart and self._connection.is_open:
+                raise InUse("replies are owed to requests that were sent without waiting: take them first, by `replies`")
             yield
         finally:
             self._lock.release()

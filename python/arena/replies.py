@@ -105,7 +105,16 @@ class Limits:
 
 
 class ArenaError(Exception):
-    """Something went wrong between client and server; the text says what, and what to do."""
+    """Something went wrong between client and server; the text says what, and what to do.
+
+    `done` is False if nothing was done of what was asked for, and None if that is not known. """
+
+    done: bool | None = None
+
+    def undone(self) -> Self:
+        """It, as one after which nothing was done."""
+        self.done = False
+        return self
 
 
 class ConnectionLost(ArenaError):
@@ -115,7 +124,7 @@ class ConnectionLost(ArenaError):
     def at(cls, path: str, fault: OSError) -> Self:
         """That a path can't be connected to."""
         return cls(f"{path}: {fault.strerror or fault}; is arena-server or arena-host running there? arena-server ends "
-                   "by itself after as many connections as its --connections says")
+                   "by itself after as many connections as its --connections says").undone()
 
 
 class TimedOut(ArenaError, TimeoutError):
@@ -131,13 +140,19 @@ class InUse(ArenaError):
     """A call on a client whose other call is under way: on another thread, or interrupted by this one in a signal
     handler. It did nothing."""
 
+    done = False
+
 
 class Refused(ArenaError):
-    """An error reply, with its `code`, its `name` and what to do about it, `advice`."""
+    """An error reply, with its `code`, its `name` and what to do about it, `advice`. `passes` is whether the same request
+    may be accepted later. A refused request did nothing, but for an `execute` that meets a full history: its job may have
+    been made before, and then `done` is None. """
 
     code: ClassVar[int]
     name: ClassVar[str]
     advice: ClassVar[str]
+    passes: ClassVar[bool] = False
+    done: bool | None = False
 
     def __init__(self, request: str = "the request") -> None:
         super().__init__(f"{request}: error {self.code}, {self.name}: {self.advice}")
@@ -202,29 +217,33 @@ class LostJob(UnknownJob):
 class JobLimit(Refused):
     """Error 7."""
 
-    code, name = 7, "job_limit"
+    code, name, passes = 7, "job_limit", True
     advice = "the tenant has 256 jobs; release those that are done, or retire all once none is running"
 
 
 class HistoryFull(Refused):
     """Error 8."""
 
-    code, name = 8, "history_full"
+    code, name, passes = 8, "history_full", True
     advice = ("the tenant's history has all its `steps` entries; on arena-host connect anew, to the generation that serves "
               "now; start arena-server anew, with more `steps` if there are fewer than 1,048,576")
+
+    def __init__(self, request: str = "the request") -> None:
+        super().__init__(request)
+        self.done = None if request == "execute" else False
 
 
 class NoMemory(Refused):
     """Error 9."""
 
-    code, name = 9, "no_memory"
+    code, name, passes = 9, "no_memory", True
     advice = "the server had no memory for this; ask again later"
 
 
 class TaskLimit(Refused):
     """Error 10."""
 
-    code, name = 10, "task_limit"
+    code, name, passes = 10, "task_limit", True
     advice = "the tenant has as many open rows as its `rows`; wait for a job, or raise `rows`"
 
 
@@ -238,14 +257,14 @@ class NoTenant(Refused):
 class Busy(Refused):
     """Error 12."""
 
-    code, name = 12, "busy"
+    code, name, passes = 12, "busy", True
     advice = "a row is open; wait for the job, or for all jobs before a `retire`, or cancel, and ask again"
 
 
 class ConnectionLimit(Refused):
     """Error 13, for a hello."""
 
-    code, name = 13, "connection_limit"
+    code, name, passes = 13, "connection_limit", True
     advice = "the tenant has as many connections as it may; close one that is not needed, or try again later"
 
 
