@@ -238,11 +238,14 @@ async def raises_in(kind, call):
     raise AssertionError(f"no {kind.__name__}")
 
 
-def page_shows_lines_that_run():
-    """Each python block of the page prints the text block after it, with a server at the page's socket."""
-    with open("docs/CLIENT.md") as it:
-        blocks = re.findall(r"```python\n(.*?)```\n+```text\n(.*?)```", it.read(), re.S)
-    assert len(blocks) >= 3
+def pages_show_lines_that_run():
+    """Each python block of the pages prints the text block after it, with a server at the page's socket."""
+    blocks = []
+    for page, fewest in (("docs/CLIENT.md", 5), ("docs/POOL.md", 1)):
+        with open(page) as it:
+            found = re.findall(r"```python\n(.*?)```\n+```text\n(.*?)```", it.read(), re.S)
+        assert len(found) >= fewest, page
+        blocks += found
     assert sum(bool(line.strip()) for line in blocks[0][0].splitlines()) <= 10
     for code, wanted in blocks:
         with Server(tenant(slots=3, reserved=1)) as server:
@@ -256,7 +259,7 @@ CHECKS = [each_call_is_answered, jobs_come_in_each_form, source_is_compiled_and_
           waiting_job_is_running_and_canceled,
           each_refusal_is_an_exception_of_its_name, pipeline_is_answered_in_order, late_replies_are_thrown_away,
           other_servers_are_told_from_ours, lambda: asyncio.run(each_call_of_the_other_client()),
-          page_shows_lines_that_run]
+          pages_show_lines_that_run]
 
 for check in CHECKS:
     check()

@@ -2,16 +2,18 @@
 
 A place is a path (`UnixPlace`), a socket that somebody else made (`MadeSocket`), or a server behind TLS (`arena.tls.Tls`).
 """
-import asyncio
 import math
 import os
 import select
 import socket
 import sys
 import time
-from typing import Protocol
+from typing import TYPE_CHECKING, Protocol
 
 from arena.replies import ConnectionLost
+
+if TYPE_CHECKING:
+    import asyncio
 
 LONGEST_PATH = 107
 """The most bytes that the path of a Unix socket may have."""
@@ -114,7 +116,7 @@ class Place(Protocol):
         """A connection. Raises OSError, ConnectionLost, DeadlineOver."""
         ...
 
-    async def open(self) -> tuple[asyncio.StreamReader, asyncio.StreamWriter]:
+    async def open(self) -> "tuple[asyncio.StreamReader, asyncio.StreamWriter]":
         """A connection for asyncio. Raises OSError, ConnectionLost."""
         ...
 
@@ -140,8 +142,9 @@ class UnixPlace:
             stream.close()
             raise
 
-    async def open(self) -> tuple[asyncio.StreamReader, asyncio.StreamWriter]:
+    async def open(self) -> "tuple[asyncio.StreamReader, asyncio.StreamWriter]":
         """A connection for asyncio."""
+        import asyncio
         check_path(self.name)
         return await asyncio.open_unix_connection(self.name)
 
@@ -163,8 +166,9 @@ class MadeSocket:
         """The connection that was made. Raises ConnectionLost the second time."""
         return stream_over(self._take())
 
-    async def open(self) -> tuple[asyncio.StreamReader, asyncio.StreamWriter]:
+    async def open(self) -> "tuple[asyncio.StreamReader, asyncio.StreamWriter]":
         """The same for asyncio, which takes no socket that speaks TLS already: for one of these give a `Tls`."""
+        import asyncio
         made = self._take()
         made.setblocking(False)
         return await asyncio.open_connection(sock=made)

@@ -85,11 +85,14 @@ def described(fault: Exception) -> tuple[int, str] | None:
     from arena.command.sources import SourceWrong
     from arena.host.orders import NoHost, NotYet
     from arena.host.status import StatusFault
+    from arena.pool.faults import Final
     from arena.replies import ArenaError, Refused, TimedOut
     from arena.trace import DumpFault
     match fault:
         case Refused():
             return Status.REFUSED + fault.code, str(fault)
+        case Final():
+            return Status.REFUSED + fault.fault.code, str(fault)
         case TimedOut() | NotYet():
             return Status.TIMEOUT, str(fault)
         case ArenaError():

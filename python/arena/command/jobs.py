@@ -1,6 +1,6 @@
 """The commands that ask the server: run, submit, wait, poll, cancel, cells, info, retire."""
 from arena.client import Client
-from arena.command.call import Call
+from arena.command.call import Call, WordsFault
 from arena.command.output import GREEN, RED, YELLOW
 from arena.command.rehearsing import place_of_fault
 from arena.command.sources import JobSource, job_of, source_of
@@ -64,9 +64,20 @@ def tell(call: Call, status: JobStatus, source: JobSource | None = None) -> int:
 def run(call: Call) -> int:
     """Runs a job to its outcome: submits and collects it, so that it goes on without this command."""
     source = source_of(call.words)
+    if call.words.durably:
+        return tell(call, durable_outcome(call, source), source)
     if call.words.execute or has_no_slot_for_workers(call):
         return tell(call, call.client.execute(source.job), source)
     return tell(call, collected(call, call.client.submit(source.job)), source)
+
+
+def durable_outcome(call: Call, source: JobSource) -> Outcome:
+    """The outcome of a job that is run again wherever it is lost, until it has one. Raises TimedOut, Final."""
+    if call.words.execute:
+        raise WordsFault("--durably submits and collects, and --execute executes; give one of them")
+    from arena.pool import Pool
+    with Pool(call.socket, call.tenant, patience=None) as pool:
+        return pool.run(source.job, again=True, timeout=call.words.timeout)
 
 
 def has_no_slot_for_workers(call: Call) -> bool:
@@ -164,7 +175,10 @@ COMMANDS = (
             "arena run examples/jobs/fib.job --args 20", run,
             (*JOB_WORDS, option("--execute", help="execute the job, on a reserved slot if one is free, which starts it at "
                                 "once; its number is known only at its end, so Ctrl-C can't cancel it",
-                                action="store_true")), in_shell=True),
+                                action="store_true"),
+             option("--durably", help="wait for a server, and run the job again whenever it is lost, as when its server dies; "
+                                      "a job that is not serial may have run in part before", action="store_true")),
+            in_shell=True),
     Command("submit", "make a job that waits for a worker, and print its number",
             "Makes a job that waits for a worker, and prints its number at once. A tenant without slots for workers "
             "never runs it.", "arena submit examples/jobs/fib.job --args 20", submit, JOB_WORDS, in_shell=True),

@@ -1,0 +1,189 @@
+"""The pool: jobs have their outcomes whatever becomes of hosts and connections, or it is said what to do."""
+import asyncio
+import concurrent.futures
+import logging
+import time
+import unittest
+
+from arena.pool import AsyncPool, Final, Pool, Settings, TryAgain
+from arena.replies import BadProgram, Complete, Fault, FaultCode, TimedOut, UnknownTenant
+from tests.standin import StandIn
+
+SQUARE = [[["mul", 2, 0, 0], ["ret", 2]]]
+CELL = [[["store", 0, 0], ["load", 2, 0], ["ret", 2]]]
+SOON = 20.0
+
+
+def job(n: int, procs: list[list[list[object]]] = SQUARE) -> dict[str, object]:
+    """A job that squares its first argument, or another one."""
+    return {"args": [n, 0], "fuel": 100, "procs": procs}
+
+
+class WithHost(unittest.TestCase):
+    """Each test has a host."""
+
+    def setUp(self) -> None:
+        logging.disable()
+        self.addCleanup(logging.disable, logging.NOTSET)
+        self.host = self.enterContext(StandIn())
+
+    def pool(self, patience: float | None = SOON, tenant: str = "acme", **more: object) -> Pool:
+        """A pool at the host."""
+        made = Pool(self.host.path, tenant, patience=patience, settings=Settings(**more))  # type: ignore[arg-type]
+        self.addCleanup(made.close)
+        return made
+
+    def values(self, pool: Pool, numbers: range) -> list[int]:
+        """The squares of numbers, all under way at once."""
+        futures = [pool.start(job(it)) for it in numbers]
+        outcomes = [it.result(SOON) for it in futures]
+        return [it.value for it in outcomes if isinstance(it, Complete)]
+
+
+class Outcomes(WithHost):
+    """Jobs that end."""
+
+    def test_many_jobs_over_one_connection(self) -> None:
+        self.assertEqual(self.values(self.pool(renew=60.0), range(600)), [n * n for n in range(600)])
+        self.assertEqual(self.host.met["submit"], 600)
+        self.assertLessEqual(self.host.met["connections"], 2)  # the first one is to see whether the host is there
+        self.assertEqual(self.host.tenants["acme"].jobs, {}, "all are released")
+
+    def test_threads_share_it(self) -> None:
+        pool = self.pool()
+        with concurrent.futures.ThreadPoolExecutor(8) as threads:
+            found = list(threads.map(lambda n: pool.run(job(n), timeout=SOON), range(100)))
+        self.assertEqual([it.value for it in found if isinstance(it, Complete)], [n * n for n in range(100)])
+
+    def test_connections_are_renewed(self) -> None:
+        self.assertEqual(len(self.values(self.pool(renew_jobs=20), range(200))), 200)
+        self.assertGreater(self.host.met["connections"], 5)
+
+    def test_a_fault_of_the_job_is_its_outcome(self) -> None:
+        divides: list[list[list[object]]] = [[["div", 2, 0, 1], ["ret", 2]]]
+        self.assertEqual(self.pool().run(job(1, divides), timeout=SOON), Fault(FaultCode.DIVISION, 1))
+        self.assertEqual(self.host.met["submit"], 1)
+
+    def test_asyncio(self) -> None:
+        async def squares() -> list[object]:
+            """Runs ten jobs at once."""
+            async with AsyncPool(self.host.path, "acme") as pool:
+                return [it.value for it in await asyncio.gather(*(pool.run(job(n)) for n in range(10)))
+                        if isinstance(it, Complete)]
+        self.assertEqual(asyncio.run(squares()), [n * n for n in range(10)])
+
+
+class Again(WithHost):
+    """Jobs that are tried again."""
+
+    def test_what_had_no_room_is_asked_again(self) -> None:
+        self.host.refusals = [7, 8, 9, 10, 8, 7]
+        self.assertEqual(self.values(self.pool(), range(10)), [n * n for n in range(10)])
+        self.assertEqual(self.host.met["submit"], 16)
+
+    def test_serial_jobs_are_run_again(self) -> None:
+        self.host.cuts = 2
+        self.assertEqual(self.values(self.pool(), range(50)), [n * n for n in range(50)])
+        self.assertGreater(self.host.met["submit"], 50)
+
+    def test_a_host_that_dies_and_comes_back(self) -> None:
+        pool = self.pool()
+        self.host.go.clear()
+        futures = [pool.start(job(it)) for it in range(20)]
+        while self.host.met["collect"] < 1:
+            time.sleep(0.001)
+        self.host.kill()
+        self.host.go.set()
+        self.host.start()
+        self.assertEqual([it.result(SOON) for it in futures], [Complete(n * n, it.result().job)
+                                                               for n, it in enumerate(futures)])
+
+    def test_other_jobs_are_not_run_again_unasked(self) -> None:
+        self.host.cuts = 1
+        with self.assertRaises(TryAgain) as fault:
+            self.pool().run(job(5, CELL), timeout=SOON)
+        self.assertIsNone(fault.exception.done)
+        self.host.cuts = 1
+        self.assertEqual(self.pool().run(job(5, CELL), again=True, timeout=SOON), Complete(5, 3))
+
+    def test_faults_by_load_are_tried_alone(self) -> None:
+        self.host.is_crowded = True
+        self.assertEqual(self.values(self.pool(), range(12)), [n * n for n in range(12)])
+        self.assertGreater(self.host.met["submit"], 12)
+
+    def test_faults_that_stay_are_final(self) -> None:
+        self.host.leave("acme", 1)
+        self.host.is_crowded = True
+        self.assertEqual(self.pool().run(job(5), timeout=SOON), Fault(FaultCode.TASK_LIMIT, 4))
+        self.assertEqual(self.host.met["submit"], 3)
+        self.assertEqual(self.pool().run(job(5, CELL), timeout=SOON), Fault(FaultCode.TASK_LIMIT, 5), "not serial: at once")
+
+    def test_a_job_that_kills_its_host_runs_alone(self) -> None:
+        self.host.poison, self.host.cuts = 9, 4
+        self.assertEqual(self.values(self.pool(), range(40)), [n * n for n in range(40)])
+        self.assertEqual(len(self.host.beside), 5)
+        self.assertGreater(self.host.beside[0], 0)
+        self.assertEqual(self.host.beside[3:], [0, 0])
+
+    def test_what_lost_connections_left_is_retired(self) -> None:
+        self.host.leave("acme", 256)
+        self.assertEqual(self.pool(retire=True).run(job(3), timeout=SOON), Complete(9, 257))
+        self.assertEqual(self.host.met["retire"], 1)
+
+    def test_nothing_is_retired_unasked(self) -> None:
+        self.host.leave("acme", 256)
+        with self.assertRaises(TryAgain) as fault:
+            self.pool(patience=0.3).run(job(3), timeout=SOON)
+        self.assertIs(fault.exception.done, False)
+        self.assertEqual(self.host.met["retire"], 0)
+
+
+class Refusals(WithHost):
+    """Jobs that have no outcome."""
+
+    def test_no_host(self) -> None:
+        self.host.kill()
+        with self.assertRaises(TryAgain) as fault:
+            self.pool(patience=0.2).run(job(1), timeout=SOON)
+        self.assertIs(fault.exception.done, False)
+        self.assertIn("can't be reached", str(fault.exception))
+
+    def test_no_such_tenant(self) -> None:
+        with self.assertRaises(Final) as fault:
+            self.pool(tenant="nobody").run(job(1), timeout=SOON)
+        self.assertIsInstance(fault.exception.fault, UnknownTenant)
+
+    def test_a_job_that_is_none(self) -> None:
+        self.host.refusals = [4]
+        with self.assertRaises(Final) as fault:
+            self.pool().run(job(1), timeout=SOON)
+        self.assertIsInstance(fault.exception.fault, BadProgram)
+
+    def test_a_time_limit(self) -> None:
+        self.host.go.clear()
+        with self.assertRaises(TimedOut):
+            self.pool().run(job(1), timeout=0.1)
+        self.host.go.set()
+
+    def test_a_silent_host(self) -> None:
+        self.host.go.clear()
+        with self.assertRaises(TryAgain):
+            self.pool(reply=0.2, patience=0.5).run(job(1), timeout=SOON)
+        self.host.go.set()
+
+    def test_a_closed_pool(self) -> None:
+        self.host.go.clear()
+        pool = self.pool()
+        future = pool.start(job(1))
+        while self.host.met["collect"] < 1:
+            time.sleep(0.001)
+        pool.close()
+        with self.assertRaises(TryAgain):
+            future.result(SOON)
+        with self.assertRaises(TryAgain):
+            pool.start(job(2))
+        self.host.go.set()
+
+
+if __name__ == "__main__":
+    unittest.main()
