@@ -1,6 +1,7 @@
-"""The version and the time of what is packed, which are those of the commit."""
+"""The version and the time of what is packed: those of the Python package and of the commit."""
 import datetime
 import os
+import re
 import subprocess
 
 from layout import TOP
@@ -32,15 +33,27 @@ def has_changes() -> bool:
     return bool(_git("status", "--porcelain", "--untracked-files=no"))
 
 
+def released() -> str:
+    """The version of the Python package, which the programs and packages share. Raises ValueError if its file has none."""
+    text = (TOP / "python" / "arena" / "version.py").read_text()
+    found = re.search(r'^VERSION = "([0-9][0-9.]*)"$', text, re.M)
+    if found is None:
+        raise ValueError("python/arena/version.py has no line VERSION = \"NUMBERS\"")
+    return found[1]
+
+
 def version() -> str:
-    """The nearest tag with the commits since, as 1.2+3.gabcdef0; without a tag 0.DATE.TIME+gCOMMIT, which any tag is
-    above. What follows a dash in a tag, as in v1.2-rc1, comes before 1.2. Changes that are not committed add `changed`."""
-    described = _git("describe", "--tags", "--long", "--match", "v[0-9]*")
+    """The version of `python/arena/version.py`, say 1.2.0, at the commit with the tag v1.2.0; after it with the commits since,
+    as 1.2.0+3.gabcdef0. Before that tag 1.2.0~DATE.TIME+gCOMMIT, or from a tag v1.2.0-rc1 on 1.2.0~rc1, all of which come
+    before 1.2.0. Changes that are not committed add `changed`. Outside of git it is the version alone."""
+    base, more = released(), []
+    described = _git("describe", "--tags", "--long", "--match", f"v{base}", "--match", f"v{base}-*")
     if described:
         tag, since, abbreviated = described.rsplit("-", 2)
         base, more = tag[1:].replace("-", "~"), [since, abbreviated] if since != "0" else []
-    else:
-        base, more = f"0.{datetime.datetime.fromtimestamp(epoch(), datetime.UTC):%Y%m%d.%H%M%S}", [f"g{commit()[:7]}"]
+    elif commit() != "unknown":
+        base += f"~{datetime.datetime.fromtimestamp(epoch(), datetime.UTC):%Y%m%d.%H%M%S}"
+        more = [f"g{commit()[:7]}"]
     if has_changes():
         more.append("changed")
     return f"{base}+{'.'.join(more)}" if more else base

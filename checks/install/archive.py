@@ -48,21 +48,30 @@ def gate_that_did_not_pass_is_refused(room: Room) -> None:
 
 
 def versions_are_in_order(room: Room) -> None:
-    """What git says of a repository with each kind of tag, and the order that dpkg sees."""
+    """What is said of a repository with each kind of tag, before and after its version is raised, and the order that dpkg
+    sees."""
     need("dpkg")
     top = room.at("repository")
     git = ("git", "-C", top, "-c", "user.name=nobody", "-c", "user.email=nobody@localhost")
     run("git", "init", "-q", top)
+    file = top / "python/arena/version.py"
+    file.parent.mkdir(parents=True)
     versions = []
-    for tag in (None, "v1.0-rc1", "v1.0", None):
+    for number, tag in (("1.0.0", None), ("1.0.0", "v1.0.0-rc1"), ("1.0.0", None), ("1.0.0", "v1.0.0"), ("1.0.0", None),
+                        ("1.0.0", "v1.1"), ("1.1.0", None), ("1.1.0", "v1.1.0")):
+        file.write_text(f'"""The version."""\nVERSION = "{number}"\n')
+        run(*git, "add", "-A")
         run(*git, "commit", "-q", "--allow-empty", "-m", "a commit")
         if tag:
             run(*git, "tag", tag)
         versions.append(version_of(top))
-    assert versions[1:3] == ["1.0~rc1", "1.0"] and re.fullmatch(r"1\.0\+1\.g[0-9a-f]{7,}", versions[3]), versions
-    assert re.fullmatch(r"0\.\d{8}\.\d{6}\+g[0-9a-f]{7}", versions[0]), versions
+    wanted = (r"1\.0\.0~\d{8}\.\d{6}\+g[0-9a-f]{7}", r"1\.0\.0~rc1", r"1\.0\.0~rc1\+1\.g[0-9a-f]{7,}", r"1\.0\.0",
+              r"1\.0\.0\+1\.g[0-9a-f]{7,}", r"1\.0\.0\+2\.g[0-9a-f]{7,}", r"1\.1\.0~\d{8}\.\d{6}\+g[0-9a-f]{7}", r"1\.1\.0")
+    assert all(re.fullmatch(*it) for it in zip(wanted, versions, strict=True)), versions
     for lower, higher in zip(versions, versions[1:]):
         run("dpkg", "--compare-versions", lower, "lt", higher)
+    file.write_text('VERSION = "1.1.0"\n')
+    assert version_of(top) == "1.1.0+changed"
 
 
 def version_of(top: pathlib.Path) -> str:
