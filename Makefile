@@ -63,7 +63,7 @@ deb: ## builds a Debian package of what stands in out/ (docs/OPERATIONS.md, Inst
 dist: ## packs the proved programs with the gate's last line and their checksums
 	@packaging/dist.py --programs "$(PROGRAMS)"
 
-test: ## passes everything: examples, each proof, edit, test and program, the wrong bodies of calls, stored runs, scripts, a second evaluator, ranges, the server, the host, failed allocations, drawn steps, the Python package, counts of instructions, the pages, the crates' groups, installations, HAProxy before servers
+test: ## passes everything: examples, each proof, edit, test and program, the wrong bodies of calls, stored runs, scripts, a second evaluator, ranges, the server, the host, failed allocations, drawn steps, the Python package, the queue, counts of instructions, the pages, the crates' groups, installations, HAProxy before servers
 	@mkdir -p out && date +%s > out/test-began
 	checks/examples/run.sh
 	checks/gate/run.py
@@ -77,6 +77,7 @@ test: ## passes everything: examples, each proof, edit, test and program, the wr
 	checks/failed_allocations/run.py
 	checks/fuzz/run.py
 	checks/python/run.py
+	checks/queue/run.py
 	checks/cost/run.py --built .
 	checks/build/recorded.py
 	checks/pages/run.py

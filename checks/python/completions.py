@@ -42,6 +42,15 @@ LINES = {
     "arena pages z": "arena pages zsh ",
     "arena run jobs/fib.job --args 3 4 --js": "arena run jobs/fib.job --args 3 4 --json ",
     "arena cells ": "arena cells ",
+    "arena que": "arena queue ",
+    "arena queue su": "arena queue submit ",
+    "arena -t acme queue re": "arena -t acme queue re",
+    "arena queue res": "arena queue result ",
+    "arena queue submit jobs/fi": "arena queue submit jobs/fib.job ",
+    "arena queue submit jobs/fib.job --pri": "arena queue submit jobs/fib.job --priority ",
+    "arena queue submit jobs/fib.job --synchronous no": "arena queue submit jobs/fib.job --synchronous normal ",
+    "arena queue list --state de": "arena queue list --state dead ",
+    "arena queue run --wi": "arena queue run --window ",
 }
 
 

@@ -36,7 +36,8 @@ class StandIn:
 
     `refusals` are error codes that the next submits get; `cuts` is how many collects are still to be met by the end of their
     connection; `is_crowded` lets each job have fault 4 that is submitted while another one is not released; `poison` is a
-    first argument at which a submit ends its connection, as often as `cuts` says; `go` holds up collects until it is set. """
+    first argument at which a submit ends its connection, as often as `cuts` says; `rows` is how many rows a job may have open;
+    `go` holds up collects until it is set. """
 
     def __init__(self, tenants: Sequence[str] = ("acme",)) -> None:
         self._folder = tempfile.TemporaryDirectory()
@@ -46,6 +47,7 @@ class StandIn:
         self.cuts = 0
         self.is_crowded = False
         self.poison: int | None = None
+        self.rows = 200
         self.go = threading.Event()
         self.go.set()
         self.met: Counter[str] = Counter()
@@ -157,7 +159,7 @@ class StandIn:
     def _outcome(self, tenant: Tenant, job: dict[str, Any]) -> dict[str, Any]:
         if self.is_crowded and tenant.jobs:
             return {"status": "fault", "fault": 4}
-        match rehearse(job).outcome:
+        match rehearse(job, rows=self.rows).outcome:
             case Complete(value):
                 return {"status": "complete", "value": value}
             case Fault(code):

@@ -5,8 +5,10 @@ import json
 import os
 import random
 import re
+import sys
 import tempfile
 import unittest
+from unittest import mock
 
 from arena.command import main
 from arena.language import SourceFault, compile_source
@@ -66,10 +68,12 @@ inline fn f2(a, b) = a - b
 """
 
 
-def command(*words: str) -> tuple[int, str, str]:
-    """What the command answers: its status, and what it prints and complains."""
+def command(*words: str, stdin: str = "") -> tuple[int, str, str]:
+    """What the command answers: its status, and what it prints and complains. No server is named but by the words."""
     out, err = io.StringIO(), io.StringIO()
-    with contextlib.redirect_stdout(out), contextlib.redirect_stderr(err):
+    rest = {name: value for name, value in os.environ.items() if not name.startswith("ARENA_")}
+    with contextlib.redirect_stdout(out), contextlib.redirect_stderr(err), mock.patch.dict(os.environ, rest, clear=True), \
+            mock.patch.object(sys, "stdin", io.StringIO(stdin)):
         status = main(words)
     return status, out.getvalue(), err.getvalue()
 

@@ -15,7 +15,7 @@ ABOUT = ("Runs jobs on arena-server, looks after them, and shows what happened t
 MODULES = {"jobs": ("run", "submit", "wait", "release", "poll", "cancel", "cells", "info", "retire"),
            "building": ("build", "asm", "dis", "lint"), "authoring": ("test", "fmt", "doc"), "advise": ("advise",),
            "shell": ("shell",), "bench": ("bench",), "dumps": ("check", "stat", "timeline"), "host": ("status", "top"),
-           "metrics": ("metrics",), "orders": ("stop", "rotate"), "series": ("check-dumps",), "pages": ("pages",)}
+           "metrics": ("metrics",), "orders": ("stop", "rotate"), "series": ("check-dumps",), "queue": ("queue",), "pages": ("pages",)}
 """The modules of the subcommands: only that of the one that is called is loaded."""
 
 
@@ -81,11 +81,15 @@ def guarded(call: Call, run: Callable[[Call], int]) -> int:
 
 def described(fault: Exception) -> tuple[int, str] | None:
     """The exit status and the text of what went wrong; None for what should not happen."""
+    import sqlite3
+
     from arena.command.script import ProgramFault
     from arena.command.sources import SourceWrong
     from arena.host.orders import NoHost, NotYet
     from arena.host.status import StatusFault
     from arena.pool.faults import Final
+    from arena.queue.model import QueueError
+    from arena.queue.programs import NoProgram
     from arena.replies import ArenaError, Refused, TimedOut
     from arena.trace import DumpFault
     match fault:
@@ -93,6 +97,10 @@ def described(fault: Exception) -> tuple[int, str] | None:
             return Status.REFUSED + fault.code, str(fault)
         case Final():
             return Status.REFUSED + fault.fault.code, str(fault)
+        case QueueError() | sqlite3.Error():
+            return Status.QUEUE, str(fault)
+        case NoProgram():
+            return Status.SOURCE, str(fault)
         case TimedOut() | NotYet():
             return Status.TIMEOUT, str(fault)
         case ArenaError():

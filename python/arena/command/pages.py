@@ -18,6 +18,11 @@ def _words_of(words: Sequence[Word]) -> Iterator[str]:
         yield _escaped(word.help)
 
 
+def flat(commands: Sequence[Command]) -> list[Command]:
+    """The commands, with those of families in their place."""
+    return [it for command in commands for it in command.family]
+
+
 def manual(commands: Sequence[Command], about: str) -> str:
     """The manual page, in troff."""
     lines = [".TH ARENA 1", ".SH NAME", "arena \\- run jobs on arena\\-server and see what happened to them",
@@ -25,7 +30,7 @@ def manual(commands: Sequence[Command], about: str) -> str:
              ".B arena", "[OPTIONS] COMMAND [WORDS]", ".SH DESCRIPTION", _escaped(about), ".SH OPTIONS",
              "They may stand before the command or after it.", *_words_of(COMMON),
              ".TP", ".B \\-\\-version", "print the version of this command, and end", ".SH COMMANDS"]
-    for command in commands:
+    for command in flat(commands):
         words = " ".join(word.shown if not word.is_option else "" for word in command.words).split()
         lines += [f".SS arena {_escaped(' '.join([command.name, *words]))}", _escaped(command.text),
                   *_words_of(command.words),
@@ -35,7 +40,8 @@ def manual(commands: Sequence[Command], about: str) -> str:
         lines += [".TP", f".B {status.value}", _escaped(text)]
     lines += [".SH ENVIRONMENT", ".TP", ".B ARENA_SOCKET", "the server's socket", ".TP", ".B ARENA_TENANT",
               "the tenant's name",
-              ".TP", ".B ARENA_RUN", "the run folder of arena\\-host", ".TP", ".B ARENA_SCRIPT",
+              ".TP", ".B ARENA_RUN", "the run folder of arena\\-host", ".TP", ".B ARENA_QUEUE",
+              "the file of the queue, for `queue`", ".TP", ".B ARENA_SCRIPT",
               "the program arena\\-script, for `check` and `check\\-dumps`", ".TP", ".B NO_COLOR",
               "no colours, if it is set"]
     return "\n".join(lines)
@@ -72,7 +78,10 @@ _arena() {
     local -a files=()
     COMPREPLY=()
     for word in "${COMP_WORDS[@]:1:COMP_CWORD-1}"; do
-        case $word in @COMMANDS@) command=$word; break ;; esac
+        case "$command/$word" in
+            @COMMANDS@) command=$word ;;
+            @INNER@) command="$command $word" ;;
+        esac
     done
     case "$command $prev" in
 @TAKES@
@@ -100,11 +109,19 @@ def _filled(text: str, parts: dict[str, str]) -> str:
 def bash(commands: Sequence[Command]) -> str:
     """The completion for bash."""
     names = [command.name for command in commands]
-    takes = [line for command in commands for line in _bash_takes(command.name, command.words)]
+    takes = [line for command in flat(commands) for line in _bash_takes(command.name.replace(" ", "\\ "), command.words)]
     takes += _bash_takes("*", COMMON)
+    inner = [f"{command.name}/{it.name}" for command in commands for it in command.inner]
+    cases = [*map(_bash_case, flat(commands)), *(_bash_family(it) for it in commands if it.inner)]
     return _filled(BASH, {
-        "COMMANDS": "|".join(names), "TAKES": "\n".join(takes), "NAMES": " ".join(names),
-        "COMMON": " ".join(_options(COMMON)), "CASES": "\n".join(map(_bash_case, commands))})
+        "COMMANDS": "|".join(f"/{it}" for it in names), "INNER": "|".join(inner), "TAKES": "\n".join(takes),
+        "NAMES": " ".join(names), "COMMON": " ".join(_options(COMMON)), "CASES": "\n".join(cases)})
+
+
+def _bash_family(command: Command) -> str:
+    """What follows the name of a family."""
+    names = " ".join(it.name for it in command.inner)
+    return f"        {command.name}) options='{' '.join(_options(COMMON))}' choices='{names}' ;;"
 
 
 def _bash_takes(command: str, words: Sequence[Word]) -> Iterator[str]:
@@ -136,7 +153,8 @@ def _bash_case(command: Command) -> str:
             parts.append(f"files=({_bash_suffixes(word)})")
         elif not word.is_option and _choices(word):
             parts.append(f"choices='{_choices(word)}'")
-    return f"        {command.name}) {' '.join(parts)} ;;"
+    name = f"'{command.name}'" if " " in command.name else command.name
+    return f"        {name}) {' '.join(parts)} ;;"
 
 
 # The completion for zsh: @NAME@ is filled in.
@@ -178,6 +196,12 @@ def zsh(commands: Sequence[Command]) -> str:
 
 def _zsh_case(command: Command) -> str:
     """What a command takes, as `_arguments` reads it."""
+    if command.inner:
+        names = " ".join(it.name for it in command.inner)
+        cases = "\n".join("        " + _zsh_case(it).replace("\n", "\n        ") for it in command.inner)
+        return (f"            {command.name}) state=\n                _arguments -C $common '1:command:({names})' "
+                "'*::words:->inner'\n                if [[ $state == inner ]]; then case $words[1] in\n"
+                f"{cases}\n                esac; fi ;;")
     words = "".join(f" \\\n                {_zsh_word(word)}" for word in command.words)
     return f"            {command.name}) _arguments $common{words} ;;"
 

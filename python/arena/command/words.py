@@ -2,7 +2,7 @@
 import argparse
 import enum
 from collections.abc import Callable, Sequence
-from dataclasses import dataclass, field
+from dataclasses import dataclass, field, replace
 from typing import TYPE_CHECKING, Any, NamedTuple, NoReturn
 
 from arena.version import VERSION
@@ -28,6 +28,7 @@ class Status(enum.IntEnum):
     DUMP = 9
     PROGRAM = 10
     HOST = 11
+    QUEUE = 12
     REFUSED = 20
     INTERRUPTED = 130
 
@@ -46,6 +47,7 @@ STATUS_TEXTS = {
     Status.DUMP: "a dump is not one that a server wrote, `check` says no to it, or it is missing",
     Status.PROGRAM: "arena-script is not found, or failed",
     Status.HOST: "no arena-host runs in the folder, or its status.json is stale or is none",
+    Status.QUEUE: "the queue refuses what is asked for, or its file can't be used",
     Status.REFUSED: "from 21 to 33: the server's error reply, by 20 and its code (docs/PROTOCOL.md)",
     Status.INTERRUPTED: "interrupted from the keyboard",
 }
@@ -88,15 +90,22 @@ class Word:
 
 @dataclass(frozen=True)
 class Command:
-    """A subcommand: `text` says more than its `summary`, and `example` is a line that one may type."""
+    """A subcommand: `text` says more than its `summary`, and `example` is a line that one may type. One that is a family has
+    `inner` ones, and does nothing itself."""
 
     name: str
     summary: str
     text: str
     example: str
-    run: Callable[["Call"], int]
+    run: Callable[["Call"], int] | None = None
     words: tuple[Word, ...] = ()
     in_shell: bool = False
+    inner: tuple["Command", ...] = ()
+
+    @property
+    def family(self) -> tuple["Command", ...]:
+        """It, or its inner ones with both names."""
+        return tuple(replace(it, name=f"{self.name} {it.name}") for it in self.inner) or (self,)
 
 
 def option(*names: str, help: str, completes: Completes = Completes.NOTHING, **more: Any) -> Word:
@@ -182,7 +191,12 @@ def parser_of(commands: Sequence[Command], prog: str = "arena", about: str = "")
     for word in COMMON:
         _add(parser, word, {"default": None})
     parser.add_argument("--version", action="version", version=f"{prog} {VERSION}", help="print the version")
-    inner = parser.add_subparsers(dest="command", metavar="COMMAND", required=True)
+    _add_commands(parser, commands, "command")
+    return parser
+
+
+def _add_commands(parser: argparse.ArgumentParser, commands: Sequence[Command], named: str) -> None:
+    inner = parser.add_subparsers(dest=named, metavar="COMMAND", required=True)
     for command in commands:
         sub = inner.add_parser(command.name, help=command.summary, description=command.text, allow_abbrev=False,
                                epilog=f"example:\n  {command.example}",
@@ -191,8 +205,10 @@ def parser_of(commands: Sequence[Command], prog: str = "arena", about: str = "")
             _add(sub, word, {})
         for word in COMMON:
             _add(sub, word, {"default": argparse.SUPPRESS})
-        sub.set_defaults(run=command.run)
-    return parser
+        if command.inner:
+            _add_commands(sub, command.inner, f"{command.name}_command")
+        else:
+            sub.set_defaults(run=command.run)
 
 
 def _add(parser: argparse.ArgumentParser, word: Word, more: dict[str, Any]) -> None:

@@ -1,6 +1,5 @@
 """A tenant at a host: its connections, and how many jobs are under way on them."""
 import collections
-import logging
 import selectors
 import time
 from collections.abc import Callable, Sequence
@@ -13,8 +12,6 @@ from arena.pool.task import Ended, Lost, Never, NotRun, Result, Tag, Task
 from arena.replies import (ArenaError, BadJson, BadProgram, BadRequest, Busy, HistoryFull, JobLimit, LineTooLong, NoTenant,
                            Outcome, Refused, UnknownTenant)
 from arena.texts import counted
-
-LOG = logging.getLogger("arena.pool")
 
 FOREVER = (BadProgram, BadJson, BadRequest, LineTooLong)
 """What no host will take."""
@@ -50,7 +47,7 @@ class Desk(Generic[Tag]):
         self._dirty: set[Lane[Tag]] = set()
         self._alone: collections.deque[Task[Tag]] = collections.deque()
         self._runs_alone: Task[Tag] | None = None
-        self._is_full = self._is_retiring = False
+        self._is_full = self._is_retiring = self._is_clear = False
         self._unbound: Refused | None = None
 
     @property
@@ -74,6 +71,10 @@ class Desk(Generic[Tag]):
         self._feed([it for it in tasks if not it.alone], clock)
         self.attend(clock)
 
+    def tasks(self) -> list[Task[Tag]]:
+        """The tasks that are under way, and those that wait to run alone."""
+        return [task for lane in self.lanes for task in lane.under_way] + list(self._alone)
+
     def cancel(self, task: Task[Tag]) -> None:
         """Cancels a task, as far as its host can still be told."""
         if task in self._alone:
@@ -94,11 +95,7 @@ class Desk(Generic[Tag]):
                 self._close(lane)
         is_free = not any(it.load for it in self.lanes)
         if is_free and clock >= self.rests_until and self.host.is_ready(clock):
-            if self._is_full:
-                self._make_room(clock)
-            elif self._alone:
-                self._runs_alone = self._alone.popleft()
-                self._feed([self._runs_alone], clock)
+            self._use_quiet(clock)
         self._flush(clock)
 
     def next_at(self, clock: float) -> float | None:
@@ -111,7 +108,7 @@ class Desk(Generic[Tag]):
 
     def close(self) -> list[Task[Tag]]:
         """Ends all connections; the tasks that were under way, and those that waited."""
-        left = [task for lane in self.lanes for task in lane.under_way] + list(self._alone)
+        left = self.tasks()
         for lane in list(self.lanes):
             self._close(lane)
         self._alone.clear()
@@ -123,6 +120,7 @@ class Desk(Generic[Tag]):
     def _feed(self, tasks: Sequence[Task[Tag]], clock: float) -> None:
         if not tasks:
             return
+        self._is_clear = False
         lanes = self._open(len(tasks), clock)
         if not lanes:
             self._free(tasks)
@@ -229,12 +227,12 @@ class Desk(Generic[Tag]):
         self._let_rest(clock)
         return NotRun(task, said.name, said) if op is Op.SUBMIT else Lost(task, said.name)
 
-    def _let_rest(self, clock: float) -> None:
-        """Lets the host be for a while, each time for longer, until it has ended a job."""
+    def _let_rest(self, clock: float, share: float = 0.5) -> None:
+        """Lets the host be for a while, each time for longer, until it has ended a job, and uses a part of the window."""
         if clock >= self.rests_until:
             self.rests_until = clock + self._rest
             self._rest = min(LONGEST_REST, 2 * self._rest)
-            self.share /= 2
+            self.share *= share
 
     def _bound(self, lane: Lane[Tag], said: object, clock: float) -> None:
         if not isinstance(said, Refused):
@@ -246,11 +244,22 @@ class Desk(Generic[Tag]):
         else:
             self._let_rest(clock)
 
-    def _make_room(self, clock: float) -> None:
-        """Asks the host to forget what lost connections left, if that is wanted; else waits, since others may make room."""
-        if not self.settings.retire:
-            self._is_full = False
-        elif not self._is_retiring and (lanes := self._open(1, clock)):
+    def _use_quiet(self, clock: float) -> None:
+        """While nothing is under way: makes room at a host that is full, and runs a task that is to be alone. What lost
+        connections left may run there still; a host that retires has no open row."""
+        if not self._is_full and not self._alone:
+            return
+        if self.settings.retire and not self._is_clear:
+            self._clear(clock)
+            return
+        self._is_full = False  # others may have made room, if nobody here may
+        if self._alone:
+            self._runs_alone = self._alone.popleft()
+            self._feed([self._runs_alone], clock)
+
+    def _clear(self, clock: float) -> None:
+        """Asks the host to forget all jobs of the tenant."""
+        if not self._is_retiring and (lanes := self._open(1, clock)):
             self._is_retiring = True
             lanes[0].retire()
             self._dirty.add(lanes[0])
@@ -258,8 +267,7 @@ class Desk(Generic[Tag]):
     def _retired(self, lane: Lane[Tag], said: object, clock: float) -> None:
         self._is_retiring = False
         if not isinstance(said, Refused):
-            self._is_full = False
-            LOG.warning("%s: the jobs of %s that lost connections had left were retired", self.host.place.name, self.tenant)
+            self._is_full, self._is_clear = False, True
             return
         lane.is_leaving |= not isinstance(said, Busy)
-        self._let_rest(clock)
+        self._let_rest(clock, 1.0)

@@ -75,6 +75,6 @@ class Settings:
     idle: float = 10.0
     """How long a connection without jobs is kept."""
     retire: bool = False
-    """Whether the host may be asked to forget all jobs of the tenant, if it has no room for another one though none of this
-    desk is under way. That makes room for the jobs which lost connections have left, and loses the outcomes that others of the
-    tenant have not collected."""
+    """Whether the host may be asked to forget all jobs of the tenant: if it has no room for another one though none of this
+    desk is under way, and before a job that is to run alone, since what lost connections have left may run there. Others of
+    the tenant lose outcomes that they have not collected."""

@@ -1,0 +1,179 @@
+"""Hosts, dispatchers and submitters are killed and frozen at drawn moments, above all those that have jobs under way; then each
+acknowledged job must have exactly one outcome, the right one, under its key."""
+import collections
+import json
+import random
+import signal
+import sys
+import time
+from dataclasses import dataclass, field
+
+from jobs import Drawn
+from processes import HERE, PATIENCE, Place, Process, until
+
+LEASE = 2.0
+HOSTS, DISPATCHERS, SUBMITTERS = 2, 3, 2
+
+KINDS = {"dispatcher": 4, "host": 2, "submitter": 1, "freeze": 4, "freeze host": 1, "rotate": 1}
+"""What is done, and how often: a process is killed, or frozen, or a host told to rotate. `dispatcher` and `freeze` are of one that
+has jobs under way."""
+
+BUSY_SECONDS = 0.5
+"""How long such a one is looked for."""
+
+# Beside the queue's own tables: each time that a job gets an outcome, and each later change of one.
+WATCH = """
+CREATE TABLE outcome (job INTEGER, state TEXT, value INTEGER, fault INTEGER);
+CREATE TRIGGER watch_end AFTER UPDATE ON job WHEN OLD.ended_at IS NULL AND NEW.ended_at IS NOT NULL BEGIN
+    INSERT INTO outcome VALUES (NEW.id, NEW.state, NEW.value, NEW.fault); END;
+CREATE TRIGGER watch_change AFTER UPDATE ON job WHEN OLD.ended_at IS NOT NULL BEGIN
+    INSERT INTO outcome VALUES (NEW.id, 'changed', NEW.value, NEW.fault); END;
+"""
+
+
+@dataclass
+class Found:
+    """What was found: how many jobs were acknowledged, what was done, and what is wrong."""
+
+    acknowledged: int = 0
+    states: collections.Counter[str] = field(default_factory=collections.Counter)
+    run_again: int = 0
+    run_alone: int = 0
+    done: collections.Counter[str] = field(default_factory=collections.Counter)
+    wrong: collections.Counter[str] = field(default_factory=collections.Counter)
+    examples: dict[str, object] = field(default_factory=dict)
+
+    def note(self, what: str, *more: object) -> None:
+        """Notes something that is wrong."""
+        self.wrong[what] += 1
+        self.examples.setdefault(what, more)
+
+
+class Chaos:
+    """The processes, and what is done to them."""
+
+    def __init__(self, place: Place, seed: int, rate: float) -> None:
+        self.place, self.draws = place, random.Random(seed)
+        place.arena("queue", "init", "--keep", 0, "--keep-jobs", 0)
+        self._watch()
+        self.hosts = [place.host(it) for it in range(HOSTS)]
+        self.dispatchers = [place.dispatcher(it, *range(HOSTS), lease=LEASE) for it in range(DISPATCHERS)]
+        self.submitters = [place.process(f"submitter{it}", sys.executable, HERE / "submitter.py", place.folder, f"s{it}", seed, rate)
+                           for it in range(SUBMITTERS)]
+        self.down: list[tuple[float, Process]] = []
+        self.frozen: list[tuple[float, Process]] = []
+        self.done: collections.Counter[str] = collections.Counter()
+
+    def _watch(self) -> None:
+        import sqlite3
+        base = sqlite3.connect(self.place.queue)
+        base.executescript(WATCH)
+        base.close()
+
+    def run(self, seconds: float, kinds: dict[str, int] = KINDS, until_changed: bool = False) -> None:
+        """Does harm of these kinds for so many seconds, or until an outcome is changed, and then lets everything end."""
+        for it in (*self.hosts, *self.dispatchers, *self.submitters):
+            it.start()
+        until(lambda: self.place.rows("SELECT 1 FROM outcome LIMIT 1"), "the first outcome")
+        end = time.monotonic() + seconds
+        next_at = 0.0
+        while time.monotonic() < end and not (until_changed and self._is_changed()):
+            self._bring_back(time.monotonic())
+            if time.monotonic() >= next_at:
+                next_at = time.monotonic() + self.draws.uniform(0.1, 1.0)
+                self._harm(self.draws.choices([*kinds], [*kinds.values()])[0])
+            time.sleep(0.01)
+        self._bring_back(float("inf"))
+        (self.place.folder / "stop").touch()
+        for it in self.submitters:
+            assert it.wait() == 0, it.printed()
+        until(lambda: not self.place.rows("SELECT 1 FROM job WHERE ended_at IS NULL LIMIT 1"), "the last outcome", 2 * PATIENCE)
+        for it in self.dispatchers:
+            it.signal(signal.SIGTERM)
+            assert it.wait() == 0, it.printed()
+
+    def _is_changed(self) -> bool:
+        return bool(self.place.rows("SELECT 1 FROM outcome WHERE state = 'changed' LIMIT 1"))
+
+    def _bring_back(self, clock: float) -> None:
+        for at, it in [one for one in self.down if one[0] <= clock]:
+            self.down.remove((at, it))
+            it.start()
+        for at, it in [one for one in self.frozen if one[0] <= clock]:
+            self.frozen.remove((at, it))
+            it.signal(signal.SIGCONT)
+
+    def _harm(self, what: str) -> None:
+        """Does something to a process that is well."""
+        ill = {it for _, it in (*self.down, *self.frozen)}
+        of = {"host": self.hosts, "rotate": self.hosts, "freeze host": self.hosts, "submitter": self.submitters}
+        well = [it for it in of.get(what, self.dispatchers) if it not in ill]
+        if what in ("dispatcher", "freeze"):
+            wanted, end = well, time.monotonic() + BUSY_SECONDS
+            while not (well := self._busy(wanted)) and time.monotonic() < end:
+                time.sleep(0.005)
+        if not well:
+            return
+        one, clock = self.draws.choice(well), time.monotonic()
+        self.done[what] += 1
+        if what == "rotate":
+            (self.place.folder / one.name / "rotate").touch()
+        elif what.startswith("freeze"):
+            one.signal(signal.SIGSTOP)
+            longest = LEASE * 2.5 if what == "freeze" else LEASE / 2
+            self.frozen.append((clock + self.draws.uniform(longest * 0.6, longest), one))
+        else:
+            one.kill()
+            self.down.append((clock + self.draws.uniform(0, 1.5), one))
+
+    def _busy(self, well: list[Process]) -> list[Process]:
+        """Those of some dispatchers that have jobs under way."""
+        names = [str(it) for it, in self.place.rows("SELECT name FROM dispatcher d WHERE EXISTS (SELECT 1 FROM job WHERE state = "
+                                                    "'running' AND dispatcher = d.id)")]
+        return [it for it in well if any(name.endswith(f":{it.pid}") for name in names)]
+
+    def audit(self) -> Found:
+        """What became of each job that was acknowledged."""
+        found = Found(done=self.done)
+        acknowledged, cancelled = self._lines(found)
+        rows = {row[0]: row for row in self.place.rows("SELECT id, key, tenant, state, value, fault, attempt FROM job")}
+        outcomes = collections.defaultdict(list)
+        for job, *outcome in self.place.rows("SELECT job, state, value, fault FROM outcome"):
+            outcomes[job].append(tuple(outcome))
+        for job, line in acknowledged.items():
+            if job not in rows:
+                found.note("acknowledged and not there", line)
+                continue
+            _, key, tenant, *outcome, attempts = rows[job]
+            if (key, tenant) != (line["key"], line["tenant"]):
+                found.note("under another key", line, rows[job])
+            if outcomes[job] != [tuple(outcome)]:
+                found.note("not one outcome", line, rows[job], outcomes[job])
+            if not (outcome[0] == "canceled" and job in cancelled) and not Drawn(*line["of"]).is_right(*outcome):
+                found.note("wrong", line, rows[job])
+            found.states[str(outcome[0])] += 1
+            found.run_again += int(str(attempts)) > 1
+        keys = [row[1] for row in rows.values()]
+        if len(set(keys)) != len(keys):
+            found.note("a key twice", collections.Counter(keys).most_common(3))
+        if (said := self.place.rows("PRAGMA integrity_check")) != [("ok",)]:
+            found.note("integrity", said)
+        counted = self.place.rows("SELECT tenant, state, count(*) FROM job GROUP BY tenant, state ORDER BY tenant, state")
+        if counted != self.place.rows("SELECT tenant, state, jobs FROM tally WHERE jobs <> 0 ORDER BY tenant, state"):
+            found.note("counts", counted)
+        found.acknowledged = len(acknowledged)
+        (found.run_alone,), = self.place.rows("SELECT count(*) FROM job WHERE alone > 0")
+        return found
+
+    def _lines(self, found: Found) -> tuple[dict[object, dict], set[object]]:
+        """What the submitters have written: the jobs that were acknowledged, and those that they cancelled."""
+        acknowledged: dict[object, dict] = {}
+        cancelled = set()
+        for path in self.place.folder.glob("*.lines"):
+            for text in path.read_text().splitlines():
+                line = json.loads(text)
+                if "cancelled" in line:
+                    cancelled.add(line["cancelled"])
+                elif acknowledged.setdefault(line["job"], line) != line:
+                    found.note("one number for two keys", line, acknowledged[line["job"]])
+        return acknowledged, cancelled

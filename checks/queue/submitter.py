@@ -1,0 +1,84 @@
+#!/usr/bin/env python3
+"""Submits drawn jobs under keys of its own, and writes a line for each that was acknowledged, until a file `stop` is there.
+
+usage: submitter.py FOLDER NAME SEED RATE, with the queue and the lines in FOLDER; RATE is how many batches a second.
+A new process begins three batches before the last one that an earlier one has written: it can't know whether more was kept.
+"""
+import itertools
+import json
+import os
+import pathlib
+import random
+import sqlite3
+import sys
+import time
+from dataclasses import dataclass
+
+from jobs import PROGRAMS, Drawn
+
+from arena.queue import NewJob, QueueError, Store
+from arena.queue.model import SECOND, now
+
+TENANTS = ("acme", "beta", "gamma")
+
+
+@dataclass(frozen=True, slots=True)
+class Planned:
+    """A job that is to be submitted."""
+
+    key: str
+    tenant: str
+    drawn: Drawn
+    priority: int
+    is_late: bool
+
+    def new(self) -> NewJob:
+        """It for the queue."""
+        it = self.drawn
+        return NewJob(self.tenant, PROGRAMS[it.name], (it.x, it.y), it.fuel, self.key, self.priority,
+                      now() + SECOND // 2 if self.is_late else None)
+
+    def line(self, batch: int, job: int) -> bytes:
+        """The line that says that it was acknowledged."""
+        it = self.drawn
+        said = {"batch": batch, "job": job, "key": self.key, "tenant": self.tenant, "of": [it.name, it.x, it.y, it.fuel]}
+        return json.dumps(said).encode() + b"\n"
+
+
+def batch_of(name: str, seed: str, number: int) -> list[Planned]:
+    """The jobs of a batch, which are the same each time."""
+    draws = random.Random(f"{name} {seed} {number}")
+    return [Planned(f"{name}-{number}-{at}", draws.choice(TENANTS), Drawn.by(draws), draws.randrange(3), draws.random() < 0.1)
+            for at in range(draws.choice([1, 1, 1, 5, 30]))]
+
+
+def main(folder: str, name: str, seed: str, rate: str) -> None:
+    """Submits until it is to stop."""
+    path, lines = os.path.join(folder, "queue.sqlite"), pathlib.Path(folder, f"{name}.lines")
+    log = os.open(lines, os.O_CREAT | os.O_APPEND | os.O_WRONLY)
+    written = [json.loads(it) for it in lines.read_text().splitlines(keepends=True) if it.endswith("\n")]
+    first = max((it["batch"] for it in written if "key" in it), default=1)
+    pace = random.Random()
+    for number in itertools.count(max(0, first - 2)):
+        if os.path.exists(os.path.join(folder, "stop")):
+            return
+        batch = batch_of(name, seed, number)
+        while True:
+            try:
+                with Store(path) as queue:
+                    numbers = [it.job for it in queue.submit([one.new() for one in batch])]
+                    break
+            except (sqlite3.Error, QueueError) as fault:
+                print(fault, file=sys.stderr)  # not acknowledged: again, under the same keys
+                time.sleep(0.05)
+        os.write(log, b"".join(one.line(number, job) for one, job in zip(batch, numbers, strict=True)))
+        if pace.random() < 0.05:
+            cancelled = pace.choice(numbers)
+            os.write(log, json.dumps({"cancelled": cancelled}).encode() + b"\n")
+            with Store(path) as queue:
+                queue.cancel(cancelled)
+        time.sleep(pace.expovariate(float(rate)))
+
+
+if __name__ == "__main__":
+    main(*sys.argv[1:])

@@ -1,0 +1,296 @@
+"""Runs the jobs of a queue on hosts. It keeps nothing: what it had begun when it died is run again by another one.
+
+One thread does everything. While a transaction is written, hosts go on with the jobs that they have, and all outcomes
+that have come by its end go into the next one, which also claims the next jobs. """
+import logging
+import os
+import selectors
+import socket
+import sqlite3
+import time
+from collections import Counter
+from collections.abc import Sequence
+from dataclasses import dataclass, field
+
+from arena.pool.task import Ended, Lost, Never, NotRun, Result, Task
+from arena.pool.task import Settings as HostSettings
+from arena.prepared import Prepared
+from arena.queue import policy
+from arena.queue.model import SECOND, Claim, Ending, GiveBack, LeaseLost, Turn, Wants, now
+from arena.queue.post import Held, Post
+from arena.queue.turns import Turns
+from arena.queue.wake import Waker
+from arena.replies import UnknownTenant
+
+LOG = logging.getLogger("arena.queue")
+
+FIRST_PAUSE, LONGEST_PAUSE = 0.05, 2.0
+"""How many seconds pass before the queue's file is opened again that could not be read or written."""
+
+PROGRAMS = 10_000
+"""How many programs are kept in mind."""
+
+UNKNOWN_DELAY = 1.0
+"""How many seconds a job waits whose host does not know its tenant."""
+
+
+@dataclass(frozen=True, slots=True)
+class Settings:
+    """How a dispatcher works. Times are in seconds."""
+
+    hosts: HostSettings = field(default_factory=lambda: HostSettings(retire=True))
+    lease: float = 10.0
+    """How long its jobs are left to it if it is silent."""
+    look: float = 1.0
+    """How often the queue is looked at if nothing wakes the dispatcher."""
+    purge: float = 10.0
+    """How often jobs are removed that are kept no longer."""
+    patience: float = 30.0
+    """How long jobs that are under way have to end, once the dispatcher is to stop."""
+
+
+@dataclass(frozen=True, slots=True)
+class Kept:
+    """A program that is kept in mind."""
+
+    prepared: Prepared
+    is_serial: bool
+
+
+class Dispatcher:
+    """Runs jobs of the queue at a path on the hosts at some paths, until `stop` is called."""
+
+    def __init__(self, path: str, hosts: Sequence[str], settings: Settings = Settings(), *, synchronous: str = "full") -> None:
+        self.path, self.settings = path, settings
+        self.name = f"{socket.gethostname()}:{os.getpid()}"
+        self.counts: Counter[str] = Counter()
+        self._synchronous = synchronous
+        self._selector = selectors.DefaultSelector()
+        self._posts = [Post(it, settings.hosts, self._selector) for it in dict.fromkeys(hosts)]
+        self._queue: Turns | None = None
+        self._waker: Waker | None = None
+        self._number = 0
+        self._programs: dict[int, Kept] = {}
+        self._under_way: dict[int, int] = {}
+        self._notes: list[Ending | GiveBack] = []
+        self._looks = True
+        self._looked = self._beaten = self._purged = 0.0
+        self._next_at: int | None = None
+        self._stops_at: float | None = None
+
+    def stop(self) -> None:
+        """Takes no more jobs, and ends when those that it has have ended. A signal's handler may call it."""
+        if self._stops_at is None:
+            self._stops_at = time.monotonic() + self.settings.patience
+
+    def run(self) -> None:
+        """Runs jobs until it is stopped. While the queue's file can't be used, it tries again."""
+        pause = FIRST_PAUSE
+        while True:
+            try:
+                queue = self._open()
+                while not self._is_done():
+                    self._step(queue)
+                    pause = FIRST_PAUSE
+                queue.leave(self._number)
+                self._drop()
+                self._close_queue()
+                return
+            except LeaseLost as fault:
+                LOG.warning("%s", fault)
+                self._drop()
+            except sqlite3.Error as fault:
+                LOG.warning("%s: %s; it is tried again", self.path, fault)
+                self._close_queue()
+                time.sleep(pause)
+                pause = min(LONGEST_PAUSE, 2 * pause)
+                if self._stops_at is not None and time.monotonic() > self._stops_at:
+                    return
+
+    def _is_done(self) -> bool:
+        if self._stops_at is None or self._notes:
+            return False
+        return not self._under_way or time.monotonic() > self._stops_at
+
+    # The queue's file.
+
+    def _open(self) -> Turns:
+        if self._queue is None:
+            self._queue = Turns(self.path, self._synchronous)
+            self._waker = self._queue.base.waker("ready")
+            self._selector.register(self._waker, selectors.EVENT_READ, self._woken)
+            self._looks = True
+            if self._number:
+                self._reconcile(self._queue)
+        if not self._number:
+            self._number = self._queue.register(self.name, self.settings.lease)
+            self._beaten = time.monotonic()
+            self._take_hosts(self._queue)
+        return self._queue
+
+    def _woken(self, _: int) -> None:
+        if self._waker is not None:
+            self._waker.drain()
+        self._looks = True
+
+    def _take_hosts(self, queue: Turns) -> None:
+        mine = queue.take_hosts(self._number, [it.name for it in self._posts])
+        for post in self._posts:
+            if post.is_mine != (post.name in mine):
+                post.is_mine = post.name in mine
+                LOG.info("%s is %s", post.name, "taken" if post.is_mine else "another dispatcher's")
+
+    def _reconcile(self, queue: Turns) -> None:
+        """Gives back what was claimed by a transaction whose end was not heard of."""
+        settled = {it.job for it in self._notes}
+        self._notes += [GiveBack(job, attempt, "the queue's file was lost as it was claimed", False)
+                        for job, attempt in queue.running(self._number).items()
+                        if self._under_way.get(job) != attempt and job not in settled]
+
+    def _close_queue(self) -> None:
+        if self._waker is not None:
+            self._selector.unregister(self._waker)
+            self._waker.close()
+        if self._queue is not None:
+            self._queue.close()
+        self._queue = self._waker = None
+
+    def _drop(self) -> None:
+        """Forgets everything: others have the jobs."""
+        for post in self._posts:
+            post.drop()
+        self._under_way.clear()
+        self._notes.clear()
+        self._number, self._looks = 0, True
+
+    # The loop.
+
+    def _step(self, queue: Turns) -> None:
+        for key, mask in self._selector.select(self._timeout(time.monotonic())):
+            key.data(mask)
+        clock = time.monotonic()
+        for post in self._posts:
+            post.attend(clock)
+            for result in post.results():
+                self._take(result)
+        if self._is_due(clock):
+            self._turn(queue, clock)
+        if clock >= self._purged + self.settings.purge:
+            self._purge(queue, clock)
+
+    def _timeout(self, clock: float) -> float:
+        if self._notes:
+            return 0.0
+        has_room = bool(self._wants(clock))
+        if self._looks and has_room:
+            return 0.0
+        times = [self._beaten + self.settings.lease / 3, self._looked + self.settings.look]
+        if self._next_at is not None and has_room:
+            times.append(clock + (self._next_at - now()) / SECOND)
+        times += [it for it in (post.next_at(clock) for post in self._posts) if it is not None]
+        if self._stops_at is not None:
+            times.append(self._stops_at)
+        return max(0.0, min(times) - clock)
+
+    def _is_due(self, clock: float) -> bool:
+        if self._notes or clock >= self._beaten + self.settings.lease / 3:
+            return True
+        is_next = self._next_at is not None and now() >= self._next_at
+        return (self._looks or is_next or clock >= self._looked + self.settings.look) and bool(self._wants(clock))
+
+    def _turn(self, queue: Turns, clock: float) -> None:
+        """A transaction with what has come, and what comes of it."""
+        beats = clock >= self._beaten + self.settings.lease / 3
+        wants, notes = self._wants(clock), self._notes[:]
+        endings = [it for it in notes if isinstance(it, Ending)]
+        backs = [it for it in notes if isinstance(it, GiveBack)]
+        turn = queue.turn(self._number, endings, backs, wants, self.settings.lease if beats else None)
+        del self._notes[:len(notes)]
+        for it in notes:
+            self._under_way.pop(it.job, None)
+        if beats:
+            self._beaten = clock
+            if not all(it.is_mine for it in self._posts):
+                self._take_hosts(queue)
+        if wants:
+            self._looks, self._looked, self._next_at = turn.has_more, clock, turn.next_at
+        self.counts.update(turns=1, ended=len(endings), given_back=len(backs), refused=len(turn.refused),
+                           claimed=sum(map(len, turn.claims.values())))
+        self._follow(queue, turn, clock)
+
+    def _follow(self, queue: Turns, turn: Turn, clock: float) -> None:
+        """Runs what a turn has claimed, and cancels."""
+        for tenant, claims in turn.claims.items():
+            self._spread(tenant, [self._task(queue, it) for it in claims], clock)
+        if turn.cancels:
+            self._cancel(set(turn.cancels))
+
+    def _purge(self, queue: Turns, clock: float) -> None:
+        gone = queue.purge_by_settings()
+        self.counts.update(purged=gone)
+        if gone < 1000:  # else there is more, which waits for the next step
+            self._purged = clock
+
+    # Jobs.
+
+    def _wants(self, clock: float) -> Wants:
+        """How many jobs of each tenant there is room for, and of how many others."""
+        if self._stops_at is not None:
+            return Wants()
+        each: Counter[str] = Counter()
+        others = 0
+        for post in self._posts:
+            for tenant in post.desks:
+                each[tenant] += post.room(tenant, clock)
+            others += post.new_desks if post.host.is_ready(clock) else 0
+        return Wants(each, self.settings.hosts.window if others else 0, others)
+
+    def _task(self, queue: Turns, claim: Claim) -> Task[Held]:
+        kept = self._kept(queue, claim.program)
+        self._under_way[claim.job] = claim.attempt
+        return Task(Held(claim, kept.is_serial), kept.prepared.submit((claim.x, claim.y), claim.fuel), policy.runs_alone(claim))
+
+    def _kept(self, queue: Turns, number: int) -> Kept:
+        if number not in self._programs:
+            if len(self._programs) >= PROGRAMS:
+                self._programs.clear()
+            procs, is_serial = queue.program(number)
+            self._programs[number] = Kept(Prepared.of_text(procs), is_serial)
+        return self._programs[number]
+
+    def _spread(self, tenant: str, tasks: list[Task[Held]], clock: float) -> None:
+        """Gives claimed jobs to the hosts that have least to do."""
+        def load(post: Post) -> int:
+            """How much a host has to do for the tenant."""
+            return post.desks[tenant].load if tenant in post.desks else 0
+
+        for post in sorted(self._posts, key=load):
+            room = post.room(tenant, clock)
+            if tasks and room:
+                post.desk(tenant).feed(tasks[:room], clock)
+                tasks = tasks[room:]
+        self._notes += [policy.not_run(it.tag.claim, "no host has room", 0.01) for it in tasks]
+
+    def _cancel(self, jobs: set[int]) -> None:
+        for post in self._posts:
+            for desk in post.desks.values():
+                for task in desk.tasks():
+                    if task.tag.claim.job in jobs:
+                        desk.cancel(task)
+
+    def _take(self, result: Result[Held]) -> None:
+        """Notes what became of a job, for the next turn."""
+        claim = result.task.tag.claim
+        match result:
+            case Ended(_, outcome):
+                self._notes.append(policy.ended(claim, result.task.tag.is_serial, outcome))
+            case NotRun(_, why, fault):
+                self.counts[f"not run: {why}"] += 1
+                is_unknown = isinstance(fault, UnknownTenant)
+                self._notes.append(policy.not_run(claim, "its host does not know the tenant" if is_unknown else why,
+                                                  UNKNOWN_DELAY if is_unknown else 0.0))
+            case Lost(_, why):
+                self.counts["lost"] += 1
+                self._notes.append(policy.lost(claim, why))
+            case Never(_, refused):
+                self._notes.append(policy.never(claim, str(refused)))

@@ -1,0 +1,325 @@
+"""The queue's promises, by its file alone: keys, order, leases and their fence, losses, cancels, what is kept and counted."""
+import os
+import sqlite3
+import tempfile
+import threading
+import time
+import unittest
+
+from arena.queue import Keeping, KeyTaken, NewJob, NoProgram, Parts, Program, QueueError, State, UnknownQueueJob
+from arena.queue.database import Database
+from arena.queue.model import SECOND, Claim, Ending, GiveBack, LeaseLost, Turn, Wants, now
+from arena.queue.turns import Turns
+
+ONE, TWO = Program.of([[["ret", 0]]]), Program.of([[["add", 2, 0, 1], ["ret", 2]]])
+CELL = Program.of([[["store", 0, 0], ["ret", 0]]])
+ANY = Wants({}, 10, 10)
+SOON = 10.0
+
+
+class WithQueue(unittest.TestCase):
+    """Each test has a queue of its own."""
+
+    def setUp(self) -> None:
+        self.folder = self.enterContext(tempfile.TemporaryDirectory())
+        self.path = os.path.join(self.folder, "queue.sqlite")
+        self.queue = self.enterContext(Turns(self.path, "off", make=True))
+
+    def submit(self, *jobs: NewJob) -> list[int]:
+        """The numbers of submitted jobs."""
+        return [it.job for it in self.queue.submit(jobs)]
+
+    def claim(self, dispatcher: int, wants: Wants = ANY) -> list[Claim]:
+        """The jobs that a dispatcher claims."""
+        return [it for claims in self.queue.turn(dispatcher, wants=wants).claims.values() for it in claims]
+
+    def end(self, dispatcher: int, *endings: Ending) -> Turn:
+        """Records outcomes."""
+        return self.queue.turn(dispatcher, endings)
+
+    def state(self, job: int) -> State:
+        """How far a job is."""
+        return self.queue.job(job).state
+
+
+class Submitting(WithQueue):
+    """What is submitted."""
+
+    def test_keys(self) -> None:
+        first, = self.submit(NewJob("acme", ONE, (1, 0), key="k"))
+        self.assertEqual(self.queue.submit([NewJob("acme", ONE, (1, 0), key="k")]), [(first, False)])
+        again, other, same = self.queue.submit([NewJob("acme", ONE, (1, 0), key="k"), NewJob("beta", TWO, key="k"),
+                                                NewJob("beta", TWO, key="k")])
+        self.assertEqual((again, other.made, same), ((first, False), True, (other.job, False)))
+        self.assertEqual(self.queue.of_key("beta", "k").job, other.job)
+        with self.assertRaises(UnknownQueueJob):
+            self.queue.of_key("gamma", "k")
+
+    def test_a_refused_batch_leaves_nothing(self) -> None:
+        self.submit(NewJob("acme", ONE, (1, 0), key="k"))
+        for other in (NewJob("acme", ONE, (2, 0), key="k"), NewJob("acme", TWO, (1, 0), key="k"),
+                      NewJob("acme", ONE, (1, 0), fuel=7, key="k")):
+            with self.assertRaises(KeyTaken):
+                self.submit(NewJob("acme", ONE), other)
+        self.assertEqual(len(self.queue.listed()), 1)
+
+    def test_what_is_out_of_range(self) -> None:
+        for more in ({"tenant": ""}, {"key": ""}, {"key": "k" * 201}, {"priority": 1001}, {"most_failures": 0}):
+            with self.assertRaises(QueueError):
+                NewJob(**{"tenant": "acme", "program": ONE, **more})  # type: ignore[arg-type]
+        for job in ({"args": [0, 0], "fuel": 0, "procs": [[["ret", 0]]]}, {"args": [0], "fuel": 1, "procs": [[["ret", 0]]]},
+                    {"args": [0, 2**63], "fuel": 1, "procs": [[["ret", 0]]]}, {"args": [0, 0], "fuel": 1, "procs": []},
+                    {"args": [0, 0], "fuel": 1, "procs": [[["spawn", 3, 15, 7, 7]] * 255 + [["ret", 0]]] * 16}):
+            with self.assertRaises(NoProgram):
+                Parts.of(job)
+
+    def test_programs_are_kept_once(self) -> None:
+        self.submit(*(NewJob("acme", ONE, (n, 0)) for n in range(10)), NewJob("acme", TWO))
+        self.assertEqual(self.queue.base.rows("SELECT count(*) FROM program"), [(2,)])
+        self.assertEqual(self.queue.purge_programs(), 0)
+        self.queue.base.change("DELETE FROM job WHERE program = (SELECT max(id) FROM program)")
+        self.assertEqual(self.queue.purge_programs(), 1)
+
+    def test_files_that_are_no_queue(self) -> None:
+        with self.assertRaises(QueueError):
+            Turns(os.path.join(self.folder, "none"))
+        with open(os.path.join(self.folder, "text"), "w") as it:
+            it.write("this is a text, and no file of SQLite. " * 100)
+        with self.assertRaises(QueueError):
+            Turns(it.name)
+        self.queue.base.change("PRAGMA user_version = 99")
+        with self.assertRaises(QueueError) as fault:
+            Turns(self.path)
+        self.assertIn("older", str(fault.exception))
+
+
+class Claiming(WithQueue):
+    """What is run when."""
+
+    def test_order(self) -> None:
+        low, high, later = self.submit(NewJob("acme", ONE), NewJob("acme", ONE, priority=5),
+                                       NewJob("acme", ONE, run_at=now() + SECOND // 3))
+        me = self.queue.register("me", SOON)
+        self.assertEqual([it.job for it in self.claim(me)], [high, low])
+        turn = self.queue.turn(me, wants=ANY)
+        self.assertEqual(turn.claims, {})
+        assert turn.next_at is not None
+        time.sleep(max(0, turn.next_at - now()) / SECOND)
+        self.assertEqual([it.job for it in self.claim(me)], [later])
+
+    def test_each_tenant_has_its_share(self) -> None:
+        self.submit(*(NewJob(name, ONE) for name in ("acme", "beta", "gamma") for _ in range(20)))
+        turn = self.queue.turn(self.queue.register("me", SOON), wants=Wants({"beta": 3, "gamma": 0}, 7, 1))
+        self.assertEqual({name: len(it) for name, it in turn.claims.items()}, {"acme": 7, "beta": 3})
+        self.assertTrue(turn.has_more)
+
+    def test_one_dispatcher_for_a_host(self) -> None:
+        one, two = self.queue.register("one", SOON), self.queue.register("two", SOON)
+        self.assertEqual(self.queue.take_hosts(one, ["a", "b"]), {"a", "b"})
+        self.assertEqual(self.queue.take_hosts(two, ["b", "c"]), {"c"})
+        self.queue.leave(one)
+        self.assertEqual(self.queue.take_hosts(two, ["b", "c"]), {"b", "c"})
+
+
+class Ends(WithQueue):
+    """Outcomes, and attempts without one."""
+
+    def test_the_first_outcome_stands(self) -> None:
+        job, = self.submit(NewJob("acme", ONE))
+        late = self.queue.register("late", 0.01)
+        old, = self.claim(late)
+        time.sleep(0.02)
+        quick = self.queue.register("quick", SOON)
+        self.queue.turn(quick, lease=SOON)  # takes leases away that have run out
+        self.assertEqual((self.state(job), self.queue.job(job).failures), (State.SCHEDULED, 1))
+        with self.assertRaises(LeaseLost):
+            self.end(late, Ending(job, old.attempt, State.COMPLETE, 1))
+        while not (new := self.claim(quick)):
+            time.sleep(0.01)
+        self.assertEqual((new[0].job, new[0].attempt), (job, 2))
+        self.assertEqual(self.end(quick, Ending(job, 1, State.COMPLETE, 1)).refused, [job], "an attempt that is over")
+        self.assertEqual(self.end(quick, Ending(job, 2, State.COMPLETE, 2)).refused, [])
+        self.assertEqual(self.end(quick, Ending(job, 2, State.COMPLETE, 3)).refused, [job])
+        self.assertEqual(self.queue.job(job).value, 2)
+
+    def test_refused_outcomes_spoil_no_others(self) -> None:
+        one, two = self.submit(NewJob("acme", ONE), NewJob("acme", ONE))
+        me = self.queue.register("me", SOON)
+        self.claim(me)
+        turn = self.end(me, Ending(one, 9, State.COMPLETE, 1), Ending(two, 1, State.FAULT, fault=2))
+        self.assertEqual((turn.refused, self.state(one), self.queue.job(two).fault), ([one], State.RUNNING, 2))
+
+    def test_a_lease_of_another_start_of_the_machine(self) -> None:
+        job, = self.submit(NewJob("acme", ONE))
+        self.claim(self.queue.register("before", 1000.0))
+        self.queue.base.change("UPDATE dispatcher SET boot = 'another'")
+        self.queue.turn(self.queue.register("me", SOON), lease=SOON)
+        self.assertEqual(self.state(job), State.SCHEDULED)
+
+    def test_dead(self) -> None:
+        job, = self.submit(NewJob("acme", ONE, most_failures=2))
+        me = self.queue.register("me", SOON)
+        for attempt, (counts, wanted) in enumerate(((False, State.SCHEDULED), (True, State.SCHEDULED), (True, State.DEAD)), 1):
+            it, = self.claim(me)
+            self.assertEqual(it.attempt, attempt)
+            self.queue.turn(me, backs=[GiveBack(job, attempt, "lost", counts)])
+            self.assertEqual(self.state(job), wanted)
+        self.assertEqual([it.job for it in self.queue.listed(state=State.DEAD)], [job])
+        self.assertEqual(self.queue.retry(job), State.READY)
+        it, = self.claim(me)
+        self.assertEqual(it.failures, 0)
+        self.end(me, Ending(job, it.attempt, State.COMPLETE, 7))
+        with self.assertRaises(QueueError):
+            self.queue.retry(job)
+        self.assertEqual([it.what for it in self.queue.events(job)], ["given back", "given back", "dead", "to be run again"])
+
+    def test_a_give_back_says_how_to_go_on(self) -> None:
+        job, = self.submit(NewJob("acme", ONE))
+        me = self.queue.register("me", SOON)
+        self.claim(me)
+        self.queue.turn(me, backs=[GiveBack(job, 1, "fault 4", False, alone=True)])
+        it, = self.claim(me)
+        self.assertEqual((it.alone, it.failures), (1, 0))
+        self.queue.turn(me, backs=[GiveBack(job, 2, "lost", True, 1000 * SECOND)])
+        self.assertEqual(self.claim(me), [])
+
+    def test_cancel(self) -> None:
+        one, two = self.submit(NewJob("acme", ONE), NewJob("acme", ONE))
+        me = self.queue.register("me", SOON)
+        it, = self.claim(me, Wants({"acme": 1}, 0, 0))
+        self.assertEqual((self.queue.cancel(one), self.queue.cancel(two)), (State.RUNNING, State.CANCELED))
+        self.assertEqual(self.queue.turn(me, lease=SOON).cancels, [one])
+        self.queue.turn(me, backs=[GiveBack(one, it.attempt, "no room", False)])
+        self.assertEqual(self.state(one), State.CANCELED, "given back, and not run again")
+        with self.assertRaises(UnknownQueueJob):
+            self.queue.cancel(one, tenant="beta")
+
+    def test_wait(self) -> None:
+        job, = self.submit(NewJob("acme", ONE))
+        self.assertEqual(self.queue.wait([job], 0)[0].state, State.READY)
+
+        def end() -> None:
+            """Ends the job by another connection."""
+            with Turns(self.path, "off") as other:
+                me = other.register("me", SOON)
+                other.turn(me, wants=ANY)
+                other.turn(me, [Ending(job, 1, State.FAULT, fault=2)])
+        thread = threading.Thread(target=end)
+        thread.start()
+        self.assertEqual(self.queue.wait([job], SOON)[0].fault, 2)
+        thread.join()
+
+    def test_what_is_not_committed_is_undone(self) -> None:
+        with self.assertRaises(sqlite3.IntegrityError), self.queue.base.transaction():
+            self.queue.base.change("INSERT INTO setting VALUES ('a', 1)")
+            self.queue.base.change("INSERT INTO setting VALUES ('a', 1)")
+        self.assertEqual(len(self.submit(NewJob("acme", ONE))), 1)
+        self.assertEqual(self.queue.base.rows("SELECT 1 FROM setting WHERE name = 'a'"), [])
+
+
+class Keeps(WithQueue):
+    """What is kept, reused and counted."""
+
+    def ended(self, count: int) -> list[int]:
+        """Jobs that have ended, in their order."""
+        jobs = self.submit(*(NewJob("acme", ONE) for _ in range(count)))
+        me = self.queue.register("me", SOON)
+        for it in self.claim(me, Wants({}, count, 1)):
+            self.end(me, Ending(it.job, it.attempt, State.COMPLETE, 1))
+        return jobs
+
+    def test_purge(self) -> None:
+        one, two = self.ended(2)
+        self.queue.note(one, "a note")
+        self.assertEqual((self.queue.purge(100), self.queue.purge(0, [State.DEAD]), self.queue.purge(0, limit=1)), (0, 0, 1))
+        with self.assertRaises(UnknownQueueJob):
+            self.queue.job(one)
+        self.assertEqual((self.queue.events(one), self.state(two)), ([], State.COMPLETE))
+
+    def test_settings(self) -> None:
+        self.assertEqual(self.queue.keeping(), Keeping(7 * 24 * 3600, 1_000_000))
+        jobs = [*self.ended(5), *self.submit(NewJob("acme", ONE))]
+        self.queue.set_keeping(Keeping(None, 3))
+        self.assertEqual((self.queue.purge_by_settings(), self.queue.purge_by_settings()), (2, 0))
+        self.assertEqual([it.job for it in self.queue.listed()], jobs[:1:-1], "the newest stay, and what has not ended")
+        self.queue.set_keeping(Keeping(0, None))
+        self.assertEqual((self.queue.purge_by_settings(), len(self.queue.listed())), (3, 1))
+
+    def test_counts_without_counting(self) -> None:
+        self.ended(3)
+        job, _, other = self.submit(NewJob("acme", ONE), NewJob("acme", ONE), NewJob("beta", ONE, run_at=now() + SOON * SECOND))
+        self.queue.submit([NewJob("acme", ONE, key="k"), NewJob("acme", ONE, key="k")])
+        self.queue.cancel(job)
+        self.queue.purge(0, [State.CANCELED])
+        counted = {(tenant, state): count for tenant, state, count in self.queue.base.rows(
+            "SELECT tenant, state, count(*) FROM job GROUP BY tenant, state")}
+        stats = self.queue.stats()
+        self.assertEqual({(tenant, state): count for tenant, counts in stats["tenants"].items()
+                          for state, count in counts.items()}, counted)
+        self.assertEqual(counted, {("acme", "complete"): 3, ("acme", "ready"): 2, ("beta", "scheduled"): 1})
+        self.assertEqual((stats["ended_last_minute"], [it["name"] for it in stats["dispatchers"]]), (3, ["me"]))
+        self.assertEqual(self.queue.stats("beta")["tenants"], {"beta": {"scheduled": 1}})
+
+    def test_values_are_reused_if_that_is_wanted(self) -> None:
+        def run(job: NewJob, value: int) -> tuple[State, int | None]:
+            """Submits a job, and runs it if it is not complete at once; what it has at the submission."""
+            it = self.queue.job(self.submit(job)[0])
+            for claim in self.claim(me):
+                self.end(me, Ending(claim.job, claim.attempt, State.COMPLETE, value))
+            return it.state, it.value
+        me, new = self.queue.register("me", SOON), (State.READY, None)
+        self.assertEqual([run(NewJob("acme", TWO, (1, 2)), 3) for _ in range(2)], [new, new])
+        self.queue.set_reuse("acme", True)
+        self.assertEqual(run(NewJob("acme", TWO, (1, 2), 100), 3), new, "what was submitted before is not reused")
+        self.assertEqual(run(NewJob("acme", TWO, (1, 2), 100), 4), (State.COMPLETE, 3))
+        self.assertEqual(run(NewJob("acme", TWO, (1, 2), 200), 4), (State.COMPLETE, 3), "more fuel")
+        self.assertEqual(run(NewJob("acme", TWO, (1, 2), 99), 3), new, "less fuel")
+        self.assertEqual(run(NewJob("acme", TWO, (2, 1), 100), 3), new, "other arguments")
+        self.assertEqual(run(NewJob("beta", TWO, (1, 2), 100), 3), new, "another tenant")
+        self.assertEqual([run(NewJob("acme", CELL, (1, 2)), 5) for _ in range(2)], [new, new], "not serial")
+        self.queue.set_reuse("acme", False)
+        self.assertEqual(run(NewJob("acme", TWO, (1, 2), 100), 3), new)
+
+    def test_lists_have_pages(self) -> None:
+        jobs = self.submit(*(NewJob("acme", ONE) for _ in range(5)), NewJob("beta", ONE))
+        self.assertEqual([it.job for it in self.queue.listed("acme", limit=2)], jobs[4:2:-1])
+        self.assertEqual([it.job for it in self.queue.listed("acme", before=jobs[3], limit=9)], jobs[2::-1])
+        self.assertEqual(self.queue.listed(limit=-5), [])
+
+    def test_queries_use_their_indexes(self) -> None:
+        for sql, index in (("SELECT min(run_at) FROM job WHERE state = 'ready'", "job_oldest"),
+                           ("SELECT min(run_at) FROM job WHERE state = 'scheduled'", "job_scheduled"),
+                           ("SELECT id FROM job WHERE state = 'ready' AND tenant = 'a' ORDER BY priority DESC, id LIMIT 9",
+                            "job_ready"),
+                           ("SELECT id FROM job WHERE ended_at IS NOT NULL ORDER BY ended_at LIMIT 9", "job_ended"),
+                           ("SELECT id FROM job j WHERE j.state = 'dead' ORDER BY j.id DESC LIMIT 9", "job_dead"),
+                           ("SELECT id FROM job WHERE tenant = 'a' AND program = 1 AND x = 1 AND y = 1 AND state = 'complete' "
+                            "AND reuse = 1 AND fuel <= 9 LIMIT 1", "job_value")):
+            plan = " ".join(it[3] for it in self.queue.base.rows(f"EXPLAIN QUERY PLAN {sql}"))
+            self.assertIn(f"INDEX {index}", plan)
+            self.assertNotIn("TEMP B-TREE", plan)
+
+
+class Waking(WithQueue):
+    """Those who wait learn at once what was committed."""
+
+    def test_wakers(self) -> None:
+        with self.queue.base.waker("ready") as ready, self.queue.base.waker("ended") as ended, Database(self.path) as other:
+            with other.transaction():
+                other.wake("ready")
+                ready.wait(0)
+            ready.wait(SOON)
+            began = time.monotonic()
+            ended.wait(0.05)
+            self.assertGreater(time.monotonic() - began, 0.04, "another topic")
+
+    def test_sockets_of_the_dead_are_removed(self) -> None:
+        dead = self.queue.base.waker("ready")
+        dead._socket.close()
+        with self.queue.base.transaction():
+            self.queue.base.wake("ready")
+        self.assertFalse(os.path.exists(dead.path))
+
+
+if __name__ == "__main__":
+    unittest.main()
