@@ -1,6 +1,9 @@
 """The dispatcher: each job of a queue has its outcome, whatever becomes of hosts, dispatchers and the queue's file."""
+import contextlib
+import io
 import logging
 import os
+import re
 import sqlite3
 import tempfile
 import threading
@@ -75,6 +78,15 @@ class Runs(WithDispatcher):
         self.assertEqual(self.values(mine), [n * n for n in range(300)])
         self.assertEqual(self.values(theirs), [n * n for n in range(50)])
         self.assertEqual((self.host.met["submit"], self.host.tenants["acme"].jobs), (350, {}))
+
+    def test_the_page(self) -> None:
+        with open(os.path.join(os.path.dirname(__file__), "..", "..", "docs", "QUEUE.md")) as it:
+            code, wanted = re.findall(r"```python\n(.*?)```\n+```text\n(.*?)```", it.read(), re.S)[0]
+        self.run_dispatcher()
+        out = io.StringIO()
+        with contextlib.redirect_stdout(out):
+            exec(code.replace("/var/lib/arena/queue.sqlite", self.path), {})
+        self.assertEqual(out.getvalue(), wanted)
 
     def test_what_is_submitted_later(self) -> None:
         self.run_dispatcher()

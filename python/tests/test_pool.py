@@ -1,12 +1,19 @@
 """The pool: jobs have their outcomes whatever becomes of hosts and connections, or it is said what to do."""
 import asyncio
 import concurrent.futures
+import json
 import logging
+import socket
 import time
 import unittest
 
+from arena.places import MadeSocket
 from arena.pool import AsyncPool, Final, Pool, Settings, TryAgain
-from arena.replies import BadProgram, Complete, Fault, FaultCode, TimedOut, UnknownTenant
+from arena.pool.lane import Lane, Op
+from arena.pool.task import Task
+from arena.prepared import Prepared
+from arena.replies import (BadProgram, Canceled, Complete, ConnectionLost, Fault, FaultCode, StrangeReply, TimedOut,
+                           UnknownTenant)
 from tests.standin import StandIn
 
 SQUARE = [[["mul", 2, 0, 0], ["ret", 2]]]
@@ -136,6 +143,51 @@ class Again(WithHost):
             self.pool(patience=0.3).run(job(3), timeout=SOON)
         self.assertIs(fault.exception.done, False)
         self.assertEqual(self.host.met["retire"], 0)
+
+
+class Lanes(unittest.TestCase):
+    """A connection, whose other end the test has."""
+
+    def setUp(self) -> None:
+        mine, self.other = socket.socketpair()
+        self.lane: Lane[int] = Lane(MadeSocket(mine), "acme", SOON)
+        self.addCleanup(self.lane.close)
+        self.tasks = [Task(n, Prepared(SQUARE).submit((n, 0), 100)) for n in range(3)]
+        for it in self.tasks:
+            self.lane.feed(it)
+        self.lane.flush()
+
+    def test_what_came_before_the_end_is_taken(self) -> None:
+        self.other.sendall(b'{"tenant":"acme"}\n{"job":1}\n')
+        self.assertEqual([it.op for it in self.lane.read()], [Op.HELLO])
+        self.lane.flush()
+        self.other.sendall(b'{"job":2}\n{"code":7,"error":"job_limit"}\n{"job":1,"status":"complete","value":0}\n')
+        self.other.close()
+        answers = self.lane.read()
+        self.assertEqual([it.task for it in answers], [self.tasks[2], self.tasks[0]])
+        self.assertEqual(answers[1].said, Complete(0, 1))
+        self.assertEqual(self.lane.under_way, [self.tasks[1]])
+        with self.assertRaises(ConnectionLost):
+            self.lane.flush()
+
+    def test_a_cancel_overtakes_a_collect_that_is_not_sent(self) -> None:
+        self.lane.cancel(self.tasks[1])
+        self.other.sendall(b'{"tenant":"acme"}\n{"job":1}\n{"job":2}\n{"job":3}\n')
+        self.lane.read()
+        self.lane.flush()
+        asked = [json.loads(it) for it in self.other.recv(9999).splitlines()]
+        self.assertEqual([(it["op"], it.get("job")) for it in asked[-4:]],
+                         [("collect", 1), ("cancel", 2), ("collect", 2), ("collect", 3)])
+        self.other.sendall(b'{"job":1,"status":"complete","value":0}\n{"first":true,"job":2}\n{"job":2,"status":"canceled"}\n')
+        self.assertEqual([it.said for it in self.lane.read()], [Complete(0, 1), Canceled(2)])
+        self.other.close()
+
+    def test_strange_replies_leave_all_under_way(self) -> None:
+        self.other.sendall(b'{"tenant":"acme"}\n{"job":1}\n{"job":"two"}\n')
+        with self.assertRaises(StrangeReply):
+            self.lane.read()
+        self.assertEqual(self.lane.under_way, self.tasks)
+        self.other.close()
 
 
 class Refusals(WithHost):

@@ -110,8 +110,8 @@ class Lane(Generic[Tag]):
             self._client.flush()
 
     def read(self) -> list[Answer[Tag]]:
-        """Takes the replies that have come, and asks for the outcomes of jobs whose numbers are among them. Raises
-        ConnectionLost, StrangeReply."""
+        """Takes the replies that have come, and asks for the outcomes of jobs whose numbers are among them; `flush` sends that.
+        Raises ConnectionLost, StrangeReply, and then it has taken none."""
         answers = []
         for reply in self._client.replies():
             asked = self._asked.popleft()
@@ -135,7 +135,6 @@ class Lane(Generic[Tag]):
                 self._ask(Op.CANCEL, requests.cancel(number), task)
             self._ask(Op.COLLECT, requests.collect(number, release=True), task)
             self._collecting += 1
-        self.flush()
 
     def close(self) -> None:
         """Ends the connection."""
