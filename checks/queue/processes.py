@@ -38,7 +38,8 @@ class Process:
     def start(self) -> None:
         """Starts it."""
         with open(self._folder / f"{self.name}.out", "ab") as out:
-            self._running = subprocess.Popen(self._words, stdout=out, stderr=out, env=self._environment, start_new_session=True)
+            self._running = subprocess.Popen(self._words, stdout=out, stderr=out, env=self._environment, cwd=self._folder,
+                                             start_new_session=True)
 
     def signal(self, number: int) -> None:
         """Sends a signal, if it runs."""
@@ -91,7 +92,7 @@ class Place:
     def arena(self, *words: object, status: int = 0, text: str = "") -> str:
         """What the command prints that ends with a status."""
         done = subprocess.run([sys.executable, "-m", "arena", *(str(it) for it in words)], input=text, capture_output=True,
-                              text=True, timeout=PATIENCE, env={**os.environ, "PYTHONPATH": places.PACKAGE,
+                              text=True, timeout=PATIENCE, cwd=self.folder, env={**os.environ, "PYTHONPATH": places.PACKAGE,
                                                                 "ARENA_QUEUE": str(self.queue), "ARENA_TENANT": "acme"})
         assert done.returncode == status, (words, done)
         return done.stdout

@@ -1,7 +1,6 @@
 """Requests for jobs of one program, whose procedures are encoded once and not for each job."""
 import json
 from collections.abc import Sequence
-from dataclasses import replace
 
 from arena import requests
 from arena.replies import Outcome
@@ -36,8 +35,8 @@ class Prepared:
 
     def submit(self, args: tuple[int, int] = (0, 0), fuel: int = 1_000_000) -> Request[int]:
         """The request that submits the job."""
-        return replace(self._submit, line=self.line("submit", args, fuel), program=None)
+        return Request("submit", self.line("submit", args, fuel), self._submit.read, made=self._submit.made)
 
     def execute(self, args: tuple[int, int] = (0, 0), fuel: int = 1_000_000) -> Request[Outcome]:
         """The request that executes the job."""
-        return replace(self._execute, line=self.line("execute", args, fuel), program=None)
+        return Request("execute", self.line("execute", args, fuel), self._execute.read, made=self._execute.made)

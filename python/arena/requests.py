@@ -2,6 +2,7 @@
 import json
 from collections.abc import Callable, Mapping
 from dataclasses import dataclass, replace
+from functools import partial
 from typing import Any, Generic, Protocol, TypeVar
 
 from arena.replies import (GREATEST_COUNT, REFUSALS, BadProgram, Cells, Limits, Outcome, Refused, Status, StrangeReply,
@@ -60,7 +61,7 @@ class Request(Generic[Value]):
         """What the line of a reply says. Raises the `Refused` of an error reply, and StrangeReply for whatever is no
         reply to this request."""
         try:
-            reply = json.loads(line)
+            reply = json.loads(line.decode())
             if "error" in reply:
                 raise self._refusal(*members(reply, "code", "error"))
             return self.read(reply)
@@ -136,13 +137,8 @@ def poll(number: int) -> Request[Status]:
 
 def collect(number: int, release: bool = False) -> Request[Outcome]:
     """A job's outcome, once it has one; with `release` the job is released in the same step."""
-    def read(reply: dict[str, Any]) -> Outcome:
-        """The outcome of this job."""
-        return outcome_of(reply, number)
-
-    if not release:
-        return _asked("collect", read, job=number)
-    return replace(_asked("collect", read, job=number, release=True), releases=True)
+    line = b'{"job":%d,"op":"collect","release":true}\n' if release else b'{"job":%d,"op":"collect"}\n'
+    return Request(f"collect {number}", line % number, partial(outcome_of, asked=number), number, releases=release)
 
 
 def release(number: int) -> Request[None]:
