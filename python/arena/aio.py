@@ -50,8 +50,7 @@ class Client:
 
     def __init__(self, path: str | os.PathLike[str] | Place, tenant: str | None = None, *,
                  timeout: float | None = None) -> None:
-        self._place = place_of(path)
-        self.path, self.tenant, self.timeout = self._place.name, tenant, timeout
+        self._place, self.tenant, self.timeout = place_of(path), tenant, timeout
         self.late_jobs: list[int] = []
         self._waiting: collections.deque[Waiting] = collections.deque()
         self._lost = "not connected; use `async with`, or call connect"
@@ -65,6 +64,15 @@ class Client:
         """A client over a connected socket, which does not speak TLS and is the client's from then on. It can't
         reconnect."""
         return cls(MadeSocket(made), tenant, timeout=timeout)
+
+    @property
+    def path(self) -> str:
+        """The path of the server's socket, or the name of another place. A new one is for the next `reconnect`."""
+        return self._place.name
+
+    @path.setter
+    def path(self, path: str | os.PathLike[str] | Place) -> None:
+        self._place = place_of(path)
 
     async def __aenter__(self) -> Self:
         await self.connect()

@@ -58,10 +58,11 @@ class Client:
     `late` says how many. The server answers in order, so the next call waits for these first, and does so for as long
     as a job that was to be collected runs; `reconnect` gives a connection without them. """
 
+    tenant: str | None
+
     def __init__(self, path: str | os.PathLike[str] | Place, tenant: str | None = None, *,
                  timeout: float | None = None) -> None:
-        self._place = place_of(path)
-        self.path, self.tenant, self.timeout = self._place.name, None, timeout
+        self._place, self.tenant, self.timeout = place_of(path), None, timeout
         self.late_jobs: list[int] = []
         """The numbers of the jobs that were made by a `submit` or `execute` that timed out or was interrupted: they are
         known once a later call has read the late reply."""
@@ -74,6 +75,15 @@ class Client:
         """A client over a connected socket, plain or of the module ssl, which is the client's from then on. It can't
         reconnect."""
         return cls(MadeSocket(made), tenant, timeout=timeout)
+
+    @property
+    def path(self) -> str:
+        """The path of the server's socket, or the name of another place. A new one is for the next `reconnect`."""
+        return self._place.name
+
+    @path.setter
+    def path(self, path: str | os.PathLike[str] | Place) -> None:
+        self._place = place_of(path)
 
     def _connect(self, tenant: str | None) -> None:
         deadline = Deadline(self.timeout)
