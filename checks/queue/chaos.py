@@ -87,10 +87,20 @@ class Chaos:
         (self.place.folder / "stop").touch()
         for it in self.submitters:
             assert it.wait() == 0, it.printed()
-        until(lambda: not self.place.rows("SELECT 1 FROM job WHERE ended_at IS NULL LIMIT 1"), "the last outcome", 2 * PATIENCE)
+        until(self._is_done, "the last outcome", 2 * PATIENCE, lambda: f"{self._left()} {self._printed()}")
         for it in self.dispatchers:
             it.signal(signal.SIGTERM)
             assert it.wait() == 0, it.printed()
+
+    def _is_done(self) -> bool:
+        return not self.place.rows("SELECT 1 FROM job WHERE ended_at IS NULL LIMIT 1")
+
+    def _left(self) -> object:
+        return self.place.rows("SELECT tenant, state, count(*), max(failures), max(alone), min(run_at) - unixepoch() * 1000000 FROM job "
+                               "WHERE ended_at IS NULL GROUP BY tenant, state")
+
+    def _printed(self) -> str:
+        return "\n".join(f"{it.name}: {it.printed()[-1000:]}" for it in self.dispatchers)
 
     def _is_changed(self) -> bool:
         return bool(self.place.rows("SELECT 1 FROM outcome WHERE state = 'changed' LIMIT 1"))

@@ -123,9 +123,9 @@ def place() -> Iterator[Place]:
             made.end()
 
 
-def until(is_so: Callable[[], object], what: str, patience: float = PATIENCE) -> None:
-    """Waits until something is so."""
+def until(is_so: Callable[[], object], what: str, patience: float = PATIENCE, why: Callable[[], str] = str) -> None:
+    """Waits until something is so; `why` is what is known if it is not."""
     deadline = time.monotonic() + patience
     while not is_so():
-        assert time.monotonic() < deadline, f"not within {patience:g} s: {what}"
+        assert time.monotonic() < deadline, f"not within {patience:g} s: {what}: {why()}"
         time.sleep(0.02)

@@ -16,10 +16,12 @@ from dataclasses import dataclass
 
 from jobs import PROGRAMS, Drawn
 
-from arena.queue import NewJob, QueueError, Store
+from arena.queue import NewJob, QueueError, State, Store
 from arena.queue.model import SECOND, now
 
 TENANTS = ("acme", "beta", "gamma")
+MOST_READY = 200
+"""How many jobs wait at most before a submitter waits for them."""
 
 
 @dataclass(frozen=True, slots=True)
@@ -52,6 +54,12 @@ def batch_of(name: str, seed: str, number: int) -> list[Planned]:
             for at in range(draws.choice([1, 1, 1, 5, 30]))]
 
 
+def is_behind(path: str) -> bool:
+    """Whether enough jobs wait, so that no more should come."""
+    with Store(path) as queue:
+        return queue.counts(State.READY) > MOST_READY
+
+
 def main(folder: str, name: str, seed: str, rate: str) -> None:
     """Submits until it is to stop."""
     path, lines = os.path.join(folder, "queue.sqlite"), pathlib.Path(folder, f"{name}.lines")
@@ -78,6 +86,8 @@ def main(folder: str, name: str, seed: str, rate: str) -> None:
             with Store(path) as queue:
                 queue.cancel(cancelled)
         time.sleep(pace.expovariate(float(rate)))
+        while is_behind(path) and not os.path.exists(os.path.join(folder, "stop")):
+            time.sleep(0.1)
 
 
 if __name__ == "__main__":
