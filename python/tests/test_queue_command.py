@@ -102,6 +102,14 @@ class Commands(unittest.TestCase):
             self.assertEqual((status, "no job has the number 1" in err), (12, True), words)
         self.assertEqual(command("queue", "list", "-q", self.path, "-t", "beta")[:2], (0, ""))
 
+    def test_tokens(self) -> None:
+        _, out, _ = self.run_it("token", "--note", "shop")
+        with Turns(self.path, "off") as queue:
+            self.assertEqual(queue.tenant_of_token(out.strip()), "acme")
+            self.assertIsNone(queue.tenant_of_token("nobody's"))
+            self.assertEqual(self.run_it("token", "--revoke")[:2], (0, "1 token of acme revoked\n"))
+            self.assertIsNone(queue.tenant_of_token(out.strip()))
+
     def test_wrong_words(self) -> None:
         self.assertEqual(command("queue", "stats")[0], 2, "no queue is named")
         self.assertEqual(command("queue", "stats", "-q", os.path.join(self.folder, "none"))[0], 12)

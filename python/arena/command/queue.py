@@ -73,6 +73,18 @@ INNER = (
     Command("stats", "print how many jobs there are, and who runs them",
             "Prints how many jobs of each tenant are in each state, how long the oldest ready one waits, and the dispatchers that "
             "live.", "arena queue stats --json", queueing.stats, (QUEUE,)),
+    Command("token", "make a token with which one may ask over HTTP for a tenant",
+            "Makes a token for a tenant and prints it; the queue keeps only its hash. --revoke makes all tokens of the tenant "
+            "worthless, within 10 seconds where one is in use.", "arena queue token -t acme --note shop", queueing.token,
+            (QUEUE, option("--note", help="what the token is for", default="", metavar="TEXT"),
+             option("--revoke", help="make all tokens of the tenant worthless", action="store_true"))),
+    Command("serve", "serve the queue over HTTP",
+            "Serves the queue over HTTP, for whoever has a token, until SIGTERM or Ctrl-C. It needs aiohttp. It speaks no TLS: put a "
+            "proxy in front where other machines ask.", "arena queue serve --listen 127.0.0.1:9780", queueing.serve,
+            (QUEUE, option("--listen", help="where; 127.0.0.1:9780, unless this says otherwise", default="127.0.0.1:9780",
+                           metavar="ADDRESS:PORT"),
+             option("--rate", help="requests a second for each token; 100, unless this says otherwise", type=float, default=100.0,
+                    metavar="N"))),
 )
 
 COMMANDS = (

@@ -272,3 +272,40 @@ def stats(call: Call) -> int:
     lines += [] if found["dispatchers"] else ["no dispatcher runs"]
     call.output.say("\n".join(lines), found)
     return Status.DONE
+
+
+def token(call: Call) -> int:
+    """Makes a token, or makes all of a tenant worthless."""
+    tenant = call.tenant
+    with store_of(call) as queue:
+        if call.words.revoke:
+            gone = queue.drop_tokens(tenant)
+            call.output.say(f"{counted(gone, 'token')} of {tenant} revoked", {"revoked": gone, "tenant": tenant})
+        else:
+            made = queue.new_token(tenant, call.words.note)
+            call.output.say(made, {"tenant": tenant, "token": made})
+    return Status.DONE
+
+
+def serve(call: Call) -> int:
+    """Serves the queue over HTTP until a signal ends it."""
+    from arena.host.address import Address
+    try:
+        from arena.queue.http.service import serve as serve_http
+    except ImportError as fault:
+        raise WordsFault(f"{fault}: serving needs aiohttp (Debian: apt install python3-aiohttp)") from None
+    try:
+        address = Address.parse(call.words.listen)
+    except ValueError as fault:
+        raise WordsFault(f"--listen {call.words.listen}: ADDRESS:PORT is wanted: {fault}") from None
+    if not call.words.rate > 0:
+        raise WordsFault(f"--rate {call.words.rate:g}: a number above 0 is wanted")
+    store_of(call).close()  # a file that is no queue ends this at once
+    logging.basicConfig(level=logging.INFO, stream=sys.stderr, format="%(asctime)s arena queue: %(message)s")
+
+    def began(port: int) -> None:
+        """Says where."""
+        call.output.say(f"serving at http://{Address(address.host, port)}", {"port": port})
+        sys.stdout.flush()
+    serve_http(path_of(call), address, call.words.rate, began)
+    return Status.DONE

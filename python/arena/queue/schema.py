@@ -66,4 +66,9 @@ STEPS: Sequence[Sequence[str]] = (
         # Tenants that want something of their own.
         "CREATE TABLE tenant (name TEXT PRIMARY KEY, reuse INTEGER NOT NULL) WITHOUT ROWID",
     ),
+    (
+        # Who may ask over HTTP for which tenant, by the hash of a token alone.
+        """CREATE TABLE token (
+            hash TEXT PRIMARY KEY, tenant TEXT NOT NULL, note TEXT NOT NULL, made_at INTEGER NOT NULL) WITHOUT ROWID""",
+    ),
 )

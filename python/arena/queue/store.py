@@ -1,4 +1,6 @@
 """The queue as those who submit see it: jobs are kept, waited for, listed, cancelled and removed."""
+import hashlib
+import secrets
 import time
 from collections.abc import Callable, Iterable, Mapping, Sequence
 from dataclasses import dataclass
@@ -25,6 +27,11 @@ REUSED = """SELECT id, value FROM job WHERE tenant = ? AND program = ? AND x = ?
     AND fuel <= ? LIMIT 1"""
 """A value that a job with no more fuel has had. Each instruction of a serial job is executed under any schedule, so with as
 much fuel or more it completes as well."""
+
+
+def hash_of(token: str) -> str:
+    """What is kept of a token."""
+    return hashlib.sha256(token.encode()).hexdigest()
 
 
 def job_of(row: Row) -> Job:
@@ -79,6 +86,12 @@ class Store:
             if made:
                 self.base.wake("ready")
         return submitted
+
+    def program_of_hash(self, tenant: str, hash: str) -> Program | None:
+        """A program that a job of the tenant has, by its hash."""
+        row = self.base.first("""SELECT hash, procs, serial FROM program p WHERE hash = ? AND EXISTS
+            (SELECT 1 FROM job WHERE tenant = ? AND program = p.id)""", hash, tenant)
+        return None if row is None else Program(row[0], row[1], bool(row[2]))
 
     def _program(self, program: Program) -> int:
         """The number of a program, which is kept if it is new."""
@@ -259,6 +272,26 @@ class Store:
                 self.base.change(f"DELETE FROM event WHERE job IN ({marks(some)})", *some)
                 self.base.change(f"DELETE FROM job WHERE id IN ({marks(some)})", *some)
         return len(jobs)
+
+    # Tokens.
+
+    def new_token(self, tenant: str, note: str = "") -> str:
+        """A token with which one may ask over HTTP for a tenant; only its hash is kept."""
+        token = secrets.token_urlsafe(24)
+        with self.base.transaction():
+            self.base.change("INSERT INTO token (hash, tenant, note, made_at) VALUES (?, ?, ?, arena_now())", hash_of(token),
+                             tenant, note)
+        return token
+
+    def drop_tokens(self, tenant: str) -> int:
+        """Makes all tokens of a tenant worthless; how many there were."""
+        with self.base.transaction():
+            return self.base.change("DELETE FROM token WHERE tenant = ?", tenant)
+
+    def tenant_of_token(self, token: str) -> str | None:
+        """Whose token it is."""
+        row = self.base.first("SELECT tenant FROM token WHERE hash = ?", hash_of(token))
+        return None if row is None else str(row[0])
 
     # Figures.
 
