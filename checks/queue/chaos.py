@@ -12,7 +12,9 @@ from jobs import Drawn
 from processes import HERE, PATIENCE, Place, Process, until
 
 LEASE = 2.0
-HOSTS, DISPATCHERS, SUBMITTERS = 2, 3, 2
+HOSTS, SUBMITTERS = 2, 2
+DISPATCHERS = ((0,), (1,), (0, 1))
+"""Which hosts each dispatcher may have: the last one is there for both."""
 
 KINDS = {"dispatcher": 4, "host": 2, "submitter": 1, "freeze": 4, "freeze host": 1, "rotate": 1}
 """What is done, and how often: a process is killed, or frozen, or a host told to rotate. `dispatcher` and `freeze` are of one that
@@ -57,7 +59,7 @@ class Chaos:
         place.arena("queue", "init", "--keep", 0, "--keep-jobs", 0)
         self._watch()
         self.hosts = [place.host(it) for it in range(HOSTS)]
-        self.dispatchers = [place.dispatcher(it, *range(HOSTS), lease=LEASE) for it in range(DISPATCHERS)]
+        self.dispatchers = [place.dispatcher(number, *its, lease=LEASE) for number, its in enumerate(DISPATCHERS)]
         self.submitters = [place.process(f"submitter{it}", sys.executable, HERE / "submitter.py", place.folder, f"s{it}", seed, rate)
                            for it in range(SUBMITTERS)]
         self.down: list[tuple[float, Process]] = []
@@ -80,7 +82,7 @@ class Chaos:
         while time.monotonic() < end and not (until_changed and self._is_changed()):
             self._bring_back(time.monotonic())
             if time.monotonic() >= next_at:
-                next_at = time.monotonic() + self.draws.uniform(0.1, 1.0)
+                next_at = time.monotonic() + self.draws.uniform(0.2, 1.5)
                 self._harm(self.draws.choices([*kinds], [*kinds.values()])[0])
             time.sleep(0.01)
         self._bring_back(float("inf"))

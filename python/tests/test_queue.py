@@ -131,7 +131,7 @@ class Ends(WithQueue):
         time.sleep(0.02)
         quick = self.queue.register("quick", SOON)
         self.queue.turn(quick, lease=SOON)  # takes leases away that have run out
-        self.assertEqual((self.state(job), self.queue.job(job).failures), (State.SCHEDULED, 1))
+        self.assertEqual((self.state(job), self.queue.job(job).failures), (State.SCHEDULED, 0), "no failure of the job")
         with self.assertRaises(LeaseLost):
             self.end(late, Ending(job, old.attempt, State.COMPLETE, 1))
         while not (new := self.claim(quick)):
@@ -155,6 +155,21 @@ class Ends(WithQueue):
         self.queue.base.change("UPDATE dispatcher SET boot = 'another'")
         self.queue.turn(self.queue.register("me", SOON), lease=SOON)
         self.assertEqual(self.state(job), State.SCHEDULED)
+
+    def test_jobs_of_lost_dispatchers(self) -> None:
+        kept, cancelled = self.submit(NewJob("acme", ONE, most_failures=1), NewJob("acme", ONE))
+        delays = []
+        for _ in range(5):
+            with self.queue.base.transaction():
+                self.queue.base.change("UPDATE job SET state = 'ready' WHERE state = 'scheduled'")
+            me = self.queue.register("me", SOON)
+            self.claim(me)
+            self.queue.cancel(cancelled)
+            self.queue.leave(me)
+            delays.append(self.queue.job(kept).run_at - now())
+        self.assertEqual((self.state(kept), self.state(cancelled)), (State.SCHEDULED, State.CANCELED))
+        self.assertLessEqual(delays[0], SECOND // 10)
+        self.assertGreater(delays[4], SECOND // 2)
 
     def test_dead(self) -> None:
         job, = self.submit(NewJob("acme", ONE, most_failures=2))

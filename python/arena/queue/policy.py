@@ -43,7 +43,8 @@ def never(claim: Claim, why: str) -> Ending:
     return Ending(claim.job, claim.attempt, State.DEAD, error=why)
 
 
-def delay(failures: int) -> int:
-    """Twice as long each time, and drawn, so that what was lost together does not come back together."""
-    longest = min(LONGEST_DELAY, FIRST_DELAY << min(failures, 20))
+def delay(before: int) -> int:
+    """Twice as long each time that a job was lost before, in microseconds, and drawn, so that what was lost together does not come
+    back together."""
+    longest = min(LONGEST_DELAY, FIRST_DELAY << min(before, 20))
     return random.randrange(longest // 2, longest)

@@ -20,7 +20,8 @@ STEPS: Sequence[Sequence[str]] = (
             state TEXT NOT NULL CHECK (state IN
                 ('scheduled', 'ready', 'running', 'complete', 'fault', 'canceled', 'dead')),
             run_at INTEGER NOT NULL, attempt INTEGER NOT NULL DEFAULT 0, failures INTEGER NOT NULL DEFAULT 0,
-            most_failures INTEGER NOT NULL, alone INTEGER NOT NULL DEFAULT 0, dispatcher INTEGER,
+            most_failures INTEGER NOT NULL, orphaned INTEGER NOT NULL DEFAULT 0, alone INTEGER NOT NULL DEFAULT 0,
+            dispatcher INTEGER,
             cancel INTEGER NOT NULL DEFAULT 0, reuse INTEGER NOT NULL DEFAULT 0,
             value INTEGER, fault INTEGER, error TEXT,
             made_at INTEGER NOT NULL, started_at INTEGER, ended_at INTEGER,

@@ -1,9 +1,9 @@
 """The queue as dispatchers see it: leases, and the transactions in which jobs are claimed and ended."""
-import random
 from collections.abc import Sequence
 
 from arena.queue.database import boot, uptime
 from arena.queue.model import ENDED, SECOND, Claim, Ending, GiveBack, LeaseLost, Turn, Wants, now
+from arena.queue.policy import delay
 from arena.queue.store import Store
 
 READY = """WITH RECURSIVE it AS (SELECT min(tenant) AS tenant FROM job WHERE state = 'ready' UNION ALL
@@ -25,8 +25,11 @@ CLAIM = """UPDATE job SET state = 'running', dispatcher = ?, attempt = attempt +
     WHERE id IN (SELECT id FROM job WHERE state = 'ready' AND tenant = ? ORDER BY priority DESC, id LIMIT ?)
     RETURNING id, attempt, program, x, y, fuel, failures, alone, priority"""
 
-QUIETLY = SECOND // 10
-"""Within how many microseconds what a lost dispatcher had is run again, drawn for each job."""
+ORPHAN = """UPDATE job SET dispatcher = NULL, error = 'its dispatcher was lost', orphaned = orphaned + 1, run_at = arena_now() + ?,
+    state = CASE WHEN cancel = 1 THEN 'canceled' ELSE 'scheduled' END, ended_at = CASE WHEN cancel = 1 THEN arena_now() END
+    WHERE id = ?"""
+"""Gives a job back whose dispatcher was lost. That is no failure of the job; should it be one all the same, it waits for longer
+each time, so that it does not end one dispatcher after another."""
 
 
 class Turns(Store):
@@ -135,7 +138,10 @@ class Turns(Store):
 
     def _take_away(self, dispatcher: int) -> None:
         """Takes a lease away, and gives its jobs back."""
-        for job, attempt in self.running(dispatcher).items():
-            self._give_back(dispatcher, GiveBack(job, attempt, "its dispatcher was lost", True, random.randrange(QUIETLY)))
+        for job, attempt, orphaned in self.base.rows("SELECT id, attempt, orphaned FROM job WHERE state = 'running' AND "
+                                                     "dispatcher = ?", dispatcher):
+            self.base.change(ORPHAN, delay(orphaned), job)
+            self.note(job, "given back", attempt, "its dispatcher was lost")
         self.base.change("DELETE FROM dispatcher WHERE id = ?", dispatcher)
         self.base.wake("ready")
+        self.base.wake("ended")
