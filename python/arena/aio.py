@@ -72,6 +72,7 @@ class Client:
 
     @path.setter
     def path(self, path: str | os.PathLike[str] | Place) -> None:
+        """Says where the next `reconnect` leads."""
         self._place = place_of(path)
 
     async def __aenter__(self) -> Self:

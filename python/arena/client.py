@@ -83,6 +83,7 @@ class Client:
 
     @path.setter
     def path(self, path: str | os.PathLike[str] | Place) -> None:
+        """Says where the next `reconnect` leads."""
         self._place = place_of(path)
 
     def _connect(self, tenant: str | None) -> None:
