@@ -3,14 +3,17 @@ import asyncio
 import concurrent.futures
 import json
 import logging
+import selectors
 import socket
 import time
 import unittest
 
-from arena.places import MadeSocket
+from arena.places import MadeSocket, UnixPlace
 from arena.pool import AsyncPool, Final, Pool, Settings, TryAgain
+from arena.pool.desk import Desk
+from arena.pool.host import Host as PlaceOfHost
 from arena.pool.lane import Lane, Op
-from arena.pool.task import Task
+from arena.pool.task import Ended, NotRun, Task
 from arena.prepared import Prepared
 from arena.replies import (BadProgram, Canceled, Complete, ConnectionLost, Fault, FaultCode, StrangeReply, TimedOut,
                            UnknownTenant)
@@ -188,6 +191,44 @@ class Lanes(unittest.TestCase):
             self.lane.read()
         self.assertEqual(self.lane.under_way, self.tasks)
         self.other.close()
+
+
+class Desks(WithHost):
+    """A desk whose task is to run alone, and can't."""
+
+    def desk(self, tenant: str) -> Desk[int]:
+        """A desk at the host that was tried."""
+        host = PlaceOfHost(UnixPlace(self.host.path), Settings(retire=True))
+        host.attend(time.monotonic())
+        selector = selectors.DefaultSelector()
+        self.addCleanup(selector.close)
+        desk: Desk[int] = Desk(host, tenant, selector)
+        self.addCleanup(desk.close)
+        return desk
+
+    def result(self, desk: Desk[int]) -> object:
+        """What becomes of the task."""
+        desk.feed([Task(1, Prepared(SQUARE).submit((3, 0), 100), alone=True)], time.monotonic())
+        deadline = time.monotonic() + SOON
+        while not desk.results:
+            self.assertLess(time.monotonic(), deadline)
+            for key, mask in desk._selector.select(0.05):
+                key.data(mask)
+            desk.attend(time.monotonic())
+        return desk.results[0]
+
+    def test_it_runs(self) -> None:
+        self.assertIsInstance(self.result(self.desk("acme")), Ended)
+        self.assertEqual(self.host.met["retire"], 1)
+
+    def test_no_host(self) -> None:
+        self.host.kill()
+        self.assertIsInstance(self.result(self.desk("acme")), NotRun)
+
+    def test_no_such_tenant(self) -> None:
+        result = self.result(self.desk("nobody"))
+        assert isinstance(result, NotRun)
+        self.assertIsInstance(result.fault, UnknownTenant)
 
 
 class Refusals(WithHost):

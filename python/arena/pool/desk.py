@@ -93,6 +93,8 @@ class Desk(Generic[Tag]):
                 lane.is_leaving = True
             if lane in self.lanes and not lane.load and (lane.is_leaving or clock - self.used > self.settings.idle):
                 self._close(lane)
+        if self.host.is_down:
+            self._give_up_alone("the host can't be reached")
         is_free = not any(it.load for it in self.lanes)
         if is_free and clock >= self.rests_until and self.host.is_ready(clock):
             self._use_quiet(clock)
@@ -239,6 +241,7 @@ class Desk(Generic[Tag]):
             self.host.went_well()
             return
         lane.is_leaving, self._unbound = True, said
+        self._give_up_alone(said.name, said)
         if isinstance(said, UnknownTenant):
             self.rests_until = clock + UNKNOWN_REST
         else:
@@ -256,6 +259,11 @@ class Desk(Generic[Tag]):
         if self._alone:
             self._runs_alone = self._alone.popleft()
             self._feed([self._runs_alone], clock)
+
+    def _give_up_alone(self, why: str, fault: Refused | None = None) -> None:
+        """Gives back the tasks that wait to run alone: here they can't soon."""
+        self.results += [NotRun(it, why, fault) for it in self._alone]
+        self._alone.clear()
 
     def _clear(self, clock: float) -> None:
         """Asks the host to forget all jobs of the tenant."""
