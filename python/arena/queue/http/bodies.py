@@ -1,6 +1,5 @@
 """What requests say, read into what the queue takes."""
 import json
-import math
 from collections.abc import Callable, Mapping
 from functools import lru_cache
 from typing import Any
@@ -123,7 +122,6 @@ def _key(value: object) -> str | None:
 
 
 def _run_at(value: object) -> int | None:
-    is_number = type(value) in (int, float) and math.isfinite(value)  # type: ignore[arg-type]
-    if not is_number or not 0 <= value <= LONGEST_DELAY:  # type: ignore[operator]
+    if isinstance(value, bool) or not isinstance(value, (int, float)) or not 0 <= value <= LONGEST_DELAY:
         raise BadBody(f"delay: seconds, from 0 to {LONGEST_DELAY}")
-    return now() + int(value * SECOND) if value else None  # type: ignore[operator]
+    return now() + int(value * SECOND) if value else None

@@ -38,8 +38,9 @@ def _content(schema: object, description: str) -> dict[str, Any]:
 
 
 def _operation(name: str, summary: str, answer: dict[str, Any], *errors: int, status: int = 200, **more: object) -> dict[str, Any]:
-    texts = {400: "the request is wrong", 401: "no such token", 404: "the tenant has no such job", 409: "the job is another one, or not in "
-             "that state", 413: "the body is too large", 429: "too many requests", 503: "the queue's file can't be used now"}
+    texts = {400: "the request is wrong", 401: "no such token", 404: "the tenant has no such job",
+             409: "the job is another one, or not in that state", 413: "the body is too large", 429: "too many requests",
+             503: "the queue's file can't be used now"}
     answers = {str(status): answer} | {str(it): _content(_of("Error"), texts[it]) for it in (*errors, 401, 429, 503)}
     return {"operationId": name, "summary": summary, "responses": answers, **more}
 
@@ -59,9 +60,9 @@ def document() -> dict[str, Any]:
         "security": [{"token": []}],
         "paths": {
             "/v1/jobs": {
-                "post": _operation("submit", "keeps one job or up to 1,000, all or none", _content(made, "they are kept"), 400, 409, 413,
-                                   status=201, requestBody={"required": True, "content": {"application/json": {"schema": {
-                                       "oneOf": either}}}}),
+                "post": _operation("submit", "keeps one job or up to 1,000, all or none", _content(made, "they are kept"),
+                                   400, 409, 413, status=201, requestBody={
+                                       "required": True, "content": {"application/json": {"schema": {"oneOf": either}}}}),
                 "get": _operation("list", "jobs, the newest first", jobs, 400, parameters=[
                     _query("state", {"type": "string", "enum": [it.value for it in State]}, "only those in this state"),
                     _query("before", _NUMBER, "only those whose number is lower"),
@@ -73,7 +74,7 @@ def document() -> dict[str, Any]:
                                                         parameters=[_ID])},
             "/v1/stats": {"get": _operation("stats", "how many jobs there are", _content({"type": "object"}, "counts"))},
             "/metrics": {"get": _operation("metrics", "the same for Prometheus", {"description": "text"})},
-            "/healthz": {"get": {"operationId": "health", "summary": "whether the queue's file can be used", "security": [], "responses": {
-                "200": {"description": "it can"}, "503": {"description": "it can't"}}}}},
+            "/healthz": {"get": {"operationId": "health", "summary": "whether the queue's file can be used", "security": [],
+                                 "responses": {"200": {"description": "it can"}, "503": {"description": "it can't"}}}}},
         "components": {"securitySchemes": {"token": {"type": "http", "scheme": "bearer"}},
                        "schemas": {"Job": _JOB, "NewJob": _NEW, "Made": _MADE, "Error": _ERROR}}}
