@@ -40,6 +40,8 @@ class Drawn:
     def by(cls, draws: random.Random) -> "Drawn":
         """A job."""
         match draws.choices(["loop", "rows", "wide", "division", "slot", "cell"], [40, 30, 2, 10, 5, 5])[0]:
+            case "loop" if draws.random() < 0.1:  # long enough to be under way for a while
+                return cls("loop", draws.randrange(20_000), 0, 1_000_000)
             case "loop":
                 return cls("loop", draws.randrange(90), 0, draws.choice([10_000, 10_000, 10_000, 60]))
             case "rows":
@@ -67,8 +69,8 @@ class Drawn:
 
 
 def fib(n: int) -> int:
-    """The nth Fibonacci number, by 64 bits."""
+    """The nth Fibonacci number, wrapped to 64 bits."""
     a, b = 0, 1
     for _ in range(n):
-        a, b = b, a + b
+        a, b = b, (a + b) % 2**64
     return (a + 2**63) % 2**64 - 2**63
