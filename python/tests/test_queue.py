@@ -186,7 +186,7 @@ class Ends(WithQueue):
         self.end(me, Ending(job, it.attempt, State.COMPLETE, 7))
         with self.assertRaises(QueueError):
             self.queue.retry(job)
-        self.assertEqual([it.what for it in self.queue.events(job)], ["given back", "given back", "dead", "to be run again"])
+        self.assertEqual([it.what for it in self.queue.events(job)], ["given back", "dead", "to be run again"])
 
     def test_a_give_back_says_how_to_go_on(self) -> None:
         job, = self.submit(NewJob("acme", ONE))

@@ -56,7 +56,7 @@ INNER = (
              option("--limit", help="how many; 50, unless this says otherwise", type=int, default=50, metavar="N"),
              option("--before", help="only those whose number is lower", type=int, metavar="JOB"))),
     Command("show", "print a job, and what happened to it", "Prints all that is known of a job, and what happened to it out of the "
-            "ordinary: each time that it was given back, and why.", "arena queue show 17", queueing.show, (NUMBER, QUEUE)),
+            "ordinary: each time that it was lost, and why.", "arena queue show 17", queueing.show, (NUMBER, QUEUE)),
     Command("cancel", "cancel jobs",
             "Cancels jobs that are not running. One that is running is not run again, and its host is told if it can still be; its "
             "outcome says what came of it. The status is 1 if one had ended before.", "arena queue cancel 17", queueing.cancel,

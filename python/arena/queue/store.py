@@ -210,8 +210,8 @@ class Store:
         """Runs a job again that has ended without a value. Raises UnknownQueueJob, QueueError."""
         with self.base.transaction():
             job = self.job(number, tenant)
-            if not self.base.change("""UPDATE job SET state = 'ready', run_at = arena_now(), failures = 0, alone = 0, cancel = 0,
-                    fault = NULL, error = NULL, ended_at = NULL WHERE id = ? AND state IN ('fault', 'canceled', 'dead')""", number):
+            if not self.base.change("""UPDATE job SET state = 'ready', run_at = arena_now(), failures = 0, alone = 0, orphaned = 0,
+                    cancel = 0, fault = NULL, error = NULL, ended_at = NULL WHERE id = ? AND state IN ('fault', 'canceled', 'dead')""", number):
                 raise QueueError(f"job {number} is {job.state.value}; only one that is fault, canceled or dead is run again")
             self.note(number, "to be run again", job.attempts, job.state.value)
             self.base.wake("ready")

@@ -111,7 +111,8 @@ class Turns(Store):
                               back.attempt)
         if row is not None:
             has_ended = row[0] in ENDED
-            self.note(back.job, row[0] if has_ended else "given back", back.attempt, back.error)
+            if back.counts or back.alone or has_ended:  # that there was no room is no news, and may come again and again
+                self.note(back.job, row[0] if has_ended else "given back", back.attempt, back.error)
             if has_ended:
                 self.base.wake("ended")
 
