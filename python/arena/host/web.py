@@ -167,7 +167,7 @@ class MetricsServer(ThreadingHTTPServer):
             return
         try:
             super().process_request(request, client_address)
-        except BaseException:
+        except Exception:  # no thread could be started; an interrupt may come when one was, which gives the place back itself
             self._free.release()
             raise
 
