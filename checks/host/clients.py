@@ -39,7 +39,7 @@ def a_thousand_short_clients() -> None:
     got = sum(side_by_side(*[partial(values_of_clients, host, left)] * 16), collections.Counter())
     assert got == {3: 1000}, got
     assert host.stop() == 0
-    assert host.told("closed")[0]["served"] == 1000
+    assert host.status()["served"] == 1000
     assert sum(map(len, host.closed().values())) == 1
 
 
@@ -144,7 +144,7 @@ def clients_cut_at_each_byte() -> None:
     connection = host.connect()
     assert ask(connection, fib(6))["value"] == 8
     hang_up(connection)
-    by_deadline(lambda: [(it["connections"], it["served"]) for it in host.status()["generations"]] == [(0, 61)])
+    by_deadline(lambda: (host.status()["connected"], host.status()["served"]) == (0, 61))
     assert host.stop() == 0
 
 

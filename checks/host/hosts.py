@@ -26,9 +26,9 @@ PROGRAM = os.path.abspath("crates/host_program/out/host_program")
 FIB = [[["set", 2, 2], ["lt", 3, 0, 2], ["jz", 3, 4], ["ret", 0], ["set", 2, 1], ["sub", 3, 0, 2], ["spawn", 0, 0, 3, 1],
         ["sub", 3, 3, 2], ["spawn", 0, 0, 3, 1], ["wait", 4, 5, 0], ["ret", 4]]]
 FULL = {"code": 8, "error": "history_full"}
-# How many generations are there at most, and how many dumps of a tenant are kept unless `--keep` says so, as docs/HOST.md
+# How many terms of a tenant are there at most, and how many dumps of it are kept unless `--keep` says so, as docs/HOST.md
 # says.
-MOST_ALIVE = 16
+MOST_TERMS = 8
 KEEP = 8
 
 
@@ -91,7 +91,7 @@ class Host:
         return os.path.join(self.run, *names)
 
     def configure(self, tenants: list[dict], workers: int = 2) -> None:
-        """Replaces the configuration, which the next generation reads."""
+        """Replaces the configuration, which is read when a term is opened."""
         with open(self.config + ".new", "w") as it:
             json.dump({"tenants": tenants, "workers": workers}, it)
         os.rename(self.config + ".new", self.config)
@@ -147,7 +147,7 @@ class Host:
             reader.join()
 
     def closed(self) -> dict[str, dict[int, int]]:
-        """The numbers of the generations that each tenant was closed in, with the entries that were told."""
+        """The numbers of the terms of each tenant that were closed, with the entries that were told."""
         closed = collections.defaultdict(dict)
         for line in self.lines:
             name, number, entries = re.fullmatch(r"([a-z0-9-]+)\.([0-9]{6}): closed, ([0-9]+) entries", line).groups()
@@ -155,8 +155,8 @@ class Host:
         return closed
 
     def look_at_dumps(self) -> None:
-        """Each tenant that was closed has a dump of its newest generations, or the host said that it could not be written.
-        Each dump is whole and as long as was told."""
+        """Each tenant has a dump of its newest terms that were closed, or the host said that it could not be written. Each
+        dump is whole and as long as was told."""
         for name, entries in self.closed().items():
             newest = sorted(entries)[-self.keep:]
             for number, count in entries.items():
@@ -164,7 +164,7 @@ class Host:
                 if os.path.exists(path):
                     assert dump_lines(path) == count + 1, (path, count)
                 else:
-                    assert number not in newest or self.told("fault", what="dump", generation=number), path
+                    assert number not in newest or self.told("fault", what="dump", tenant=name, term=number), path
 
 
 def dump_lines(path: str) -> int:
@@ -177,15 +177,21 @@ def dump_lines(path: str) -> int:
 
 
 def dumps(host: Host, name: str) -> list[int]:
-    """The numbers of the generations of which a tenant's dump is there."""
+    """The numbers of the terms of which a tenant's dump is there."""
     paths = glob.glob(host.path("dumps", f"{name}.*.jsonl"))
     return sorted(int(path.split(".")[-2]) for path in paths)
 
 
-def rotate(host: Host, number: int) -> None:
-    """Asks for a generation, and waits until it takes all connections."""
-    open(host.path("rotate"), "w").close()
-    by_deadline(lambda: host.told("opened", generation=number) and host.told("draining", generation=number - 1))
+def rotate(host: Host, number: int, name: str = "acme") -> None:
+    """Asks for a tenant's term of that number, and waits until it serves."""
+    open(host.path(f"rotate.{name}"), "w").close()
+    by_deadline(lambda: host.told("opened", tenant=name, term=number))
+
+
+def results(host: Host, name: str, term: int) -> list[dict]:
+    """The outcomes of a tenant's jobs in a term, by its file."""
+    with open(host.path("results", f"{name}.{term:06}.jsonl")) as lines:
+        return [json.loads(line) for line in lines]
 
 
 def ask(connection: Bound, request: dict) -> dict | None:
@@ -198,8 +204,8 @@ def ask(connection: Bound, request: dict) -> dict | None:
 
 
 def execute(connection: Bound, n: int) -> dict | None:
-    """The outcome of a job, None if the host has ended the connection. Where the tenant has as many jobs as it may have, they are retired first, which works once
-    no row is open. A job that somebody retires before its outcome is collected is asked for again."""
+    """The outcome of a job, None if the host has ended the connection. Where the tenant has as many jobs as it may have, they are
+    retired first, which works once no row is open. A job that somebody retires before its outcome is collected is asked for again."""
     while (reply := ask(connection, fib(n))) and reply.get("error") in ("job_limit", "unknown_job"):
         if reply["error"] == "job_limit":
             ask(connection, {"op": "retire"})

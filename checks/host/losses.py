@@ -1,25 +1,21 @@
 """What a host must not lose, nor let pass in silence: jobs, histories, and the turn of whoever waits for it."""
-import collections
 import contextlib
-import csv
 import fcntl
 import os
 import pathlib
 import re
 import subprocess
-import sys
 import tempfile
 import time
 from collections.abc import Iterator
 from concurrent.futures import ThreadPoolExecutor
 
-from hosts import Host, ask, dumps, event_of, fib, hang_up, rotate, tenant
+from hosts import FULL, MOST_TERMS, Host, Load, ask, dumps, event_of, fib, hang_up, results, rotate, tenant
 from servers import PATIENCE, SEVEN, by_deadline
 
-PYTHON = pathlib.Path(__file__).resolve().parents[2] / "python"
 ORDERS = pathlib.Path(__file__).with_name("orders.c")
-# How many closed generations the status has at most, as docs/HOST.md says.
-SHOWN = 16
+# How many closed terms the status has at most, as docs/HOST.md says.
+SHOWN = 64
 # The least that the system lets a pipe hold, in bytes.
 PIPE = 4096
 
@@ -34,28 +30,20 @@ def counts_down(rounds: int) -> dict:
         ["set", 2, 1], ["sub", 0, 0, 2], ["jz", 0, 4], ["jmp", 1], ["ret", 1]]]}
 
 
-def ended(host: Host, name: str, generation: int) -> dict[str, int]:
-    """How many jobs of a tenant in a generation have which value, or are in which status, by a replay of its dump."""
-    path = host.path("dumps", f"{name}.{generation:06}.jsonl")
-    done = subprocess.run([sys.executable, "-m", "arena", "stat", path, "--csv"], cwd=PYTHON, capture_output=True, text=True,
-                          timeout=PATIENCE)
-    assert done.returncode == 0, done
-    return dict(collections.Counter(row["outcome"] for row in csv.DictReader(done.stdout.splitlines())))
-
-
-def one_generation_for_a_full_history() -> None:
-    """A history that is used so far leads to one generation more, beside a tenant that nobody asks, each time."""
-    host = Host([tenant("acme", steps=400), tenant("idle")], "--patience", 60, workers=1)
+def one_term_for_a_full_history() -> None:
+    """A history that is used so far leads to one term more, beside a tenant that nobody asks, each time."""
+    host = Host([tenant("acme", steps=400), tenant("idle")], workers=1)
     for number in range(4):
         client = host.connect()
-        while not host.told("opened", generation=number + 1):
+        while not host.told("opened", tenant="acme", term=number + 1):
             assert ask(client, {"op": "execute", "job": SEVEN})["status"] == "complete"
             time.sleep(0.003)
         hang_up(client)
-        time.sleep(0.5)  # longer than it took to open
-        assert [it["generation"] for it in host.told("opened")] == list(range(number + 2))
+        time.sleep(0.3)  # longer than it took to open
+        assert [it["term"] for it in host.told("opened", tenant="acme")] == list(range(number + 2))
     assert host.stop() == 0
     assert len(host.told("rotation", why="history")) == 4, host.events
+    assert len(host.told("opened", tenant="idle")) == 1
 
 
 def rounds_a_second(host: Host) -> int:
@@ -71,50 +59,75 @@ def rounds_a_second(host: Host) -> int:
         rounds = min(3 * rounds, MOST_ROUNDS)
 
 
-def job_outlives_its_client_and_a_rotation() -> None:
-    """A job waits behind others for the only worker. Its client hangs up, and so does the other one, and a rotation comes:
-    the generation is closed once all jobs have their outcomes."""
-    host = Host([tenant("noisy", steps=1_000_000, slots=2), tenant("quiet", steps=100_000, slots=2)], workers=1)
+def submits_many(host: Host) -> list[int]:
+    """Jobs that take the only worker a second and a half or so, whose client has gone: their numbers."""
     speed = rounds_a_second(host)
     rounds = min(speed // 8, MOST_ROUNDS)
     jobs = min(max(12, 3 * speed // (2 * rounds)), MOST_JOBS)
-    noisy, quiet = host.connect("noisy"), host.connect("quiet")
-    for number in range(jobs):
-        assert ask(noisy, {"op": "submit", "job": counts_down(rounds)}) == {"job": number + 1}
-    made = ask(quiet, {"op": "submit", "job": SEVEN})["job"]
-    hang_up(noisy, quiet)
-    rotate(host, 1)
-    by_deadline(lambda: host.told("closed", generation=0), PATIENCE)
+    client = host.connect("noisy")
+    made = [ask(client, {"op": "submit", "job": counts_down(rounds)})["job"] for _ in range(jobs)]
+    hang_up(client)
+    return made
+
+
+def job_outlives_its_client_and_a_rotation() -> None:
+    """Jobs wait for the only worker, and their client hangs up. Their term is left, and closed once all have their outcomes,
+    which another client gets."""
+    host = Host([tenant("noisy", steps=1_000_000, slots=2), tenant("quiet", steps=100_000, slots=2)], workers=1)
+    made = submits_many(host)
+    rotate(host, 1, "noisy")
+    by_deadline(lambda: host.told("closed", tenant="noisy", term=0), PATIENCE)
+    client = host.connect("noisy")
+    for job in made:
+        assert ask(client, {"op": "collect", "job": job}) == {"job": job, "status": "complete", "value": 7}
+    hang_up(client)
     assert host.stop() == 0
-    assert ended(host, "noisy", 0) == {"7": jobs}
-    assert ended(host, "quiet", 0) == {"7": made}
-    assert host.told("closed", generation=0)[0]["lost"] == 0
+    assert host.told("closed", tenant="noisy", term=0)[0]["lost"] == 0
+    assert results(host, "noisy", 0) == [{"job": job, "status": "complete", "value": 7} for job in made]
+
+
+def ordered_stop_finishes() -> None:
+    """Jobs that wait for the only worker have their outcomes when the host has been stopped, and the next one in its folder
+    knows them."""
+    tenants = [tenant("noisy", steps=1_000_000, slots=2), tenant("quiet", steps=100_000, slots=2)]
+    host = Host(tenants, "--finish", PATIENCE, workers=1)
+    made = submits_many(host)
+    assert host.stop() == 0
+    assert host.told("closed", tenant="noisy")[0]["lost"] == 0
+    host = Host(tenants, after=host)
+    client = host.connect("noisy")
+    for job in made:
+        assert ask(client, {"op": "poll", "job": job}) == {"job": job, "status": "complete", "value": 7}
+    assert ask(client, {"op": "submit", "job": SEVEN})["job"] == 1_000_001
+    hang_up(client)
+    assert host.stop() == 0
 
 
 def lost_jobs_are_counted() -> None:
-    """The only slot is reserved, so nothing runs what is submitted. A generation has patience with it, and then says how
-    many jobs it lost: those that were not cancelled. So does one that the order to stop ends."""
-    host = Host([tenant("acme", slots=1, reserved=1), tenant("beta")], "--patience", 2)
+    """The only slot is reserved, so nothing runs what is submitted. A term that is left says how many jobs it lost: those that
+    were not cancelled. So does one that the order to stop ends. Whoever asks for them is told that the history is full."""
+    host = Host([tenant("acme", slots=1, reserved=1), tenant("beta")])
     for number in (0, 1):
         client = host.connect()
-        assert [ask(client, {"op": "submit", "job": SEVEN})["job"] for _ in range(3)] == [1, 2, 3]
-        assert ask(client, {"op": "cancel", "job": 2}) == {"first": True, "job": 2}
-        hang_up(client)
+        base = 10_000 * number
+        assert [ask(client, {"op": "submit", "job": SEVEN})["job"] for _ in range(3)] == [base + 1, base + 2, base + 3]
+        assert ask(client, {"op": "cancel", "job": base + 2}) == {"first": True, "job": base + 2}
         if number == 0:
             rotate(host, 1)
-            began = time.monotonic()
-            by_deadline(lambda: host.told("closed", generation=0))
-            assert time.monotonic() - began > 1.5, "it was closed before its patience"
+            by_deadline(lambda: host.told("closed", tenant="acme", term=0))
+            replies = [ask(client, {"op": "poll", "job": job}) for job in (1, 2, 3)]
+            assert replies == [FULL, {"job": 2, "status": "canceled"}, FULL], replies
+        hang_up(client)
     assert host.stop() == 0
-    assert [it["lost"] for it in host.told("closed")] == [2, 2]
-    assert [it["lost"] for it in host.status()["closed"]] == [2, 2]
+    assert [it["lost"] for it in host.told("closed", tenant="acme")] == [2, 2]
+    assert [it["lost"] for it in host.status()["closed"] if it["tenant"] == "acme"] == [2, 2]
 
 
 def history_that_is_not_written_is_a_fault() -> None:
-    """Without a folder for dumps the host tries for as long as it has patience, with all tenants together, and ends with the
-    status of a device that failed."""
+    """Without a folder for dumps the host tries for half a minute, with all tenants together, and ends with the status of a
+    device that failed."""
     names = [f"t{number}" for number in range(6)]
-    host = Host([tenant(name) for name in names], "--patience", 2)
+    host = Host([tenant(name) for name in names])
     client = host.connect("t3")
     assert ask(client, fib(6))["value"] == 8
     hang_up(client)
@@ -126,23 +139,50 @@ def history_that_is_not_written_is_a_fault() -> None:
     for reader in host.readers:
         reader.join()
     assert (status, host.faults) == (3, ["arena-host: device"]), (status, host.faults, host.events)
-    assert 2 < took < 8, f"it took {took:.1f} s"
-    [closed] = host.status()["closed"]
-    assert [(it["tenant"], it["dumped"]) for it in closed["tenants"]] == [(name, False) for name in names]
-    assert len(host.told("fault", what="dump", generation=0)) >= 2 * len(names)
+    assert 25 < took < 45, f"it took {took:.1f} s"
+    closed = host.status()["closed"]
+    assert sorted((it["tenant"], it["dumped"]) for it in closed) == [(name, False) for name in names]
+    assert len(host.told("fault", what="dump")) >= 2 * len(names)
 
 
 def one_tenant_keeps_no_other_from_its_dump() -> None:
     """A folder stands where acme's dump would be. beta has its dump all the same, at once, and acme once it is gone."""
-    host = Host([tenant("acme"), tenant("beta")], "--patience", 60)
+    host = Host([tenant("acme"), tenant("beta")])
     os.makedirs(host.path("dumps", "acme.000000.jsonl", "full"))
-    rotate(host, 1)
+    open(host.path("rotate"), "w").close()
     by_deadline(lambda: dumps(host, "beta") == [0], 10)
-    assert host.told("fault", what="dump", generation=0) and not host.told("closed")
+    assert host.told("fault", what="dump", tenant="acme", term=0) and not host.told("closed", tenant="acme")
     os.removedirs(host.path("dumps", "acme.000000.jsonl", "full"))
-    by_deadline(lambda: host.told("closed", generation=0))
+    by_deadline(lambda: host.told("closed", tenant="acme", term=0))
     assert host.stop() == 0
     assert dumps(host, "acme") == dumps(host, "beta") == [0, 1]
+
+
+def terms_wait_for_their_files() -> None:
+    """While no dump of a tenant can be written, it has eight terms at most; the last one goes on until its history is full,
+    which the host says once. Another tenant does not notice. Then the host catches up."""
+    host = Host([tenant("acme", steps=400), tenant("beta")], "--connections", 8)
+    for number in range(MOST_TERMS):
+        os.makedirs(host.path("dumps", f"acme.{number:06}.jsonl", "full"))
+    load = Load(host, 4)
+    by_deadline(lambda: load.replies["full"] >= 3, PATIENCE)
+    beta = host.connect("beta")
+    assert ask(beta, fib(6))["value"] == 8
+    rotate(host, 1, "beta")
+    by_deadline(lambda: host.told("closed", tenant="beta", term=0))
+    hang_up(beta)
+    assert [it["term"] for it in host.told("opened", tenant="acme")] == list(range(MOST_TERMS))
+    [waiting] = host.told("waiting")
+    assert waiting == {"time": waiting["time"], "event": "waiting", "tenant": "acme", "term": MOST_TERMS - 1, "why": "history"}
+    for number in range(MOST_TERMS):
+        os.removedirs(host.path("dumps", f"acme.{number:06}.jsonl", "full"))
+        os.makedirs(host.path("dumps"), exist_ok=True)
+    by_deadline(lambda: len(host.told("opened", tenant="acme")) > MOST_TERMS + 2, PATIENCE)
+    replies = load.end()
+    assert {"right", "full"} <= set(replies) <= {"right", "full", "None"}, replies
+    assert host.stop() == 0
+    numbers = [it["term"] for it in host.told("opened", tenant="acme")]
+    assert sorted(host.closed()["acme"]) == numbers
 
 
 @contextlib.contextmanager
@@ -173,10 +213,10 @@ def nobody_reads_what_it_reports() -> None:
     """Standard error has no room left. The host rotates, shows its status, and ends when it is told to. Nothing that it
     could not report is torn."""
     with full_pipe() as (read, write):
-        host = Host([tenant("acme")], "--patience", 0, stderr=write)
+        host = Host([tenant("acme")], stderr=write)
         for number in (1, 2):
             open(host.path("rotate"), "w").close()
-            by_deadline(lambda: [it["generation"] for it in host.status()["generations"]] == [number])
+            by_deadline(lambda: [it["term"] for it in host.status()["terms"]] == [number])
             client = host.connect()
             assert ask(client, fib(6))["value"] == 8
             hang_up(client)
@@ -191,13 +231,13 @@ def nobody_reads_what_it_reports() -> None:
 def what_it_could_not_print_is_counted() -> None:
     """Standard output has no room left, and 64 tenants are closed more often than lines may wait. Whoever reads it in the
     end gets the first lines, whole, and the host reports how many others were lost."""
-    names, generations = [f"t{number}" for number in range(64)], 10
+    names, terms = [f"t{number}" for number in range(64)], 10
     with full_pipe() as (read, write):
-        host = Host([tenant(name, steps=2) for name in names], "--patience", 0, "--connections", 1, stdout=write)
+        host = Host([tenant(name, steps=2) for name in names], "--connections", 1, stdout=write)
         os.close(write)
-        for number in range(1, generations):
-            rotate(host, number)
-            by_deadline(lambda: host.told("closed", generation=number - 1))
+        for number in range(1, terms):
+            open(host.path("rotate"), "w").close()
+            by_deadline(lambda: len(host.told("closed", term=number - 1)) == len(names), PATIENCE)
         with ThreadPoolExecutor(1) as pool:
             reading = pool.submit(read_lines, read)
             [unwritten] = by_deadline(lambda: host.told("unwritten"))
@@ -205,26 +245,28 @@ def what_it_could_not_print_is_counted() -> None:
             first, *lines = reading.result()
     assert first == "listening" and unwritten["lines"] > 0
     assert all(re.fullmatch(r"t[0-9]+\.[0-9]{6}: closed, 0 entries", line) for line in lines), lines
-    assert len(lines) + unwritten["lines"] == len(names) * generations
-    assert lines[0] == "t0.000000: closed, 0 entries" and lines[-1] == f"t63.{generations - 1:06}: closed, 0 entries"
+    assert len(lines) + unwritten["lines"] == len(names) * terms
 
 
 def rotate_that_cannot_be_removed_is_obeyed_once() -> None:
-    """A folder of the order's name asks for one rotation, until it is gone."""
-    host = Host([tenant("acme")], "--patience", 0)
-    os.mkdir(host.path("rotate"))
-    by_deadline(lambda: host.told("opened", generation=1))
-    time.sleep(1)
-    assert len(host.told("opened")) == 2, host.events
-    os.rmdir(host.path("rotate"))
-    time.sleep(0.2)
-    rotate(host, 2)
+    """A folder of the order's name asks for one term more, until it is gone."""
+    host = Host([tenant("acme"), tenant("beta")])
+    for name in ("rotate.acme", "rotate"):
+        count = len(host.told("opened", tenant="acme"))
+        os.mkdir(host.path(name))
+        by_deadline(lambda: len(host.told("opened", tenant="acme")) == count + 1)
+        time.sleep(0.5)
+        assert len(host.told("opened", tenant="acme")) == count + 1, host.events
+        os.rmdir(host.path(name))
+        time.sleep(0.2)
+    rotate(host, 3)
     assert host.stop() == 0
-    assert len(host.told("opened")) == 3
+    assert (len(host.told("opened", tenant="acme")), len(host.told("opened", tenant="beta"))) == (4, 2)
 
 
 def names_that_no_host_writes() -> None:
-    """Among the dumps they are passed over: they neither keep a host from starting nor count as generations."""
+    """Among the dumps they are passed over: they neither keep a host from starting nor count as terms. A dump of a host that
+    kept no numbers counts."""
     host = Host([tenant("acme")])
     assert host.stop() == 0
     names = [b"acme.\xff.jsonl", b"zz.18446744073709551614.jsonl", b"acme.18446744073709551615.jsonl", b"acme.+00005.jsonl",
@@ -233,11 +275,12 @@ def names_that_no_host_writes() -> None:
         open(os.path.join(host.path("dumps").encode(), name), "w").close()
     with open(host.path("dumps", "beta.000003.jsonl"), "w"):
         pass
-    host = Host([tenant("acme")], "--keep", 1, after=host)
-    assert by_deadline(lambda: host.told("start"))[0]["generation"] == 4
+    host = Host([tenant("acme"), tenant("beta")], "--keep", 1, after=host)
+    assert [it["term"] for it in host.told("opened", tenant="acme")] == [1]
+    assert [it["term"] for it in host.told("opened", tenant="beta")] == [4]
     assert host.stop() == 0
     left = set(os.listdir(host.path("dumps").encode()))
-    assert left == {*names, b"beta.000003.jsonl", b"acme.000004.jsonl"}, left
+    assert left == {*names, b"beta.000004.jsonl", b"acme.000001.jsonl"}, left
 
 
 def status_under_a_mask() -> None:
@@ -252,33 +295,18 @@ def status_under_a_mask() -> None:
     assert host.stop() == 0
 
 
-def at_most_one_serves() -> None:
-    """No status has two generations that serve."""
-    host = Host([tenant("acme")], "--patience", 60)
-    held = [host.connect()]
-    for number in range(1, 5):
-        rotate(host, number)
-        held.append(host.connect())
-        shown = by_deadline(lambda: [it for it in host.status()["generations"] if it["generation"] == number])
-        assert shown
-        states = [it["state"] for it in host.status()["generations"]]
-        assert states == ["draining"] * number + ["serving"], states
-    hang_up(*held)
-    assert host.stop() == 0
-
-
-def the_newest_closed_generations_are_shown() -> None:
-    """Of more than sixteen that were closed, the status keeps the newest sixteen."""
-    host = Host([tenant("acme", steps=100)], "--patience", 0, "--connections", 1)
+def the_newest_closed_terms_are_shown() -> None:
+    """Of more than 64 that were closed, the status keeps the newest 64."""
+    host = Host([tenant("acme", steps=100)], "--connections", 1)
     for number in range(1, SHOWN + 2):
         rotate(host, number)
-        by_deadline(lambda: host.told("closed", generation=number - 1))
+        by_deadline(lambda: host.told("closed", term=number - 1))
     assert host.stop() == 0
-    assert [it["generation"] for it in host.status()["closed"]] == list(range(2, SHOWN + 2))
+    assert [it["term"] for it in host.status()["closed"]] == list(range(2, SHOWN + 2))
 
 
 def dumps_have_their_names_on_the_disk() -> None:
-    """Once a dump has its name, the folder is brought to the disk before the next one has its own."""
+    """Once a file has its name, its folder is brought to the disk before the next one has its own."""
     with tempfile.TemporaryDirectory() as folder:
         library, orders = os.path.join(folder, "orders.so"), os.path.join(folder, "orders")
         subprocess.run(["cc", "-shared", "-fPIC", "-o", library, ORDERS], check=True, timeout=PATIENCE)
@@ -287,13 +315,20 @@ def dumps_have_their_names_on_the_disk() -> None:
         assert host.stop() == 0
         with open(orders) as it:
             noted = [line.rstrip("\n") for line in it if "status.json" not in line]
-    kept = [f"rename {host.path('dumps', name)}.000000.jsonl" for name in ("acme", "beta")]
-    synced = f"folder {os.path.realpath(host.path('dumps'))}"
-    assert noted == [kept[0], synced, kept[1], synced], noted
+    made = [it for it in noted if "/terms" not in it]
+    expected = []
+    for name in ("acme", "beta"):
+        for folder in ("dumps", "results"):
+            expected += [f"rename {host.path(folder, name)}.000000.jsonl", f"folder {os.path.realpath(host.path(folder))}"]
+    assert sorted(made) == sorted(expected), noted
+    for name in ("acme", "beta"):
+        assert f"rename {host.path('terms', name)}" in noted, noted
+    for at, order in enumerate(noted):
+        assert not order.startswith("rename") or noted[at + 1].startswith("folder"), noted
 
 
-CHECKS = [one_generation_for_a_full_history, job_outlives_its_client_and_a_rotation, lost_jobs_are_counted,
-          history_that_is_not_written_is_a_fault, one_tenant_keeps_no_other_from_its_dump, nobody_reads_what_it_reports,
-          what_it_could_not_print_is_counted,
-          rotate_that_cannot_be_removed_is_obeyed_once, names_that_no_host_writes, status_under_a_mask, at_most_one_serves,
-          the_newest_closed_generations_are_shown, dumps_have_their_names_on_the_disk]
+CHECKS = [one_term_for_a_full_history, job_outlives_its_client_and_a_rotation, ordered_stop_finishes, lost_jobs_are_counted,
+          history_that_is_not_written_is_a_fault, one_tenant_keeps_no_other_from_its_dump, terms_wait_for_their_files,
+          nobody_reads_what_it_reports, what_it_could_not_print_is_counted, rotate_that_cannot_be_removed_is_obeyed_once,
+          names_that_no_host_writes, status_under_a_mask, the_newest_closed_terms_are_shown,
+          dumps_have_their_names_on_the_disk]

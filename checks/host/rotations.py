@@ -1,143 +1,171 @@
-"""Generations that follow one another."""
+"""Terms of a tenant that follow one another."""
 import json
 import os
 import time
 from collections.abc import Callable
 
-from hosts import Host, Load, ask, dumps, fib, hang_up, is_at_end, rotate, tenant
+from hosts import Host, Load, ask, dumps, fib, hang_up, results, rotate, tenant
 from servers import PATIENCE, Bound, by_deadline
 from sharing import JOBS, SPINNING
 
 DIVIDES = {"args": [0, 0], "fuel": 10, "procs": [[["set", 2, 1], ["div", 2, 2, 3], ["ret", 2]]]}
+# Puts a 1 into a cell of its slot, and gives 0.
+COUNTS = {"args": [0, 0], "fuel": 10, "procs": [[["set", 2, 1], ["store", 0, 2], ["ret", 0]]]}
 
 
-def serving(host: Host) -> list[int]:
-    """The number of the generation that serves, by the status."""
-    return [it["generation"] for it in host.status()["generations"] if it["state"] == "serving"]
+def terms_of(host: Host, name: str) -> list[dict]:
+    """A tenant's terms that are not closed, by the status."""
+    return [it for it in host.status()["terms"] if it["tenant"] == name]
 
 
 def three_by_history() -> None:
-    """Under load the host rotates by history, and no client of a generation that serves finds a full one."""
+    """Under load the host rotates by history, and no client finds a full one."""
     tenants = [tenant("acme", steps=40_000), tenant("beta", steps=60_000)]
-    host = Host(tenants, "--connections", 8, "--patience", 5, workers=2)
+    host = Host(tenants, "--connections", 8, workers=2)
     load = Load(host, 8, ("acme", "beta"))
-    by_deadline(lambda: len(host.told("opened")) >= 4, seconds=60)
+    by_deadline(lambda: all(len(host.told("opened", tenant=name)) >= 4 for name in ("acme", "beta")), seconds=60)
     replies = load.end()
     assert set(replies) == {"right"}, replies
     assert host.stop() == 0
-    numbers = [it["generation"] for it in host.told("opened")]
-    assert numbers == list(range(len(numbers)))
-    rotations = [it["generation"] for it in host.told("rotation", why="history")]
-    assert rotations in (numbers[:-1], numbers), rotations  # the stop may come while one more is being opened
+    for name in ("acme", "beta"):
+        numbers = [it["term"] for it in host.told("opened", tenant=name)]
+        assert numbers == list(range(len(numbers)))
+        assert [it["term"] for it in host.told("rotation", tenant=name, why="history")] == numbers[:-1]
+        assert sorted(it["term"] for it in host.told("closed", tenant=name, lost=0)) == numbers
+        assert sorted(host.closed()[name]) == numbers
     assert not host.told("fault"), host.told("fault")
-    assert sorted(it["generation"] for it in host.told("closed")) == numbers
-    assert set(host.closed()) == {"acme", "beta"}
-    assert all(sorted(closed) == numbers for closed in host.closed().values())
+
+
+def a_noisy_tenant_disturbs_no_other() -> None:
+    """A tenant that fills its history all the time has one term after another. The connection, the cells, the numbers and
+    the jobs of a quiet one live through it."""
+    host = Host([tenant("noisy", steps=400), tenant("quiet", slots=2)], "--connections", 8, workers=2)
+    quiet = host.connect("quiet")
+    assert ask(quiet, {"op": "execute", "job": COUNTS})["status"] == "complete"
+    cells = ask(quiet, {"op": "cells", "key": 0})
+    load = Load(host, 4, ("noisy",))
+    for number in range(2, 12):
+        assert ask(quiet, fib(6)) == {"job": number, "status": "complete", "value": 8}
+        time.sleep(0.1)
+    by_deadline(lambda: len(host.told("opened", tenant="noisy")) >= 10)
+    replies = load.end()
+    assert set(replies) == {"right"}, replies
+    assert ask(quiet, {"op": "cells", "key": 0}) == cells
+    assert ask(quiet, {"op": "poll", "job": 2}) == {"job": 2, "status": "complete", "value": 8}
+    assert len(host.told("opened", tenant="quiet")) == 1
+    hang_up(quiet)
+    assert host.stop() == 0
+    assert list(host.closed()["quiet"]) == [0]
+
+
+def connections_outlive_terms() -> None:
+    """One connection goes through ten terms. Job numbers rise, none comes twice, and each is found in whatever term it is,
+    from any connection: while that lives, and once it is closed."""
+    host = Host([tenant("acme", steps=1000)], "--keep", 20)
+    client, other = host.connect(), host.connect()
+    made = []
+    for number in range(1, 11):
+        made.append(ask(client, {"op": "submit", "job": fib(6)["job"]})["job"])
+        rotate(host, number)
+    assert made == [1000 * number + 1 for number in range(10)]
+    for job in made:
+        assert ask(other, {"op": "collect", "job": job}) == {"job": job, "status": "complete", "value": 8}
+    by_deadline(lambda: len(host.told("closed")) == 10)
+    for job in made:
+        assert ask(client, {"op": "poll", "job": job}) == {"job": job, "status": "complete", "value": 8}
+        assert ask(client, {"op": "cancel", "job": job}) == {"first": False, "job": job}
+    assert ask(client, {"op": "poll", "job": 2}) == {"code": 6, "error": "unknown_job"}
+    assert ask(client, {"op": "release", "job": 1}) == {"released": 1}
+    assert ask(client, {"op": "collect", "job": 1001, "release": True}) == {"job": 1001, "status": "complete", "value": 8}
+    assert [ask(other, {"op": "poll", "job": job}).get("code") for job in (1, 1001, 2001)] == [6, 6, None]
+    assert ask(client, {"op": "retire"}) == {"epoch": 1}
+    assert ask(other, {"op": "poll", "job": 2001}) == {"code": 6, "error": "unknown_job"}
+    hang_up(client, other)
+    assert host.stop() == 0
+    assert results(host, "acme", 3) == [{"job": 3001, "status": "complete", "value": 8}]
+
+
+def a_full_history_is_left_for_the_next_one() -> None:
+    """Whoever asks a term whose history is full asks the next one, which is opened then: a client sees none of it."""
+    host = Host([tenant("acme", steps=60)], "--rotate-at", 100, "--keep", 100)
+    client = host.connect()
+    replies = [ask(client, {"op": "execute", "job": COUNTS}) for _ in range(100)]
+    assert [it["status"] for it in replies] == ["complete"] * 100, replies
+    numbers = [it["job"] for it in replies]
+    assert numbers == sorted(set(numbers))
+    hang_up(client)
+    assert host.stop() == 0
+    assert len(host.told("rotation", why="history")) >= 3
 
 
 def one_by_file() -> None:
-    """A tenant comes and another one goes with a rotation that a file asks for."""
-    host = Host([tenant("acme"), tenant("beta")], "--patience", 0)
-    old = host.connect("beta")
-    assert ask(old, fib(6)) == {"job": 1, "status": "complete", "value": 8}
+    """A tenant comes and another one goes with an order by a file, and neither is noticed by a third."""
+    host = Host([tenant("acme"), tenant("beta")])
+    acme, beta = host.connect("acme"), host.connect("beta")
+    assert ask(beta, fib(6)) == {"job": 1, "status": "complete", "value": 8}
     host.configure([tenant("acme"), tenant("gamma")])
     open(host.path("rotate"), "w").close()
-    by_deadline(lambda: host.told("closed", generation=0))
+    by_deadline(lambda: host.told("opened", tenant="gamma") and host.told("closed", tenant="beta"))
     assert not os.path.exists(host.path("rotate"))
-    assert is_at_end(old)
-    new = host.connect("gamma")
-    assert ask(new, fib(6)) == {"job": 1, "status": "complete", "value": 8}
-    hang_up(new)
+    assert ask(beta, fib(6)) == {"code": 8, "error": "history_full"}
+    assert ask(beta, {"op": "poll", "job": 1}) == {"job": 1, "status": "complete", "value": 8}
+    gamma = host.connect("gamma")
+    assert ask(gamma, fib(6)) == {"job": 1, "status": "complete", "value": 8}
+    assert ask(acme, fib(6))["value"] == 8
+    hang_up(acme, beta, gamma)
     assert host.stop() == 0
-    assert {name: sorted(closed) for name, closed in host.closed().items()} == {"acme": [0, 1], "beta": [0], "gamma": [1]}
-
-
-def the_old_one_goes_on() -> None:
-    """A connection belongs to its generation, whose jobs are known there alone, until its patience ends."""
-    host = Host([tenant("acme")], "--patience", 60)
-    old = host.connect()
-    assert ask(old, fib(6))["job"] == 1
-    open(host.path("rotate"), "w").close()
-    by_deadline(lambda: serving(host) == [1])
-    assert [it["state"] for it in host.status()["generations"]] == ["draining", "serving"]
-    new = host.connect()
-    assert ask(new, {"op": "poll", "job": 1})["error"] == "unknown_job"
-    assert ask(old, {"op": "poll", "job": 1})["value"] == 8
-    assert ask(old, fib(6))["job"] == 2
-    assert host.status()["generations"][0]["why"] == "file"
-    hang_up(old)
-    by_deadline(lambda: host.told("closed", generation=0))
-    hang_up(new)
-    assert host.stop() == 0
+    assert {name: sorted(closed) for name, closed in host.closed().items()} == {"acme": [0, 1], "beta": [0], "gamma": [0]}
 
 
 def a_configuration_that_cannot_be_read() -> None:
-    """The generation in force goes on, and the host says so."""
+    """The terms in force go on, and the host says so."""
     host = Host([tenant("acme")])
     with open(host.config, "w") as it:
         it.write("{")
-    open(host.path("rotate"), "w").close()
-    by_deadline(lambda: host.told("fault", what="config"))
+    open(host.path("rotate.acme"), "w").close()
+    by_deadline(lambda: host.told("fault", what="config", tenant="acme"))
     connection = host.connect()
     assert ask(connection, fib(6))["value"] == 8
     host.configure([tenant("acme")])
     time.sleep(1.5)
     assert len(host.told("opened")) == 1
-    open(host.path("rotate"), "w").close()
-    by_deadline(lambda: len(host.told("opened")) == 2)
+    rotate(host, 1)
+    assert ask(connection, fib(6))["value"] == 8
     hang_up(connection)
     assert host.stop() == 0
 
 
+def what_a_tenant_is_given_changes() -> None:
+    """With its next term, in which its connections go on."""
+    host = Host([tenant("acme", slots=3)])
+    client = host.connect()
+    assert ask(client, {"op": "arena"})["slots"] == 3
+    host.configure([tenant("acme", slots=5)])
+    rotate(host, 1)
+    assert ask(client, {"op": "arena"})["slots"] == 5
+    hang_up(client)
+    assert host.stop() == 0
+
+
 def the_newest_dumps_are_kept() -> None:
-    host = Host([tenant("acme")], "--keep", 2, "--patience", 0)
+    host = Host([tenant("acme"), tenant("beta")], "--keep", 2)
     for number in range(1, 5):
-        open(host.path("rotate"), "w").close()
-        by_deadline(lambda: len(host.told("opened")) == number + 1)
-    assert host.stop() == 0
-    assert dumps(host, "acme") == [3, 4]
-
-
-def the_newest_dumps_are_kept_in_any_order() -> None:
-    """Generations that are closed out of order leave the newest dumps as well: one that is written late goes at once. So
-    does the oldest one of a tenant that was away, and what is too many at a start."""
-    host = Host([tenant("acme"), tenant("beta")], "--keep", 2, "--patience", 600)
-    clients = {0: host.connect()}
-    for number in range(1, 5):
-        if number == 2:
-            host.configure([tenant("acme")])
         rotate(host, number)
-        if number == 2:
-            clients[number] = host.connect()
-    host.configure([tenant("acme"), tenant("beta")])
-    rotate(host, 5)
-    by_deadline(lambda: all(host.told("closed", generation=number) for number in (1, 3, 4)))
-    assert (dumps(host, "acme"), dumps(host, "beta")) == ([3, 4], [1])
-    for number in (2, 0):
-        hang_up(clients[number])
-        by_deadline(lambda: host.told("closed", generation=number))
-        assert dumps(host, "acme") == [3, 4]
-    assert dumps(host, "beta") == [0, 1]
-    assert [it["generation"] for it in host.told("closed")][-2:] == [2, 0]
-    rotate(host, 6)
-    by_deadline(lambda: host.told("closed", generation=5))
-    assert (dumps(host, "acme"), dumps(host, "beta")) == ([4, 5], [1, 5])
+    by_deadline(lambda: len(host.told("closed")) == 4)
     assert host.stop() == 0
-    assert (dumps(host, "acme"), dumps(host, "beta")) == ([5, 6], [5, 6])
-    host = Host([tenant("acme")], "--keep", 1, after=host)
-    assert (dumps(host, "acme"), dumps(host, "beta")) == ([6], [6])
+    assert (dumps(host, "acme"), dumps(host, "beta")) == ([3, 4], [0])
+    assert sorted(os.listdir(host.path("results"))) == ["acme.000003.jsonl", "acme.000004.jsonl", "beta.000000.jsonl"]
+    host = Host([tenant("acme"), tenant("beta")], "--keep", 1, after=host)
+    assert (dumps(host, "acme"), dumps(host, "beta")) == ([4], [0])
     assert host.stop() == 0
-    assert (dumps(host, "acme"), dumps(host, "beta")) == ([7], [6])
+    assert (dumps(host, "acme"), dumps(host, "beta")) == ([5], [1])
 
 
 def shown(host: Host, is_so: Callable[[dict, dict], bool]) -> dict | None:
-    """The status, once something is so of both tenants of its only generation, and both workers wait for a call."""
+    """The status, once something is so of the only terms of both tenants, and both workers wait for a call."""
     status = host.status()
-    if not status["generations"]:
-        return None
-    [generation] = status["generations"]
-    is_idle = all(it["tenant"] is None and it["slot"] is None for it in generation["workers"])
-    return status if is_idle and is_so(*generation["tenants"]) else None
+    is_idle = all(it["tenant"] is None and it["slot"] is None for it in status["workers"])
+    return status if is_idle and is_so(*status["terms"]) else None
 
 
 def asks_both(host: Host) -> list[Bound]:
@@ -155,37 +183,41 @@ def asks_both(host: Host) -> list[Bound]:
 def what_it_shows() -> None:
     """The members of the status are those of its page, with what clients have done."""
     host = Host([tenant("acme"), tenant("beta", steps=500, slots=1, reserved=1)], "--connections", 3, "--keep", 5,
-                "--patience", 7)
+                "--finish", 7)
     connections = asks_both(host)
     status = by_deadline(lambda: shown(host, lambda acme, beta: acme["asks"] == 4 and beta["asks"] == 3))
-    assert set(status) == {"time", "began", "connections", "rotate_at", "keep", "patience", "memory", "generations", "closed"}
-    assert (status["connections"], status["rotate_at"], status["keep"], status["patience"]) == (3, 50, 5, 7)
+    assert set(status) == {"time", "began", "connections", "connected", "served", "rotate_at", "keep", "finish", "memory",
+                           "workers", "terms", "closed"}
+    assert (status["connections"], status["rotate_at"], status["keep"], status["finish"]) == (3, 50, 5, 7)
+    assert (status["connected"], status["served"]) == (2, 2)
     assert abs(status["time"] - time.time()) < 5 and status["memory"] > 1 << 20 and status["closed"] == []
-    [generation] = status["generations"]
-    assert set(generation) == {"generation", "state", "began", "why", "connections", "served", "workers", "tenants"}
-    acme, beta = generation["tenants"]
+    acme, beta = status["terms"]
+    assert acme.pop("began") >= status["began"] and beta.pop("began") >= status["began"]
     # Each execute is itself and its collect; the division is one advance besides.
     assert 83 < acme.pop("entries") < 123, acme
-    assert acme == {"tenant": "acme", "steps": 10_000, "asks": 4, "jobs": 2, "rows": {"open": 0, "waiting": 0},
+    assert acme == {"tenant": "acme", "term": 0, "state": "serving", "why": None, "base": 0, "steps": 10_000, "asks": 4,
+                    "jobs": 2, "rows": {"open": 0, "waiting": 0},
                     "jobs_now": {"running": 0, "complete": 1, "canceled": 0, "fault": 1}}
     # The cancelled job's root is dropped, the other one's waits.
-    assert beta == {"tenant": "beta", "steps": 500, "entries": 3, "asks": 3, "jobs": 2, "rows": {"open": 1, "waiting": 1},
+    assert beta == {"tenant": "beta", "term": 0, "state": "serving", "why": None, "base": 0, "steps": 500, "entries": 3,
+                    "asks": 3, "jobs": 2, "rows": {"open": 1, "waiting": 1},
                     "jobs_now": {"running": 1, "complete": 0, "canceled": 1, "fault": 0}}
-    assert generation["workers"] == [{"worker": number, "tenant": None, "slot": None} for number in (0, 1)]
-    assert (generation["connections"], generation["served"], generation["why"]) == (2, 2, None)
+    assert status["workers"] == [{"worker": number, "tenant": None, "slot": None} for number in (0, 1)]
     hang_up(*connections)
     assert host.stop() == 0
-    [closed] = host.status()["closed"]
-    assert closed["tenants"][1] == {"tenant": "beta", "entries": 3, "fault": None, "dumped": True}
-    assert closed["why"] == "stop" and closed["served"] == 2 and host.status()["generations"] == []
+    closed = {it.pop("tenant"): it for it in host.status()["closed"]}
+    beta = closed["beta"]
+    assert beta.pop("ended") >= beta.pop("began") and beta.pop("ms") >= 0
+    assert beta == {"term": 0, "why": "stop", "base": 0, "entries": 3, "lost": 1, "fault": None, "dumped": True}
+    assert set(closed) == {"acme", "beta"} and host.status()["terms"] == []
 
 
 def is_at_work(host: Host) -> bool:
     """Whether the status shows acme's only worker at its slot, with a job that it runs and others that wait for it."""
-    [generation] = host.status()["generations"] or [None]
-    if generation is None or generation["workers"] != [{"worker": 0, "tenant": "acme", "slot": 1}]:
+    status = host.status()
+    if status["workers"] != [{"worker": 0, "tenant": "acme", "slot": 1}]:
         return False
-    [acme] = generation["tenants"]
+    [acme] = status["terms"]
     rows = acme["rows"]
     return 1 < rows["open"] == rows["waiting"] + 1 == acme["jobs_now"]["running"]
 
@@ -209,6 +241,6 @@ def what_it_shows_of_a_worker_at_work() -> None:
     assert host.stop() == 0
 
 
-CHECKS = [three_by_history, one_by_file, the_old_one_goes_on, a_configuration_that_cannot_be_read,
-          the_newest_dumps_are_kept, the_newest_dumps_are_kept_in_any_order, what_it_shows,
-          what_it_shows_of_a_worker_at_work]
+CHECKS = [three_by_history, a_noisy_tenant_disturbs_no_other, connections_outlive_terms,
+          a_full_history_is_left_for_the_next_one, one_by_file, a_configuration_that_cannot_be_read,
+          what_a_tenant_is_given_changes, the_newest_dumps_are_kept, what_it_shows, what_it_shows_of_a_worker_at_work]

@@ -1,9 +1,8 @@
 #!/usr/bin/env python3
 """Lets a host of 64 tenants with 32 workers serve more clients than it has places, minute after minute: clients come,
 ask at random and go, some in the midst of a wait, and files ask for rotations beside those that histories bring about.
-Replies are compared with what the jobs give under any schedule. No generation that serves may have a full history, unless
-the host said that its rotation waits; no more may be there than its page says; each tenant of each generation must close;
-the newest dumps of each tenant must be kept, and whole.
+Replies are compared with what the jobs give under any schedule. No more terms of a tenant may be there than its page says; each
+term must close, with no job lost; the newest dumps of each tenant must be kept, and whole.
 
 usage: checks/host/soak.py [MINUTES [ASKS]], at the top of the repository, after `rt ci` or `make build`. It runs for ten
 minutes if none are said, and its clients ask as fast as they are answered, or ASKS times a second together, so that a soak can
@@ -18,7 +17,7 @@ import sys
 import threading
 import time
 
-from hosts import MOST_ALIVE, PROGRAM, SCRIPT, Host, ask, dump_lines, dumps, hang_up
+from hosts import MOST_TERMS, PROGRAM, SCRIPT, Host, ask, dump_lines, dumps, hang_up
 
 os.environ["MALLOC_MMAP_THRESHOLD_"] = "16384"  # as docs/HOST.md says, Memory
 sys.path.append(str(pathlib.Path(__file__).resolve().parents[1] / "server"))
@@ -39,7 +38,7 @@ class Soak:
         dice = random.Random(3)
         tenants = [{**tenant_config(number, dice), "steps": dice.choice([5_000, 20_000, 100_000])} for number in range(TENANTS)]
         self.names = [it["name"] for it in tenants]
-        self.host = Host(tenants, "--connections", PLACES, "--patience", 5, "--keep", KEEP, workers=WORKERS)
+        self.host = Host(tenants, "--connections", PLACES, "--keep", KEEP, workers=WORKERS)
         self.seen = collections.Counter()
         self.most = collections.Counter()
         self.wrong = []
@@ -78,7 +77,7 @@ class Soak:
                     break
                 reply = ask(connection, {"op": "execute", "job": job})
                 if reply is None:
-                    met["ended with its generation"] += 1
+                    met["ended with its host"] += 1
                     break
                 met.update(self.judged(reply, outcome))
                 if reply.get("error") == "job_limit":
@@ -102,20 +101,14 @@ class Soak:
             time.sleep(0.5)
             status = self.host.status()
             self.most["memory"] = max(self.most["memory"], status["memory"])
-            self.most["generations at once"] = max(self.most["generations at once"], len(status["generations"]))
-            for generation in status["generations"]:
-                for tenant in generation["tenants"]:
-                    full = 100 * tenant["entries"] // tenant["steps"]
-                    if generation["state"] == "serving":
-                        self.most["per cent of a serving history"] = max(self.most["per cent of a serving history"], full)
-                    if generation["state"] == "serving" and full >= 100 and not self.waits(generation["generation"]):
-                        self.wrong.append(("full while it serves", tenant))
+            at_once = collections.Counter(it["tenant"] for it in status["terms"])
+            self.most["terms of a tenant at once"] = max(self.most["terms of a tenant at once"], *at_once.values(), 0)
+            for term in status["terms"]:
+                if term["state"] == "serving":
+                    full = 100 * term["entries"] // term["steps"]
+                    self.most["per cent of a serving history"] = max(self.most["per cent of a serving history"], full)
             if dice.random() < 0.02:
                 open(self.host.path("rotate"), "w").close()
-
-    def waits(self, number: int) -> bool:
-        """Whether the host said that the generation of that number serves until there is room for the next one."""
-        return bool(self.host.told("waiting", generation=number))
 
     def run(self) -> int:
         """Lets the clients ask until the time is over, stops the host, and returns its status."""
@@ -131,12 +124,12 @@ class Soak:
         """Prints what was seen."""
         host = self.host
         closed = host.told("closed")
-        print(f"{len(closed)} generations closed, {sum(map(len, host.closed().values()))} tenants, "
-              f"{sum(sum(it.values()) for it in host.closed().values())} entries")
+        print(f"{len(closed)} terms closed, {sum(sum(it.values()) for it in host.closed().values())} entries, "
+              f"{sum(it['lost'] for it in closed)} jobs lost")
         print(f"closing and dumping took {max((it['ms'] for it in closed), default=0)} ms at most, opening "
               f"{max((it['ms'] for it in host.told('opened')), default=0)} ms at most")
         print(dict(sorted(self.seen.items())))
-        print(dict(self.most), f"{len(host.told('waiting'))} rotations waited")
+        print(dict(self.most), f"{len(host.told('waiting'))} terms waited for room")
 
 
 def main() -> None:
@@ -149,13 +142,14 @@ def main() -> None:
     finally:
         soak.report()
     host = soak.host
-    opened = [it["generation"] for it in host.told("opened")]
     closed = host.closed()
     assert not soak.wrong, soak.wrong[:5]
-    assert status == 0 and opened == sorted(it["generation"] for it in host.told("closed"))
-    assert all(sorted(it) == opened for it in closed.values()) and len(closed) == TENANTS
+    assert status == 0 and len(closed) == TENANTS and not any(it["lost"] for it in host.told("closed"))
     assert not host.told("fault"), host.told("fault")
-    assert soak.most["generations at once"] <= MOST_ALIVE and all(dumps(host, it) == opened[-KEEP:] for it in soak.names)
+    assert soak.most["terms of a tenant at once"] <= MOST_TERMS
+    for name in soak.names:
+        opened = [it["term"] for it in host.told("opened", tenant=name)]
+        assert sorted(closed[name]) == opened == list(range(len(opened))) and dumps(host, name) == opened[-KEEP:], name
     for name in os.listdir(host.path("dumps")):
         dump_lines(host.path("dumps", name))
 

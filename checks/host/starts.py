@@ -4,7 +4,7 @@ import stat
 import subprocess
 import tempfile
 
-from hosts import PROGRAM, Host, ask, dump_lines, dumps, fib, hang_up, tenant
+from hosts import PROGRAM, Host, ask, dumps, fib, hang_up, tenant
 from servers import by_deadline
 
 
@@ -22,7 +22,7 @@ def words_that_are_refused() -> None:
         good = ["--config", config, "--run", folder]
         for words in ([], ["--config", config], ["--run", folder], [*good, "more"], [*good, "--connections", "0"],
                       [*good, "--connections", "65"], [*good, "--rotate-at", "0"], [*good, "--rotate-at", "101"],
-                      [*good, "--keep", "0"], [*good, "--keep", "1000000"], [*good, "--patience", "86401"],
+                      [*good, "--keep", "0"], [*good, "--keep", "1000000"], [*good, "--finish", "86401"],
                       [*good, "--mode", "800"], [*good, "--mode", "1000"], [*good, "--group", "4294967295"],
                       [*good, "--group", "staff"], [*good, "--connections", "64", "--connections", "64"]):
             assert run(*words) == ("", "arena-host: words\n", 2), words
@@ -58,23 +58,37 @@ def modes() -> None:
 
 
 def starts_again_after_a_kill() -> None:
-    """What a killed host leaves is cleared, and numbers go on."""
-    host = Host([tenant("acme")])
+    """What a killed host leaves is cleared, and the numbers of terms and of jobs go on behind all that may have been given."""
+    host = Host([tenant("acme", steps=1000)])
     connection = host.connect()
-    assert ask(connection, fib(6))["value"] == 8
+    assert ask(connection, fib(6)) == {"job": 1, "status": "complete", "value": 8}
     assert host.stop() == 0
-    host = Host([tenant("acme")], after=host)
+    host = Host([tenant("acme", steps=1000)], after=host)
+    connection = host.connect()
+    assert ask(connection, fib(6)) == {"job": 1001, "status": "complete", "value": 8}
     host.kill()
     assert os.path.exists(host.path("socket"))
     for name in ("acme.000001.jsonl.part", "acme.000001.jsonl.part2"):
         with open(host.path("dumps", name), "w") as it:
             it.write("{")
-    host = Host([tenant("acme")], after=host)
-    assert by_deadline(lambda: host.told("start"))[0]["generation"] == 1
+    host = Host([tenant("acme", steps=1000)], after=host)
+    [opened] = by_deadline(lambda: host.told("opened"))
+    assert (opened["tenant"], opened["term"], opened["base"]) == ("acme", 2, 2000)
+    connection = host.connect()
+    assert ask(connection, fib(6)) == {"job": 2001, "status": "complete", "value": 8}
     assert host.stop() == 0
-    assert sorted(os.listdir(host.path("dumps"))) == ["acme.000000.jsonl", "acme.000001.jsonl"]
-    assert dump_lines(host.path("dumps", "acme.000001.jsonl")) == 1
+    assert sorted(os.listdir(host.path("dumps"))) == ["acme.000000.jsonl", "acme.000002.jsonl"]
     hang_up(connection)
 
 
-CHECKS = [words_that_are_refused, only_one_host_in_a_folder, modes, starts_again_after_a_kill]
+def numbers_that_cannot_be_read() -> None:
+    """A host does not begin where it can't know which numbers were given."""
+    host = Host([tenant("acme")])
+    assert host.stop() == 0
+    with open(host.path("terms", "acme"), "w") as it:
+        it.write("0 0\n")
+    printed, told, status = run("--config", host.config, "--run", host.run)
+    assert (printed, told.splitlines()[-1], status) == ("", "arena-host: device", 3), told
+
+
+CHECKS = [words_that_are_refused, only_one_host_in_a_folder, modes, starts_again_after_a_kill, numbers_that_cannot_be_read]

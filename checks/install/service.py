@@ -15,7 +15,7 @@ CONFIG = pathlib.Path("/etc/arena/config.json")
 FIB = "/usr/share/doc/arena/examples/jobs/fib.job"
 # Who is a member of the group, and who is not, for setpriv.
 MEMBER, OTHER = "--groups=arena", "--clear-groups"
-# How soon, in seconds, the unit is up again after a kill, and the status shows a generation.
+# How soon, in seconds, the unit is up again after a kill, and the status shows a term.
 SOON = 20
 
 
@@ -47,16 +47,16 @@ def wait_for(holds: Callable[[], bool], what: str) -> None:
         time.sleep(0.1)
 
 
-def generations() -> list[int]:
-    """The numbers of the generations that are not closed, by the status, which is a second old at most."""
+def terms() -> list[int]:
+    """The numbers of acme's terms that are not closed, by the status, which is a second old at most."""
     path = FOLDER / "status.json"
-    return [it["generation"] for it in json.loads(path.read_text())["generations"]] if path.exists() else []
+    return [it["term"] for it in json.loads(path.read_text())["terms"] if it["tenant"] == "acme"] if path.exists() else []
 
 
-def generation() -> int:
-    """The number of the newest generation."""
-    wait_for(lambda: generations() != [], "a generation is open")
-    return generations()[-1]
+def term() -> int:
+    """The number of the newest term."""
+    wait_for(lambda: terms() != [], "a term is open")
+    return terms()[-1]
 
 
 def dumps_are_whole() -> None:
@@ -77,16 +77,16 @@ def starts() -> None:
 
 
 def reloads() -> None:
-    """When a reload returns, the next generation serves. A configuration that can't be read fails it, and changes nothing."""
-    before, text = generation(), CONFIG.read_text()
+    """When a reload returns, the next terms serve. A configuration that can't be read fails it, and changes nothing."""
+    before, text = term(), CONFIG.read_text()
     run("systemctl", "reload", UNIT)
-    assert generation() == before + 1
+    assert term() == before + 1
     CONFIG.write_text("{")
     run("systemctl", "reload", UNIT, status=1)
     CONFIG.write_text(text)
     run("journalctl", "--sync")
     assert f"{CONFIG}:" in run("journalctl", "--unit", UNIT, "--lines=5", "--output=cat"), "the fault has no place"
-    assert (shown("ActiveState"), generation(), job()) == ("active", before + 1, "55\n")
+    assert (shown("ActiveState"), term(), job()) == ("active", before + 1, "55\n")
 
 
 def comes_back() -> None:

@@ -78,7 +78,7 @@ def more_history_than_memory(it):
             "the most, 0.26 GiB for 1,048,576 steps; lower steps, to 254,200 at most for each tenant, or --connections\n")
     it.call("advise", path, "--memory", "0.375", "--connections", "1", out=f"{path}: nothing to advise\n")
     it.call("advise", path, "--memory", "0.375", "--connections", "1", "--host", status=1, out=re.compile(
-        ".*: with 1 connection histories have room for 0.52 GiB, 2 times, since two generations are open while the host "
+        ".*: with 1 connection histories have room for 0.52 GiB, 2 times, since a tenant has two terms while the host "
         "rotates, .* 0.52 GiB for 1,048,576 steps; lower steps, to 381,300 at most for each tenant, or --connections\n"))
     it.call("advise", path, "--memory", "1e-7", status=1, out=re.compile(".*; lower --connections, or have fewer tenants\n"))
 
@@ -91,11 +91,11 @@ def histories_that_are_short(it):
     path = it.file("short.json", {"tenants": [tenant(steps=10_000), tenant("beta", steps=1)], "workers": 2})
     it.call("advise", path, status=1, out=f"{path}: tenant beta: steps 1: after 1 entry the tenant answers `history_full` "
             "to all that follows; raise steps to 1,000 or more\n")
-    it.call("advise", path, "--host", status=1, out=f"{path}: tenant beta: steps 1: after 1 entry the host rotates, all "
-            "tenants with it, at 50 %; raise steps to 2,000 or more\n")
+    it.call("advise", path, "--host", status=1, out=f"{path}: tenant beta: steps 1: after 1 entry the host opens "
+            "its next term, at 50 %; raise steps to 2,000 or more\n")
     it.call("advise", path, "--host", "--rotate-at", "5", status=1, out=f"{path}: tenant acme: steps 10,000: after 500 "
-            "entries the host rotates, all tenants with it, at 5 %; raise steps to 20,000 or more\n"
-            f"{path}: tenant beta: steps 1: after 1 entry the host rotates, all tenants with it, at 5 %; raise steps to "
+            "entries the host opens its next term, at 5 %; raise steps to 20,000 or more\n"
+            f"{path}: tenant beta: steps 1: after 1 entry the host opens its next term, at 5 %; raise steps to "
             "20,000 or more\n")
 
 
@@ -128,16 +128,15 @@ def words_and_files(it):
 
 
 def fewer_descriptors_than_a_host_needs(it):
-    """16 generations take a descriptor for each connection and two more, and a host has 32 others."""
-    need = 16 * (64 + 2) + 32
+    """Each connection takes a descriptor, and a host has 34 others."""
+    need = 64 + 34
     assert found(WISE, rotate_at=50, descriptors=need) == found(WISE, descriptors=1) == []
     assert found(WISE, rotate_at=50, descriptors=need - 1) == [(About.DESCRIPTORS, None)]
-    assert found(WISE, rotate_at=50, connections=1, descriptors=16 * 3 + 32) == []
+    assert found(WISE, rotate_at=50, connections=1, descriptors=1 + 34) == []
     path = it.file("wise.json", {"tenants": WISE, "workers": 2})
-    with mock.patch("arena.command.advise.descriptors", lambda: 1024):
-        it.call("advise", path, "--host", "--memory", "16", status=1, out=f"{path}: all tenants: 16 generations with 64 "
-                "connections take up to 1,088 files, and a process may have 1,024 open here; start the host with `ulimit "
-                "-n 1088` or more\n")
+    with mock.patch("arena.command.advise.descriptors", lambda: 90):
+        it.call("advise", path, "--host", "--memory", "16", status=1, out=f"{path}: all tenants: 64 connections take up to 98 "
+                "files, and a process may have 90 open here; start the host with `ulimit -n 98` or more\n")
         it.call("advise", path, "--host", "--memory", "16", "--connections", "32", out=f"{path}: nothing to advise\n")
         it.call("advise", path, "--memory", "16", out=f"{path}: nothing to advise\n")
 

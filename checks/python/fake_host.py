@@ -26,29 +26,19 @@ def example() -> dict:
     return json.loads(example_text())
 
 
-def tenant(name: str = "acme", steps: int = 10_000, entries: int = 0, asks: int = 0, jobs: int = 0) -> dict:
-    """A tenant of a generation."""
-    return {"tenant": name, "steps": steps, "entries": entries, "asks": asks, "jobs": jobs,
+def term(number: int, tenant: str = "acme", state: str = "serving", why: str | None = None, steps: int = 10_000,
+         entries: int = 0, asks: int = 0, jobs: int = 0, began: int | None = None) -> dict:
+    """A term of a tenant that is not closed."""
+    return {"tenant": tenant, "term": number, "state": state, "began": int(time.time()) if began is None else began,
+            "why": why, "base": number * steps, "steps": steps, "entries": entries, "asks": asks, "jobs": jobs,
             "jobs_now": {"running": jobs, "complete": 0, "canceled": 0, "fault": 0}, "rows": {"open": jobs, "waiting": 0}}
 
 
-def generation(number: int, state: str = "serving", why: str | None = None, tenants: Iterable[dict] = (),
-               workers: Iterable[dict] = (), began: int | None = None, connections: int = 0, served: int = 0) -> dict:
-    """A generation that is not closed."""
-    return {"generation": number, "state": state, "began": int(time.time()) if began is None else began, "why": why,
-            "connections": connections, "served": served, "workers": [*workers], "tenants": [*tenants]}
-
-
-def closed(number: int, *tenants: dict, why: str = "history", began: int = 0, ended: int = 0, served: int = 0,
-           ms: int = 0, lost: int = 0) -> dict:
-    """A generation that was closed."""
-    return {"generation": number, "began": began, "ended": ended, "why": why, "served": served, "lost": lost, "ms": ms,
-            "tenants": [*tenants]}
-
-
-def closed_tenant(name: str = "acme", entries: int = 0, fault: int | None = None, dumped: bool = True) -> dict:
-    """A tenant at its close."""
-    return {"tenant": name, "entries": entries, "fault": fault, "dumped": dumped}
+def closed(number: int, tenant: str = "acme", why: str = "history", began: int = 0, ended: int = 0, entries: int = 0,
+           lost: int = 0, fault: int | None = None, dumped: bool = True, ms: int = 0) -> dict:
+    """A term that was closed."""
+    return {"tenant": tenant, "term": number, "began": began, "ended": ended, "why": why, "base": 0, "entries": entries,
+            "lost": lost, "fault": fault, "dumped": dumped, "ms": ms}
 
 
 class Folder:
@@ -77,10 +67,12 @@ class Folder:
             os.utime(self.file("status.json.part"), (at, at))
         os.rename(self.file("status.json.part"), self.file("status.json"))
 
-    def status(self, *generations: dict, closed: Iterable[dict] = (), began: int = 1, at: float | None = None) -> dict:
-        """A status of now, or of a time in seconds since 1970, that has these generations."""
-        return {"time": int(time.time() if at is None else at), "began": began, "connections": 64, "rotate_at": 50,
-                "keep": 8, "patience": 30, "memory": None, "generations": [*generations], "closed": [*closed]}
+    def status(self, *terms: dict, closed: Iterable[dict] = (), workers: Iterable[dict] = (), began: int = 1,
+               served: int = 0, at: float | None = None) -> dict:
+        """A status of now, or of a time in seconds since 1970, that has these terms."""
+        return {"time": int(time.time() if at is None else at), "began": began, "connections": 64, "connected": 0,
+                "served": served, "rotate_at": 50, "keep": 8, "finish": 10, "memory": None, "workers": [*workers],
+                "terms": [*terms], "closed": [*closed]}
 
     def dump(self, name: str, verdict: str = "yes") -> None:
         """A file in the folder of dumps, of which the program of `judge` says this."""
@@ -103,14 +95,14 @@ class Folder:
 
 
 class FakeHost(Folder):
-    """A host on a thread. `deaf` takes no orders; `stuck` takes the order to rotate, and opens no generation;
-    `again` starts anew at once when it was stopped; `slow` is how long it takes to close, in seconds."""
+    """A host on a thread. `deaf` takes no orders; `stuck` takes the order to rotate, and opens no term; `again` starts anew
+    at once when it was stopped; `slow` is how long it takes to close, in seconds."""
 
-    def __init__(self, number: int = 5, tenants: Iterable[dict] = (), deaf: bool = False, stuck: bool = False,
+    def __init__(self, number: int = 5, tenants: Iterable[str] = ("acme",), deaf: bool = False, stuck: bool = False,
                  again: bool = False, slow: float = 0.0) -> None:
         super().__init__()
-        self.tenants, self.deaf, self.stuck, self.again, self.slow = [*tenants], deaf, stuck, again, slow
-        self.began, self.open, self.closed = int(time.time()) - 100, [generation(number, tenants=tenants)], []
+        self.deaf, self.stuck, self.again, self.slow = deaf, stuck, again, slow
+        self.began, self.open, self.closed = int(time.time()) - 100, [term(number, it) for it in tenants], []
         self.ended, self._end = threading.Event(), threading.Event()
         self._lock = self.lock()
         self._listen()
@@ -135,8 +127,8 @@ class FakeHost(Folder):
         while not self._end.wait(PAUSE):
             if self.deaf:
                 continue
-            if os.path.exists(self.file("rotate")):
-                self._rotate()
+            for order in [it for it in os.listdir(self.path) if it.startswith("rotate")]:
+                self._rotate(order)
             if not os.path.exists(self.file("socket")):
                 self._close_all()
                 if not self.again:
@@ -146,18 +138,18 @@ class FakeHost(Folder):
                 self.tell()
         self._lock.close()
 
-    def _rotate(self) -> None:
-        os.unlink(self.file("rotate"))
+    def _rotate(self, order: str) -> None:
+        os.unlink(self.file(order))
+        wanted = order.removeprefix("rotate").removeprefix(".")
         if not self.stuck:
-            old = self.open[-1]
-            old["state"], old["why"] = "draining", "file"
-            self.open.append(generation(old["generation"] + 1, tenants=self.tenants))
+            for old in [it for it in self.open if it["state"] == "serving" and wanted in ("", it["tenant"])]:
+                old["state"], old["why"] = "finishing", "file"
+                self.open.append(term(old["term"] + 1, old["tenant"]))
         self.tell()
 
     def _close_all(self) -> None:
         self._end.wait(self.slow)
-        self.closed += [closed(it["generation"], *(closed_tenant(one["tenant"]) for one in it["tenants"]), why="stop")
-                        for it in self.open]
+        self.closed += [closed(it["term"], it["tenant"], why="stop") for it in self.open]
         self.open = []
         self.tell()
         self.ended.set()

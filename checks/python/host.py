@@ -19,7 +19,7 @@ from unittest import mock
 sys.path.insert(0, os.path.abspath("python"))
 
 from calls import Calls, by_keyboard
-from fake_host import FakeHost, Folder, closed, closed_tenant, example, generation, tenant
+from fake_host import FakeHost, Folder, closed, example, term
 from serving import PACKAGE, PATIENCE, arena_process
 
 from arena.host import Reading, RunFolder, StatusFault, parse_status, read_status
@@ -27,23 +27,22 @@ from arena.host.rates import Rates, Watch, rates_between
 from arena.host.report import duration, sections_of, size, to_text
 
 # What `arena status` prints of the example of docs/HOST.md.
-SHOWN = """host: generation 123 serves, up 2 min 3 s, 77.5 MiB of memory
-64 connections a generation, rotates at 50 %, keeps 8 dumps of a tenant, patience 30 s
-
-generation 122: draining (history), opened 1 min 53 s ago, 1 connection now, 40 so far
+SHOWN = """host: 1 tenant served, up 2 min 3 s, 77.5 MiB of memory
+3 connections now of 64 at most, 47 so far
+rotates at 50 %, keeps 8 dumps of a tenant, finishes within 10 s
 workers: 1 with a tenant, 1 waiting for a call
-tenant  entries      steps     %  asks  jobs  running  rows  waiting  workers
-acme    524,300  1,048,576  50.0    88    40        2     7        3        1
 
-generation 123: serving, opened 13 s ago, 2 connections now, 7 so far
+terms, those of one tenant together
+tenant  term  state                       age  entries      steps     %  asks  jobs  running  rows  waiting  workers
+acme     122  finishing (history)  1 min 53 s  524,300  1,048,576  50.0    88    40        2     7        3        -
+acme     123  serving                    13 s       90  1,048,576   0.0     3     2        0     0        0        1
 
-closed generations, the newest last
-generation  why       lasted  served  ms  tenants  entries  dumps
-       121  file  8 min 20 s      12  35        1    9,000  all dumped
+closed terms, the newest last
+tenant  term  why       lasted  ms  entries  dump
+acme     121  file  8 min 20 s  35    9,000  dumped
 """
 # Members that may be null.
-NULLS = {"memory", "generations[1].why", "generations[0].workers[1].tenant", "generations[0].workers[1].slot",
-         "closed[0].tenants[0].fault"}
+NULLS = {"memory", "terms[1].why", "workers[1].tenant", "workers[1].slot", "closed[0].fault"}
 
 
 def example_is_shown(it, folder):
@@ -59,17 +58,17 @@ def example_is_shown(it, folder):
 def status_of_now_is_done(it, folder):
     places = ("acme", 0), ("beta", 1), ("acme", 1), (None, None)
     workers = [{"worker": number, "tenant": name, "slot": slot} for number, (name, slot) in enumerate(places)]
-    now = folder.status(generation(7, tenants=[tenant(steps=200, entries=50), tenant("beta")], workers=workers), closed=[
-        closed(5, closed_tenant(fault=5, dumped=False), closed_tenant("beta", dumped=False), lost=2), closed(6)])
+    now = folder.status(term(7, steps=200, entries=50), term(3, "beta"), workers=workers, closed=[
+        closed(5, fault=5, dumped=False, lost=2), closed(5, "beta", dumped=False), closed(6)])
     folder.write(now)
-    rows = re.compile(r"(?s)host: generation 7 serves, .*\nworkers: 3 with a tenant, 1 waiting for a call\n.*"
-                      r"\nacme +50 +200 +25\.0 +0 +0 +0 +0 +0 +2\nbeta +0 +10,000 +0\.0 +0 +0 +0 +0 +0 +1\n.*"
-                      r"\n +5 .* 2 +0 +2 jobs lost; acme: close fault 5; beta: no dump\n +6 .* 0 +0 +all dumped\n")
+    rows = re.compile(r"(?s)host: 2 tenants served, .*\nworkers: 3 with a tenant, 1 waiting for a call\n.*"
+                      r"\nacme +7 +serving +0 s +50 +200 +25\.0 +0 +0 +0 +0 +0 +2\nbeta +3 +serving +0 s +0 +10,000 +0\.0 +0 +0 +0 +0 +0 +1\n.*"
+                      r"\nacme +5 .* 2 jobs lost; close fault 5\nbeta +5 .* no dump\nacme +6 .* dumped\n")
     it.call("status", folder.path, out=rows, how=arena_process)
     it.call("status", out=rows, ARENA_RUN=folder.path)
     it.call("status", folder.path, out=rows, ARENA_RUN="/nowhere")
     folder.write(folder.status())
-    it.call("status", folder.path, out=re.compile(r"host: no generation serves .*\n.*\n"))
+    it.call("status", folder.path, out=re.compile(r"host: no tenant is served .*\n.*\n.*\n"))
 
 
 def missing_ones_are_said(it, folder):
@@ -90,7 +89,7 @@ def missing_ones_are_said(it, folder):
 
 def locks_that_may_not_be_opened(it, folder):
     """Who may read the status alone is told by that whether a host runs."""
-    folder.write(folder.status(generation(7)))
+    folder.write(folder.status(term(7)))
     denied = mock.patch("arena.host.folder.os.open", mock.Mock(side_effect=PermissionError(13, "Permission denied")))
     with denied, slept(lambda seconds: None, lambda seconds: folder.write(folder.status(at=time.time() - 60))):
         it.call("status", folder.path, out=re.compile("(?s)host: .*"))
@@ -101,16 +100,14 @@ def locks_that_may_not_be_opened(it, folder):
 
 def nonsense_is_told(it, folder):
     """Texts that are no status have a message and a status, and never a traceback."""
-    whole, two, twice = json.dumps(example()), example(), example()
-    two["generations"][1]["generation"] = 121
-    twice["generations"][0]["tenants"] *= 2
+    whole, two = json.dumps(example()), example()
+    two["terms"][1]["term"] = 121
     surrogate = whole.replace('"acme"', '"\\ud800"')
     for text, said in (("", "empty"), (" \n", "empty"), (whole[:-1], "no JSON"), ("null", "the whole is an object"),
                        ("[" * 5000, "no JSON"), ("NaN", "no JSON"), (surrogate, "no JSON"), ("\xff", "no JSON"),
                        ("{}", "time is a whole number from 0 on, not missing; this is not a status of arena-host"),
                        (whole.replace("50,", "5e1,", 1), "rotate_at is a whole number from 0 on, not 50.0"),
-                       (json.dumps(two), "generations has generation 121 twice"),
-                       (json.dumps(twice), r'generations\[0\]\.tenants has tenant "acme" twice'),
+                       (json.dumps(two), r'terms has term "acme\.000121" twice'),
                        (" " * (16 * 1024 * 1024) + whole, "more than 16,777,216 bytes")):
         folder.write(text.encode("latin-1"))
         it.call("status", folder.path, status=11, err=f"^arena: {re.escape(folder.path)}/status.json: {said}[^\\n]*\\n$")
@@ -152,15 +149,14 @@ def every_member_is_looked_at():
         if isinstance(inside, dict):
             assert refused(changed(path, lambda it, key: it.pop(key)), path), path
         assert path in NULLS or refused(changed(path, lambda it, key: it.__setitem__(key, None)), path) or (
-            path in ("generations[0].why", "generations[0].workers[0].tenant", "generations[0].workers[0].slot")), path
+            path in ("terms[0].why", "workers[0].tenant", "workers[0].slot")), path
         assert refused(changed(path, lambda it, key: it.__setitem__(key, -1)), path), path
         assert refused(changed(path, lambda it, key: it.__setitem__(key, 1.5)), path), path
         if inside[key] is not True:
             assert refused(changed(path, lambda it, key: it.__setitem__(key, True)), path), path
         if isinstance(inside[key], str) and key != "tenant":
             assert refused(changed(path, lambda it, key: it.__setitem__(key, "dance")), path), path
-    assert refused(changed("generations[0].tenants[0].steps", lambda it, key: it.__setitem__(key, 0)),
-                   "generations[0].tenants[0].steps")
+    assert refused(changed("terms[0].steps", lambda it, key: it.__setitem__(key, 0)), "terms[0].steps")
     more = changed("time", lambda it, key: it.__setitem__("more", [None]))
     assert parse_status(json.dumps(more).encode())[0] == parse_status(json.dumps(example()).encode())[0]
 
@@ -183,9 +179,9 @@ def times_are_as_fine_as_the_file_tells():
             assert read_status(RunFolder(folder.path)).written == written, (modified, written)
 
 
-def reading(at, *generations, closed=(), began=1):
+def reading(at, *terms, closed=(), began=1):
     """A reading of a status that was written then."""
-    value = {**example(), "time": int(at), "began": began, "generations": [*generations], "closed": [*closed]}
+    value = {**example(), "time": int(at), "began": began, "terms": [*terms], "closed": [*closed]}
     return Reading(parse_status(json.dumps(value).encode())[0], value, at)
 
 
@@ -197,23 +193,23 @@ def five_seconds_are_fresh():
 
 
 def rates_are_those_of_the_time_between():
-    first = reading(100.5, generation(4, "draining", "history", [tenant(entries=10, asks=4, jobs=2), tenant("gone")]),
-                    closed=[closed(3)])
-    last = reading(102.5, generation(4, "draining", "history", [tenant(entries=110, asks=5, jobs=2)]),
-                   generation(5, tenants=[tenant(entries=7, asks=6, jobs=1), tenant("beta")]), closed=[closed(3)])
-    assert rates_between(first, last) == {(4, "acme"): Rates(50.0, 0.5, 0.0), (5, "acme"): Rates(3.5, 3.0, 0.5),
-                                          (5, "beta"): Rates(0.0, 0.0, 0.0)}
+    old = {"state": "finishing", "why": "history"}
+    first = reading(100.5, term(4, entries=10, asks=4, jobs=2, **old), term(4, "gone", **old), closed=[closed(3)])
+    last = reading(102.5, term(4, entries=110, asks=5, jobs=2, **old), term(5, entries=7, asks=6, jobs=1), term(0, "beta"),
+                   closed=[closed(3)])
+    assert rates_between(first, last) == {("acme", 4): Rates(50.0, 0.5, 0.0), ("acme", 5): Rates(3.5, 3.0, 0.5),
+                                          ("beta", 0): Rates(0.0, 0.0, 0.0)}
     assert rates_between(first, first) == rates_between(last, first) == {}
-    another = reading(102.5, generation(4, tenants=[tenant(entries=110, asks=5, jobs=2)]), generation(5), began=2)
+    another = reading(102.5, term(4, entries=110, asks=5, jobs=2), term(5), began=2)
     assert rates_between(first, another) == {}
-    # An old generation that was not there before, and a count that went down, tell of no rate.
-    odd = reading(104.5, generation(3, tenants=[tenant()]), generation(4, tenants=[tenant(entries=109, asks=9, jobs=9)]))
+    # An old term that was not there before, and a count that went down, tell of no rate.
+    odd = reading(104.5, term(3), term(4, entries=109, asks=9, jobs=9))
     assert rates_between(last, odd) == {}
     watch = Watch()
     assert watch.total() is None
     for it in (first, last, last):
         watch.take(it)
-    assert watch.of(4, "acme") == Rates(50.0, 0.5, 0.0) and watch.of(4, "gone") is None
+    assert watch.of("acme", 4) == Rates(50.0, 0.5, 0.0) and watch.of("gone", 4) is None
     assert watch.total() == Rates(53.5, 3.5, 0.5)
     rates_of_minutes_are_kept()
 
@@ -224,7 +220,7 @@ def rates_of_minutes_are_kept():
     watch, jobs = Watch(), 0
     for second in range(601):
         jobs += 5 if second % 60 == 59 else 1
-        watch.take(reading(1000.0 + second, generation(1, tenants=[tenant(entries=2 * second, asks=3 * second, jobs=jobs)])))
+        watch.take(reading(1000.0 + second, term(1, entries=2 * second, asks=3 * second, jobs=jobs)))
         assert (watch.recent() is None) == (second < 3)
     recent = watch.recent()
     assert recent.seconds == 300 and recent.mean() == Rates(2.0, 3.0, (300 + 5 * 4) / 300), recent.mean()
@@ -250,12 +246,12 @@ def slept(*then):
 def two_readings(folder, every):
     """Writes a reading, and what writes the next one, which is two seconds younger, at the sleep of so many seconds."""
     now = time.time() - 3
-    folder.write(folder.status(generation(7, tenants=[tenant(entries=100, asks=10, jobs=1)]), at=now), now)
+    folder.write(folder.status(term(7, entries=100, asks=10, jobs=1, began=int(now)), at=now), now)
 
     def later(seconds):
         """The second reading."""
         assert seconds == every, seconds
-        then = folder.status(generation(7, tenants=[tenant(entries=600, asks=11, jobs=4)]), at=now + 2)
+        then = folder.status(term(7, entries=600, asks=11, jobs=4, began=int(now)), at=now + 2)
         folder.write(then, now + 2)
 
     return later
@@ -263,19 +259,19 @@ def two_readings(folder, every):
 
 def rates_are_shown(it, folder):
     """500 entries, one request and three jobs more in two seconds; 4,400 entries are left to the 5,000 of 10,000."""
-    line = r"acme +600 +10,000 +6\.0 +11 +4 +4 +4 +0 +0 +250\.0 +0\.5 +1\.5 +17 s"
+    line = r"acme +7 +serving +2 s +600 +10,000 +6\.0 +11 +4 +4 +4 +0 +0 +250\.0 +0\.5 +1\.5 +17 s"
     with contextlib.closing(folder.lock()):
         with slept(two_readings(folder, 2.0)):
             it.call("top", folder.path, "--once", out=re.compile(
                 rf"(?s)host: .*\n250\.0 entries, 0\.5 requests and 1\.5 jobs a second\n.*\n{line}\n\n"))
         with slept(two_readings(folder, 0.5), interrupt):
-            first = r"acme +100 +10,000 +1\.0 +10 +1 +1 +1 +0 +0 +- +- +- +-"
+            first = r"acme +7 +serving +0 s +100 +10,000 +1\.0 +10 +1 +1 +1 +0 +0 +- +- +- +-"
             it.call("top", "--every", "0.5", out=re.compile(rf"(?s)host: .*\n{first}\n\nhost: .*\n{line}\n\n"),
                     ARENA_RUN=folder.path)
         with slept(two_readings(folder, 2.0)):
             it.call("top", folder.path, "--once", "--json", out=re.compile(
-                r'\{"generations":\[\{.*"per_second":\{"asks":0\.5,"entries":250\.0,"jobs":1\.5\},.*\],"recent":null,"time":\d+,'
-                r'"total":\{"asks":0\.5,"entries":250\.0,"jobs":1\.5\}\}\n'))
+                r'\{"connections":0,"recent":null,"served":0,"terms":\[\{.*"per_second":\{"asks":0\.5,"entries":250\.0,"jobs":1\.5\},'
+                r'.*\],"time":\d+,"total":\{"asks":0\.5,"entries":250\.0,"jobs":1\.5\}\}\n'))
         folder.write(folder.status(at=time.time() - 60))
         with slept(lambda seconds: None):
             it.call("top", folder.path, "--once", out=re.compile(r"(?s)stale: written 6\d s ago, .*\n\nhost: .*"))
@@ -288,7 +284,7 @@ def interrupt(_):
 
 def top_ends_with_its_host(it, folder):
     lock = folder.lock()
-    folder.write(folder.status(generation(0)))
+    folder.write(folder.status(term(0)))
     with slept(lambda seconds: None, lambda seconds: lock.close()):
         it.call("top", folder.path, status=11, out=re.compile(r"(?s)(host: .*\n\n){2}"), err=": the host has gone\n$")
 
@@ -298,7 +294,7 @@ def top_ends_with_the_keyboard():
         words = [sys.executable, "-m", "arena", "top", host.path, "--every", "0.1"]
         process = subprocess.Popen(words, stdout=subprocess.PIPE, stderr=subprocess.PIPE, text=True,
                                    env={**os.environ, "PYTHONPATH": PACKAGE}, preexec_fn=by_keyboard)
-        assert process.stdout.readline().startswith("host: generation 5 serves"), process
+        assert process.stdout.readline().startswith("host: 1 tenant served"), process
         process.send_signal(signal.SIGINT)
         _, err = process.communicate(timeout=PATIENCE)
         assert (process.returncode, err) == (0, ""), (process.returncode, err)
@@ -306,7 +302,7 @@ def top_ends_with_the_keyboard():
 
 def top_stays_in_place_on_a_terminal():
     """Each block begins at the top of the terminal, and none is wider or higher than it."""
-    with FakeHost(tenants=[tenant(f"tenant-{it}") for it in range(60)]) as host:
+    with FakeHost(tenants=[f"tenant-{it}" for it in range(60)]) as host:
         ours, its = pty.openpty()
         size_of_its = {"COLUMNS": "40", "LINES": "20", "TERM": "xterm"}
         words = [sys.executable, "-m", "arena", "top", host.path, "--every", "0.05", "--once"]

@@ -46,7 +46,7 @@ class Generation:
 
 
 class Session(socketserver.StreamRequestHandler):
-    """A connection, which belongs to the generation that serves when it begins."""
+    """A connection, which belongs to the server that serves when it begins."""
 
     def handle(self):
         mine, tenant = self.server.serving, None

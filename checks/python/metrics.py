@@ -25,7 +25,7 @@ sys.path.insert(0, os.path.abspath("python"))
 
 from calls import Calls, by_keyboard
 from exposition import parsed
-from fake_host import FakeHost, Folder, closed, closed_tenant, example, generation, tenant
+from fake_host import FakeHost, Folder, closed, example, term
 from serving import PACKAGE, PATIENCE
 
 from arena.host import RunFolder, parse_status
@@ -42,32 +42,35 @@ SAMPLES = {
     "arena_start_time_seconds": {"": 1764180000},
     "arena_resident_memory_bytes": {"": 81264640},
     "arena_connections_limit": {"": 64},
+    "arena_connections": {"": 3},
+    "arena_connections_served_total": {"": 47},
     "arena_rotate_at_ratio": {"": 0.5},
-    "arena_patience_seconds": {"": 30},
+    "arena_finish_seconds": {"": 10},
     "arena_dumps_limit": {"": 8},
-    "arena_generation_state": {
-        "generation=122 state=serving": 0, "generation=122 state=draining": 1, "generation=122 state=closing": 0,
-        "generation=123 state=serving": 1, "generation=123 state=draining": 0, "generation=123 state=closing": 0},
-    "arena_generation_start_time_seconds": {"generation=122": 1764180010, "generation=123": 1764180110},
-    "arena_connections": {"generation=122": 1, "generation=123": 2},
-    "arena_connections_served_total": {"generation=122": 40, "generation=123": 7},
-    "arena_workers": {"generation=122": 2, "generation=123": 0},
-    "arena_workers_waiting": {"generation=122": 1, "generation=123": 0},
-    "arena_history_steps": {"generation=122 tenant=acme": 1048576},
-    "arena_history_entries": {"generation=122 tenant=acme": 524300},
-    "arena_requests_total": {"generation=122 tenant=acme": 88},
-    "arena_jobs_total": {"generation=122 tenant=acme": 40},
+    "arena_workers": {"": 2},
+    "arena_workers_waiting": {"": 1},
+    "arena_workers_at_tenant": {"tenant=acme": 1},
+    "arena_term_state": {
+        "state=serving tenant=acme term=122": 0, "state=finishing tenant=acme term=122": 1,
+        "state=closing tenant=acme term=122": 0, "state=serving tenant=acme term=123": 1,
+        "state=finishing tenant=acme term=123": 0, "state=closing tenant=acme term=123": 0},
+    "arena_term_start_time_seconds": {"tenant=acme term=122": 1764180010, "tenant=acme term=123": 1764180110},
+    "arena_history_steps": {"tenant=acme term=122": 1048576, "tenant=acme term=123": 1048576},
+    "arena_history_entries": {"tenant=acme term=122": 524300, "tenant=acme term=123": 90},
+    "arena_requests_total": {"tenant=acme term=122": 88, "tenant=acme term=123": 3},
+    "arena_jobs_total": {"tenant=acme term=122": 40, "tenant=acme term=123": 2},
     "arena_jobs": {
-        "generation=122 status=running tenant=acme": 2, "generation=122 status=complete tenant=acme": 36,
-        "generation=122 status=canceled tenant=acme": 1, "generation=122 status=fault tenant=acme": 1},
-    "arena_rows_open": {"generation=122 tenant=acme": 7},
-    "arena_rows_waiting": {"generation=122 tenant=acme": 3},
-    "arena_workers_at_tenant": {"generation=122 tenant=acme": 1},
-    "arena_close_duration_seconds": {"generation=121 why=file": 0.035},
-    "arena_close_lost_jobs": {"generation=121 why=file": 0},
-    "arena_close_entries": {"generation=121 tenant=acme": 9000},
-    "arena_close_fault": {"generation=121 tenant=acme": 0},
-    "arena_close_dumped": {"generation=121 tenant=acme": 1},
+        "status=running tenant=acme term=122": 2, "status=complete tenant=acme term=122": 36,
+        "status=canceled tenant=acme term=122": 1, "status=fault tenant=acme term=122": 1,
+        "status=running tenant=acme term=123": 0, "status=complete tenant=acme term=123": 2,
+        "status=canceled tenant=acme term=123": 0, "status=fault tenant=acme term=123": 0},
+    "arena_rows_open": {"tenant=acme term=122": 7, "tenant=acme term=123": 0},
+    "arena_rows_waiting": {"tenant=acme term=122": 3, "tenant=acme term=123": 0},
+    "arena_close_duration_seconds": {"tenant=acme term=121 why=file": 0.035},
+    "arena_close_lost_jobs": {"tenant=acme term=121 why=file": 0},
+    "arena_close_entries": {"tenant=acme term=121 why=file": 9000},
+    "arena_close_fault": {"tenant=acme term=121 why=file": 0},
+    "arena_close_dumped": {"tenant=acme term=121 why=file": 1},
 }
 
 
@@ -89,51 +92,51 @@ def example_has_its_samples():
     without = plain(metrics_of({**example(), "memory": None, "closed": []}))
     assert without == {name: it for name, it in SAMPLES.items() if "_close_" not in name and "memory" not in name}
     assert plain(parsed(exposition(families_of(None)))) == {"arena_up": {"": 0}}
-    stopping = metrics_of({**example(), "generations": []})
+    stopping = metrics_of({**example(), "terms": []})
     assert "arena_history_entries" not in stopping and stopping["arena_up"].samples == {frozenset(): 1}
 
 
-def each_tenant_of_each_generation_has_a_sample():
-    tenants = [tenant(f"t-{it}", entries=it) for it in range(64)]
+def each_term_has_a_sample():
     with Folder() as folder:
-        bad = [closed_tenant("t-1", fault=7, dumped=False), closed_tenant("t-2")]
-        found = plain(metrics_of(folder.status(generation(3, "closing", "stop", tenants), generation(4, tenants=tenants),
-                                               closed=[closed(2, *bad, why="stop", ms=1500, lost=3)])))
-    assert found["arena_history_entries"] == {f"generation={number} tenant=t-{it}": it for number in (3, 4)
-                                              for it in range(64)}
-    assert found["arena_generation_state"]["generation=3 state=closing"] == 1
-    assert found["arena_close_fault"] == {"generation=2 tenant=t-1": 7, "generation=2 tenant=t-2": 0}
-    assert found["arena_close_dumped"] == {"generation=2 tenant=t-1": 0, "generation=2 tenant=t-2": 1}
-    assert found["arena_close_duration_seconds"] == {"generation=2 why=stop": 1.5}
-    assert found["arena_close_lost_jobs"] == {"generation=2 why=stop": 3}
+        both = [term(number, f"t-{it}", state, why, entries=it) for it in range(64)
+                for number, state, why in ((3, "closing", "stop"), (4, "serving", None))]
+        found = plain(metrics_of(folder.status(*both, closed=[
+            closed(2, "t-1", why="stop", ms=1500, lost=3, fault=7, dumped=False), closed(2, "t-2", why="stop")])))
+    assert found["arena_history_entries"] == {f"tenant=t-{it} term={number}": it for number in (3, 4) for it in range(64)}
+    assert found["arena_term_state"]["state=closing tenant=t-0 term=3"] == 1
+    first, second = "tenant=t-1 term=2 why=stop", "tenant=t-2 term=2 why=stop"
+    assert found["arena_close_fault"] == {first: 7, second: 0}
+    assert found["arena_close_dumped"] == {first: 0, second: 1}
+    assert found["arena_close_duration_seconds"] == {first: 1.5, second: 0.0}
+    assert found["arena_close_lost_jobs"] == {first: 3, second: 0}
 
 
 def texts_are_escaped():
     odd = 'a\\b"c\nd\\n,x="'
-    name = metrics_of({**example(), "generations": [generation(1, tenants=[tenant(odd)])]})["arena_jobs_total"]
-    assert [*name.samples] == [frozenset({("generation", "1"), ("tenant", odd)})], name
+    name = metrics_of({**example(), "terms": [term(1, odd)]})["arena_jobs_total"]
+    assert [*name.samples] == [frozenset({("term", "1"), ("tenant", odd)})], name
     help = parsed(exposition([Family("a_total", Kind.COUNTER, 'one\\two\n"three"', [Sample(2**70)])]))["a_total"]
     assert help.help == 'one\\two\n"three"' and help.samples == {frozenset(): 2.0**70}, help
 
 
 def counters_never_go_back():
-    """A generation goes from serving to draining to closed, while the next one counts from 0."""
+    """A term goes from serving to finishing to closed, while the next one counts from 0."""
     def counts(asks):
-        """A tenant that was asked so often."""
-        return [tenant(asks=asks, jobs=asks, entries=asks)]
+        """The counts of a term that was asked so often."""
+        return {"asks": asks, "jobs": asks, "entries": asks}
 
     with Folder() as folder:
-        texts = [folder.status(generation(4, tenants=counts(8), served=3)),
-                 folder.status(generation(4, "draining", "history", counts(9), served=3), generation(5, tenants=counts(0))),
-                 folder.status(generation(4, "closing", "history", counts(9), served=4), generation(5, tenants=counts(2))),
-                 folder.status(generation(5, tenants=counts(3), served=1), closed=[closed(4, closed_tenant(entries=9))])]
+        texts = [folder.status(term(4, **counts(8)), served=3),
+                 folder.status(term(4, state="finishing", why="history", **counts(9)), term(5, **counts(0)), served=3),
+                 folder.status(term(4, state="closing", why="history", **counts(9)), term(5, **counts(2)), served=4),
+                 folder.status(term(5, **counts(3)), served=5, closed=[closed(4, entries=9)])]
     seen = {}
     for found in map(metrics_of, texts):
         for name, it in found.items():
             for labels, value in it.samples.items() if it.kind == "counter" else ():
                 assert value >= seen.get((name, labels), 0), (name, labels, value)
                 seen[name, labels] = value
-    assert len(seen) == 6, seen
+    assert len(seen) == 5, seen
 
 
 @contextlib.contextmanager
@@ -184,11 +187,11 @@ def health_is_told():
 
 
 def answers_have_their_heads():
-    with FakeHost(tenants=[tenant()]) as host, served(host) as server:
+    with FakeHost() as host, served(host) as server:
         status, head, text = asked(server, "/metrics")
         assert (status, head["Content-Type"]) == (200, "text/plain; version=0.0.4; charset=utf-8"), head
         assert head["Cache-Control"] == "no-store" and int(head["Content-Length"]) == len(text)
-        assert plain(parsed(text))["arena_history_steps"] == {"generation=5 tenant=acme": 10_000}
+        assert plain(parsed(text))["arena_history_steps"] == {"tenant=acme term=5": 10_000}
         assert asked(server, "/healthz?x=1")[0] == 200
         with socket.create_connection(("127.0.0.1", server.server_port)) as client:
             client.sendall(b"HEAD /metrics HTTP/1.0\r\n\r\n")
@@ -203,7 +206,7 @@ def answers_have_their_heads():
 
 def no_client_keeps_it_busy():
     """A request has one time limit, however slowly its bytes come; and connections beyond the most are closed."""
-    with FakeHost(tenants=[tenant()]) as host, served(host, most=2, seconds=1) as server:
+    with FakeHost() as host, served(host, most=2, seconds=1) as server:
         with socket.create_connection(("127.0.0.1", server.server_port)) as slow, contextlib.suppress(OSError):
             begun = time.monotonic()
             while time.monotonic() - begun < PATIENCE:
@@ -229,7 +232,7 @@ def no_client_keeps_it_busy():
 def page_is_safe():
     """The page names nothing elsewhere, runs its own script alone, and shows names as text."""
     with Folder() as folder, served(folder) as server:
-        folder.write(folder.status(generation(1, tenants=[tenant('<b>"&'), tenant("@SCRIPT@")])))
+        folder.write(folder.status(term(1, '<b>"&'), term(1, "@SCRIPT@")))
         _, head, text = asked(server, "/")
         part = asked(server, "/status")[2]
     assert '<td class="left">&lt;b&gt;&quot;&amp;</td>' in part and "<b>" not in text and part in text, text
@@ -254,11 +257,11 @@ def page_keeps_up():
             """The page, after which the status is another one."""
             answer = first()
             asked_for.append(answer.text)
-            folder.write(folder.status(generation(8, tenants=[tenant("later", entries=4321)])))
+            folder.write(folder.status(term(8, "later", entries=4321)))
             return answer
 
         server.watcher.paths["/"] = page
-        folder.write(folder.status(generation(7, tenants=[tenant("sooner", entries=1234)])))
+        folder.write(folder.status(term(7, "sooner", entries=1234)))
         document = opened(browser, server.url)
     assert len(asked_for) == 1 and "1,234" in asked_for[0], asked_for
     assert "<td class=\"left\">later</td>" in document and "4,321" in document and "1,234" not in document, document
@@ -326,7 +329,7 @@ def others_are_let_in_by_request_alone(it):
         it.call("metrics", "/nowhere", "--listen", where, status=8, err=f"^arena: {where}: Address already in use\n$")
 
 
-CHECKS = [example_has_its_samples, each_tenant_of_each_generation_has_a_sample, texts_are_escaped,
+CHECKS = [example_has_its_samples, each_term_has_a_sample, texts_are_escaped,
           counters_never_go_back, health_is_told, answers_have_their_heads,
           no_client_keeps_it_busy, page_is_safe, command_serves]
 

@@ -12,7 +12,7 @@ import sys
 sys.path.insert(0, os.path.abspath("python"))
 
 from calls import Calls
-from fake_host import FakeHost, Folder, closed, closed_tenant, generation, tenant
+from fake_host import FakeHost, Folder, closed, term
 from serving import arena_command, arena_process
 
 from arena.host import RunFolder
@@ -49,43 +49,26 @@ def hosts_are_stopped(it):
 
 
 def hosts_are_rotated(it):
-    with FakeHost(number=5) as host:
-        it.call("rotate", host.path, out=re.compile(rf"{host.path}: generation 6 serves after generation 5, {SECONDS}\n"))
+    with FakeHost(number=5, tenants=("acme", "beta")) as host:
+        it.call("rotate", host.path, out=re.compile(rf"{host.path}: acme.000006, beta.000006 served, {SECONDS}\n"))
         assert not os.path.exists(host.file("rotate"))
-        assert [one["state"] for one in host.open] == ["draining", "serving"]
-        it.call("rotate", host.path, "--json", out=re.compile(r'\{"generation":7,"left":6,"seconds":\d+\.\d+\}\n'))
+        assert [one["state"] for one in host.open] == ["finishing", "finishing", "serving", "serving"]
+        it.call("rotate", host.path, "--only", "beta", out=re.compile(rf"{host.path}: beta.000007 served, {SECONDS}\n"))
+        it.call("rotate", host.path, "--json", out=re.compile(r'\{"seconds":\d+\.\d+,"terms":\{"acme":7,"beta":8\}\}\n'))
+        it.call("rotate", host.path, "--only", "gamma", status=7, err="no term of gamma serves, so none was asked for")
     with FakeHost(deaf=True) as host:
         for _ in range(2):  # the second time the order is there already
             it.call("rotate", host.path, "--wait", "0", status=7, err=r"/rotate: the host has not taken the order within "
                     r"0 s; remove the file to take the order back\n$")
             assert os.path.exists(host.file("rotate"))
     with FakeHost(stuck=True) as host:
-        it.call("rotate", host.path, "--wait", "1", status=7, err="the host took the order, and generation 5 still "
-                "serves after 1 s; its standard error says why, .*`arena lint`")
-        host.open.clear()
-        host.tell()
-        it.call("rotate", host.path, "--wait", "1", status=7, err="took the order, and no generation serves after 1 s")
-
-
-def rotations_by_others_are_not_taken_for_it(it):
-    """A history is full and the host rotates for it, before it takes the order."""
-    with FakeHost(number=5) as host:
-        takes = host._rotate
-
-        def rotates_twice():
-            """Lets generation 6 serve for a while, and then takes the order."""
-            host.open.append(generation(6))
-            host.tell()
-            host._end.wait(0.5)
-            takes()
-
-        host._rotate = rotates_twice
-        it.call("rotate", host.path, out=re.compile(rf".*: generation 7 serves after generation 5, {SECONDS}\n"))
+        it.call("rotate", host.path, "--wait", "1", status=7, err="the host took the order, and older terms still serve after "
+                "1 s; its standard error says why, .*`arena lint`")
 
 
 def orders_need_a_host(it):
     with Folder() as folder:
-        folder.write(folder.status(generation(1)))
+        folder.write(folder.status(term(1)))
         for file in ("socket", "lock"):  # what a killed host left
             with open(folder.file(file), "w"):
                 pass
@@ -106,8 +89,8 @@ def orders_need_a_host(it):
 def host_that_ends_does_not_rotate(it):
     """The host takes the order and ends at once."""
     with FakeHost() as host:
-        host._rotate = lambda: (os.unlink(host.file("rotate")), os.unlink(host.file("socket")))
-        it.call("rotate", host.path, status=11, err="the host ended before a new generation served\n$")
+        host._rotate = lambda order: (os.unlink(host.file(order)), os.unlink(host.file("socket")))
+        it.call("rotate", host.path, status=11, err="the host ended before a new term served\n$")
 
 
 def dumps_are_checked(it):
@@ -128,7 +111,7 @@ def dumps_are_checked(it):
         folder.dump("beta.000010.jsonl", "bad line 1")
         path = folder.file("dumps/beta.0000")
         it.call("check-dumps", folder.path, "-t", "beta", "--json", status=9, ARENA_SCRIPT=script, out="".join(
-            f'{{"file":"{path}{number}.jsonl","generation":{int(number)},"tenant":"beta","verdict":"{verdict}"}}\n'
+            f'{{"file":"{path}{number}.jsonl","tenant":"beta","term":{int(number)},"verdict":"{verdict}"}}\n'
             for number, verdict in (("09", "yes"), ("10", "bad line 1")))
             + '{"amiss":true,"missing":0,"other":1,"parts":0,"yes":1}\n')
     with Folder() as folder:
@@ -148,17 +131,15 @@ def parts_are_told(it):
         folder.dump("acme.000004.jsonl")
         folder.dump("acme.000005.jsonl.part", "no")
         left = "acme.000005: part, a host was ended while it wrote it, and the next one removes it"
-        folder.write(folder.status(generation(5, "closing", "stop", [tenant()])))
+        folder.write(folder.status(term(6)))
         checked(it, folder, 9, "acme.000004: yes", left)
         with contextlib.closing(folder.lock()):
             checked(it, folder, 0, "acme.000004: yes", "acme.000005: part, a host writes it")
-            folder.write(folder.status(generation(6, tenants=[tenant()])))
-            checked(it, folder, 9, "acme.000004: yes", left)
 
 
 def missing_dumps_are_told(it):
     """Between the first and the last number of a tenant each is a dump, or the status says why there is none."""
-    why = "missing, it was not written, was removed, or the tenant was not in the configuration"
+    why = "missing, it was not written, or was removed"
     with Folder() as folder:
         for number in (3, 4, 7, 9, 500_000):
             folder.dump(f"acme.{number:06}.jsonl")
@@ -166,41 +147,35 @@ def missing_dumps_are_told(it):
         checked(it, folder, 9, *yes[:2], f"acme.000005 to acme.000006: {why}", yes[2], f"acme.000008: {why}", yes[3],
                 f"acme.000010 to acme.499999: {why}", yes[4])
         os.unlink(folder.file("dumps/acme.500000.jsonl"))
-        folder.write(folder.status(generation(8), generation(10), closed=[
-            closed(5, closed_tenant("beta")), closed(6, closed_tenant(fault=3, dumped=False)), closed(7), closed(9),
-            closed(11, closed_tenant(dumped=False), closed_tenant("beta", dumped=False))]))
+        folder.write(folder.status(term(8), term(10), closed=[
+            closed(5, "beta"), closed(6, fault=3, dumped=False), closed(7), closed(9), closed(11, dumped=False),
+            closed(7, "beta", dumped=False)]))
         lost = "it could not be written"
-        lines = [*yes[:2], "acme.000005: none, the tenant was not in the configuration",
-                 "acme.000006: missing, close fault 3", yes[2]]
-        beta = ["beta.000005: missing, it was written, and is gone",
-                *(f"beta.{number:06}: none, the tenant was not in the configuration" for number in (6, 7)),
-                "beta.000009: none, the tenant was not in the configuration", f"beta.000011: missing, {lost}"]
-        checked(it, folder, 9, *lines, f"acme.000008: {why}", yes[3], f"acme.000010: {why}",
-                f"acme.000011: missing, {lost}", *beta[:3], f"beta.000008: {why}", beta[3], f"beta.000010: {why}", beta[4])
+        lines = [*yes[:2], f"acme.000005: {why}", "acme.000006: missing, close fault 3", yes[2]]
+        beta = ["beta.000005: missing, it was written, and is gone", f"beta.000006: {why}", f"beta.000007: missing, {lost}"]
+        checked(it, folder, 9, *lines, f"acme.000008: {why}", yes[3], f"acme.000010: {why}", f"acme.000011: missing, {lost}",
+                *beta)
         with contextlib.closing(folder.lock()):
-            is_open = "none, the generation is still open"
+            is_open = "none, the term is still open"
             checked(it, folder, 9, *lines, f"acme.000008: {is_open}", yes[3], f"acme.000010: {is_open}",
-                    f"acme.000011: missing, {lost}", *beta[:3], f"beta.000008: {is_open}", beta[3],
-                    f"beta.000010: {is_open}", beta[4])
+                    f"acme.000011: missing, {lost}", *beta)
 
 
 def what_is_right_is_not_missing(it):
-    """A tenant that came later or went, a generation that is open, and dumps that were too old to be kept."""
+    """A tenant that came later or went, a term that is open, and dumps that were too old to be kept."""
     with Folder() as folder, contextlib.closing(folder.lock()):
-        for name in ("acme.000007", "acme.000009", "beta.000008", "gone.000001"):
+        for name in ("acme.000007", "acme.000009", "beta.000000", "gone.000001"):
             folder.dump(f"{name}.jsonl")
-        both = closed_tenant(), closed_tenant("beta")
-        folder.write(folder.status(generation(10, tenants=[tenant()]), closed=[
-            closed(6, *both), closed(7, *both), closed(8, closed_tenant("beta")), closed(9, closed_tenant())]))
-        checked(it, folder, 0, "acme.000007: yes", "acme.000008: none, the tenant was not in the configuration",
-                "acme.000009: yes", "beta.000008: yes", "gone.000001: yes")
+        folder.write(folder.status(term(8), term(10), closed=[closed(6), closed(7), closed(9), closed(0, "beta")]))
+        checked(it, folder, 0, "acme.000007: yes", "acme.000008: none, the term is still open", "acme.000009: yes",
+                "beta.000000: yes", "gone.000001: yes")
         it.call("check-dumps", folder.path, "--json", "-t", "acme", ARENA_SCRIPT=folder.judge(), out=re.compile(
-            r'(?s).*\n' + re.escape(json.dumps({"amiss": False, "generation": 8, "last": 8, "tenant": "acme", "verdict":
-                                                "missing", "why": "the tenant was not in the configuration"},
+            r'(?s).*\n' + re.escape(json.dumps({"amiss": False, "last": 8, "tenant": "acme", "term": 8, "verdict":
+                                                "missing", "why": "the term is still open"},
                                                separators=(",", ":"))) + r"\n.*"))
         os.unlink(folder.file("status.json"))
-        checked(it, folder, 9, "acme.000007: yes", "acme.000008: missing, it was not written, was removed, or the tenant "
-                "was not in the configuration", "acme.000009: yes", "beta.000008: yes", "gone.000001: yes")
+        checked(it, folder, 9, "acme.000007: yes", "acme.000008: missing, it was not written, or was removed",
+                "acme.000009: yes", "beta.000000: yes", "gone.000001: yes")
 
 
 def dumps_that_go_meanwhile(it):
@@ -215,7 +190,7 @@ def dumps_that_go_meanwhile(it):
                 "1 dump: 1 yes, 0 not; 0 in part, 0 missing\n")
 
 
-CHECKS = [hosts_are_stopped, hosts_are_rotated, rotations_by_others_are_not_taken_for_it, orders_need_a_host,
+CHECKS = [hosts_are_stopped, hosts_are_rotated, orders_need_a_host,
           host_that_ends_does_not_rotate, dumps_are_checked, parts_are_told, missing_dumps_are_told,
           what_is_right_is_not_missing, dumps_that_go_meanwhile]
 

@@ -110,7 +110,7 @@ def history_that_fills_is_found():
         found = statistics(server.dump())
     assert (found["entries"], found["fill"]) == (100, 1.0)
     assert "the history is full" in advice(found, "history")[0][1]
-    assert "arena-host has another generation" in advice(found, "history")[0][1]
+    assert "arena-host opens another term" in advice(found, "history")[0][1]
     assert [it["outcome"] for it in found["jobs"]] == ["8", "running"]
 
 

@@ -26,7 +26,7 @@ job "arena" {
       user         = "arena"
       kill_timeout = "300s"
 
-      # Without it the C library keeps what a closed generation gives back (docs/HOST.md, Memory).
+      # Without it the C library keeps what a closed term gives back (docs/HOST.md, Memory).
       env {
         MALLOC_MMAP_THRESHOLD_ = "16384"
       }

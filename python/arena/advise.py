@@ -12,17 +12,14 @@ from arena.texts import counted
 ENTRY_BYTES, SLOT_BYTES, CONNECTION_BYTES = 128, 16, 120
 """What a server reserves for each of a tenant's `steps`, in bytes: for the entry, each slot and each connection."""
 
-GENERATIONS_AT_ONCE = 2
-"""How many generations a host has open while it rotates: the one that is left, and the next one."""
+TERMS_AT_ONCE = 2
+"""How many terms of a tenant a host has open while it rotates: the one that is left, and the next one."""
 
-MOST_GENERATIONS = 16
-"""How many generations a host may have open at once."""
-
-OTHER_DESCRIPTORS = 32
-"""How many files a host may have open beside its connections and the two files of each generation, with some to spare."""
+OTHER_DESCRIPTORS = 34
+"""How many files a host may have open beside its connections, with some to spare."""
 
 FEWEST_ENTRIES = 1_000
-"""How many entries a history should have before it is full or its generation is left. The sixth Fibonacci number, by
+"""How many entries a history should have before it is full or its term is left. The sixth Fibonacci number, by
 tasks, takes 88."""
 
 MEMORY_FILE = "/proc/meminfo"
@@ -59,7 +56,7 @@ class Advice:
 @dataclass(frozen=True, slots=True)
 class Machine:
     """How a configuration is to be served: connections at a time, the memory in bytes or None if it is not known, for
-    arena-host at how many per cent of its steps a history ends a generation (None is for arena-server), and how many
+    arena-host at how many per cent of its steps a history ends a term (None is for arena-server), and how many
     files it may have open, None if there is no limit."""
 
     connections: int = 64
@@ -103,7 +100,7 @@ def _short_history(tenant: Mapping[str, Any], machine: Machine) -> Iterator[Advi
     if entries >= FEWEST_ENTRIES:
         return
     does = ("the tenant answers `history_full` to all that follows" if machine.rotate_at is None else
-            f"the host rotates, all tenants with it, at {percent} %")
+            f"the host opens its next term, at {percent} %")
     text = f"steps {steps:,}: after {entries:,} {'entry' if entries == 1 else 'entries'} {does}"
     yield Advice(About.SHORT_HISTORY, tenant["name"], text, f"raise steps to {min(fewest, GREATEST_STEPS):,} or more")
 
@@ -138,12 +135,12 @@ def bytes_of(tenant: Mapping[str, Any], connections: int) -> int:
 def _memory(tenants: Sequence[Mapping[str, Any]], machine: Machine) -> Iterator[Advice]:
     if machine.memory is None:
         return
-    times = 1 if machine.rotate_at is None else GENERATIONS_AT_ONCE
+    times = 1 if machine.rotate_at is None else TERMS_AT_ONCE
     total = times * sum(bytes_of(it, machine.connections) for it in tenants)
     if total <= machine.memory:
         return
     largest = max(tenants, key=lambda it: bytes_of(it, machine.connections))
-    twice = "" if times == 1 else f", {times} times, since two generations are open while the host rotates"
+    twice = "" if times == 1 else f", {times} times, since a tenant has two terms while the host rotates"
     text = (f"with {counted(machine.connections, 'connection')} histories have room for {_gib(total)}{twice}, and keep "
             f"programs besides; the machine has {_gib(machine.memory)}; {largest['name']}'s has the most, "
             f"{_gib(times * bytes_of(largest, machine.connections))} for {largest['steps']:,} steps")
@@ -153,14 +150,13 @@ def _memory(tenants: Sequence[Mapping[str, Any]], machine: Machine) -> Iterator[
 
 
 def _descriptors(machine: Machine) -> Iterator[Advice]:
-    """Fewer descriptors than a host needs while as many generations are open as may be."""
+    """Fewer descriptors than a host needs with as many connections as may be."""
     if machine.rotate_at is None or machine.descriptors is None:
         return
-    need = MOST_GENERATIONS * (machine.connections + 2) + OTHER_DESCRIPTORS
+    need = machine.connections + OTHER_DESCRIPTORS
     if need > machine.descriptors:
-        yield Advice(About.DESCRIPTORS, None, f"{MOST_GENERATIONS} generations with "
-                     f"{counted(machine.connections, 'connection')} take up to {need:,} files, and a process may have "
-                     f"{machine.descriptors:,} open here", f"start the host with `ulimit -n {need}` or more")
+        yield Advice(About.DESCRIPTORS, None, f"{counted(machine.connections, 'connection')} take up to {need:,} files, and a "
+                     f"process may have {machine.descriptors:,} open here", f"start the host with `ulimit -n {need}` or more")
 
 
 def _gib(count: int) -> str:

@@ -118,8 +118,8 @@ class Client:
     def reconnect(self) -> None:
         """Ends the connection and makes another, bound to the same tenant. Raises ConnectionLost, UnknownTenant.
 
-        A job that was made before may be unknown there, since arena-host begins anew with each generation: then
-        `LostJob` is raised. If another job has its number by now, that one is meant. """
+        A job that was made before is found by its number on an arena-host. If the server was started anew since, it may be
+        unknown: then `LostJob` is raised. If another job of an arena-server has its number by now, that one is meant. """
         with self._turn():
             self.close()
             self._jobs.connection += 1

@@ -13,7 +13,7 @@ class JobsMade:
     """The numbers of the jobs that a client made, each with the connection that it was made on; a client's connections
     are numbered from 0, and `connection` is the one that it has.
 
-    Numbers begin anew with each generation of arena-host, so a number that is made again is that of the new job.
+    Numbers begin anew with each start of arena-server, so a number that is made again is that of the new job.
     """
 
     connection: int = 0

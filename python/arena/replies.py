@@ -210,8 +210,8 @@ class UnknownJob(Refused):
 class LostJob(UnknownJob):
     """Error 6 for a job that this client made on a connection which has ended since."""
 
-    advice = ("this client made the job on a connection that has ended: its generation is over, or it was retired; run "
-              "it again if its outcome is still wanted")
+    advice = ("this client made the job on a connection that has ended: the server was started anew since, its term was closed "
+              "long ago, or it was retired; run it again if its outcome is still wanted")
 
 
 class JobLimit(Refused):
@@ -225,8 +225,8 @@ class HistoryFull(Refused):
     """Error 8."""
 
     code, name, passes = 8, "history_full", True
-    advice = ("the tenant's history has all its `steps` entries; on arena-host connect anew, to the generation that serves "
-              "now; start arena-server anew, with more `steps` if there are fewer than 1,048,576")
+    advice = ("the tenant's history has all its `steps` entries; arena-host could open no new one, so ask again later; "
+              "start arena-server anew, with more `steps` if there are fewer than 1,048,576")
 
     def __init__(self, request: str = "the request") -> None:
         super().__init__(request)

@@ -2,10 +2,18 @@
 ghost use Rattle.std.specs.Prelude.{◌≡◌, true, false};
 
 use dump_lines::DumpFault;
-use host_house::Faults;
 use host_status::Fault;
 use program_words::WordsFault;
 use server_io::ServerEnd;
+
+/// What went wrong with the histories of closed terms.
+#[derive(Clone, Copy, Debug, PartialEq, Eq, Default)]
+pub(crate) struct Faults {
+    /// Whether some term was closed with a fault.
+    pub(crate) has_close_fault: bool,
+    /// Whether some history, or the outcomes of a term, could not be brought to the disk.
+    pub(crate) has_lost_history: bool,
+}
 
 /// What the process writes to standard error.
 pub(crate) fn fault_text(end: ServerEnd) -> Option<&'static str> {
@@ -43,7 +51,7 @@ pub(crate) fn words_fault(fault: WordsFault) -> ServerEnd {
     }
 }
 
-/// What an event says of a generation that could not be opened.
+/// What an event says of a term that could not be opened.
 pub(crate) fn event_fault(end: ServerEnd) -> Fault {
     match end {
         ServerEnd::Config | ServerEnd::Words => Fault::Config,

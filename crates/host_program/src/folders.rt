@@ -1,86 +1,177 @@
 // The folder in which a host works.
 
+use crate::files::{put_text, text_of};
+use crate::numbers::{span_in, span_line};
+use crate::results::outcomes_in;
 use crate::shelves::Shelves;
+use host_terms::{Outcome, Span};
 use job_language::TenantName;
 use server_io::ServerEnd;
 use std::alloc::{AllocError, Global};
-use std::fs::{DirBuilder, Files};
+use std::fs::{DirBuilder, File, Files};
 use std::os::unix::fs::DirBuilderExt;
 use std::{fs, io};
 
-/// The numbers of generations that a host counts in the names of dumps lie below this one: it has not that many, even if it
-/// opens one each microsecond for thirty years.
-const MOST_GENERATIONS: u64 = 1_000_000_000_000_000;
+/// The numbers of terms that a host counts in the names of files lie below this one: it has not that many, even if it opens
+/// one each microsecond for thirty years.
+const MOST_TERMS: u64 = 1_000_000_000_000_000;
 
 /// The paths in the folder.
 #[derive(Drop)]
 pub(crate) struct Folder {
+    run: String,
     pub(crate) lock: String,
     pub(crate) socket: String,
     pub(crate) rotate: String,
     pub(crate) status: String,
-    pub(crate) dumps: String,
+    dumps: String,
+    terms: String,
+    pub(crate) results: String,
+}
+
+/// What a folder says of a tenant's terms.
+#[derive(Clone, Copy, Debug, PartialEq, Eq)]
+pub(crate) struct Begin {
+    /// The number of the next term.
+    pub(crate) number: u64,
+    /// The number of a job after which its jobs are to be numbered.
+    pub(crate) base: u64,
 }
 
 impl Folder {
     /// The paths in a folder.
     pub(crate) fn new(alloc: Global, run: &str) -> Result<Folder, AllocError> {
         Ok(Folder {
+            run: String::from_str(alloc, run)?,
             lock: format!(in alloc; "{run}/lock")?,
             socket: format!(in alloc; "{run}/socket")?,
             rotate: format!(in alloc; "{run}/rotate")?,
             status: format!(in alloc; "{run}/status.json")?,
             dumps: format!(in alloc; "{run}/dumps")?,
+            terms: format!(in alloc; "{run}/terms")?,
+            results: format!(in alloc; "{run}/results")?,
         })
     }
 
-    /// The file of a tenant's history in a generation.
-    pub(crate) fn dump(
+    /// The file of a tenant's history in a term.
+    pub(crate) fn dump(&self, alloc: Global, name: &str, term: u64) -> Result<String, AllocError> {
+        format!(in alloc; "{}/{name}.{term:06}.jsonl", self.dumps.as_str())
+    }
+
+    /// The file of the outcomes of a tenant's jobs in a term.
+    pub(crate) fn result(
         &self,
         alloc: Global,
         name: &str,
-        generation: u64,
+        term: u64,
     ) -> Result<String, AllocError> {
-        format!(in alloc; "{}/{name}.{generation:06}.jsonl", self.dumps.as_str())
+        format!(in alloc; "{}/{name}.{term:06}.jsonl", self.results.as_str())
     }
 
-    /// Makes the folder for dumps, removes what a host left that was killed and the dumps that are too old, and gives what
-    /// is left. `Device` if the folder can't be listed, and `Memory` if an allocation fails.
+    /// The file by which somebody asks for a tenant's next term.
+    pub(crate) fn order(&self, alloc: Global, name: &str) -> Result<String, AllocError> {
+        format!(in alloc; "{}/rotate.{name}", self.run.as_str())
+    }
+
+    /// Brings the numbers of a tenant's newest term to the disk.
+    pub(crate) fn put_span<R: Files<File = File>>(
+        &self,
+        rt: &R,
+        alloc: Global,
+        name: &str,
+        span: Span,
+    ) -> Result<(), ServerEnd> {
+        let path = format!(in alloc; "{}/{name}", self.terms.as_str())?;
+        let line = span_line(alloc, span)?;
+        match put_text(
+            rt,
+            alloc,
+            self.terms.as_str(),
+            path.as_str(),
+            line.as_bytes(),
+        ) {
+            Ok(()) => Ok(()),
+            Err(fault) => Err(end_of(&fault)),
+        }
+    }
+
+    /// Where a tenant's terms and jobs are to begin, by what is on the disk of its newest term: behind all that could be
+    /// known of. `Device` if the numbers are there and can't be read.
+    pub(crate) fn begin<R: Files<File = File>>(
+        &self,
+        rt: &R,
+        alloc: Global,
+        name: &str,
+        shelves: &Shelves,
+    ) -> Result<Begin, ServerEnd> {
+        let path = format!(in alloc; "{}/{name}", self.terms.as_str())?;
+        // Dumps of a host that had no such numbers count as well.
+        let dumped = shelves.next(name);
+        let span = match text_of(rt, alloc, path.as_str()) {
+            Ok(text) => span_in(text.as_slice()),
+            Err(fault) if fault.kind() == io::ErrorKind::NotFound => {
+                return Ok(Begin {
+                    number: dumped,
+                    base: 0,
+                });
+            }
+            Err(fault) => return Err(end_of(&fault)),
+        };
+        match span {
+            Some(Span { number, base, room }) => Ok(Begin {
+                number: dumped.max(number.saturating_add(1)),
+                base: base.saturating_add(room),
+            }),
+            None => Err(ServerEnd::Device),
+        }
+    }
+
+    /// The outcomes of a tenant's term, if they are on the disk.
+    pub(crate) fn outcomes<R: Files<File = File>>(
+        &self,
+        rt: &R,
+        alloc: Global,
+        name: &str,
+        term: u64,
+    ) -> Option<Vec<Outcome>> {
+        let path = self.result(alloc, name, term).ok()?;
+        let text = text_of(rt, alloc, path.as_str()).ok()?;
+        outcomes_in(alloc, text.as_slice()).ok()
+    }
+
+    /// Makes the folders, removes what a host left that was killed and the dumps that are too old, and gives the dumps that
+    /// stay. `Device` if a folder can't be made or listed, and `Memory` if an allocation fails.
     pub(crate) fn prepare<R: Files + AllocGlobal + Clone + Drop>(
         &self,
         rt: &R,
         keep: u32,
-    ) -> Result<Found, ServerEnd> {
-        // It may be there; if it can't be made, it can't be listed either.
-        let _ = DirBuilder::new()
-            .mode(0o700)
-            .create(rt, self.dumps.as_str());
+    ) -> Result<Shelves, ServerEnd> {
+        for folder in [&self.dumps, &self.terms, &self.results] {
+            // It may be there; if it can't be made, nothing can be written to it either.
+            let _ = DirBuilder::new().mode(0o700).create(rt, folder.as_str());
+        }
         // They are there only if a host was killed. A socket that can't be removed shows when the new one is bound.
         let _ = fs::remove_file(rt, self.socket.as_str());
         let _ = fs::remove_file(rt, self.rotate.as_str());
-        let paths = listed(rt, self.dumps.as_str())?;
-        let mut found = Found {
-            next: 0,
-            shelves: Shelves::new(rt.alloc()),
-        };
-        for entry in &paths {
+        let mut shelves = Shelves::new(rt.alloc());
+        for entry in &listed(rt, self.dumps.as_str())? {
             let path = entry.as_str();
             if is_part(path) {
                 // It is tried again at the next start if it can't be removed now.
                 let _ = fs::remove_file(rt, path);
             }
             if let Some((name, number)) = parts_of(path) {
-                self.sort_in(rt, &mut found, path, name, number, keep)?;
+                self.sort_in(rt, &mut shelves, path, name, number, keep)?;
             }
         }
-        Ok(found)
+        Ok(shelves)
     }
 
     /// Notes a path if it is the one of a dump, and removes the tenant's dump that is too old then.
     fn sort_in<R: Files + AllocGlobal>(
         &self,
         rt: &R,
-        found: &mut Found,
+        shelves: &mut Shelves,
         path: &str,
         name: &str,
         number: u64,
@@ -88,39 +179,38 @@ impl Folder {
     ) -> Result<(), AllocError> {
         let dump = self.dump(rt.alloc(), name, number)?;
         let is_dump = dump.as_str() == path && TenantName::new(name).is_some();
-        if is_dump && number < MOST_GENERATIONS {
-            found.next = found.next.max(number.saturating_add(1));
-            self.shelve(rt, rt.alloc(), &mut found.shelves, name, number, keep)?;
+        if is_dump && number < MOST_TERMS {
+            self.shelve(rt, rt.alloc(), shelves, name, number, keep)?;
         }
         Ok(())
     }
 
-    /// Notes that a tenant's dump of a generation is there, and removes the one that is too old then: of which at least
-    /// `keep` newer ones are there.
+    /// Notes that a tenant's dump of a term is there, and removes the one that is too old then, with its outcomes: of which
+    /// at least `keep` newer ones are there.
     pub(crate) fn shelve<R: Files>(
         &self,
         rt: &R,
         alloc: Global,
         shelves: &mut Shelves,
         name: &str,
-        generation: u64,
+        term: u64,
         keep: u32,
     ) -> Result<(), AllocError> {
-        if let Some(old) = shelves.put(alloc, name, generation, keep)? {
-            // It may be gone. It is tried again at the next start if it can't be removed now.
+        if let Some(old) = shelves.put(alloc, name, term, keep)? {
+            // They may be gone. It is tried again at the next start if they can't be removed now.
             let _ = fs::remove_file(rt, self.dump(alloc, name, old)?.as_str());
+            let _ = fs::remove_file(rt, self.result(alloc, name, old)?.as_str());
         }
         Ok(())
     }
 }
 
-/// What a host finds in its folder.
-#[derive(Drop)]
-pub(crate) struct Found {
-    /// The number of the first generation: the one after the greatest of which there is a dump, or 0.
-    pub(crate) next: u64,
-    /// The dumps that stay.
-    pub(crate) shelves: Shelves,
+/// How a host ends, for a fault of a file.
+fn end_of(fault: &io::Error) -> ServerEnd {
+    match fault.kind() {
+        io::ErrorKind::OutOfMemory => ServerEnd::Memory,
+        _ => ServerEnd::Device,
+    }
 }
 
 /// The paths of the files in a folder whose names are texts.
@@ -130,8 +220,7 @@ fn listed<R: Files + AllocGlobal + Clone + Drop>(
 ) -> Result<Vec<String>, ServerEnd> {
     match list(rt, folder) {
         Ok(paths) => Ok(paths),
-        Err(fault) if fault.kind() == io::ErrorKind::OutOfMemory => Err(ServerEnd::Memory),
-        Err(_) => Err(ServerEnd::Device),
+        Err(fault) => Err(end_of(&fault)),
     }
 }
 
@@ -157,7 +246,7 @@ fn is_part(path: &str) -> bool {
     }
 }
 
-/// The name of the tenant and the number of the generation of a dump's path.
+/// The name of the tenant and the number of the term of a dump's path.
 fn parts_of(path: &str) -> Option<(&str, u64)> {
     let (_, file) = path.rsplit_once('/')?;
     let (name, rest) = file.split_once('.')?;

@@ -1,15 +1,20 @@
-//! `arena-host`: serves tenants over a Unix socket, one generation of them after another.
+//! `arena-host`: serves tenants over a Unix socket, each in one term after another.
 #![tactic(auto)]
 
-mod archive;
+mod accepting;
+mod clocks;
+mod configs;
 mod ends;
-mod events;
+mod files;
 mod filing;
 mod folders;
-mod generations;
 mod hosting;
+mod keeping;
+mod numbers;
+mod results;
 mod shelves;
 mod showing;
+mod site;
 mod system;
 mod writing;
 
@@ -17,7 +22,7 @@ use crate::ends::{fault_text, words_fault};
 use crate::folders::Folder;
 use crate::hosting::host_tenants;
 use crate::system::System;
-use host_house::{Outlet, write_printed, write_reported};
+use host_terms::{Outlet, write_printed, write_reported};
 use program_words::{HostWords, read_host_words};
 use server_io::ServerEnd;
 use std::alloc::{AllocError, Global};

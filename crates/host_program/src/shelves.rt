@@ -1,8 +1,8 @@
 // The dumps that are there.
 ghost use Rattle.std.specs.Prelude.{◌<◌, IfSome, vec_len};
 
-use generation_life::Shelf;
 use std::alloc::{AllocError, Global};
+use term_life::Shelf;
 
 /// The dumps of a tenant.
 #[derive(Drop)]
@@ -26,26 +26,46 @@ impl Shelves {
         }
     }
 
-    /// Notes that a tenant's dump of a generation is there, and takes the generation of its oldest one away, if at least
+    /// Notes that a tenant's dump of a term is there, and takes the term of its oldest one away, if at least
     /// `keep` newer ones are there then. None if all of them are to stay. It is not known of if an allocation fails.
     pub(crate) fn put(
         &mut self,
         alloc: Global,
         name: &str,
-        generation: u64,
+        term: u64,
         keep: u32,
     ) -> Result<Option<u64>, AllocError> {
         let keep = u64::from(keep);
         match self.place(name) {
-            Some(place) => self.tenants[place].shelf.put(generation, keep),
+            Some(place) => self.tenants[place].shelf.put(term, keep),
             None => {
                 let mut shelf = Shelf::new(alloc);
-                let gone = shelf.put(generation, keep)?;
+                let gone = shelf.put(term, keep)?;
                 let name = String::from_str(alloc, name)?;
                 self.tenants.push(Named { name, shelf })?;
                 Ok(gone)
             }
         }
+    }
+
+    /// The number after that of the newest dump of the tenant of that name; 0 without a dump.
+    pub(crate) fn next(&self, name: &str) -> u64 {
+        match self.newest(name) {
+            Some(newest) => newest.saturating_add(1),
+            None => 0,
+        }
+    }
+
+    /// The numbers of the dumps of the tenant of that name.
+    pub(crate) fn numbers(&self, name: &str) -> &[u64] {
+        match self.place(name) {
+            Some(place) => self.tenants[place].shelf.numbers(),
+            None => &[],
+        }
+    }
+
+    fn newest(&self, name: &str) -> Option<u64> {
+        self.numbers(name).iter().copied().max()
     }
 
     /// Where the dumps of the tenant of that name are.

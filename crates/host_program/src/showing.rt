@@ -1,51 +1,158 @@
 // What a host shows of itself.
 
-use crate::folders::Folder;
-use generation_life::Why;
-use host_house::{Host, seconds};
-use host_status::HostStatus;
+use crate::clocks::seconds;
+use crate::site::Site;
+use host_status::{ClosedTerm, HostStatus, Jobs, Rows, TermStatus, Worker, status_line};
+use host_terms::{HostTerm, Place, Tenancy};
+use job_language::TenantName;
 use program_words::HostWords;
-use server_io::ServerEnd;
-use std::alloc::Global;
-use std::fs::{Files, OpenFile, OpenOptions, Permissions};
+use std::alloc::{AllocError, Global};
+use std::fs::{File, Files, OpenFile, OpenOptions, Permissions};
 use std::io::{ErrorKind, Write};
 use std::os::unix::fs::{OpenOptionsExt, PermissionsExt, chown};
 use std::sync::Wait;
+use std::sync::atomic::Ordering;
 use std::time::Clock;
 use std::{fs, io};
+use tenant_lock::JobTally;
 
 /// How many bytes a page of memory has.
 const PAGE: u64 = 4096;
 
 /// Writes what the host does to its file, which it replaces whole.
-pub(crate) fn show<R: Files + Wait + Clock + AllocGlobal>(
+pub(crate) fn show<R: Files<File = File> + Wait + Clock + AllocGlobal>(
     rt: &R,
-    host: &Host,
-    words: HostWords<'_>,
-    folder: &Folder,
+    alloc: Global,
+    site: Site<'_>,
     began: u64,
+    closed: &[ClosedTerm],
 ) -> io::Result<()> {
-    let alloc = rt.alloc();
-    let memory = resident(rt);
-    let time = seconds(rt);
+    let workers = workers(rt, alloc, site)?;
+    let terms = terms(rt, alloc, site)?;
+    let words = site.words;
     let status = HostStatus {
-        time,
+        time: seconds(rt),
         began,
         connections: words.connections,
+        connected: site.connected(rt),
+        served: site.progress.served.load(Ordering::SeqCst),
         rotate_at: words.rotate_at,
         keep: words.keep,
-        patience: words.patience,
-        memory,
-        generations: &[],
-        closed: &[],
+        finish: words.finish,
+        memory: resident(rt),
+        workers: workers.as_slice(),
+        terms: terms.as_slice(),
+        closed,
     };
-    let line = host.status_line(rt, alloc, status);
-    let Ok(line) = line else {
+    let Ok(line) = status_line(alloc, &status) else {
         return Err(io::Error::from(ErrorKind::OutOfMemory));
     };
-    let part = format!(in alloc; "{}.part", folder.status.as_str())?;
+    let path = site.folder.status.as_str();
+    let part = format!(in alloc; "{path}.part")?;
     write_private(rt, part.as_str(), words, line.as_str())?;
-    fs::rename(rt, part.as_str(), folder.status.as_str())
+    fs::rename(rt, part.as_str(), path)
+}
+
+/// Where the workers are.
+fn workers<R: Wait>(rt: &R, alloc: Global, site: Site<'_>) -> Result<Vec<Worker>, AllocError> {
+    let mut workers = Vec::with_capacity(alloc, site.places.len())?;
+    for (worker, place) in site.places.iter().enumerate() {
+        let (tenant, slot) = where_is(rt, alloc, site, place)?;
+        workers.push(Worker {
+            worker,
+            tenant,
+            slot,
+        })?;
+    }
+    Ok(workers)
+}
+
+/// The name of the tenant at whose slot a worker is, and the slot.
+fn where_is<R: Wait>(
+    rt: &R,
+    alloc: Global,
+    site: Site<'_>,
+    place: &Place,
+) -> Result<(Option<String>, Option<u8>), AllocError> {
+    let Some((tenant, slot)) = place.seen() else {
+        return Ok((None, None));
+    };
+    match site.host.tenancy(rt, tenant as usize) {
+        Some(tenancy) => Ok((Some(text_of(alloc, tenancy.name())?), Some(slot))),
+        None => Ok((None, None)),
+    }
+}
+
+fn text_of(alloc: Global, name: TenantName) -> Result<String, AllocError> {
+    String::from_str(alloc, name.as_str())
+}
+
+/// The terms that are not closed.
+fn terms<R: Wait>(rt: &R, alloc: Global, site: Site<'_>) -> Result<Vec<TermStatus>, AllocError> {
+    let mut terms = Vec::new(alloc);
+    for tenant in 0..site.host.count(rt) {
+        if let Some(tenancy) = site.host.tenancy(rt, tenant) {
+            add_terms(rt, alloc, &tenancy, &mut terms)?;
+        }
+    }
+    Ok(terms)
+}
+
+fn add_terms<R: Wait>(
+    rt: &R,
+    alloc: Global,
+    tenancy: &Tenancy,
+    terms: &mut Vec<TermStatus>,
+) -> Result<(), AllocError> {
+    for term in &tenancy.live(rt, alloc)? {
+        if let Some(status) = term_status(rt, alloc, tenancy, term)? {
+            terms.push(status)?;
+        }
+    }
+    Ok(())
+}
+
+fn term_status<R: Wait>(
+    rt: &R,
+    alloc: Global,
+    tenancy: &Tenancy,
+    term: &HostTerm,
+) -> Result<Option<TermStatus>, AllocError> {
+    let span = term.span();
+    let Some(known) = tenancy.known(rt, span.number) else {
+        return Ok(None);
+    };
+    let Some(door) = term.door() else {
+        return Ok(None);
+    };
+    let (counts, tally) = (door.counts(rt), door.tally(rt));
+    Ok(Some(TermStatus {
+        tenant: text_of(alloc, tenancy.name())?,
+        term: span.number,
+        state: known.stage(),
+        began: term.began(),
+        why: known.why,
+        base: span.base,
+        steps: term.tenant().tenant().steps,
+        entries: counts.entries,
+        asks: counts.asks,
+        jobs: door.jobs(),
+        jobs_now: jobs(tally.jobs),
+        rows: Rows {
+            open: tally.open_rows,
+            waiting: tally.waiting_rows,
+        },
+    }))
+}
+
+/// How far jobs are, in the words of the status.
+fn jobs(tally: JobTally) -> Jobs {
+    Jobs {
+        running: tally.running,
+        complete: tally.complete,
+        canceled: tally.cancelled,
+        fault: tally.faulted,
+    }
 }
 
 /// Writes a line to a new file, which those may read who may connect, whatever the process' mask is.

@@ -1,38 +1,60 @@
-// The thread that writes histories, so that the thread that opens generations does not wait for them.
+// The thread that writes histories, so that the thread that looks after terms does not wait for them.
 
-use crate::filing::Filing;
 use dump_files::{Broken, Part, Whole};
+use host_terms::TermEnd;
 use std::alloc::Global;
 use std::fs::File;
-use std::sync::{Condvar, CondvarTimeouts, Mutex, Wait};
-use std::time::{Clock, Duration};
+use std::sync::{Condvar, Mutex, Wait};
 
-/// The next history of a generation, with the part that it is written to.
+/// A term that is closed, with the part of the file that its history is written to.
 #[derive(Drop)]
 pub(crate) struct Work {
-    pub(crate) filing: Filing,
+    pub(crate) left: Left,
     pub(crate) part: Part<File>,
 }
 
-/// The same when it was written, or could not be.
+/// The same when the history was written, or could not be.
 #[derive(Drop)]
 pub(crate) struct Done {
-    pub(crate) filing: Filing,
+    pub(crate) left: Left,
     pub(crate) written: Result<Whole<File>, Broken<File>>,
+}
+
+/// A term that is closed and whose files are to be written.
+#[derive(Drop)]
+pub(crate) struct Left {
+    /// The tenant's number at the host.
+    pub(crate) tenant: usize,
+    pub(crate) end: TermEnd,
+    /// When its end began, in milliseconds of the monotonic clock.
+    pub(crate) since: u64,
+    /// Until when its files are tried again, once one could not be written, in the same milliseconds.
+    pub(crate) until: Option<u64>,
+    /// Until when to wait before they are tried again.
+    pub(crate) rest: u64,
+    /// Whether its end was printed.
+    pub(crate) is_told: bool,
 }
 
 impl Work {
     /// Writes the history.
     fn write(self, alloc: Global) -> Done {
-        let Work { filing, part } = self;
-        let written = filing.write_to(alloc, part);
-        Done { filing, written }
+        let Work { left, part } = self;
+        let written = match &left.end.end {
+            Some(Ok(closed)) => part.fill(alloc, &left.end.tenant, closed.history.as_slice()),
+            // It has no history, and so no part is made for it.
+            _ => Err(Broken {
+                part,
+                fault: dump_lines::DumpFault::Device,
+            }),
+        };
+        Done { left, written }
     }
 }
 
-/// Where the history of a tenant is.
+/// Where the history of a term is.
 #[derive(Drop)]
-struct Place {
+struct Desk {
     /// To be written.
     next: Option<Work>,
     /// Written, or found that it can't be.
@@ -46,14 +68,14 @@ struct Place {
 /// What the two threads share. It has room for one history.
 #[derive(Drop)]
 pub(crate) struct Writer {
-    place: Mutex<Place>,
+    desk: Mutex<Desk>,
     changed: Condvar,
 }
 
 impl Writer {
     pub(crate) fn new() -> Writer {
         Writer {
-            place: Mutex::new(Place {
+            desk: Mutex::new(Desk {
                 next: None,
                 done: None,
                 is_busy: false,
@@ -65,46 +87,42 @@ impl Writer {
 
     /// Whether a history is being written.
     pub(crate) fn is_busy<R: Wait>(&self, rt: &R) -> bool {
-        self.place.lock(rt).is_busy
+        self.desk.lock(rt).is_busy
     }
 
     /// Gives a history to be written. None is being written.
     pub(crate) fn give<R: Wait>(&self, rt: &R, work: Work) {
-        let mut place = self.place.lock(rt);
-        place.next = Some(work);
-        place.is_busy = true;
+        let mut desk = self.desk.lock(rt);
+        desk.next = Some(work);
+        desk.is_busy = true;
         self.changed.notify_all();
     }
 
-    /// Waits until the history is written, or for that long, and takes it back.
-    pub(crate) fn take<R: Wait + Clock>(&self, rt: &R, most: Duration) -> Option<Done> {
-        let mut place = self.place.lock(rt);
-        if place.done.is_none() {
-            let (again, _timeout) = self.changed.wait_timeout(rt, place, most);
-            place = again;
-        }
-        let done = place.done.take()?;
-        place.is_busy = false;
+    /// Takes the history back, if it is written or could not be.
+    pub(crate) fn take<R: Wait>(&self, rt: &R) -> Option<Done> {
+        let mut desk = self.desk.lock(rt);
+        let done = desk.done.take()?;
+        desk.is_busy = false;
         Some(done)
     }
 
     /// Gives no more.
     pub(crate) fn close<R: Wait>(&self, rt: &R) {
-        self.place.lock(rt).is_closed = true;
+        self.desk.lock(rt).is_closed = true;
         self.changed.notify_all();
     }
 
     /// Waits for a history. None once no more come.
     fn next<R: Wait>(&self, rt: &R) -> Option<Work> {
-        let mut place = self.changed.wait_while(rt, self.place.lock(rt), |place| {
-            place.next.is_none() && !place.is_closed
+        let mut desk = self.changed.wait_while(rt, self.desk.lock(rt), |desk| {
+            desk.next.is_none() && !desk.is_closed
         });
-        place.next.take()
+        desk.next.take()
     }
 
     /// Gives a history back.
     fn put<R: Wait>(&self, rt: &R, done: Done) {
-        self.place.lock(rt).done = Some(done);
+        self.desk.lock(rt).done = Some(done);
         self.changed.notify_all();
     }
 }

@@ -2,10 +2,10 @@
 ghost use Rattle.std.specs.Prelude.{IfOk, string_bytes};
 ghost use Rattle.host_status.specs.Lines.{IsCompact};
 
-use generation_life::Why;
 use serde::Serialize;
 use std::alloc::Global;
 use std::time::Duration;
+use term_life::Why;
 
 /// What went wrong.
 #[derive(Clone, Copy, Debug, PartialEq, Eq, Serialize)]
@@ -21,52 +21,55 @@ pub enum Fault {
     Accept,
     /// A history was not written.
     Dump,
+    /// The outcomes of a term's jobs were not written.
+    Results,
     /// A tenant's history and what its threads noted of it differ.
     Close,
+    /// A tenant has had as many jobs as numbers are for.
+    Numbers,
 }
 
-/// Something that happened in a host. `generation` is the number of the generation that it happened to.
+/// Something that happened in a host. `term` is the number of the term of a tenant that it happened to.
 #[derive(Clone, Copy, Debug, PartialEq, Eq, Serialize)]
 #[serde(tag = "event", rename_all = "lowercase")]
-pub enum Event {
-    /// The host began. Its first generation will have that number.
-    Start {
-        generation: u64,
-    },
-    /// A generation of that many tenants serves, which took `ms` milliseconds to open.
+pub enum Event<'e> {
+    /// The host began.
+    Start,
+    /// A term of a tenant serves, whose jobs are numbered after `base`. It took `ms` milliseconds to open.
     Opened {
-        generation: u64,
-        tenants: usize,
+        tenant: &'e str,
+        term: u64,
+        base: u64,
         ms: u64,
     },
-    /// A generation is to be left, for that reason.
+    /// A term is to be left, for that reason.
     Rotation {
-        generation: u64,
+        tenant: &'e str,
+        term: u64,
         why: Why,
     },
-    /// A generation is to be left for that reason, and serves until then: as many generations are there as may be.
+    /// A term is to be left for that reason, and serves until then: as many terms of the tenant are there as may be.
     Waiting {
-        generation: u64,
+        tenant: &'e str,
+        term: u64,
         why: Why,
     },
-    /// A generation takes no new connections from now on.
-    Draining {
-        generation: u64,
-    },
-    /// A generation that was left for that reason and had `served` connections is closed, which took `ms` milliseconds
-    /// with its dumps. `lost` of its jobs had no outcome.
+    /// A term that was left for that reason is closed, which took `ms` milliseconds with its files. `lost` of its jobs had no
+    /// outcome.
     Closed {
-        generation: u64,
+        tenant: &'e str,
+        term: u64,
         why: Why,
-        served: u64,
-        lost: u64,
+        lost: usize,
         ms: u64,
     },
-    /// Something failed. There is no generation if none could be opened.
+    /// Something failed. There is no tenant if it is none's, and no term if none could be opened.
     Fault {
         what: Fault,
         #[serde(skip_serializing_if = "Option::is_none")]
-        generation: Option<u64>,
+        tenant: Option<&'e str>,
+        #[serde(skip_serializing_if = "Option::is_none")]
+        term: Option<u64>,
     },
     /// The host is to stop.
     Stop,
@@ -78,13 +81,13 @@ pub enum Event {
 
 /// An event with its time, in seconds since 1970.
 #[derive(Drop, Serialize)]
-struct Timed {
+struct Timed<'e> {
     time: f64,
     #[serde(flatten)]
-    event: Event,
+    event: Event<'e>,
 }
 
-impl Event {
+impl<'e> Event<'e> {
     /// The line that reports it, without its newline: its `time` is in seconds since 1970. An error if an allocation
     /// fails.
     pub fn line(self, alloc: Global, since_1970: Duration) -> Result<String, serde_json::Error>

@@ -5,7 +5,4 @@ mod events;
 mod status;
 
 pub use events::{Event, Fault};
-pub use status::{
-    ClosedGeneration, ClosedTenant, Generation, HostStatus, Jobs, Rows, TenantStatus, Worker,
-    status_line,
-};
+pub use status::{ClosedTerm, HostStatus, Jobs, Rows, TermStatus, Worker, status_line};

@@ -14,7 +14,7 @@ needed_app = with_rule (with_rule (new_app (codes "arena-host")) (required_rule 
 -- the same with how it serves
 abbrev pub serving_app : App
 serving_app = with_rule (with_rule (with_rule (with_rule needed_app
-    (option_rule (codes "connections"))) (option_rule (codes "rotate-at"))) (option_rule (codes "keep"))) (option_rule (codes "patience"))
+    (option_rule (codes "connections"))) (option_rule (codes "rotate-at"))) (option_rule (codes "keep"))) (option_rule (codes "finish"))
 
 -- the host's command
 abbrev pub host_app : App
@@ -40,8 +40,8 @@ rotate_range = decimal 1 100
 abbrev pub keep_range : Range
 keep_range = decimal 1 999999
 
-abbrev pub patience_range : Range
-patience_range = decimal 0 86400
+abbrev pub finish_range : Range
+finish_range = decimal 0 86400
 
 abbrev pub mode_range : Range
 mode_range = record { radix = 8; least = 0; most = 511 }
@@ -61,7 +61,7 @@ pub record AreRead (options : List Row) (w : HostWords) : Type 0 where
   pub connections : IsGiven connections_range 64 (first_of (codes "connections") options) w.connections
   pub rotate_at : IsGiven rotate_range 50 (first_of (codes "rotate-at") options) w.rotate_at
   pub keep : IsGiven keep_range 8 (first_of (codes "keep") options) w.keep
-  pub patience : IsGiven patience_range 30 (first_of (codes "patience") options) w.patience
+  pub finish : IsGiven finish_range 10 (first_of (codes "finish") options) w.finish
   pub mode : IsGiven mode_range 384 (first_of (codes "mode") options) w.mode
   pub group : IsGivenOption group_range (first_of (codes "group") options) w.group
 
@@ -71,7 +71,7 @@ LackValues options = (first_of (codes "config") options ≡ None) ⊎ (first_of 
     ⊎ IsMisgiven connections_range (first_of (codes "connections") options)
     ⊎ IsMisgiven rotate_range (first_of (codes "rotate-at") options)
     ⊎ IsMisgiven keep_range (first_of (codes "keep") options)
-    ⊎ IsMisgiven patience_range (first_of (codes "patience") options)
+    ⊎ IsMisgiven finish_range (first_of (codes "finish") options)
     ⊎ IsMisgiven mode_range (first_of (codes "mode") options)
     ⊎ IsMisgiven group_range (first_of (codes "group") options)
 

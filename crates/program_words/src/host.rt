@@ -20,12 +20,12 @@ pub struct HostWords<'a> {
     pub run: &'a str,
     /// How many connections are served at a time, from 1 to 64.
     pub connections: u32,
-    /// At how many per cent of its steps a tenant's history ends a generation, from 1 to 100.
+    /// At how many per cent of its steps a history ends a term, from 1 to 100.
     pub rotate_at: u32,
     /// How many dumps of each tenant are kept, from 1 to 999,999.
     pub keep: u32,
-    /// How many seconds the sessions of a generation have to end, up to 86,400.
-    pub patience: u32,
+    /// How many seconds jobs have to end once the host is to stop, up to 86,400.
+    pub finish: u32,
     /// The mode of the socket, up to 0o777.
     pub mode: u32,
     /// The group of the socket, if it is not the process' own.
@@ -33,7 +33,7 @@ pub struct HostWords<'a> {
 }
 
 /// Reads the words of a command line, the program's name first: `arena-host --config F --run D [--connections N]
-/// [--rotate-at P] [--keep K] [--patience S] [--mode M] [--group G]`, in any order, also as `--config=F`. M is in
+/// [--rotate-at P] [--keep K] [--finish S] [--mode M] [--group G]`, in any order, also as `--config=F`. M is in
 /// octal digits, all other numbers are in decimal ones.
 pub fn read_host_words<'a>(alloc: Global, words: &'a [&'a str]) -> Result<HostWords<'a>, WordsFault>
     ensures read { IfOk result
@@ -55,7 +55,7 @@ fn values_of<'a>(matches: &ArgMatches<'a>) -> Option<HostWords<'a>>
     let connections = Range::decimal(1, 64).given_or(value_of(matches, "connections"), 64)?;
     let rotate_at = Range::decimal(1, 100).given_or(value_of(matches, "rotate-at"), 50)?;
     let keep = Range::decimal(1, 999_999).given_or(value_of(matches, "keep"), 8)?;
-    let patience = Range::decimal(0, 86_400).given_or(value_of(matches, "patience"), 30)?;
+    let finish = Range::decimal(0, 86_400).given_or(value_of(matches, "finish"), 10)?;
     let mode = octal().given_or(value_of(matches, "mode"), 0o600)?;
     let group = group_in(value_of(matches, "group"))?;
     Some(HostWords {
@@ -64,7 +64,7 @@ fn values_of<'a>(matches: &ArgMatches<'a>) -> Option<HostWords<'a>>
         connections,
         rotate_at,
         keep,
-        patience,
+        finish,
         mode,
         group,
     })
@@ -121,5 +121,5 @@ fn serving<'a>(alloc: Global, needed: Command<'a>) -> Result<Command<'a>, AllocE
         .arg(option(alloc, "connections"))?
         .arg(option(alloc, "rotate-at"))?
         .arg(option(alloc, "keep"))?
-        .arg(option(alloc, "patience"))
+        .arg(option(alloc, "finish"))
 }

@@ -87,6 +87,8 @@ impl<'d, 'q, R: Wait, S: Signal> LockedDoors<'d, 'q, R, S> {
     /// Gives the slot home that it is at, and gives back the seats, and the ringer with its queue pass.
     pub fn into_parts(self) -> (Vec<Seat>, Ringer<'q, R, S>)
         ensures seats { result.0.items ≡ self.entry.seats }
+        ensures count { length result.0.items ≡ length self.entry.at.doors.doors }
+        ensures own { AreOwn result.0.items }
         ensures ringer { result.1 ≡ self.entry.at.ringer }
     {
         let LockedDoors {

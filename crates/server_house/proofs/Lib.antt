@@ -1,4 +1,5 @@
 pub mod Numbering
 pub mod Houses
+pub mod KeptSessions
 pub mod ServedOrNot
 pub mod Seats

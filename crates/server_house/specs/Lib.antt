@@ -5,3 +5,4 @@ pub mod Visits
 pub mod Returned
 pub mod Houses
 pub mod Workers
+pub mod Owned

@@ -1,5 +1,5 @@
 -- What a call did to the cell that lay under the lock.
-use Rattle.std.specs.Prelude.{ℕ, ◌≡◌, ◌≢◌, ◌⊎◌, true, false, Option, Some, None, length, count_by}
+use Rattle.std.specs.Prelude.{ℕ, ◌≡◌, ◌≢◌, ◌≤◌, ◌<◌, ◌⊎◌, true, false, IfSome, IsSome, Option, Some, None, length, count_by}
 use Rattle.job_language.specs.declared.answers.Came.TheVariants.{Nothing}
 use Rattle.job_language.specs.declared.answers.Moved.TheVariants.{Stale}
 use Rattle.job_language.specs.declared.answers.Reply.TheVariants.{Refused}
@@ -8,11 +8,14 @@ use Rattle.job_language.specs.declared.requests.Request.{Request}
 use Rattle.job_step.specs.declared.segments.Top.{Top}
 use Rattle.job_step.specs.declared.segments.View.{View}
 use Rattle.market_config.specs.declared.calls.Call.{Call}
+use Rattle.job_language.specs.declared.answers.Status.{Status}
+use Rattle.tenant_model.specs.Asks.{known_job}
 use Rattle.tenant_model.specs.Changes.{open_rows}
 use Rattle.tenant_model.specs.Walks.{height, is_unstarted}
 use Rattle.tenant_record.specs.Cell.{CellData, IsCommitted, IsRight, AnswersAsk, advance_of, arrival, has_slot_of, state_of}
 use Rattle.tenant_record.specs.Locked.{IsArrived, IsAsked, IsHandedOver, IsMoved, given_home}
 use Rattle.tenant_record.specs.PassData.{PassData}
+use Rattle.tenant_record.specs.Replayed.{status_of}
 use Rattle.tenant_record.specs.SeatData.{SeatData}
 use Rattle.tenant_record.specs.declared.cells.AskOutcome.{AskOutcome}
 use Rattle.tenant_record.specs.declared.slots.Advanced.{Advanced}
@@ -92,3 +95,13 @@ AreCounts n c = (n.entries ≡ length c.history) × (n.asks ≡ length c.askers)
 -- how many rows are open, and how many of them wait
 abbrev pub IsTally : Tally → CellData → Type 0
 IsTally t c = (t.open_rows ≡ open_rows (state_of c).rows) × (t.waiting_rows ≡ count_by (λ r. is_unstarted r.phase) (state_of c).rows)
+
+-- the least number above another one of a job that is neither retired nor released
+abbrev pub IsNextJob : (after : ℕ) → Option ℕ → CellData → Type 0
+IsNextJob after next c =
+    IfSome next (λ n. (after < n) × IsSome (known_job (state_of c) n))
+    × ((j : ℕ) → after < j → IsSome (known_job (state_of c) j) → (n : ℕ) × (next ≡ Some n) × (n ≤ j))
+
+-- how far a job is, if it was made and is neither retired nor released
+abbrev pub IsStatus : (job : ℕ) → Option Status → CellData → Type 0
+IsStatus job status c = status ≡ status_of (state_of c) job

@@ -13,7 +13,7 @@ ghost use Rattle.job_language.specs.Collecting.{IsCollect};
 ghost use Rattle.tenant_record.specs.Cell.{IsRight, state_of};
 ghost use Rattle.tenant_lock.specs.Closing.{Agree, Closes, IsFault, IsRefused};
 ghost use Rattle.tenant_lock.specs.Doors.{ComesBack, ComesWith, door_of};
-ghost use Rattle.tenant_lock.specs.Under.{AndCounted, AndLooked, AreCounts, IsAdvanceOf, IsArrivalOf, IsAskOf, IsCommitOf, IsGivenHome, IsHandOverOf, IsHigh, IsTally, WasThere, WasUnder};
+ghost use Rattle.tenant_lock.specs.Under.{AndCounted, AndLooked, AreCounts, IsAdvanceOf, IsArrivalOf, IsAskOf, IsCommitOf, IsGivenHome, IsHandOverOf, IsHigh, IsNextJob, IsStatus, IsTally, WasThere, WasUnder};
 ghost use Rattle.tenant_lock.specs.Sleepers.{MayLeave};
 
 use crate::closing::fault_of;
@@ -23,7 +23,7 @@ use crate::held::{Held, Turned};
 use crate::news::{Done, News};
 use crate::stop_flag::StopFlag;
 use crate::waits::{Slots, Waits};
-use job_language::{Entry, MAX_SLOTS, Reply, Request, TenantConfig};
+use job_language::{Entry, MAX_SLOTS, Reply, Request, Status, TenantConfig};
 use job_step::{Segment, View};
 use market_config::Call;
 use std::alloc::{AllocError, Global};
@@ -247,6 +247,20 @@ impl TenantDoor {
         ensures { WasThere self.now.tenant (IsTally result) }
     {
         self.lock(rt).tally()
+    }
+
+    /// The least number above another one of a job of the tenant that is neither retired nor released.
+    pub fn next_job<R: Wait>(&self, rt: &R, after: u64) -> Option<u64>
+        ensures { WasThere self.now.tenant (IsNextJob after result) }
+    {
+        self.lock(rt).next_job(after)
+    }
+
+    /// How far a job of the tenant is, if it was made and is neither retired nor released.
+    pub fn status<R: Wait>(&self, rt: &R, job: u64) -> Option<Status>
+        ensures { WasThere self.now.tenant (IsStatus job result) }
+    {
+        self.lock(rt).status(job)
     }
 
     /// How many jobs were made at the tenant.

@@ -16,7 +16,7 @@ ghost use Rattle.tenant_lock.specs.Awaited.{is_open};
 ghost use Rattle.tenant_lock.specs.Doors.{ComesWith};
 ghost use Rattle.tenant_lock.specs.Looks.{IsCountAfter, IsLook, IsLookAfter, IsShown, rows_on};
 ghost use Rattle.tenant_lock.specs.Sleepers.{CanMove, IsIdle, MayLeave, must_stop, with_sleeper, with_waiter};
-ghost use Rattle.tenant_lock.specs.Under.{AreCounts, IsAdvanceOf, IsArrivalOf, IsAskOf, IsCommitOf, IsGivenHome, IsHandOverOf, IsTally};
+ghost use Rattle.tenant_lock.specs.Under.{AreCounts, IsAdvanceOf, IsArrivalOf, IsAskOf, IsCommitOf, IsGivenHome, IsHandOverOf, IsNextJob, IsStatus, IsTally};
 ghost use Rattle.tenant_lock.specs.Watch.{IsTurn, KeepsWatch};
 
 use crate::awaited::{Jobs, is_open, note};
@@ -24,7 +24,7 @@ use crate::counts::{Counts, JobTally, Tally};
 use crate::looks::by_length;
 use crate::news::{Done, is_over};
 use crate::waits::{Waiting, Waits};
-use job_language::{Answer, Came, Error, Moved, Reply, Request};
+use job_language::{Answer, Came, Error, Moved, Reply, Request, Status};
 use job_step::{Segment, View};
 use market_config::Call;
 use std::marker::Model;
@@ -355,6 +355,26 @@ impl Held {
             open_rows: self.cell.open_rows(),
             waiting_rows: self.cell.waiting_rows(),
         }
+    }
+
+    /// The least number above another one of a job that is neither retired nor released.
+    pub(crate) fn next_job(&self, after: u64) -> Option<u64>
+        ensures value { IsNextJob after result self.now.cell }
+        ensures right { IsRight self.now.cell }
+    {
+        // Proof hint: the cell is right.
+        let _ = self.cell.history();
+        self.cell.next_job(after)
+    }
+
+    /// How far a job is, if it was made and is neither retired nor released.
+    pub(crate) fn status(&self, job: u64) -> Option<Status>
+        ensures value { IsStatus job result self.now.cell }
+        ensures right { IsRight self.now.cell }
+    {
+        // Proof hint: the cell is right.
+        let _ = self.cell.history();
+        self.cell.status(job)
     }
 
     /// How far the jobs are that are neither retired nor released, `MAX_JOBS` at most.

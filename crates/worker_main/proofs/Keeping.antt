@@ -1,5 +1,5 @@
 -- Whatever a thread does at the queues, it stays at the same queues with the same pass.
-use Rattle.std.proofs.Common.{◌≡◌, inl, inr, ℕ, zero, suc, List, [], ◌∷◌, Option, Some, None, sym, ◌∙◌, ap, subst}
+use Rattle.std.proofs.Common.{◌≡◌, inl, inr, Bool, ℕ, zero, suc, List, [], ◌∷◌, Option, Some, None, sym, ◌∙◌, ap, subst}
 use Rattle.job_language.specs.declared.answers.Moved.{Moved}
 use Rattle.job_language.specs.declared.answers.Moved.TheVariants as moved
 use Rattle.job_language.specs.declared.answers.Came.{Came}
@@ -15,7 +15,7 @@ use Rattle.worker_main.specs.Pushes.{RingerSeen, Pushes, PushesDue}
 use Rattle.worker_main.specs.Slots.{SlotSeen, Ways, commits_of, advances_of, TakesOne}
 use Rattle.worker_main.specs.Visits.{Told, AfterBelow, AfterTurn, TakesRound, GoesAgain, EndsVisit, Visits, AfterArriving}
 use Rattle.worker_main.specs.declared.visiting.Visiting.{Visiting}
-use Rattle.worker_main.specs.Works.{AfterPopping, TakesTurns, Works}
+use Rattle.worker_main.specs.Works.{AfterPopping, ServesCall, TakesTurns, Works}
 
 -- the same queues, and a pass of the same queues with the same number
 abbrev pub IsKept : RingerSeen → RingerSeen → Type 0
@@ -136,3 +136,29 @@ module _ {D : Type 0} (w : Ways D) (v : Visiting) where
     pass_kept =
         let kept = works_kept l begin t begins in
         (ap (λ (p : PassSeen). p.queues) ep ∙ kept.1, ap (λ (p : PassSeen). p.number) ep ∙ kept.2)
+
+  serves_kept : (l : Told) (called : Bool) (s t : SlotSeen D) → ServesCall w v l called s t → Kept s t
+  serves_kept l called s t is =
+      let f = is.1 in
+      let pops = is.2.1.0.1 in
+      joined s.ringer f.ringer t.ringer (pops.0, pops.1, pops.2) (popping_kept l is.0 f t is.2.1.1)
+
+  -- the same of a worker who serves one call
+  module _ (l : Told) (called : Bool) (q : QueuesSeen) (old new : PassSeen) (first last : D) (r : RingerSeen) (s t : SlotSeen D)
+      (er : r ≡ record { queues = q; pass = old }) (es : s ≡ record { ringer = r; doors = first }) (serves : ServesCall w v l called s t) (ep : new ≡ t.ringer.pass) (ed : last ≡ t.doors) where
+    abbrev first_slot : SlotSeen D
+    first_slot = record { ringer = record { queues = q; pass = old }; doors = first }
+
+    serves_first : ServesCall w v l called first_slot t
+    serves_first =
+        let whole : s ≡ first_slot = es ∙ ap (λ (x : RingerSeen). record { ringer = x; doors = first }) er in
+        subst (λ x. ServesCall w v l called x t) whole serves
+
+    pub call_served : ServesCall w v l called first_slot (record { ringer = record { queues = q; pass = new }; doors = last })
+    call_served =
+        let eq = (serves_kept l called first_slot t serves_first).0 in
+        let whole : t ≡ record { ringer = record { queues = q; pass = new }; doors = last } = (λ i. record { ringer = record { queues = eq i; pass = sym ep i }; doors = sym ed i }) in
+        subst (ServesCall w v l called first_slot) whole serves_first
+
+    pub call_kept : new.queues ≡ old.queues
+    call_kept = ap (λ (p : PassSeen). p.queues) ep ∙ (serves_kept l called first_slot t serves_first).1

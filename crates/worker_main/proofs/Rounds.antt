@@ -1,5 +1,6 @@
 -- Rounds of a visit and turns of a worker, one after another.
-use Rattle.std.proofs.Common.{◌≡◌, ◌≢◌, inl, inr, ◌⊎◌, ℕ, suc, ◌+◌, ◌<◌, ◌≤◌, Bool, Option, Some, None, refl, sym, subst, arith}
+use Rattle.std.proofs.Common.{◌≡◌, ◌≢◌, inl, inr, ◌⊎◌, ℕ, suc, ◌+◌, ◌<◌, ◌≤◌, Bool, true, false, Option, Some, None, refl, sym, ap, subst, arith}
+use Rattle.std.specs.Prelude.{is_some}
 use Rattle.job_language.specs.declared.answers.Moved.{Moved}
 use Rattle.job_language.specs.declared.answers.Moved.TheVariants as moved
 use Rattle.job_language.specs.declared.answers.Came.{Came}
@@ -11,7 +12,7 @@ use Rattle.worker_main.specs.declared.visits.Round.TheVariants.{Again, Left, End
 use Rattle.worker_main.specs.Slots.{SlotSeen, Ways, Homes, Arrives, PopsAt, TakesOne, heights_of, pauses_of}
 use Rattle.worker_main.specs.Visits.{Told, AfterBelow, AfterTurn, TakesRound, GoesAgain, Visits, AfterArriving, Comes, after_pause}
 use Rattle.worker_main.specs.declared.visiting.Visiting.{Visiting}
-use Rattle.worker_main.specs.Works.{AfterPopping, TakesTurn, TakesTurns}
+use Rattle.worker_main.specs.Works.{AfterPopping, ServesCall, TakesTurn, TakesTurns}
 
 module _ {D : Type 0} (w : Ways D) (v : Visiting) where
   pub below : (s t : SlotSeen D) (h : ℕ) (r : Round) → heights_of w.heights s h → h < 1 → AfterBelow w v r s t → TakesRound w v r s t
@@ -73,6 +74,12 @@ module _ {D : Type 0} (w : Ways D) (v : Visiting) where
 
     pub turn_none : (s f : SlotSeen D) (popped : Option Call) → popped ≡ None → PopsAt s popped f → TakesTurn w v l s f
     turn_none s f popped e pops = (popped, f, (pops, (let P : Option Call → Type 0 = λ p. AfterPopping w v l p f f in subst P (sym e) refl)))
+
+    pub serves_some : (s f t : SlotSeen D) (popped : Option Call) (call : Call) → popped ≡ Some call → PopsAt s popped f → Comes w v l call f t → ServesCall w v l true s t
+    serves_some s f t popped call e pops comes = (popped, f, (sym (ap is_some e), (pops, (let P : Option Call → Type 0 = λ p. AfterPopping w v l p f t in subst P (sym e) comes))))
+
+    pub serves_none : (s f : SlotSeen D) (popped : Option Call) → popped ≡ None → PopsAt s popped f → ServesCall w v l false s f
+    serves_none s f popped e pops = (popped, f, (sym (ap is_some e), (pops, (let P : Option Call → Type 0 = λ p. AfterPopping w v l p f f in subst P (sym e) refl))))
 
     pub turns_more : (n : ℕ) (s d e : SlotSeen D) → TakesTurns w v l n s d → TakesTurn w v l d e → TakesTurns w v l (n + 1) s e
     turns_more n s d e so_far takes =

@@ -1,5 +1,5 @@
 -- What a worker does until the signal says to stop.
-use Rattle.std.specs.Prelude.{◌≡◌, ℕ, zero, suc, ◌≤◌, ◌⊎◌, Option, Some, None}
+use Rattle.std.specs.Prelude.{◌≡◌, ℕ, zero, suc, ◌≤◌, ◌⊎◌, Bool, Option, Some, None, is_some}
 use Rattle.market_config.specs.declared.calls.Call.{Call}
 use Rattle.nested_wait.specs.Runs.{most_turns}
 use Rattle.worker_main.specs.Slots.{SlotSeen, Ways, PopsAt}
@@ -13,6 +13,11 @@ AfterPopping {D = D} w v l (Some call) s t = Comes w v l call s t
 
 abbrev pub TakesTurn : {D : Type 0} → Ways D → Visiting → Told → SlotSeen D → SlotSeen D → Type 0
 TakesTurn {D = D} w v l s t = (popped : Option Call) × (f : SlotSeen D) × (PopsAt s popped f × AfterPopping w v l popped f t)
+
+-- a turn that says whether there was a call
+abbrev pub ServesCall : {D : Type 0} → Ways D → Visiting → Told → (is_called : Bool) → SlotSeen D → SlotSeen D → Type 0
+ServesCall {D = D} w v l is_called s t =
+    (popped : Option Call) × (f : SlotSeen D) × ((is_called ≡ is_some popped) × (PopsAt s popped f × AfterPopping w v l popped f t))
 
 -- that many turns, one after another
 abbrev pub TakesTurns : {D : Type 0} → Ways D → Visiting → Told → (turns : ℕ) → SlotSeen D → SlotSeen D → Type 0

@@ -106,6 +106,11 @@ impl Signal for Bell {
         !self.has_told.load(Ordering::SeqCst)
     }
 
+    fn is_awaited(&self) -> bool {
+        // All that wait for its workers are in their queues.
+        false
+    }
+
     fn wait_past<R: Wait>(&self, rt: &R, heard: u64) {
         let _rung = self
             .changed

@@ -18,4 +18,4 @@ pub use ringer::Ringer;
 pub use signal::Signal;
 pub use slot_door::SlotDoor;
 pub use visiting::Visiting;
-pub use working::worker;
+pub use working::{serve_call, worker};

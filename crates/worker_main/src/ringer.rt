@@ -70,13 +70,13 @@ impl<'q, R: Wait, S: Signal> Ringer<'q, R, S> {
         self.queues.pop_call(self.rt, &mut self.pass)
     }
 
-    /// Whether a call waits that is of a tenant's level or of a higher one. Others push and pop
-    /// meanwhile.
+    /// Whether a call waits that is of a tenant's level or of a higher one, or the signal awaits its workers elsewhere.
+    /// Others push and pop meanwhile.
     pub fn has_call_for(&mut self, tenant: usize) -> bool
         requires { tenant < length self.old.queues.config }
         ensures { self.new ≡ self.old }
     {
-        self.queues.has_call_for(&mut self.pass, tenant)
+        self.signal.is_awaited() || self.queues.has_call_for(&mut self.pass, tenant)
     }
 
     /// The pass that it was made with.

@@ -2,7 +2,7 @@
 ghost use Rattle.std.specs.Prelude.{◌≡◌, ◌≤◌, length};
 ghost use Rattle.worker_main.specs.Slots.{ways};
 ghost use Rattle.worker_main.specs.Visits.{told};
-ghost use Rattle.worker_main.specs.Works.{TakesTurn, Works};
+ghost use Rattle.worker_main.specs.Works.{ServesCall, TakesTurn, Works};
 
 use crate::doors::CallDoors;
 use crate::gate::Gate;
@@ -43,6 +43,60 @@ where
     let mut door = SlotDoor::new(Ringer::new(rt, signal, queues, pass), gate, doors);
     work(rt, signal, &mut door, visiting);
     door.into_parts()
+}
+
+/// Serves the first call of the highest level that has one, as `worker` does, and says whether there was one. The queue
+/// pass and the doors come back.
+pub fn serve_call<R, S, G, D>(
+    rt: &R,
+    queues: &CallQueues,
+    pass: QueuePass,
+    doors: D,
+    signal: &S,
+    gate: &G,
+    visiting: Visiting,
+) -> (QueuePass, D, bool)
+where
+    R: Wait,
+    S: Signal,
+    G: Gate,
+    D: CallDoors,
+    requires pass { pass.queues ≡ queues.now.queues }
+    requires tenants { D.tenants doors ≤ length queues.now.config }
+    ensures queues { result.0.queues ≡ pass.queues }
+    ensures serves { ServesCall (ways D.views D.commits D.advances D.heights D.pauses D.homes D.hands
+        D.arrives) visiting (told (S.stops signal.now) (S.looked signal.now)) result.2
+        (record { ringer = record { queues = queues.now; pass = pass }; doors = doors })
+        (record { ringer = record { queues = queues.now; pass = result.0 }; doors = result.1 }) }
+{
+    let mut door = SlotDoor::new(Ringer::new(rt, signal, queues, pass), gate, doors);
+    let is_called = serve_first(signal, &mut door, visiting);
+    let (pass, doors) = door.into_parts();
+    (pass, doors, is_called)
+}
+
+/// Serves the first call, if there is one.
+fn serve_first<R, S, G, D>(
+    signal: &S,
+    door: &mut SlotDoor<'_, R, S, G, D>,
+    visiting: Visiting,
+) -> bool
+where
+    R: Wait,
+    S: Signal,
+    G: Gate,
+    D: CallDoors,
+    ensures { ServesCall (ways D.views D.commits D.advances D.heights D.pauses D.homes D.hands
+        D.arrives) visiting (told (S.stops signal.now) (S.looked signal.now)) result door.old
+        door.new }
+{
+    match door.pop() {
+        Some(call) => {
+            answer_call(signal, door, call, visiting);
+            true
+        }
+        None => false,
+    }
 }
 
 /// Takes turns until the signal says to stop.

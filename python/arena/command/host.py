@@ -104,13 +104,13 @@ def show(call: Call, screen: Screen, watch: Watch) -> None:
 
 
 def to_value(host: HostStatus, watch: Watch) -> dict[str, Any]:
-    """The tenants with their rates, as JSON; a rate that is not known yet is null."""
-    return {"time": host.time, "total": rates_value(watch.total()), "recent": recent_value(watch.recent()), "generations": [
-        {"generation": it.number, "state": it.state.value, "connections": it.connections, "served": it.served,
-         "tenants": [{"tenant": tenant.tenant, "steps": tenant.steps, "entries": tenant.entries, "asks": tenant.asks,
-                      "jobs": tenant.jobs, "running": tenant.jobs_now.running, "rows": tenant.rows.open,
-                      "waiting": tenant.rows.waiting, "per_second": rates_value(watch.of(it.number, tenant.tenant))}
-                     for tenant in it.tenants]} for it in host.generations]}
+    """The terms with their rates, as JSON; a rate that is not known yet is null."""
+    return {"time": host.time, "connections": host.connected, "served": host.served, "total": rates_value(watch.total()),
+            "recent": recent_value(watch.recent()), "terms": [
+                {"tenant": it.tenant, "term": it.number, "state": it.state.value, "steps": it.steps, "entries": it.entries,
+                 "asks": it.asks, "jobs": it.jobs, "running": it.jobs_now.running, "rows": it.rows.open,
+                 "waiting": it.rows.waiting, "per_second": rates_value(watch.of(it.tenant, it.number))}
+                for it in host.terms]}
 
 
 def rates_value(rates: Rates | None) -> dict[str, Any] | None:
@@ -130,8 +130,8 @@ def recent_value(recent: Recent | None) -> dict[str, object] | None:
 
 COMMANDS = (
     Command("status", "print what a host does now",
-            "Reads D/status.json once, and prints the host's generations, each with its tenants, how full their "
-            "histories are, their requests and jobs; its workers; its memory; and the generations that it closed last. "
+            "Reads D/status.json once, and prints the host's connections, workers and memory; the terms of its tenants, how "
+            "full their histories are, their requests and jobs; and the terms that it closed last. "
             "With --json it prints the host's own object. A status that is more than 5 seconds old is printed, and "
             "ends with status 11.",
             "arena status /var/lib/arena", status, (FOLDER,)),

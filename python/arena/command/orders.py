@@ -15,12 +15,12 @@ def stop(call: Call) -> int:
 
 
 def rotate(call: Call) -> int:
-    """Lets a host open the next generation, and waits until it serves."""
+    """Lets a host open the next term of a tenant, or of each one, and waits until they serve."""
     folder = call.folder
-    done = orders.rotate(folder, call.words.wait)
-    left = "" if done.left is None else f" after generation {done.left}"
-    call.output.say(f"{folder.path}: generation {done.generation} serves{left}, {done.seconds:.1f} s after the order",
-                    {"generation": done.generation, "left": done.left, "seconds": round(done.seconds, 3)})
+    done = orders.rotate(folder, call.words.wait, call.words.only)
+    terms = ", ".join(f"{name}.{number:06}" for name, number in done.terms.items()) or "no tenant"
+    call.output.say(f"{folder.path}: {terms} served, {done.seconds:.1f} s after the order",
+                    {"seconds": round(done.seconds, 3), "terms": done.terms})
     return Status.DONE
 
 
@@ -33,11 +33,13 @@ def wait_word(default: int) -> Word:
 COMMANDS = (
     Command("stop", "stop a host in order, and wait for its end",
             "Removes D/socket, which is the order to stop, and waits until the host has given D/lock back. It lets its "
-            "sessions finish, closes all generations and writes their dumps. What it found at the close is in its own "
+            "sessions and jobs finish, closes all terms and writes their files. What it found at the close is in its own "
             "exit status.",
             "arena stop /var/lib/arena", stop, (ITS_FOLDER, wait_word(60))),
-    Command("rotate", "let a host open the next generation, and wait until it serves",
-            "Makes D/rotate, and waits until D/status.json shows a generation that serves and is newer than the one "
-            "before. The host reads its configuration anew for it. Connections that are there keep theirs.",
-            "arena rotate /var/lib/arena --wait 10", rotate, (ITS_FOLDER, wait_word(30))),
+    Command("rotate", "let a host open the next term of its tenants, and wait until they serve",
+            "Makes D/rotate, or D/rotate.NAME with --only NAME, and waits until D/status.json shows newer terms than before. "
+            "The host reads its configuration anew for it: tenants that are new are served, and those that are gone are "
+            "left. Connections and jobs that are there stay.",
+            "arena rotate /var/lib/arena --wait 10", rotate,
+            (ITS_FOLDER, option("--only", help="the tenant; each one without it", metavar="NAME"), wait_word(30))),
 )

@@ -12,7 +12,7 @@ from arena.texts import counted
 
 @dataclass
 class Counts:
-    """What was found: dumps that `check` says yes to, others, parts, generations without a dump, and whether anything
+    """What was found: dumps that `check` says yes to, others, parts, terms without a dump, and whether anything
     is amiss."""
 
     yes: int = 0
@@ -47,7 +47,7 @@ def check_dumps(call: Call) -> int:
 
 def _of_file(it: DumpFile, counts: Counts, script: str) -> tuple[str, str, dict[str, Any]]:
     """What is said of a file: its text, its colour, its value."""
-    name, value = name_of(it.tenant, it.generation), {"file": it.path, "generation": it.generation, "tenant": it.tenant}
+    name, value = name_of(it.tenant, it.term), {"file": it.path, "tenant": it.tenant, "term": it.term}
     if not it.is_whole:
         counts.parts += 1
         counts.amiss |= it.amiss
@@ -65,22 +65,20 @@ def _of_file(it: DumpFile, counts: Counts, script: str) -> tuple[str, str, dict[
 
 
 def _of_hole(it: Hole, counts: Counts) -> tuple[str, str, dict[str, Any]]:
-    """What is said of generations without a dump."""
-    counts.missing += (it.last - it.generation + 1) * it.amiss
+    """What is said of terms without a dump."""
+    counts.missing += (it.last - it.term + 1) * it.amiss
     counts.amiss |= it.amiss
-    to = f" to {name_of(it.tenant, it.last)}" if it.last > it.generation else ""
-    value = {"amiss": it.amiss, "generation": it.generation, "last": it.last, "tenant": it.tenant, "verdict": "missing",
-             "why": it.why}
-    return f"{name_of(it.tenant, it.generation)}{to}: {'missing' if it.amiss else 'none'}, {it.why}", (
+    to = f" to {name_of(it.tenant, it.last)}" if it.last > it.term else ""
+    value = {"amiss": it.amiss, "last": it.last, "tenant": it.tenant, "term": it.term, "verdict": "missing", "why": it.why}
+    return f"{name_of(it.tenant, it.term)}{to}: {'missing' if it.amiss else 'none'}, {it.why}", (
         RED if it.amiss else YELLOW), value
 
 
 COMMANDS = (
     Command("check-dumps", "check all dumps of a host by arena-script",
-            "Goes through D/dumps by tenant, in the order of generations, and lets `arena-script check` take every "
+            "Goes through D/dumps by tenant, in the order of terms, and lets `arena-script check` take every "
             "step of each dump again. It says which dumps are whole, of which there is only a part, and which are "
             "missing, with what D/status.json says of them. The status is 0 if each dump is there and answered `yes`, "
-            "but for those of generations that are open or that the tenant was not in. With --tenant only that "
-            "tenant's are looked at.",
+            "but for those of terms that are open. With --tenant only that tenant's are looked at.",
             "arena check-dumps /var/lib/arena", check_dumps, (ITS_FOLDER, SCRIPT)),
 )

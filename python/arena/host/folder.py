@@ -20,10 +20,10 @@ class RunFolder:
         """The socket, whose removal is the order to stop."""
         return os.path.join(self.path, "socket")
 
-    @property
-    def rotate(self) -> str:
-        """The file that is the order to rotate; the host removes it once it has begun."""
-        return os.path.join(self.path, "rotate")
+    def rotate(self, tenant: str | None = None) -> str:
+        """The file that is the order to open the next term of a tenant, or of each one; the host removes it when it takes the
+        order."""
+        return os.path.join(self.path, "rotate" if tenant is None else f"rotate.{tenant}")
 
     @property
     def status(self) -> str:

@@ -30,11 +30,10 @@ class Stopped:
 
 @dataclass(frozen=True, slots=True)
 class Rotated:
-    """A new generation serves, so many seconds after the order; `left` is the one that served before, if one did."""
+    """New terms serve, so many seconds after the order: their numbers, by the names of their tenants."""
 
     seconds: float
-    generation: int
-    left: int | None
+    terms: dict[str, int]
 
 
 def stop(folder: RunFolder, wait: float) -> Stopped:
@@ -51,45 +50,39 @@ def stop(folder: RunFolder, wait: float) -> Stopped:
 
     if not _comes(lambda: not folder.is_held() or another(), wait):
         raise NotYet(f"{folder.path}: the host was ordered to stop and still runs after {wait:g} s; it may wait for "
-                     f"clients, for its patience at most, so look again by `arena status {folder.path}`")
+                     f"jobs or files, so look again by `arena status {folder.path}`")
     return Stopped(time.monotonic() - start, another())
 
 
-def rotate(folder: RunFolder, wait: float) -> Rotated:
-    """Makes the file `rotate`, and BLOCKS until a generation serves that is newer than those that served before the host
-    took the order, `wait` seconds at most. Raises NoHost, NotYet, StatusFault, OSError."""
+def rotate(folder: RunFolder, wait: float, tenant: str | None = None) -> Rotated:
+    """Makes the file that asks for the next term of a tenant, or of each one, and BLOCKS until terms serve that are newer than
+    those that served before, `wait` seconds at most. Raises NoHost, NotYet, StatusFault, OSError."""
     _must_run(folder)
-    left, start = _serving(folder), time.monotonic()
-    before = left
+    order, before, start = folder.rotate(tenant), _serving(folder), time.monotonic()
+    if tenant is not None and tenant not in before:
+        raise NotYet(f"{folder.path}: no term of {tenant} serves, so none was asked for; a tenant that is new in the "
+                     "configuration is served after an order for all tenants")
+    wanted = [tenant] if tenant is not None else list(before)
     with contextlib.suppress(FileExistsError):  # somebody else's order, which the host has not taken yet
-        os.close(os.open(folder.rotate, os.O_WRONLY | os.O_CREAT | os.O_EXCL | os.O_CLOEXEC, 0o600))
+        os.close(os.open(order, os.O_WRONLY | os.O_CREAT | os.O_EXCL | os.O_CLOEXEC, 0o600))
 
     def newer() -> bool:
-        """Whether the order was taken and the next generation serves. One that serves while the order is still there was
-        opened for another reason."""
-        nonlocal before
+        """Whether the order was taken, and each tenant that is still served is served by a newer term."""
         if not folder.is_held():
-            raise NoHost(f"{folder.path}: the host ended before a new generation served")
-        is_taken = not os.path.exists(folder.rotate)
+            raise NoHost(f"{folder.path}: the host ended before a new term served")
         serving = _serving(folder)
-        if not is_taken:
-            before = serving
-        return is_taken and serving is not None and (before is None or serving > before)
+        return not os.path.exists(order) and all(serving.get(it, before[it] + 1) > before[it] for it in wanted)
 
     if not _comes(newer, wait):
-        raise NotYet(_why_not(folder, wait, before))
-    generation = _serving(folder)
-    assert generation is not None
-    return Rotated(time.monotonic() - start, generation, left)
+        raise NotYet(_why_not(folder, order, wait))
+    return Rotated(time.monotonic() - start, {it: number for it, number in _serving(folder).items() if tenant in (None, it)})
 
 
-def _why_not(folder: RunFolder, wait: float, left: int | None) -> str:
-    if os.path.exists(folder.rotate):
-        return (f"{folder.rotate}: the host has not taken the order within {wait:g} s; remove the file to take the "
-                "order back")
-    old = "no generation serves" if left is None else f"generation {left} still serves"
-    return (f"{folder.path}: the host took the order, and {old} after {wait:g} s; its standard error says why, most "
-            "often a configuration that it can't open, which `arena lint` looks at")
+def _why_not(folder: RunFolder, order: str, wait: float) -> str:
+    if os.path.exists(order):
+        return f"{order}: the host has not taken the order within {wait:g} s; remove the file to take the order back"
+    return (f"{folder.path}: the host took the order, and older terms still serve after {wait:g} s; its standard error says "
+            "why, most often a configuration that it can't open, which `arena lint` looks at")
 
 
 def _must_run(folder: RunFolder) -> None:
@@ -106,9 +99,9 @@ def _began(folder: RunFolder) -> int | None:
         return None
 
 
-def _serving(folder: RunFolder) -> int | None:
-    serving = read_status(folder).status.serving
-    return serving.number if serving else None
+def _serving(folder: RunFolder) -> dict[str, int]:
+    """The number of the term that serves, of each tenant that has one."""
+    return {name: term.number for name, term in read_status(folder).status.serving.items()}
 
 
 def _comes(is_so: Callable[[], bool], wait: float) -> bool:

@@ -1,16 +1,14 @@
 """A host's status in Prometheus' text exposition format, version 0.0.4.
 
-Each count of a tenant has the label `generation`, since it begins anew with each generation: it grows as long as its
-generation is open, and then its series ends. So no series goes backwards when a generation closes; a sum over
-generations does, and one takes the rate first: `sum by (tenant) (rate(arena_requests_total[5m]))`. The number of a
-generation comes again only if a host was killed before it wrote a dump of it; then its counters begin with 0, which
-Prometheus takes as the restart that it is.
+Each count of a tenant has the label `term`, since it begins anew with each term: it grows as long as its term is open, and
+then its series ends. So no series goes backwards when a term closes; a sum over terms does, and one takes the rate first:
+`sum by (tenant) (rate(arena_requests_total[5m]))`. The number of a term never comes again in a run folder.
 """
 import enum
 from collections.abc import Callable, Iterable, Iterator, Mapping
 from dataclasses import dataclass, field
 
-from arena.host.status import ClosedGeneration, ClosedTenant, Generation, HostStatus, State, TenantStatus
+from arena.host.status import ClosedTerm, HostStatus, State, Term
 
 JOB_STATUSES = ("running", "complete", "canceled", "fault")
 
@@ -76,7 +74,7 @@ def families_of(status: HostStatus | None) -> list[Family]:
                 [Sample(int(status is not None))])
     if status is None:
         return [up]
-    return [up, *_host(status), *_generations(status), *_tenants(status), *_closed(status)]
+    return [up, *_host(status), *_workers(status), *_terms(status), *_closed(status)]
 
 
 def _host(it: HostStatus) -> Iterator[Family]:
@@ -88,75 +86,55 @@ def _host(it: HostStatus) -> Iterator[Family]:
     yield gauge("arena_start_time_seconds", "When the host began, in seconds since 1970.", it.began)
     if it.memory is not None:
         yield gauge("arena_resident_memory_bytes", "Resident memory of the host.", it.memory)
-    yield gauge("arena_connections_limit", "How many connections a generation serves at a time.", it.connections)
+    yield gauge("arena_connections_limit", "How many connections are served at a time.", it.connections)
+    yield gauge("arena_connections", "Sessions that serve a client now.", it.connected)
+    yield Family("arena_connections_served_total", Kind.COUNTER, "Connections so far.", [Sample(it.served)])
     yield gauge("arena_rotate_at_ratio", "How full a history may be before the host rotates, from 0 to 1.",
                 it.rotate_at / 100)
-    yield gauge("arena_patience_seconds", "How long the sessions of a generation have to end once the next one serves.",
-                it.patience)
+    yield gauge("arena_finish_seconds", "How long jobs have to end once the host is to stop.", it.finish)
     yield gauge("arena_dumps_limit", "How many dumps of each tenant are kept.", it.keep)
 
 
-def _generations(status: HostStatus) -> Iterator[Family]:
-    def each(name: str, kind: Kind, help: str, value: Callable[[Generation], int]) -> Family:
-        """A metric with a sample for each generation."""
-        return Family(name, kind, help, [Sample(value(it), _of(it)) for it in status.generations])
-
-    states = [Sample(int(it.state is state), {**_of(it), "state": state.value})
-              for it in status.generations for state in State]
-    yield Family("arena_generation_state", Kind.GAUGE, "1 at the state that a generation is in, and 0 at the others.",
-                 states)
-    yield each("arena_generation_start_time_seconds", Kind.GAUGE, "When a generation began, in seconds since 1970.",
-               lambda it: it.began)
-    yield each("arena_connections", Kind.GAUGE, "Sessions that serve a client now.", lambda it: it.connections)
-    yield each("arena_connections_served_total", Kind.COUNTER, "Connections so far.", lambda it: it.served)
-    yield each("arena_workers", Kind.GAUGE, "Workers, with a tenant or waiting for a call.", lambda it: len(it.workers))
-    yield each("arena_workers_waiting", Kind.GAUGE, "Workers that wait for a call.",
-               lambda it: sum(worker.tenant is None for worker in it.workers))
-
-
-def _tenants(status: HostStatus) -> Iterator[Family]:
-    pairs = [(generation, tenant) for generation in status.generations for tenant in generation.tenants]
-
-    def each(name: str, kind: Kind, help: str, value: Callable[[TenantStatus], int]) -> Family:
-        """A metric with a sample for each tenant of each generation."""
-        return Family(name, kind, help, [Sample(value(it), _of(generation, it.tenant)) for generation, it in pairs])
-
-    yield each("arena_history_steps", Kind.GAUGE, "How many entries a tenant's history has room for.",
-               lambda it: it.steps)
-    yield each("arena_history_entries", Kind.GAUGE, "How many entries a tenant's history holds.", lambda it: it.entries)
-    yield each("arena_requests_total", Kind.COUNTER, "Requests that were asked of a tenant.", lambda it: it.asks)
-    yield each("arena_jobs_total", Kind.COUNTER, "Jobs that were made.", lambda it: it.jobs)
-    by_status = [Sample(getattr(it.jobs_now, status), {**_of(generation, it.tenant), "status": status})
-                 for generation, it in pairs for status in JOB_STATUSES]
-    yield Family("arena_jobs", Kind.GAUGE, "Jobs that are not retired, by how far they are.", by_status)
-    yield each("arena_rows_open", Kind.GAUGE, "Rows that wait to be started or are live on a slot.",
-               lambda it: it.rows.open)
-    yield each("arena_rows_waiting", Kind.GAUGE, "Rows that wait to be started.", lambda it: it.rows.waiting)
-    at_tenants = [Sample(sum(worker.tenant == it.tenant for worker in generation.workers), _of(generation, it.tenant))
-                  for generation, it in pairs]
+def _workers(status: HostStatus) -> Iterator[Family]:
+    waiting = sum(it.tenant is None for it in status.workers)
+    yield Family("arena_workers", Kind.GAUGE, "Workers, with a tenant or waiting for a call.", [Sample(len(status.workers))])
+    yield Family("arena_workers_waiting", Kind.GAUGE, "Workers that wait for a call.", [Sample(waiting)])
+    at_tenants = [Sample(status.workers_at(name), {"tenant": name}) for name in dict.fromkeys(it.tenant for it in status.terms)]
     yield Family("arena_workers_at_tenant", Kind.GAUGE, "Workers that were last at a slot of a tenant.", at_tenants)
 
 
+def _terms(status: HostStatus) -> Iterator[Family]:
+    def each(name: str, kind: Kind, help: str, value: Callable[[Term], int]) -> Family:
+        """A metric with a sample for each term."""
+        return Family(name, kind, help, [Sample(value(it), _of(it)) for it in status.terms])
+
+    states = [Sample(int(it.state is state), {**_of(it), "state": state.value}) for it in status.terms for state in State]
+    yield Family("arena_term_state", Kind.GAUGE, "1 at the state that a term is in, and 0 at the others.", states)
+    yield each("arena_term_start_time_seconds", Kind.GAUGE, "When a term began, in seconds since 1970.", lambda it: it.began)
+    yield each("arena_history_steps", Kind.GAUGE, "How many entries a term's history has room for.", lambda it: it.steps)
+    yield each("arena_history_entries", Kind.GAUGE, "How many entries a term's history holds.", lambda it: it.entries)
+    yield each("arena_requests_total", Kind.COUNTER, "Requests that were asked of a term.", lambda it: it.asks)
+    yield each("arena_jobs_total", Kind.COUNTER, "Jobs that were made.", lambda it: it.jobs)
+    by_status = [Sample(getattr(it.jobs_now, name), {**_of(it), "status": name})
+                 for it in status.terms for name in JOB_STATUSES]
+    yield Family("arena_jobs", Kind.GAUGE, "Jobs that are neither retired nor released, by how far they are.", by_status)
+    yield each("arena_rows_open", Kind.GAUGE, "Rows that wait to be started or are live on a slot.", lambda it: it.rows.open)
+    yield each("arena_rows_waiting", Kind.GAUGE, "Rows that wait to be started.", lambda it: it.rows.waiting)
+
+
 def _closed(status: HostStatus) -> Iterator[Family]:
-    """What the last 16 generations left; their series end when they are no longer among these."""
-    pairs = [(generation, tenant) for generation in status.closed for tenant in generation.tenants]
+    """What the last 64 terms left; their series end when they are no longer among these."""
+    def each(name: str, help: str, value: Callable[[ClosedTerm], int | float]) -> Family:
+        """A metric with a sample for each term that was closed."""
+        return Family(name, Kind.GAUGE, help, [Sample(value(it), {**_of(it), "why": it.why.value}) for it in status.closed])
 
-    def each(name: str, help: str, value: Callable[[ClosedTenant], int]) -> Family:
-        """A metric with a sample for each tenant of each generation that was closed."""
-        samples = [Sample(value(it), _of(generation, it.tenant)) for generation, it in pairs]
-        return Family(name, Kind.GAUGE, help, samples)
-
-    yield Family("arena_close_duration_seconds", Kind.GAUGE, "How long closing and dumping a generation took.",
-                 [Sample(it.ms / 1000, {**_of(it), "why": it.why.value}) for it in status.closed])
-    yield Family("arena_close_lost_jobs", Kind.GAUGE, "How many jobs of a generation had no outcome when it was closed.",
-                 [Sample(it.lost, {**_of(it), "why": it.why.value}) for it in status.closed])
-    yield each("arena_close_entries", "How many entries a tenant's history had at the close.",
-               lambda it: it.entries)
-    yield each("arena_close_fault", "The number of a tenant's close fault, 0 if it had none.", lambda it: it.fault or 0)
-    yield each("arena_close_dumped", "Whether a tenant's dump was written.", lambda it: int(it.dumped))
+    yield each("arena_close_duration_seconds", "How long closing and writing a term took.", lambda it: it.ms / 1000)
+    yield each("arena_close_lost_jobs", "How many jobs of a term had no outcome when it was closed.", lambda it: it.lost)
+    yield each("arena_close_entries", "How many entries a term's history had at the close.", lambda it: it.entries)
+    yield each("arena_close_fault", "The number of a term's close fault, 0 if it had none.", lambda it: it.fault or 0)
+    yield each("arena_close_dumped", "Whether a term's dump was written.", lambda it: int(it.dumped))
 
 
-def _of(generation: Generation | ClosedGeneration, tenant: str | None = None) -> dict[str, str]:
-    """The labels of a generation, or of a tenant in it."""
-    labels = {"generation": str(generation.number)}
-    return labels if tenant is None else {**labels, "tenant": tenant}
+def _of(term: Term | ClosedTerm) -> dict[str, str]:
+    """The labels of a term."""
+    return {"tenant": term.tenant, "term": str(term.number)}

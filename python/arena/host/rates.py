@@ -2,18 +2,18 @@
 from collections.abc import Iterable
 from dataclasses import dataclass, field
 
-from arena.host.status import Reading, TenantStatus
+from arena.host.status import ClosedTerm, Reading, Term
 
 WINDOW, FEWEST_SPANS = 300.0, 3
 """Over how many seconds rates are kept, and between how many readings something is said of them together."""
 
-Key = tuple[int, str]
-"""A generation's number with a tenant's name."""
+Key = tuple[str, int]
+"""A tenant's name with the number of its term."""
 
 
 @dataclass(frozen=True, slots=True)
 class Rates:
-    """What a tenant did in a generation, each a second."""
+    """What a tenant did in a term, each a second."""
 
     entries: float
     asks: float
@@ -78,9 +78,9 @@ class Watch:
             self.spans.append(Span(self.before.written, reading.written, total))
         self.spans = [it for it in self.spans if it.end > reading.written - WINDOW]
 
-    def of(self, generation: int, tenant: str) -> Rates | None:
-        """The rates of a tenant in a generation; None if two readings of it are not there yet."""
-        return self._known.get((generation, tenant))
+    def of(self, tenant: str, term: int) -> Rates | None:
+        """The rates of a tenant in a term; None if two readings of it are not there yet."""
+        return self._known.get((tenant, term))
 
     def recent(self) -> Recent | None:
         """The rates of all tenants over the last minutes; None before there are some spans between readings."""
@@ -95,18 +95,16 @@ class Watch:
 
 
 def rates_between(before: Reading, after: Reading) -> dict[Key, Rates]:
-    """The rates of each tenant in each generation that is open in the later reading. There are none if another host
-    wrote it, or if no time went by."""
+    """The rates of each term that is open in the later reading. There are none if another host wrote it, or if no time went
+    by."""
     seconds = after.written - before.written
     if before.status.began != after.status.began or seconds <= 0:
         return {}
-    known = _counts(before)
-    there = [*(it.number for it in before.status.generations), *(it.number for it in before.status.closed)]
-    oldest_new = max(there, default=-1) + 1
+    known, newest = _counts(before), _newest(before)
     found: dict[Key, Rates] = {}
     for key, last in _counts(after).items():
         first = known.get(key)
-        if first is None and key[0] < oldest_new:
+        if first is None and key[1] <= newest.get(key[0], -1):
             continue  # nothing is known of where it began
         rates = _rates(first, last, seconds)
         if min(rates.entries, rates.asks, rates.jobs) >= 0:
@@ -114,12 +112,20 @@ def rates_between(before: Reading, after: Reading) -> dict[Key, Rates]:
     return found
 
 
-def _counts(reading: Reading) -> dict[Key, TenantStatus]:
-    return {(generation.number, tenant.tenant): tenant for generation in reading.status.generations
-            for tenant in generation.tenants}
+def _counts(reading: Reading) -> dict[Key, Term]:
+    return {(it.tenant, it.number): it for it in reading.status.terms}
 
 
-def _rates(first: TenantStatus | None, last: TenantStatus, seconds: float) -> Rates:
-    """The rates from a first count, which is 0 of a generation that was opened in between."""
+def _newest(reading: Reading) -> dict[str, int]:
+    """The number of the newest term of each tenant that a reading knows of."""
+    newest: dict[str, int] = {}
+    known: list[Term | ClosedTerm] = [*reading.status.terms, *reading.status.closed]
+    for it in known:
+        newest[it.tenant] = max(it.number, newest.get(it.tenant, -1))
+    return newest
+
+
+def _rates(first: Term | None, last: Term, seconds: float) -> Rates:
+    """The rates from a first count, which is 0 of a term that was opened in between."""
     entries, asks, jobs = (first.entries, first.asks, first.jobs) if first else (0, 0, 0)
     return Rates((last.entries - entries) / seconds, (last.asks - asks) / seconds, (last.jobs - jobs) / seconds)

@@ -3,11 +3,10 @@ from collections.abc import Iterator
 from dataclasses import dataclass, field
 
 from arena.host.rates import Rates, Recent, Watch
-from arena.host.status import ClosedGeneration, Generation, HostStatus, State, TenantStatus
+from arena.host.status import ClosedTerm, HostStatus, State, Term
 from arena.texts import counted
 from arena.trace.report import table
 
-STATES = {State.SERVING: "serving", State.DRAINING: "draining", State.CLOSING: "closing"}
 UNITS = ("bytes", "KiB", "MiB", "GiB", "TiB")
 
 
@@ -32,19 +31,23 @@ def to_text(sections: list[Section]) -> str:
 
 
 def sections_of(status: HostStatus, watch: Watch | None = None) -> list[Section]:
-    """What a host does: a section for it, one for each generation that is open, one for those that are closed. With a
-    watch the tables have rates."""
-    generations = [_generation(status, it, watch) for it in status.generations]
+    """What a host does: a section for it, one for its terms, one for those that are closed. With a watch the table of terms
+    has rates."""
+    terms = [_terms(status, watch)] if status.terms else []
     closed = [_closed(status.closed)] if status.closed else []
-    return [_host(status, watch), *generations, *closed]
+    return [_host(status, watch), *terms, *closed]
 
 
 def _host(status: HostStatus, watch: Watch | None) -> Section:
-    serving = status.serving
-    where = f"generation {serving.number} serves" if serving else "no generation serves (it starts or stops)"
+    serving = len(status.serving)
+    where = f"{counted(serving, 'tenant')} served" if serving else "no tenant is served (it starts or stops)"
     memory = f", {size(status.memory)} of memory" if status.memory is not None else ""
-    notes = [f"{status.connections} connections a generation, rotates at {status.rotate_at} %, keeps "
-             f"{counted(status.keep, 'dump')} of a tenant, patience {duration(status.patience)}"]
+    waiting = sum(it.tenant is None for it in status.workers)
+    notes = [f"{counted(status.connected, 'connection')} now of {status.connections} at most, {status.served:,} so far",
+             f"rotates at {status.rotate_at} %, keeps {counted(status.keep, 'dump')} of a tenant, finishes within "
+             f"{duration(status.finish)}"]
+    if status.workers:
+        notes.append(f"workers: {len(status.workers) - waiting} with a tenant, {waiting} waiting for a call")
     total = watch.total() if watch else None
     if total:
         notes.append(f"{total.entries:,.1f} entries, {total.asks:,.1f} requests and {total.jobs:,.1f} jobs a second")
@@ -62,55 +65,50 @@ def _recent(it: Recent) -> str:
             f"always {it.jobs_within(100):,.1f}")
 
 
-def _generation(status: HostStatus, it: Generation, watch: Watch | None) -> Section:
-    why = f" ({it.why.value})" if it.why else ""
-    title = (f"generation {it.number}: {STATES[it.state]}{why}, opened {duration(status.time - it.began)} ago, "
-             f"{counted(it.connections, 'connection')} now, {it.served:,} so far")
-    waiting = sum(worker.tenant is None for worker in it.workers)
-    notes = [f"workers: {len(it.workers) - waiting} with a tenant, {waiting} waiting for a call"] if it.workers else []
-    head: tuple[str, ...] = ("tenant", "entries", "steps", "%", "asks", "jobs", "running", "rows", "waiting",
-                             "workers")
-    rows = [_tenant(it, tenant) for tenant in it.tenants]
+def _terms(status: HostStatus, watch: Watch | None) -> Section:
+    head: tuple[str, ...] = ("tenant", "term", "state", "age", "entries", "steps", "%", "asks", "jobs", "running", "rows",
+                             "waiting", "workers")
+    rows = [_term(status, it) for it in status.terms]
     if watch:
         head += ("entries/s", "asks/s", "jobs/s", "rotates in")
-        rows = [[*row, *_rates(status, it, tenant, watch.of(it.number, tenant.tenant))]
-                for row, tenant in zip(rows, it.tenants)]
-    return Section(title, notes, head, rows)
+        rows = [[*row, *_rates(status, it, watch.of(it.tenant, it.number))] for row, it in zip(rows, status.terms)]
+    return Section("terms, those of one tenant together", [], head, rows, (0, 2))
 
 
-def _tenant(generation: Generation, it: TenantStatus) -> list[object]:
-    workers = sum(worker.tenant == it.tenant for worker in generation.workers)
-    return [it.tenant, f"{it.entries:,}", f"{it.steps:,}", f"{100 * it.share:.1f}", f"{it.asks:,}", f"{it.jobs:,}",
-            f"{it.jobs_now.running:,}", f"{it.rows.open:,}", f"{it.rows.waiting:,}", workers]
+def _term(status: HostStatus, it: Term) -> list[object]:
+    why = f" ({it.why.value})" if it.why else ""
+    workers = status.workers_at(it.tenant) if it.state is State.SERVING else "-"
+    return [it.tenant, it.number, f"{it.state.value}{why}", duration(status.time - it.began), f"{it.entries:,}",
+            f"{it.steps:,}", f"{100 * it.share:.1f}", f"{it.asks:,}", f"{it.jobs:,}", f"{it.jobs_now.running:,}",
+            f"{it.rows.open:,}", f"{it.rows.waiting:,}", workers]
 
 
-def _rates(status: HostStatus, generation: Generation, tenant: TenantStatus, rates: Rates | None) -> list[object]:
-    """The rates of a tenant, and how long its history lasts at this rate, if it is one that may rotate."""
+def _rates(status: HostStatus, term: Term, rates: Rates | None) -> list[object]:
+    """The rates of a term, and how long its history lasts at this rate, if it is one that may rotate."""
     if rates is None:
         return ["-"] * 4
-    left = tenant.steps * status.rotate_at / 100 - tenant.entries
-    rotates = generation.state is State.SERVING and rates.entries > 0 and left > 0
+    left = term.steps * status.rotate_at / 100 - term.entries
+    rotates = term.state is State.SERVING and rates.entries > 0 and left > 0
     return [f"{rates.entries:,.1f}", f"{rates.asks:,.1f}", f"{rates.jobs:,.1f}",
             duration(int(left / rates.entries)) if rotates else "-"]
 
 
-def _closed(closed: tuple[ClosedGeneration, ...]) -> Section:
+def _closed(closed: tuple[ClosedTerm, ...]) -> Section:
     rows: list[list[object]] = [
-        [it.number, it.why.value, duration(it.ended - it.began), f"{it.served:,}", f"{it.ms:,}", len(it.tenants),
-         f"{sum(tenant.entries for tenant in it.tenants):,}", "; ".join(_faults(it)) or "all dumped"] for it in closed]
-    head = ("generation", "why", "lasted", "served", "ms", "tenants", "entries", "dumps")
-    return Section("closed generations, the newest last", [], head, rows, (1, 7))
+        [it.tenant, it.number, it.why.value, duration(it.ended - it.began), f"{it.ms:,}", f"{it.entries:,}",
+         "; ".join(_faults(it)) or "dumped"] for it in closed]
+    head = ("tenant", "term", "why", "lasted", "ms", "entries", "dump")
+    return Section("closed terms, the newest last", [], head, rows, (0, 2, 6))
 
 
-def _faults(closed: ClosedGeneration) -> Iterator[str]:
-    """What went wrong when a generation was closed."""
+def _faults(closed: ClosedTerm) -> Iterator[str]:
+    """What went wrong when a term was closed."""
     if closed.lost:
         yield f"{closed.lost:,} {'job' if closed.lost == 1 else 'jobs'} lost"
-    for it in closed.tenants:
-        if it.fault is not None:
-            yield f"{it.tenant}: close fault {it.fault}"
-        elif not it.dumped:
-            yield f"{it.tenant}: no dump"
+    if closed.fault is not None:
+        yield f"close fault {closed.fault}"
+    elif not closed.dumped:
+        yield "no dump"
 
 
 def duration(seconds: int) -> str:

@@ -13,7 +13,7 @@ FRESH_SECONDS = 5
 """How old a status may be, in seconds, before one has to doubt that its host still runs; it is written each second."""
 
 MOST_BYTES = 16 * 1024 * 1024
-"""How long a status may be, in bytes. One of 64 tenants has some 10,000 for each generation."""
+"""How long a status may be, in bytes. One of 64 tenants has some 20,000."""
 
 Value = TypeVar("Value")
 Kind = TypeVar("Kind", bound=enum.Enum)
@@ -29,24 +29,26 @@ class StatusFault(Exception):
 
 
 class State(enum.Enum):
-    """What a generation does: `serving` takes new connections, `draining` goes on for those that it has."""
+    """What a term does: `serving` takes new jobs, `finishing` goes on for those that it has."""
 
     SERVING = "serving"
-    DRAINING = "draining"
+    FINISHING = "finishing"
     CLOSING = "closing"
 
 
 class Why(enum.Enum):
-    """Why a generation was left: a history was nearly full, the file `rotate` was made, or the host was stopped."""
+    """Why a term was left: its history was nearly full, a file asked for it, the tenant's configuration changed, or the host
+    was stopped."""
 
     HISTORY = "history"
     FILE = "file"
+    CONFIG = "config"
     STOP = "stop"
 
 
 @dataclass(frozen=True, slots=True)
 class JobsNow:
-    """How many jobs of a tenant are how far, of those that are not retired."""
+    """How many jobs of a term are how far, of those that are neither retired nor released."""
 
     running: int
     complete: int
@@ -56,18 +58,24 @@ class JobsNow:
 
 @dataclass(frozen=True, slots=True)
 class RowsNow:
-    """How many rows of a tenant are open, and how many of these wait to be started."""
+    """How many rows of a term are open, and how many of these wait to be started."""
 
     open: int
     waiting: int
 
 
 @dataclass(frozen=True, slots=True)
-class TenantStatus:
-    """A tenant in a generation: the room of its history and what it holds, in entries; requests that were asked of it,
-    and jobs that were made; and how far its jobs and rows are."""
+class Term:
+    """A term of a tenant that is not closed. `began` is in seconds since 1970, and `why` is None while it serves; its jobs are
+    numbered after `base`. Then the room of its history and what it holds, in entries; requests that were asked of it, and
+    jobs that were made; and how far its jobs and rows are."""
 
     tenant: str
+    number: int
+    state: State
+    began: int
+    why: Why | None
+    base: int
     steps: int
     entries: int
     asks: int
@@ -91,65 +99,51 @@ class WorkerStatus:
 
 
 @dataclass(frozen=True, slots=True)
-class Generation:
-    """A generation that is not closed. `began` is in seconds since 1970; `connections` are those of now, `served` all
-    so far; `why` is None while it serves."""
-
-    number: int
-    state: State
-    began: int
-    why: Why | None
-    connections: int
-    served: int
-    workers: tuple[WorkerStatus, ...]
-    tenants: tuple[TenantStatus, ...]
-
-
-@dataclass(frozen=True, slots=True)
-class ClosedTenant:
-    """A tenant at its close: its entries, the number of the close fault or None, and whether its dump was written."""
+class ClosedTerm:
+    """A term that was closed. `began` and `ended` are in seconds since 1970; `lost` is how many of its jobs had no outcome;
+    `fault` is the number of the close fault or None, `dumped` whether its dump was written; `ms` is how many milliseconds
+    closing and writing took."""
 
     tenant: str
-    entries: int
-    fault: int | None
-    dumped: bool
-
-
-@dataclass(frozen=True, slots=True)
-class ClosedGeneration:
-    """A generation that was closed. `began` and `ended` are in seconds since 1970; `lost` is how many of its jobs had no
-    outcome; `ms` is how many milliseconds closing and dumping took."""
-
     number: int
     began: int
     ended: int
     why: Why
-    served: int
+    base: int
+    entries: int
     lost: int
+    fault: int | None
+    dumped: bool
     ms: int
-    tenants: tuple[ClosedTenant, ...]
 
 
 @dataclass(frozen=True, slots=True)
 class HostStatus:
-    """What a host said of itself. `time` and `began` are in seconds since 1970, `memory` in bytes or None,
-    `rotate_at` in per cent, `patience` in seconds; `connections` is the most of one generation. The oldest generation
-    is first, and so it is of those that are closed."""
+    """What a host said of itself. `time` and `began` are in seconds since 1970, `memory` in bytes or None, `rotate_at` in per
+    cent, `finish` in seconds; `connections` is the most at a time, `connected` how many there are now, `served` all so far.
+    The terms of one tenant stand together, the oldest first, and of those that are closed the newest is last."""
 
     time: int
     began: int
     connections: int
+    connected: int
+    served: int
     rotate_at: int
     keep: int
-    patience: int
+    finish: int
     memory: int | None
-    generations: tuple[Generation, ...]
-    closed: tuple[ClosedGeneration, ...]
+    workers: tuple[WorkerStatus, ...]
+    terms: tuple[Term, ...]
+    closed: tuple[ClosedTerm, ...]
 
     @property
-    def serving(self) -> Generation | None:
-        """The generation that takes new connections; None while the host stops."""
-        return next((it for it in reversed(self.generations) if it.state is State.SERVING), None)
+    def serving(self) -> dict[str, Term]:
+        """The term of each tenant that takes new jobs; a tenant has none while the host stops."""
+        return {it.tenant: it for it in self.terms if it.state is State.SERVING}
+
+    def workers_at(self, tenant: str) -> int:
+        """How many workers were last at a slot of a tenant."""
+        return sum(it.tenant == tenant for it in self.workers)
 
 
 @dataclass(frozen=True, slots=True)
@@ -294,30 +288,24 @@ def parse_status(data: bytes, file: str = "status.json") -> Parsed:
 
 def _host(part: _Part) -> HostStatus:
     status = HostStatus(
-        part.number("time"), part.number("began"), part.number("connections"), part.number("rotate_at"),
-        part.number("keep"), part.number("patience"), part.or_none("memory", part.number),
-        tuple(map(_generation, part.parts("generations"))), tuple(map(_closed, part.parts("closed"))))
-    numbers = [*(it.number for it in status.generations), *(it.number for it in status.closed)]
-    part.distinct("generations", "generation", numbers)
+        part.number("time"), part.number("began"), part.number("connections"), part.number("connected"), part.number("served"),
+        part.number("rotate_at"), part.number("keep"), part.number("finish"), part.or_none("memory", part.number),
+        tuple(map(_worker, part.parts("workers"))), tuple(map(_term, part.parts("terms"))),
+        tuple(map(_closed, part.parts("closed"))))
+    known: list[Term | ClosedTerm] = [*status.terms, *status.closed]
+    part.distinct("terms", "term", [f"{it.tenant}.{it.number:06}" for it in known])
     return status
-
-
-def _generation(part: _Part) -> Generation:
-    generation = Generation(
-        part.number("generation"), part.one_of("state", State), part.number("began"),
-        part.or_none("why", lambda name: part.one_of(name, Why)), part.number("connections"), part.number("served"),
-        tuple(map(_worker, part.parts("workers"))), tuple(map(_tenant, part.parts("tenants"))))
-    part.distinct("tenants", "tenant", [it.tenant for it in generation.tenants])
-    return generation
 
 
 def _worker(part: _Part) -> WorkerStatus:
     return WorkerStatus(part.number("worker"), part.or_none("tenant", part.text), part.or_none("slot", part.number))
 
 
-def _tenant(part: _Part) -> TenantStatus:
-    return TenantStatus(part.text("tenant"), part.number("steps", 1), part.number("entries"), part.number("asks"),
-                        part.number("jobs"), _jobs_now(part.part("jobs_now")), _rows_now(part.part("rows")))
+def _term(part: _Part) -> Term:
+    return Term(part.text("tenant"), part.number("term"), part.one_of("state", State), part.number("began"),
+                part.or_none("why", lambda name: part.one_of(name, Why)), part.number("base"), part.number("steps", 1),
+                part.number("entries"), part.number("asks"), part.number("jobs"), _jobs_now(part.part("jobs_now")),
+                _rows_now(part.part("rows")))
 
 
 def _jobs_now(part: _Part) -> JobsNow:
@@ -328,14 +316,7 @@ def _rows_now(part: _Part) -> RowsNow:
     return RowsNow(part.number("open"), part.number("waiting"))
 
 
-def _closed(part: _Part) -> ClosedGeneration:
-    closed = ClosedGeneration(
-        part.number("generation"), part.number("began"), part.number("ended"), part.one_of("why", Why),
-        part.number("served"), part.number("lost"), part.number("ms"), tuple(map(_closed_tenant, part.parts("tenants"))))
-    part.distinct("tenants", "tenant", [it.tenant for it in closed.tenants])
-    return closed
-
-
-def _closed_tenant(part: _Part) -> ClosedTenant:
-    return ClosedTenant(part.text("tenant"), part.number("entries"), part.or_none("fault", part.number),
-                        part.flag("dumped"))
+def _closed(part: _Part) -> ClosedTerm:
+    return ClosedTerm(part.text("tenant"), part.number("term"), part.number("began"), part.number("ended"),
+                      part.one_of("why", Why), part.number("base"), part.number("entries"), part.number("lost"),
+                      part.or_none("fault", part.number), part.flag("dumped"), part.number("ms"))

@@ -69,7 +69,7 @@ class Settings:
     reply: float = 60.0
     """How long a host may be silent while it owes a reply."""
     renew: float = 1.0
-    """How long a connection takes new jobs: then another one follows the host to its next generation."""
+    """How long a connection takes new jobs: then another one takes its place."""
     renew_jobs: int = 4000
     """How many jobs a connection takes."""
     idle: float = 10.0

@@ -62,7 +62,7 @@ def _each(jobs: list[JobStat], about: About, say: Callable[[JobStat], str]) -> I
 def _history(it: Statistics) -> Iterator[Advice]:
     if it.entries >= it.tenant.steps:
         text = (f"the history is full: all {it.tenant.steps:,} entries are used, and every request is answered "
-                "history_full; arena-host has another generation by now, so clients reconnect; start arena-server anew, "
+                "history_full; arena-host opens another term before that; start arena-server anew, "
                 "with more `steps` if there are fewer than 1,048,576")
         yield Advice(About.HISTORY, text, [])
     elif it.fill >= FILLING:
@@ -70,7 +70,7 @@ def _history(it: Statistics) -> Iterator[Advice]:
         left = int((it.tenant.steps - it.entries) / each)
         more = "1 more job" if left == 1 else f"{left:,} more jobs"
         text = (f"the history is {100 * it.fill:.0f} % full: at this rate, {each:,.0f} entries a job, it will be full "
-                f"after {more}; arena-host opens another generation before that; for arena-server raise `steps`, or start "
+                f"after {more}; arena-host opens another term before that; for arena-server raise `steps`, or start "
                 "it anew in time")
         yield Advice(About.HISTORY, text, [])
 

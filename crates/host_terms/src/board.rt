@@ -1,0 +1,129 @@
+// Which calls wait, and what wakes the workers.
+
+use call_queues::Pushed;
+use job_language::Level;
+use std::sync::Wait;
+use std::sync::atomic::{AtomicI64, Ordering};
+use worker_main::{Bell, Signal};
+
+/// How many calls wait at each level, in all terms together, and the bell that is rung for each.
+#[derive(Drop)]
+pub(crate) struct Board {
+    bell: Bell,
+    high: AtomicI64,
+    normal: AtomicI64,
+    low: AtomicI64,
+}
+
+impl Board {
+    pub(crate) fn new() -> Board {
+        Board {
+            bell: Bell::new(),
+            high: AtomicI64::new(0),
+            normal: AtomicI64::new(0),
+            low: AtomicI64::new(0),
+        }
+    }
+
+    pub(crate) fn bell(&self) -> &Bell {
+        &self.bell
+    }
+
+    /// Whether a call of that level waits.
+    pub(crate) fn has_call_at(&self, level: Level) -> bool {
+        self.count(level).load(Ordering::SeqCst) > 0
+    }
+
+    /// Whether a call of that level or of a higher one waits.
+    fn has_call_for(&self, level: Level) -> bool {
+        match level {
+            Level::High => self.has_call_at(Level::High),
+            Level::Normal => self.has_call_at(Level::High) || self.has_call_at(Level::Normal),
+            Level::Low => {
+                self.has_call_at(Level::High)
+                    || self.has_call_at(Level::Normal)
+                    || self.has_call_at(Level::Low)
+            }
+        }
+    }
+
+    fn count(&self, level: Level) -> &AtomicI64 {
+        match level {
+            Level::High => &self.high,
+            Level::Normal => &self.normal,
+            Level::Low => &self.low,
+        }
+    }
+}
+
+/// The calls of one term that wait. Each is noted here, and on the board, once it is in the term's queue, and claimed
+/// before it is taken out. So who has claimed one finds one.
+#[derive(Drop)]
+pub(crate) struct Calls {
+    level: Level,
+    waiting: AtomicI64,
+}
+
+impl Calls {
+    pub(crate) fn new(level: Level) -> Calls {
+        Calls {
+            level,
+            waiting: AtomicI64::new(0),
+        }
+    }
+
+    pub(crate) fn level(&self) -> Level {
+        self.level
+    }
+
+    pub(crate) fn is_any(&self) -> bool {
+        self.waiting.load(Ordering::SeqCst) > 0
+    }
+
+    /// Claims one of the calls that wait. One thread at a time may do so.
+    pub(crate) fn claim(&self, board: &Board) {
+        self.waiting.fetch_sub(1, Ordering::SeqCst);
+        board.count(self.level).fetch_sub(1, Ordering::SeqCst);
+    }
+
+    fn note(&self, board: &Board) {
+        self.waiting.fetch_add(1, Ordering::SeqCst);
+        board.count(self.level).fetch_add(1, Ordering::SeqCst);
+    }
+}
+
+/// The board, as the threads at one term's slots hear it.
+#[derive(Clone, Copy)]
+pub(crate) struct TermSignal<'b, 'c> {
+    pub(crate) board: &'b Board,
+    pub(crate) calls: &'c Calls,
+}
+
+impl<'b, 'c> Signal for TermSignal<'b, 'c> {
+    ghost stops = { λ _. Unit {0} };
+
+    ghost hears = { λ _ _. Unit {0} };
+
+    ghost looked = { λ _ _. Unit {0} };
+
+    fn ring<R: Wait>(&self, rt: &R, pushed: Pushed) {
+        self.calls.note(self.board);
+        self.board.bell.ring(rt, pushed);
+    }
+
+    fn listen<R: Wait>(&self, rt: &R) -> Option<u64> {
+        self.board.bell.listen(rt)
+    }
+
+    fn may_go_on(&self, look: u64) -> bool {
+        self.board.bell.may_go_on(look)
+    }
+
+    fn is_awaited(&self) -> bool {
+        self.board.has_call_for(self.calls.level)
+    }
+
+    fn wait_past<R: Wait>(&self, rt: &R, heard: u64) {
+        self.board.bell.wait_past(rt, heard);
+    }
+}

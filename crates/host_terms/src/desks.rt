@@ -1,0 +1,178 @@
+// The places of a host's sessions, each of which serves one client after another.
+
+use crate::hosts::Host;
+use crate::sessions::HostDoors;
+use crate::terms::Booking;
+use mio::Waker;
+use server_io::Watch;
+use session_core::serve;
+use std::alloc::Global;
+use std::net::Shutdown;
+use std::os::unix::net::UnixStream;
+use std::sync::{Arc, Condvar, Mutex, Wait};
+use std::time::Clock;
+use tenant_lock::StopFlag;
+
+/// A client at a desk.
+#[derive(Drop)]
+struct Guest {
+    /// The number of its connection.
+    number: usize,
+    stream: Arc<UnixStream>,
+}
+
+/// Who is at a desk.
+#[derive(Drop)]
+struct Seating {
+    guest: Option<Guest>,
+    /// The stream of a guest whom the desk's thread has not seen yet.
+    incoming: Option<Arc<UnixStream>>,
+    /// Whether no more guests come.
+    is_closed: bool,
+}
+
+/// Where one session after another is served, by one thread.
+#[derive(Drop)]
+pub struct Desk {
+    /// Raised while the guest has gone: nobody is there who could take a reply.
+    is_gone: StopFlag,
+    seating: Mutex<Seating>,
+    changed: Condvar,
+    /// The session's place in the term that it asked last, while it asks nothing.
+    booking: Mutex<Option<Booking>>,
+}
+
+impl Desk {
+    /// A desk at which nobody is.
+    pub fn new() -> Desk {
+        Desk {
+            is_gone: StopFlag::new(),
+            seating: Mutex::new(Seating {
+                guest: None,
+                incoming: None,
+                is_closed: false,
+            }),
+            changed: Condvar::new(),
+            booking: Mutex::new(None),
+        }
+    }
+
+    /// Whether nobody is at the desk.
+    pub fn is_free<R: Wait>(&self, rt: &R) -> bool {
+        self.seating.lock(rt).guest.is_none()
+    }
+
+    /// Seats a client, by the number of its connection.
+    pub(crate) fn seat<R: Wait>(
+        &self,
+        rt: &R,
+        number: usize,
+        stream: Arc<UnixStream>,
+        incoming: Arc<UnixStream>,
+    ) {
+        let mut seating = self.seating.lock(rt);
+        seating.guest = Some(Guest { number, stream });
+        seating.incoming = Some(incoming);
+        self.changed.notify_one();
+    }
+
+    /// Lets the guest's session stop waiting, if the watch reported that the guest has gone. It says whether it did.
+    pub(crate) fn raise_gone<R: Wait>(&self, rt: &R, watch: &Watch) -> bool {
+        let seating = self.seating.lock(rt);
+        match &seating.guest {
+            Some(guest) if watch.has_gone(guest.number) => {
+                self.is_gone.raise();
+                true
+            }
+            _ => false,
+        }
+    }
+
+    /// Shuts the guest's stream, or one direction of it.
+    pub fn shut<R: Wait>(&self, rt: &R, how: Shutdown) {
+        if let Some(guest) = &self.seating.lock(rt).guest {
+            // The client may have gone before.
+            let _ = guest.stream.shutdown(how);
+        }
+    }
+
+    /// Lets no more guests come.
+    pub fn close<R: Wait>(&self, rt: &R) {
+        self.seating.lock(rt).is_closed = true;
+        self.changed.notify_one();
+    }
+
+    /// Raised while the guest has gone.
+    pub(crate) fn is_gone(&self) -> &StopFlag {
+        &self.is_gone
+    }
+
+    /// The session's place in the term that it asked last.
+    pub(crate) fn take_booking<R: Wait>(&self, rt: &R) -> Option<Booking> {
+        self.booking.lock(rt).take()
+    }
+
+    /// Keeps the session's place for its next request, in the place of another one.
+    pub(crate) fn keep_booking<R: Wait>(&self, rt: &R, booking: Booking) {
+        let before = self.booking.lock(rt).replace(booking);
+        if let Some(before) = before {
+            before.give_back(rt);
+        }
+    }
+
+    /// Gives the session's place back to its term, if that takes no new jobs.
+    pub(crate) fn give_back_left<R: Wait>(&self, rt: &R) {
+        let mut kept = self.booking.lock(rt);
+        let is_left = match &*kept {
+            Some(booking) => booking.term().is_left(),
+            None => false,
+        };
+        if is_left {
+            if let Some(booking) = kept.take() {
+                booking.give_back(rt);
+            }
+        }
+    }
+
+    /// The stream of the next guest. None if no more come.
+    fn next_guest<R: Wait>(&self, rt: &R) -> Option<Arc<UnixStream>> {
+        let mut seating = self
+            .changed
+            .wait_while(rt, self.seating.lock(rt), |seating| {
+                seating.incoming.is_none() && !seating.is_closed
+            });
+        seating.incoming.take()
+    }
+
+    /// The guest's session has ended.
+    fn free<R: Wait>(&self, rt: &R) {
+        let mut seating = self.seating.lock(rt);
+        seating.guest = None;
+        self.is_gone.lower();
+    }
+}
+
+/// Serves the guests of a desk until no more come.
+pub fn attend_desk<R: Wait + Clock>(
+    rt: &R,
+    alloc: Global,
+    host: &Host,
+    desk: &Desk,
+    waker: &Waker,
+) {
+    let mut doors = HostDoors::new(rt, host, desk);
+    for _guest in rt.forever() {
+        let Some(stream) = desk.next_guest(rt) else {
+            return;
+        };
+        let guest = &*stream;
+        // However it ended, the next guest may come.
+        let _end = serve(alloc, &mut &*guest, &mut &*guest, &mut doors);
+        doors.leave();
+        // The client may have gone before.
+        let _ = guest.shutdown(Shutdown::Both);
+        desk.free(rt);
+        // If the waker fails, the next tick shows that the desk is free.
+        let _ = waker.wake();
+    }
+}

@@ -1,0 +1,156 @@
+// What all threads of a host share.
+
+use crate::board::Board;
+use crate::desks::Desk;
+use crate::endings::Ending;
+use crate::places::Place;
+use crate::roster::Roster;
+use crate::tenancies::Tenancy;
+use crate::terms::HostTerm;
+use job_language::TenantName;
+use server_io::ServerEnd;
+use std::alloc::{AllocError, Global};
+use std::sync::{Arc, Mutex, Wait};
+use term_life::Why;
+
+/// What all threads of a host share: its tenants, and the terms that workers come to.
+#[derive(Drop)]
+pub struct Host {
+    /// By their numbers at the host. A tenant that has no configuration any more stays.
+    tenants: Mutex<Vec<Arc<Tenancy>>>,
+    roster: Mutex<Roster>,
+    board: Board,
+}
+
+impl Host {
+    /// A host without a tenant.
+    pub fn new(alloc: Global) -> Host {
+        Host {
+            tenants: Mutex::new(Vec::new(alloc)),
+            roster: Mutex::new(Roster::new(alloc)),
+            board: Board::new(),
+        }
+    }
+
+    pub(crate) fn board(&self) -> &Board {
+        &self.board
+    }
+
+    /// Adds one more tenant. If an allocation fails, nothing has changed.
+    pub fn add<R: Wait>(
+        &self,
+        rt: &R,
+        alloc: Global,
+        tenancy: Arc<Tenancy>,
+    ) -> Result<(), AllocError> {
+        let mut tenants = self.tenants.lock(rt);
+        tenants.reserve(1)?;
+        self.roster.lock(rt).add_tenant(alloc)?;
+        tenants.push_reserved(tenancy);
+        Ok(())
+    }
+
+    /// The number of the tenant of a name, if it is known.
+    pub fn find<R: Wait>(&self, rt: &R, name: TenantName) -> Option<usize> {
+        self.tenants
+            .lock(rt)
+            .iter()
+            .position(|known| known.name().as_bytes() == name.as_bytes())
+    }
+
+    /// The tenant of that number.
+    pub fn tenancy<R: Wait>(&self, rt: &R, tenant: usize) -> Option<Arc<Tenancy>> {
+        let tenants = self.tenants.lock(rt);
+        Arc::try_clone(tenants.get(tenant)?).ok()
+    }
+
+    /// How many tenants there are.
+    pub fn count<R: Wait>(&self, rt: &R) -> usize {
+        self.tenants.lock(rt).len()
+    }
+
+    /// Lets a term of a tenant serve, as `Tenancy::begin` says.
+    pub fn begin<R: Wait>(
+        &self,
+        rt: &R,
+        alloc: Global,
+        tenant: usize,
+        term: HostTerm,
+        why: Why,
+    ) -> Result<(), ServerEnd> {
+        let Some(tenancy) = self.tenancy(rt, tenant) else {
+            return Err(ServerEnd::Device);
+        };
+        let term = shared(alloc, term)?;
+        tenancy.begin(rt, &self.roster, tenant, term, why)
+    }
+
+    /// Takes out a term of a tenant that is to be closed, if there is one, as `Tenancy::next_ending` says.
+    pub fn next_ending<R: Wait>(
+        &self,
+        rt: &R,
+        alloc: Global,
+        tenant: usize,
+        desks: &[Desk],
+        is_forced: bool,
+    ) -> Result<Option<Ending>, AllocError> {
+        let Some(tenancy) = self.tenancy(rt, tenant) else {
+            return Ok(None);
+        };
+        tenancy.next_ending(rt, alloc, &self.roster, tenant, desks, is_forced)
+    }
+
+    /// Serves calls of all terms, as the worker of that place, until workers are told to stop.
+    pub fn work<R: Wait>(&self, rt: &R, place: &Place) {
+        for _turn in rt.forever() {
+            let Some(heard) = listen(rt, &self.board) else {
+                return;
+            };
+            let next = self.roster.lock(rt).next(&self.board);
+            match next {
+                Some((tenant, term)) => term.serve(rt, &self.board, tenant, place),
+                None => {
+                    place.leave();
+                    wait_past(rt, &self.board, heard);
+                }
+            }
+        }
+    }
+
+    /// Wakes all that wait in a term, each to look whether to go on.
+    pub fn wake<R: Wait>(&self, rt: &R) {
+        for tenant in 0..self.count(rt) {
+            if let Some(tenancy) = self.tenancy(rt, tenant) {
+                tenancy.wake(rt);
+            }
+        }
+    }
+
+    /// Tells all that wait in a term to stop.
+    pub fn stop_waits<R: Wait>(&self, rt: &R) {
+        for tenant in 0..self.count(rt) {
+            if let Some(tenancy) = self.tenancy(rt, tenant) {
+                tenancy.stop(rt);
+            }
+        }
+    }
+
+    /// Tells the workers to stop.
+    pub fn stop_workers<R: Wait>(&self, rt: &R) {
+        self.board.bell().stop(rt);
+    }
+}
+
+fn shared(alloc: Global, term: HostTerm) -> Result<Arc<HostTerm>, AllocError> {
+    Ok(Arc::new(alloc, term)?)
+}
+
+fn listen<R: Wait>(rt: &R, board: &Board) -> Option<u64> {
+    use worker_main::Signal;
+    board.bell().listen(rt)
+}
+
+fn wait_past<R: Wait>(rt: &R, board: &Board, heard: u64) {
+    use worker_main::Signal;
+    board.bell().wait_past(rt, heard);
+}

@@ -1,0 +1,26 @@
+//! The terms of a host's tenants, and the sessions and workers that serve them: a session belongs to a tenant and stays when
+//! its terms follow one another, and workers come to all terms.
+#![tactic(auto)]
+
+mod board;
+mod desks;
+mod endings;
+mod hosts;
+mod outcomes;
+mod outlet;
+mod places;
+mod reception;
+mod roster;
+mod sessions;
+mod tenancies;
+mod terms;
+
+pub use desks::{Desk, attend_desk};
+pub use endings::{Ending, TermEnd};
+pub use hosts::Host;
+pub use outcomes::Outcome;
+pub use outlet::{Outlet, write_printed, write_reported};
+pub use places::Place;
+pub use reception::Reception;
+pub use tenancies::Tenancy;
+pub use terms::{HostTerm, Span};

@@ -1,0 +1,254 @@
+// A session's ways to the tenants of a host.
+ghost use Rattle.std.specs.Prelude.{◌≡◌, ◌≢◌};
+
+use crate::desks::Desk;
+use crate::hosts::Host;
+use crate::tenancies::{Found, Tenancy};
+use crate::terms::Booking;
+use job_language::{Error, Moved, Reply, Request, TenantName};
+use job_step::{Segment, View};
+use nested_wait::{Attended, Door};
+use server_house::Told;
+use session_core::{Answered, Doors};
+use std::sync::{Arc, Wait};
+use std::time::Clock;
+
+/// How many terms are tried for one request, each of which has a full history.
+const TRIES: u32 = 4;
+
+/// One session's ways to the tenants of a host. It stays when terms follow one another: each request goes to the term that
+/// serves, or to that of the job that it names. A slot that a job is placed on is attended within the request.
+#[derive(Drop)]
+pub(crate) struct HostDoors<'h, R: Wait + Clock> {
+    rt: &'h R,
+    host: &'h Host,
+    desk: &'h Desk,
+    /// The tenant that it is bound to.
+    tenancy: Option<Arc<Tenancy>>,
+}
+
+impl<'h, R: Wait + Clock> HostDoors<'h, R> {
+    /// A session that is bound to no tenant yet.
+    pub(crate) fn new(rt: &'h R, host: &'h Host, desk: &'h Desk) -> Self {
+        HostDoors {
+            rt,
+            host,
+            desk,
+            tenancy: None,
+        }
+    }
+
+    /// The session has ended. Another one may begin.
+    pub(crate) fn leave(&mut self) {
+        self.tenancy = None;
+        if let Some(booking) = self.desk.take_booking(self.rt) {
+            booking.give_back(self.rt);
+        }
+    }
+
+    /// Asks the term that serves, or the next one if its history is full.
+    fn ask_serving(&self, tenancy: &Tenancy, request: Request) -> Reply
+        ensures { result ≢ Reply.Pending }
+    {
+        let stop = self.desk.is_gone();
+        let mut request = request;
+        for _try in 0..TRIES {
+            let Some(booking) = self.book_serving(tenancy) else {
+                if tenancy.wait_for_next(self.rt, None, stop) {
+                    continue;
+                }
+                return Reply::Refused(Error::HistoryFull);
+            };
+            let span = booking.term().span();
+            let spare = request.try_clone().ok();
+            let (booking, told) = booking.ask(self.rt, self.host.board(), stop, request);
+            self.desk.keep_booking(self.rt, booking);
+            let Some(again) = spare else {
+                return at_once(outside(told, span.base));
+            };
+            let is_full = told.reply == Reply::Refused(Error::HistoryFull);
+            if !is_full || !tenancy.wait_for_next(self.rt, Some(span.number), stop) {
+                return at_once(outside(told, span.base));
+            }
+            request = again;
+        }
+        Reply::Refused(Error::HistoryFull)
+    }
+
+    /// A place in the term that serves.
+    fn book_serving(&self, tenancy: &Tenancy) -> Option<Booking> {
+        if let Some(booking) = self.desk.take_booking(self.rt) {
+            if !booking.term().is_left() {
+                return Some(booking);
+            }
+            booking.give_back(self.rt);
+        }
+        tenancy.book_serving(self.rt)
+    }
+
+    /// A place in the term of a job, or the reply to a request about it.
+    fn find_owner(&self, tenancy: &Tenancy, job: u64, request: &Request) -> Found {
+        if let Some(booking) = self.desk.take_booking(self.rt) {
+            if booking.term().span().owns(job) && !booking.term().is_left() {
+                return Found::Live(booking);
+            }
+            booking.give_back(self.rt);
+        }
+        tenancy.find(self.rt, job, request)
+    }
+
+    /// Asks about a job, by its number outside.
+    fn ask_owner(&self, tenancy: &Tenancy, job: u64, request: Request) -> Reply {
+        match self.find_owner(tenancy, job, &request) {
+            Found::Live(booking) => {
+                let base = booking.term().span().base;
+                let inner = renumbered(request, job.saturating_sub(base));
+                let (booking, told) = booking.ask(
+                    self.rt,
+                    self.host.board(),
+                    self.desk.is_gone(),
+                    inner,
+                );
+                self.desk.keep_booking(self.rt, booking);
+                outside(told, base)
+            }
+            Found::Answered(reply) => reply,
+        }
+    }
+
+    /// Retires all jobs of the tenant, if no row of any term is open.
+    fn retire(&self, tenancy: &Tenancy) -> Reply
+        ensures { result ≢ Reply.Pending }
+    {
+        if tenancy.is_busy_before(self.rt) {
+            return Reply::Refused(Error::Busy);
+        }
+        let reply = self.ask_serving(tenancy, Request::Retire);
+        if let Reply::Epoch(_) = reply {
+            tenancy.retire_before(self.rt);
+        }
+        reply
+    }
+}
+
+/// A reply that nobody has to wait for.
+fn at_once(reply: Reply) -> Reply
+    ensures { result ≢ Reply.Pending }
+{
+    match reply {
+        // No request but a collect is pending.
+        Reply::Pending => Reply::Refused(Error::NoMemory),
+        other => other,
+    }
+}
+
+/// What a session is told outside of a term whose jobs are numbered there after `base`.
+fn outside(told: Told, base: u64) -> Reply {
+    if told.attended == Some(Attended::Full) {
+        return Reply::Refused(Error::HistoryFull);
+    }
+    match told.reply {
+        Reply::Made(job) => Reply::Made(base.saturating_add(job)),
+        Reply::Placed(job, slot) => Reply::Placed(base.saturating_add(job), slot),
+        Reply::Job(job, status) => Reply::Job(base.saturating_add(job), status),
+        Reply::Cancelled(job, is_first) => Reply::Cancelled(base.saturating_add(job), is_first),
+        Reply::Released(job) => Reply::Released(base.saturating_add(job)),
+        other => other,
+    }
+}
+
+/// The same request about the job of another number.
+fn renumbered(request: Request, job: u64) -> Request {
+    match request {
+        Request::Poll(_) => Request::Poll(job),
+        Request::Collect(_) => Request::Collect(job),
+        Request::Take(_) => Request::Take(job),
+        Request::Cancel(_) => Request::Cancel(job),
+        Request::Release(_) => Request::Release(job),
+        other => other,
+    }
+}
+
+impl<'h, R: Wait + Clock> Door for HostDoors<'h, R> {
+    ghost views = { λ _ _. Unit {0} };
+
+    ghost commits = { λ _ _ _ _. Unit {0} };
+
+    ghost advances = { λ _ _ _. Unit {0} };
+
+    ghost heights = { λ _ _. Unit {0} };
+
+    ghost pauses = { λ _ _ _. Unit {0} };
+
+    fn view(&self) -> View {
+        View::Bare
+    }
+
+    fn commit(&mut self, _segment: Segment) -> Moved {
+        Moved::Idle
+    }
+
+    fn advance(&mut self) -> Moved {
+        Moved::Idle
+    }
+
+    fn height(&self) -> usize {
+        0
+    }
+
+    fn pause(&mut self) -> bool {
+        true
+    }
+}
+
+impl<'h, R: Wait + Clock> Doors for HostDoors<'h, R> {
+    ghost finds = { λ _ _ _. Unit {0} };
+
+    ghost binds = { λ _ _ _. Unit {0} };
+
+    ghost asks = { λ _ _ _ _. Unit {0} };
+
+    ghost waits = { λ _ _ _ _. Unit {0} };
+
+    fn find(&self, name: TenantName) -> Option<usize> {
+        self.host.find(self.rt, name)
+    }
+
+    fn bind(&mut self, tenant: usize) {
+        self.tenancy = self.host.tenancy(self.rt, tenant);
+    }
+
+    fn ask(&mut self, request: Request) -> Answered {
+        let reply = match &self.tenancy {
+            None => Reply::Refused(Error::NoTenant),
+            Some(tenancy) => match request {
+                Request::Collect(job) | Request::Take(job) => self.ask_owner(tenancy, job, request),
+                Request::Poll(job) | Request::Cancel(job) | Request::Release(job) => at_once(
+                    self.ask_owner(tenancy, job, request),
+                ),
+                Request::Retire => self.retire(tenancy),
+                other => self.ask_serving(tenancy, other),
+            },
+        };
+        // A slot that a job is placed on was attended.
+        Answered {
+            reply,
+            placed: false,
+        }
+    }
+
+    fn pause_for(&mut self, job: u64) -> bool {
+        let Some(tenancy) = &self.tenancy else {
+            return true;
+        };
+        match self.find_owner(tenancy, job, &Request::Collect(job)) {
+            Found::Live(booking) => {
+                let stops = booking.wait_for(self.rt, job, self.desk.is_gone());
+                self.desk.keep_booking(self.rt, booking);
+                stops
+            }
+            // Its outcome is there, or it has none.
+            Found::Answered(_) => false,
+        }
+    }
+}

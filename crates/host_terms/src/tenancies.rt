@@ -1,0 +1,347 @@
+// A tenant at a host: its terms, one of which serves at most, and the outcomes of those that are closed.
+ghost use Rattle.std.specs.Prelude.{◌≤◌};
+ghost use Rattle.term_life.specs.declared.terms.TheConstants.{MOST_JOBS};
+
+use crate::desks::Desk;
+use crate::endings::Ending;
+use crate::outcomes::{Outcome, Outcomes};
+use crate::roster::Roster;
+use crate::terms::{Booking, HostTerm, Span};
+use job_language::{Error, Reply, Request, TenantName};
+use server_io::ServerEnd;
+use std::alloc::{AllocError, Global};
+use std::sync::{Arc, Condvar, CondvarTimeouts, Mutex, Wait};
+use std::time::{Clock, Duration};
+use tenant_lock::StopFlag;
+use term_life::{Term, Terms, Why};
+
+/// How long a session waits for the next term at most before it looks again, in milliseconds.
+const LOOK: u64 = 100;
+
+/// How often it looks: for 5 seconds.
+const LOOKS: u32 = 50;
+
+/// What is kept under the lock.
+#[derive(Drop)]
+struct Lives {
+    terms: Terms,
+    /// The terms that sessions may come to, the oldest first. The last one serves, unless it is left.
+    live: Vec<Arc<HostTerm>>,
+    /// Of terms that are closed.
+    outcomes: Outcomes,
+    /// The jobs of terms before the one of this number are retired.
+    retired: u64,
+    /// Why the term that serves is to be left, or one is to be opened, if it is.
+    wish: Option<Why>,
+    /// Whether no term can be opened now.
+    is_refused: bool,
+}
+
+impl Lives {
+    /// The term that serves, if one does.
+    fn serving(&self) -> Option<&Arc<HostTerm>> {
+        let last = self.live.last()?;
+        if last.is_left() { None } else { Some(last) }
+    }
+
+    /// The live term to which a job belongs, by its number outside.
+    fn owner(&self, job: u64) -> Option<&Arc<HostTerm>> {
+        self.live.iter().find(|term| term.span().owns(job))
+    }
+}
+
+/// Where a job is to be asked for.
+#[derive(Drop)]
+pub(crate) enum Found {
+    /// In its term.
+    Live(Booking),
+    /// Its term is closed, or there is none: the reply.
+    Answered(Reply),
+}
+
+/// A tenant of a host. Its sessions stay when its terms follow one another.
+#[derive(Drop)]
+pub struct Tenancy {
+    name: TenantName,
+    lives: Mutex<Lives>,
+    /// A term was opened, or it is known that none can be.
+    changed: Condvar,
+}
+
+impl Tenancy {
+    /// A tenant without a term. The first one will have that number, and its jobs are numbered after `base`. Of terms that
+    /// are closed the outcomes of the last `keep` are kept.
+    pub fn new(alloc: Global, name: TenantName, first: u64, base: u64, keep: usize) -> Tenancy
+        requires { base ≤ MOST_JOBS }
+    {
+        Tenancy {
+            name,
+            lives: Mutex::new(Lives {
+                terms: Terms::new(alloc, first, base),
+                live: Vec::new(alloc),
+                outcomes: Outcomes::new(alloc, keep),
+                retired: 0,
+                wish: None,
+                is_refused: false,
+            }),
+            changed: Condvar::new(),
+        }
+    }
+
+    pub fn name(&self) -> TenantName {
+        self.name
+    }
+
+    /// The number of the term that is opened next, and the number of a job after which its jobs are numbered.
+    pub fn next<R: Wait>(&self, rt: &R) -> (u64, u64) {
+        let lives = self.lives.lock(rt);
+        (lives.terms.next(), lives.terms.base())
+    }
+
+    /// The term that serves, if one does.
+    pub fn serving<R: Wait>(&self, rt: &R) -> Option<Arc<HostTerm>> {
+        let lives = self.lives.lock(rt);
+        Arc::try_clone(lives.serving()?).ok()
+    }
+
+    /// The terms that are not closed and that sessions may come to, the oldest first. An error if an allocation fails.
+    pub fn live<R: Wait>(&self, rt: &R, alloc: Global) -> Result<Vec<Arc<HostTerm>>, AllocError> {
+        let lives = self.lives.lock(rt);
+        let mut live = Vec::with_capacity(alloc, lives.live.len())?;
+        for term in &lives.live {
+            live.push(Arc::try_clone(term)?)?;
+        }
+        Ok(live)
+    }
+
+    /// How many terms are not closed.
+    pub fn count<R: Wait>(&self, rt: &R) -> usize {
+        self.lives.lock(rt).terms.all().len()
+    }
+
+    /// Asks for the term that serves to be left for the next one.
+    pub fn wish<R: Wait>(&self, rt: &R, why: Why) {
+        let mut lives = self.lives.lock(rt);
+        if lives.wish.is_none() {
+            lives.wish = Some(why);
+        }
+    }
+
+    /// Why the term that serves is to be left for the next one, if it is.
+    pub fn wished<R: Wait>(&self, rt: &R) -> Option<Why> {
+        self.lives.lock(rt).wish
+    }
+
+    /// No term can be opened now: nobody waits for one any longer. What was wished is forgotten.
+    pub fn refuse<R: Wait>(&self, rt: &R) {
+        self.lives.lock(rt).wish = None;
+        self.refuse_waits(rt);
+    }
+
+    /// No term can be opened now: nobody waits for one any longer.
+    pub fn refuse_waits<R: Wait>(&self, rt: &R) {
+        self.lives.lock(rt).is_refused = true;
+        self.changed.notify_all();
+    }
+
+    /// What is known of the term of that number, if it is not closed.
+    pub fn known<R: Wait>(&self, rt: &R, number: u64) -> Option<Term> {
+        let lives = self.lives.lock(rt);
+        lives
+            .terms
+            .all()
+            .iter()
+            .copied()
+            .find(|term| term.number == number)
+    }
+
+    /// A term that was made for the numbers of `next` serves from now on, and the one before goes on for the jobs that it
+    /// has; it was left for that reason. Workers come to it as one of the tenant of that number. `Memory` if an allocation
+    /// fails, and `Device` if the numbers are not the next ones; nothing has changed then.
+    pub(crate) fn begin<R: Wait>(
+        &self,
+        rt: &R,
+        roster: &Mutex<Roster>,
+        tenant: usize,
+        term: Arc<HostTerm>,
+        why: Why,
+    ) -> Result<(), ServerEnd> {
+        let Span { number, base, room } = term.span();
+        let mut lives = self.lives.lock(rt);
+        if number != lives.terms.next() || base != lives.terms.base() {
+            return Err(ServerEnd::Device);
+        }
+        lives.live.reserve(1)?;
+        let handle = Arc::try_clone(&term)?;
+        if lives.terms.open(why, room)?.is_none() {
+            return Err(ServerEnd::Device);
+        }
+        if let Some(before) = lives.live.last() {
+            before.leave();
+        }
+        // Without memory it has no workers; its sessions serve what they execute.
+        let _added = roster.lock(rt).add(tenant, handle);
+        lives.live.push_reserved(term);
+        lives.wish = None;
+        lives.is_refused = false;
+        self.changed.notify_all();
+        Ok(())
+    }
+
+    /// Lets the term that serves, if one does, take no new jobs, for that reason.
+    pub fn leave<R: Wait>(&self, rt: &R, why: Why) {
+        let mut lives = self.lives.lock(rt);
+        lives.terms.leave(why);
+        if let Some(last) = lives.live.last() {
+            last.leave();
+        }
+    }
+
+    /// Takes a term out whose jobs have their outcomes and where no session is, if there is one: sessions come to it no
+    /// more, and get its outcomes. Places that sessions keep in terms that were left are given back before. If it is
+    /// forced, a term may have open jobs.
+    pub(crate) fn next_ending<R: Wait>(
+        &self,
+        rt: &R,
+        alloc: Global,
+        roster: &Mutex<Roster>,
+        tenant: usize,
+        desks: &[Desk],
+        is_forced: bool,
+    ) -> Result<Option<Ending>, AllocError> {
+        let mut lives = self.lives.lock(rt);
+        let Some(place) = lives.live.iter().position(|term| {
+            term.is_left() && (is_forced || term.is_quiet(rt))
+        })
+        else {
+            return Ok(None);
+        };
+        for desk in desks {
+            desk.give_back_left(rt);
+        }
+        if !lives.live[place].is_free_of_sessions(rt) {
+            return Ok(None);
+        }
+        let outcomes = lives.live[place].outcomes(rt, alloc)?;
+        let term = lives.live.remove(place);
+        let span = term.span();
+        lives.terms.close(span.number);
+        roster.lock(rt).remove(tenant, span.number);
+        let why = lives
+            .terms
+            .all()
+            .iter()
+            .find(|known| known.number == span.number)
+            .and_then(|known| known.why);
+        let mut kept = Vec::new(alloc);
+        if span.number >= lives.retired {
+            kept.extend_from_slice(outcomes.as_slice())?;
+        }
+        lives.outcomes.add(span, kept)?;
+        Ok(Some(Ending::new(term, why.unwrap_or(Why::Stop), outcomes)))
+    }
+
+    /// Wakes all that wait in a term, each to look whether to go on.
+    pub(crate) fn wake<R: Wait>(&self, rt: &R) {
+        for term in &self.lives.lock(rt).live {
+            term.wake(rt);
+        }
+        self.changed.notify_all();
+    }
+
+    /// Tells all that wait in a term to stop.
+    pub(crate) fn stop<R: Wait>(&self, rt: &R) {
+        for term in &self.lives.lock(rt).live {
+            term.stop(rt);
+        }
+    }
+
+    /// The term of that number is closed.
+    pub fn end<R: Wait>(&self, rt: &R, number: u64) {
+        self.lives.lock(rt).terms.end(number);
+    }
+
+    /// Keeps the outcomes of a term that was closed before the host began.
+    pub fn keep_outcomes<R: Wait>(
+        &self,
+        rt: &R,
+        span: Span,
+        outcomes: Vec<Outcome>,
+    ) -> Result<(), AllocError> {
+        self.lives.lock(rt).outcomes.add(span, outcomes)
+    }
+
+    /// A place in the term that serves. None if none does.
+    pub(crate) fn book_serving<R: Wait>(&self, rt: &R) -> Option<Booking> {
+        let lives = self.lives.lock(rt);
+        Booking::of(rt, lives.serving()?)
+    }
+
+    /// Where a job is to be asked for, by its number outside.
+    pub(crate) fn find<R: Wait>(&self, rt: &R, job: u64, request: &Request) -> Found {
+        let mut lives = self.lives.lock(rt);
+        let retired = lives.retired;
+        let booked = match lives.owner(job) {
+            Some(term) if term.span().number < retired => None,
+            Some(term) => Some(Booking::of(rt, term)),
+            None => None,
+        };
+        match booked {
+            Some(Some(booking)) => Found::Live(booking),
+            Some(None) => Found::Answered(Reply::Refused(Error::NoMemory)),
+            None => Found::Answered(lives.outcomes.answer(job, request)),
+        }
+    }
+
+    /// Waits until a term serves that is not the one of that number, for some seconds at most, and says whether one does.
+    /// It does not if none can be opened, or the flag is raised.
+    pub(crate) fn wait_for_next<R: Wait + Clock>(
+        &self,
+        rt: &R,
+        number: Option<u64>,
+        stop: &StopFlag,
+    ) -> bool {
+        let mut lives = self.lives.lock(rt);
+        lives.is_refused = false;
+        for _look in 0..LOOKS {
+            match lives.serving() {
+                Some(term) if Some(term.span().number) != number => return true,
+                _ => {}
+            }
+            if lives.is_refused || stop.is_raised() {
+                return false;
+            }
+            if lives.wish.is_none() {
+                lives.wish = Some(Why::History);
+            }
+            let (again, _timeout) = self
+                .changed
+                .wait_timeout(rt, lives, Duration::from_millis(LOOK));
+            lives = again;
+        }
+        false
+    }
+
+    /// Whether a row is open in a term that was left.
+    pub(crate) fn is_busy_before<R: Wait>(&self, rt: &R) -> bool {
+        let lives = self.lives.lock(rt);
+        lives.live.iter().any(|term| {
+            term.is_left()
+                && match term.door() {
+                    Some(door) => door.tally(rt).open_rows > 0,
+                    None => false,
+                }
+        })
+    }
+
+    /// The jobs of all terms before the one that serves are retired.
+    pub(crate) fn retire_before<R: Wait>(&self, rt: &R) {
+        let mut lives = self.lives.lock(rt);
+        lives.outcomes.clear();
+        let serving = match lives.serving() {
+            Some(term) => term.span().number,
+            None => lives.terms.next(),
+        };
+        lives.retired = serving;
+    }
+}

@@ -1,0 +1,285 @@
+// A term of a tenant: a house of this tenant alone, and the places of all threads in it.
+ghost use Rattle.std.specs.Prelude.{◌≤◌};
+
+use crate::board::{Board, Calls, TermSignal};
+use crate::outcomes::Outcome;
+use crate::places::{Place, TermGate};
+use job_language::{Config, Level, Request, TenantConfig};
+use server_house::{ClientSeats, House, Lodging, OwnClient, OwnPost, Told};
+use server_io::ServerEnd;
+use std::alloc::{AllocError, Global};
+use std::sync::atomic::{AtomicBool, Ordering};
+use std::sync::{Arc, Mutex, Wait};
+use tenant_lock::{CloseFault, Closed, StopFlag, TenantDoor};
+use tenant_model::MAX_JOBS;
+use worker_main::Visiting;
+
+/// Which term it is, and the numbers of its jobs.
+#[derive(Clone, Copy, Debug, PartialEq, Eq)]
+pub struct Span {
+    /// The term's number among those of its tenant, from 0 on.
+    pub number: u64,
+    /// Its job of number n, from 1 on, has the number `base` + n outside.
+    pub base: u64,
+    /// How many jobs it may have.
+    pub room: u64,
+}
+
+impl Span {
+    /// Whether that is the number of one of its jobs, outside.
+    pub(crate) fn owns(&self, job: u64) -> bool {
+        self.base < job && job - self.base <= self.room
+    }
+}
+
+/// A term that is not closed.
+#[derive(Drop)]
+pub struct HostTerm {
+    span: Span,
+    tenant: TenantConfig,
+    /// When it was opened, in seconds since 1970.
+    began: u64,
+    house: Arc<House>,
+    calls: Calls,
+    /// Whether it takes no new jobs.
+    is_left: AtomicBool,
+    /// The posts of workers that are not there, and how many posts there are in all.
+    posts: Mutex<Vec<OwnPost>>,
+    workers: usize,
+    /// The places of sessions that are not there, and how many places there are in all.
+    clients: Mutex<Vec<OwnClient>>,
+    sessions: usize,
+}
+
+impl HostTerm {
+    /// A term that has done nothing yet, for so many workers and sessions. `Config` if the tenant can't be served by so many
+    /// workers, `Device` if a place is missing, and `Memory` if an allocation fails.
+    pub fn open(
+        alloc: Global,
+        span: Span,
+        tenant: TenantConfig,
+        began: u64,
+        workers: usize,
+        sessions: u8,
+    ) -> Result<HostTerm, ServerEnd>
+        requires { 1 ≤ sessions }
+    {
+        let mut tenants = Vec::with_capacity(alloc, 1)?;
+        tenants.push_reserved(tenant);
+        let Some(config) = Config::new(tenants, workers) else {
+            return Err(ServerEnd::Config);
+        };
+        let Some(lodging) = Lodging::open(alloc, &config, sessions)? else {
+            return Err(ServerEnd::Device);
+        };
+        let Lodging {
+            house,
+            posts,
+            clients,
+        } = lodging;
+        let (workers, sessions) = (posts.len(), clients.len());
+        Ok(HostTerm {
+            span,
+            tenant,
+            began,
+            house,
+            calls: Calls::new(tenant.tenant().priority),
+            is_left: AtomicBool::new(false),
+            posts: Mutex::new(posts),
+            workers,
+            clients: Mutex::new(clients),
+            sessions,
+        })
+    }
+
+    /// Which term it is, and the numbers of its jobs.
+    pub fn span(&self) -> Span {
+        self.span
+    }
+
+    /// What its tenant is given.
+    pub fn tenant(&self) -> &TenantConfig {
+        &self.tenant
+    }
+
+    /// When it was opened, in seconds since 1970.
+    pub fn began(&self) -> u64 {
+        self.began
+    }
+
+    /// The door of its tenant.
+    pub fn door(&self) -> Option<&TenantDoor> {
+        self.house.doors().first()
+    }
+
+    /// Whether it takes no new jobs.
+    pub(crate) fn is_left(&self) -> bool {
+        self.is_left.load(Ordering::SeqCst)
+    }
+
+    /// Lets it take no new jobs.
+    pub(crate) fn leave(&self) {
+        self.is_left.store(true, Ordering::SeqCst);
+    }
+
+    /// Whether a call of that level waits in it.
+    pub(crate) fn has_call_at(&self, level: Level) -> bool {
+        self.calls.level() == level && self.calls.is_any()
+    }
+
+    /// Claims one of its calls.
+    pub(crate) fn claim(&self, board: &Board) {
+        self.calls.claim(board);
+    }
+
+    /// Serves the call that was claimed, for the tenant of that number, as the worker of that place.
+    pub(crate) fn serve<R: Wait>(&self, rt: &R, board: &Board, tenant: usize, place: &Place) {
+        let post = self.posts.lock(rt).pop();
+        let Some(post) = post else {
+            return;
+        };
+        let signal = TermSignal {
+            board,
+            calls: &self.calls,
+        };
+        let gate = TermGate { place, tenant };
+        let (post, _is_called) = post.serve_call(rt, &signal, &gate, Visiting::Sharing);
+        // There is room for it: it was there before.
+        let _kept = self.posts.lock(rt).push(post);
+    }
+
+    /// Whether no session is there.
+    pub(crate) fn is_free_of_sessions<R: Wait>(&self, rt: &R) -> bool {
+        self.clients.lock(rt).len() == self.sessions
+    }
+
+    /// Whether no worker is there.
+    pub(crate) fn is_free_of_workers<R: Wait>(&self, rt: &R) -> bool {
+        self.posts.lock(rt).len() == self.workers
+    }
+
+    /// Whether nothing is left that can be done: no row is open, and each job has its outcome; or the history is full; or
+    /// all rows that are open wait to be started, and the tenant has no slot for workers.
+    pub(crate) fn is_quiet<R: Wait>(&self, rt: &R) -> bool {
+        let Some(door) = self.door() else {
+            return true;
+        };
+        let tenant = self.tenant.tenant();
+        let tally = door.tally(rt);
+        let has_no_slot = tenant.reserved >= tenant.slots;
+        (tally.open_rows == 0 && tally.jobs.running == 0)
+            || (has_no_slot && tally.open_rows == tally.waiting_rows)
+            || door.counts(rt).entries >= tenant.steps
+    }
+
+    /// Wakes all that wait in it, each to look whether to go on.
+    pub(crate) fn wake<R: Wait>(&self, rt: &R) {
+        self.house.wake(rt);
+    }
+
+    /// Tells all that wait in it to stop.
+    pub(crate) fn stop<R: Wait>(&self, rt: &R) {
+        self.house.stop(rt);
+    }
+
+    /// How far its jobs are that are neither retired nor released, by rising numbers as they are known outside.
+    pub(crate) fn outcomes<R: Wait>(
+        &self,
+        rt: &R,
+        alloc: Global,
+    ) -> Result<Vec<Outcome>, AllocError> {
+        let mut outcomes = Vec::new(alloc);
+        let Some(door) = self.door() else {
+            return Ok(outcomes);
+        };
+        let mut last = 0;
+        for _job in 0..MAX_JOBS {
+            let Some(job) = door.next_job(rt, last) else {
+                return Ok(outcomes);
+            };
+            if let Some(status) = door.status(rt, job) {
+                outcomes.push(Outcome {
+                    job: self.span.base.saturating_add(job),
+                    status,
+                })?;
+            }
+            last = job;
+        }
+        Ok(outcomes)
+    }
+
+    /// Closes it, once nobody is there: its tenant's history, or what is wrong. None if somebody still is, or an allocation
+    /// fails.
+    pub(crate) fn close(self, alloc: Global) -> Option<Result<Closed, CloseFault>> {
+        let HostTerm {
+            span: _span,
+            tenant: _tenant,
+            began: _began,
+            house,
+            calls: _calls,
+            is_left: _is_left,
+            posts,
+            workers: _workers,
+            clients,
+            sessions: _sessions,
+        } = self;
+        drop(posts);
+        let mut seats = ClientSeats::new(alloc);
+        for client in clients.into_inner() {
+            // If they were lost, the close would find that they are missing.
+            let _added = seats.add(client);
+        }
+        let house = Arc::try_unwrap(house).ok()?;
+        seats.close(alloc, house).ok()?.pop()
+    }
+}
+
+/// A session's place in a term.
+#[derive(Drop)]
+pub(crate) struct Booking {
+    term: Arc<HostTerm>,
+    client: OwnClient,
+}
+
+impl Booking {
+    /// A place in a term. None if all are taken, or too many handles on the term are out.
+    pub(crate) fn of<R: Wait>(rt: &R, term: &Arc<HostTerm>) -> Option<Booking> {
+        let term = Arc::try_clone(term).ok()?;
+        let client = term.clients.lock(rt).pop()?;
+        Some(Booking { term, client })
+    }
+
+    pub(crate) fn term(&self) -> &HostTerm {
+        &self.term
+    }
+
+    /// Asks the term's tenant, and attends the slot that a job is placed on.
+    pub(crate) fn ask<R: Wait>(
+        self,
+        rt: &R,
+        board: &Board,
+        stop: &StopFlag,
+        request: Request,
+    ) -> (Booking, Told) {
+        let Booking { term, client } = self;
+        let signal = TermSignal {
+            board,
+            calls: &term.calls,
+        };
+        let (client, told) = client.ask(rt, &signal, stop, request);
+        (Booking { term, client }, told)
+    }
+
+    /// Waits while a job, by its number outside, has no outcome, and says whether to stop.
+    pub(crate) fn wait_for<R: Wait>(&self, rt: &R, job: u64, stop: &StopFlag) -> bool {
+        let job = job.saturating_sub(self.term.span.base);
+        self.client.wait_for(rt, job, stop)
+    }
+
+    /// Gives the place back to its term.
+    pub(crate) fn give_back<R: Wait>(self, rt: &R) {
+        let Booking { term, client } = self;
+        // There is room for it: it was there before.
+        let _kept = term.clients.lock(rt).push(client);
+    }
+}

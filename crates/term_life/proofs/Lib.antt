@@ -1,0 +1,3 @@
+pub mod Newest
+pub mod Orders
+pub mod Staying

@@ -1,0 +1,15 @@
+use Rattle.std.proofs.Common.{◌<◌, false, None, length, get_or, arith}
+use Rattle.std.proofs.lemmas.List.{get_or_default}
+use Rattle.std.proofs.lemmas.List.Edits.{map_over_more}
+use Rattle.term_life.specs.Lives.{closing_if}
+use Rattle.term_life.specs.declared.terms.Term.{Term}
+use Rattle.term_life.proofs.terms.close_each.Goals as goal
+
+abbrev none : Term
+none = record { number = 0; base = 0; room = 0; is_serving = false; is_closing = false; why = None }
+
+pub loop-term-preserved : goal.loop-term-preserved
+loop-term-preserved c =
+    let within : c.loop-term.term-index < length c.loop-term.terms = omega arith in
+    let term = get_or c.loop-term.terms c.loop-term.term-index none in
+    map_over_more (closing_if c.args.number) c.args.terms.now c.loop-term.terms c.loop-term.term-index term (omega arith) c.loop-term.invariant (get_or_default c.loop-term.terms c.loop-term.term-index none term within)

@@ -1,0 +1,3 @@
+pub mod Dumps
+pub mod Lives
+pub mod Turns
