@@ -1,4 +1,4 @@
--- A function whose code is a procedure keeps to the registers of a frame.
+-- A function whose code is a procedure keeps to the virtual registers.
 use Rattle.std.proofs.Common.{ℕ, suc, ◌+◌, ◌<◌, Bool, true, false, not, if◌then◌else◌, List, [], ◌∷◌, ◌++◌, length, arith, All}
 use Rattle.std.specs.List.{AllByRecursion}
 use Rattle.job_language.specs.declared.instructions.Instr.{Instr}
@@ -17,8 +17,8 @@ use Rattle.source_language.specs.declared.syntax.Stmt.{Stmt}
 use Rattle.source_language.specs.declared.syntax.Stmt.TheVariants.{Skip, Then', Assign, If', Loop', Repeat', Break, Continue, Return, Make, Wait, Cancel, Read, Store}
 use Rattle.source_language.specs.declared.syntax.Function.{Function}
 use Rattle.job_compiler.specs.declared.labels.Label.{Label}
-use Rattle.job_compiler.specs.Code.{op_code, operand, above, operand_code, value_code, jump_instrs, test_size, test_code, make_instr, read_instr, stmt_size, stmt_code, loop_test, loop_label, function_code}
-use Rattle.job_compiler.specs.Registers.{IsOpLow, IsOperandLow, IsValueLow, IsTestLow, IsMakerLow, IsStmtLow, UsesFewRegisters}
+use Rattle.job_compiler.specs.Code.{op_instr, operand, above, register_for, operand_code, value_code, jump_instrs, test_size, test_code, make_instr, read_instr, stmt_size, stmt_code, loop_test, loop_label, function_code}
+use Rattle.job_compiler.specs.Registers.{IsOperandLow, IsValueLow, IsTestLow, IsMakerLow, IsStmtLow, FitsVirtualRegisters}
 
 pub all_of : {X : Type 0} (P : X → Type 0) (xs : List X) → All P xs → AllByRecursion P xs
 all_of P [] h = tt
@@ -36,43 +36,46 @@ module _ (len : ℕ) where
   back [] b h = h
   back (i ∷ a) b h = back a b h.1
 
-  op_low : (op : Operator) (d a b t : ℕ) → Good (op_code op d a b t) → (d < 8) × (a < 8) × (b < 8) × IsOpLow 8 op t
-  op_low Plus d a b t h = (h.0.0, h.0.1, h.0.2, tt)
-  op_low Minus d a b t h = (h.0.0, h.0.1, h.0.2, tt)
-  op_low Times d a b t h = (h.0.0, h.0.1, h.0.2, tt)
-  op_low Over d a b t h = (h.0.0, h.0.1, h.0.2, tt)
-  op_low Remainder d a b t h = (h.1.1.0.0, h.0.1, h.0.2, h.0.0)
-  op_low Below d a b t h = (h.0.0, h.0.1, h.0.2, tt)
+  up : (x : ℕ) → x < 8 → x < 255
+  up x low = omega (arith, low)
 
-  operand_low : (e : Expr) (t : ℕ) → Good (operand_code e t) → operand e t < 8 → IsOperandLow 8 e t
-  operand_low (Number z) t h low = low
-  operand_low (Variable x) t h low = low
-  operand_low Slot t h low = low
-  operand_low Width t h low = low
+  op_low : (op : Operator) (d a b : ℕ) → Good (op_instr op d a b ∷ []) → (d < 8) × (a < 8) × (b < 8)
+  op_low Plus d a b h = h.0
+  op_low Minus d a b h = h.0
+  op_low Times d a b h = h.0
+  op_low Over d a b h = h.0
+  op_low Remainder d a b h = h.0
+  op_low Below d a b h = h.0
+
+  operand_low : (e : Expr) (t : ℕ) → Good (operand_code e t) → operand e t < 8 → IsOperandLow 255 e t
+  operand_low (Number z) t h low = up t low
+  operand_low (Variable x) t h low = up x low
+  operand_low Slot t h low = up t low
+  operand_low Width t h low = up t low
   operand_low (Two' op p a q b) t h low =
       let ca = operand_code a t in
       let cb = operand_code b (above a t) in
       let hb = back ca _ h in
-      let o = op_low op t (operand a t) (operand b (above a t)) (above b (above a t)) (back cb _ hb) in
-      (operand_low a t (front ca _ h) o.1, operand_low b (above a t) (front cb _ hb) o.2, o.3, low)
+      let o = op_low op t (operand a t) (operand b (above a t)) (back cb _ hb) in
+      (operand_low a t (front ca _ h) o.1, operand_low b (above a t) (front cb _ hb) o.2, up t low)
 
-  value_low : (e : Expr) (d t : ℕ) → Good (value_code e d t) → (d < 8) × IsValueLow 8 e t
-  value_low (Number z) d t h = (h.0.0, tt)
-  value_low (Variable x) d t h = (h.1.0.0, (h.1.0.1, h.0.0))
-  value_low Slot d t h = (h.0, tt)
-  value_low Width d t h = (h.0, tt)
+  value_low : (e : Expr) (d t : ℕ) → Good (value_code e d t) → (d < 255) × IsValueLow 255 e t
+  value_low (Number z) d t h = (up d h.0.0, tt)
+  value_low (Variable x) d t h = (up d h.1.0.0, (up x h.1.0.1, up t h.0.0))
+  value_low Slot d t h = (up d h.0, tt)
+  value_low Width d t h = (up d h.0, tt)
   value_low (Two' op p a q b) d t h =
       let ca = operand_code a t in
       let cb = operand_code b (above a t) in
       let hb = back ca _ h in
-      let o = op_low op d (operand a t) (operand b (above a t)) (above b (above a t)) (back cb _ hb) in
-      (o.0, (operand_low a t (front ca _ h) o.1, operand_low b (above a t) (front cb _ hb) o.2, o.3))
+      let o = op_low op d (operand a t) (operand b (above a t)) (back cb _ hb) in
+      (up d o.0, (operand_low a t (front ca _ h) o.1, operand_low b (above a t) (front cb _ hb) o.2))
 
   jump_low : (w : Bool) (r to at : ℕ) → Good (jump_instrs w r to at) → r < 8
   jump_low true r to at h = h.0.0
   jump_low false r to at h = h.0.0
 
-  test_low : (c : Test) (w : Bool) (to t at : ℕ) → Good (test_code c w to t at) → IsTestLow 8 c t
+  test_low : (c : Test) (w : Bool) (to t at : ℕ) → Good (test_code c w to t at) → IsTestLow 255 c t
   test_low (Holds e) w to t at h =
       let ce = operand_code e t in operand_low e t (front ce _ h) (jump_low w (operand e t) to (at + length ce) (back ce _ h))
   test_low (Not' p c) w to t at h = test_low c (not w) to t at h
@@ -87,18 +90,18 @@ module _ (len : ℕ) where
       let ca = test_code a true ta t at in
       (test_low a true ta t at (front ca _ h), test_low b w to t m (back ca _ h))
 
-  make_low : (m : Maker) (p a b : ℕ) → IsInRange len (make_instr m p a b) → IsMakerLow 8 m × (a < 8) × (b < 8)
+  make_low : (m : Maker) (p a b : ℕ) → IsInRange len (make_instr m p a b) → IsMakerLow 255 m × (a < 8) × (b < 8)
   make_low (Spawn g) p a b h = (tt, h.1, h.2)
   make_low Post p a b h = (tt, h.0, h.1)
-  make_low (Isolate d) p a b h = (h.0, h.1, h.2)
+  make_low (Isolate d) p a b h = (up d h.0, h.1, h.2)
 
-  read_low : (d : ℕ) (q : Question) → IsInRange len (read_instr d q) → d < 8
-  read_low d Cancelled h = h
-  read_low d (Cell k) h = h.0
-  read_low d (CellSum k) h = h.0
-  read_low d (CellCount k) h = h.0
+  read_low : (d : ℕ) (q : Question) → IsInRange len (read_instr d q) → d < 255
+  read_low d Cancelled h = up d h
+  read_low d (Cell k) h = up d h.0
+  read_low d (CellSum k) h = up d h.0
+  read_low d (CellCount k) h = up d h.0
 
-  stmt_low : (s : Stmt) (t at : ℕ) (labels : List Label) (ret : ℕ) → Good (stmt_code s t at labels ret) → IsStmtLow 8 s t
+  stmt_low : (s : Stmt) (t at : ℕ) (labels : List Label) (ret : ℕ) → Good (stmt_code s t at labels ret) → IsStmtLow 255 s t
   stmt_low Skip t at labels ret h = tt
   stmt_low (Then' p a q b) t at labels ret h =
       let ca = stmt_code a t at labels ret in
@@ -131,12 +134,12 @@ module _ (len : ℕ) where
       let h2 = back ca _ h in
       let r = make_low m p (operand a t) (operand b (above a t)) (back cb _ h2).0 in
       (r.0, operand_low a t (front ca _ h) r.1, operand_low b (above a t) (front cb _ h2) r.2)
-  stmt_low (Wait d e g) t at labels ret h = (h.0.0, h.0.1)
+  stmt_low (Wait d e g) t at labels ret h = (up (register_for d t) h.0.0, up (register_for e t) h.0.1)
   stmt_low (Cancel g) t at labels ret h = tt
   stmt_low (Read d q) t at labels ret h = read_low d q h.0
   stmt_low (Store k e) t at labels ret h = let ce = operand_code e t in operand_low e t (front ce _ h) (back ce _ h).0.1
 
-pub valid_is_low : (f : Function) → IsValidProc (function_code f) → UsesFewRegisters f
+pub valid_is_low : (f : Function) → IsValidProc (function_code f) → FitsVirtualRegisters f
 valid_is_low f valid =
     let end = stmt_size f.body f.variables in
     let code = stmt_code f.body f.variables 0 [] end in

@@ -8,7 +8,9 @@ pub mod Events
 pub mod Start
 pub mod RunsFollow
 pub mod Colours
+pub mod Nodes
 pub mod FewRegisters
 pub mod Emitted
+pub mod Refused
 pub mod WholePrograms
 pub mod WorkedProofs

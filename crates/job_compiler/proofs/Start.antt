@@ -1,5 +1,5 @@
 -- A new frame stands where its function begins.
-use Rattle.std.proofs.Common.{◌≡◌, ℕ, zero, suc, ◌+◌, ◌-◌, ◌<◌, ◌≤◌, ◌^◌, ℤ, pos, Bool, List, [], ◌∷◌, ◌++◌, length, get_or, replicate, Some, refl, sym, ap, subst, ◌∙◌, arith, append_assoc, length-append, FitsSigned}
+use Rattle.std.proofs.Common.{◌≡◌, ℕ, zero, suc, ◌+◌, ◌-◌, ◌<◌, ◌≤◌, ◌^◌, ℤ, pos, Bool, List, [], ◌∷◌, ◌++◌, length, get_or, replicate, Some, refl, sym, ap, subst, ◌∙◌, ⊎_elim, arith, append_assoc, length-append, FitsSigned}
 use Rattle.std.specs.Prelude.{slice_get, slice_index_or}
 use Rattle.std.specs.Int.{w64}
 use Rattle.std.proofs.lemmas.List.{get_or_at, length-replicate, get_or-replicate}
@@ -35,6 +35,11 @@ two_same : (m l : ℕ) (x y : ℤ) (k : ℕ) → get_or (with_two m x y) k (pos 
 two_same m l x y zero = refl
 two_same m l x y (suc zero) = refl
 two_same m l x y (suc (suc k)) = all_nought m k ∙ sym (all_nought l k)
+
+beyond : (m : ℕ) (x y : ℤ) (k : ℕ) → 2 ≤ k → get_or (with_two m x y) k (pos 0) ≡ pos 0
+beyond m x y zero high = absurd (omega (arith, high))
+beyond m x y (suc zero) high = absurd (omega (arith, high))
+beyond m x y (suc (suc k)) high = all_nought m k
 
 two_fit : (m : ℕ) (x y : ℤ) → FitsSigned w64 x → FitsSigned w64 y → (k : ℕ) → FitsSigned w64 (get_or (with_two m x y) k (pos 0))
 two_fit m x y fx fy zero = fx
@@ -150,14 +155,12 @@ is_compiled_coloured f good instrs size c live big coloured begins procs p slot 
     virtual : DoesTheSame vprocs slot width (start f x y) (frame_of p 0 (with_two (size - 2) x y))
     virtual = starts f good vprocs slot width p size x y found below big low_slot low_width fx fy
 
-    at_start : (u : ℕ) → u < 2 → get_or (with_two (size - 2) x y) u (pos 0) ≡ get_or (with_two 6 x y) u (pos 0)
-    at_start u low = two_same (size - 2) 6 x y u
-
     first : Same c live size 0 (with_two (size - 2) x y) (with_two 6 x y)
     first = record {
       all = omega (arith, length-replicate (size - 2) (pos 0), big);
       long = refl;
-      same = λ u l. let b = begins u l in at_start u b.0 ∙ ap (λ k. get_or (with_two 6 x y) k (pos 0)) (sym b.1);
+      same = λ u l. ⊎_elim (λ own. two_same (size - 2) 6 x y u ∙ ap (λ k. get_or (with_two 6 x y) k (pos 0)) (sym own.1))
+          (λ other. beyond (size - 2) x y u other.0 ∙ sym (beyond 6 x y (c u) other.1)) (begins u l);
     }
 
     same : (n : ℕ) (answers : List (ℤ × ℤ)) → frame_events vprocs slot width n (frame_of p 0 (with_two (size - 2) x y)) answers ≡ frame_events procs slot width n (new_frame p x y) answers

@@ -1,7 +1,7 @@
 -- How a frame of a procedure goes on, and what the code of an expression and of a condition does.
 use Rattle.std.proofs.Common.{◌≡◌, ◌≢◌, ℕ, zero, suc, ◌+◌, ◌<◌, ◌≤◌, ◌^◌, ℤ, pos, negsuc, List, [], ◌∷◌, ◌++◌, length, get_or, Option, Some, None, refl, ap, subst, ◌∙◌, arith, length-append, length-set, get_or-set_same, get_or-set_other, FitsSigned}
-use Rattle.std.specs.Prelude.{slice_get, slice_set, slice_index_or, option_and_then, int_rem, unsigned_abs}
-use Rattle.std.specs.Int.{int_wrapping_add, int_wrapping_sub, int_wrapping_mul, int_wrapping_div, w64}
+use Rattle.std.specs.Prelude.{slice_get, slice_set, slice_index_or, option_and_then}
+use Rattle.std.specs.Int.{int_wrapping_add, w64}
 use Rattle.job_compiler.specs.Colours.{WritesBelow}
 use Rattle.job_language.specs.declared.instructions.Instr.{Instr}
 use Rattle.job_language.specs.declared.instructions.Instr.TheVariants as instr
@@ -15,9 +15,8 @@ use Rattle.source_language.specs.declared.syntax.Expr.{Expr}
 use Rattle.source_language.specs.declared.syntax.Expr.TheVariants.{Number, Variable, Slot, Width, Two'}
 use Rattle.source_language.specs.Meaning.{result_of, on_both, value_of}
 use Rattle.job_compiler.specs.Within.{IsWithin}
-use Rattle.job_compiler.specs.Code.{op_code, operand, above, value_code, operand_code}
-use Rattle.job_compiler.proofs.Numbers.{add_nought, remainder_is}
-use Rattle.job_compiler.proofs.Values.{FitsIf, value_fits, wrapped_fits}
+use Rattle.job_compiler.specs.Code.{op_instr, operand, above, value_code, operand_code}
+use Rattle.job_compiler.proofs.Numbers.{add_nought}
 
 -- registers below t, but for one, are the same
 abbrev pub AreKept : (t but : ℕ) → List ℤ → List ℤ → Type 0
@@ -129,61 +128,18 @@ module _ (procs : List (List Instr)) (slot width p size : ℕ) where
   }
 
   module _ (valid : (k : ℕ) (i : Instr) → slice_get code k ≡ Some i → WritesBelow size i) (low_slot : slot < 2 ^ 8) (low_width : width < 2 ^ 8) where
-    -- a quotient, a product and a difference
-    remains : (d a b t2 pc t : ℕ) (regs : List ℤ) (x y : ℤ) → HasAt pc (op_code Remainder d a b t2) → a < t2 → b < t2 → t ≤ t2 → get_or regs a (pos 0) ≡ x → get_or regs b (pos 0) ≡ y
-        → length regs ≡ size
-        → FitsSigned w64 x → FitsSigned w64 y → 0 < unsigned_abs y → effect (instr.Div t2 a b) slot width (at pc regs) ≡ Moves (write_and_step (at pc regs) t2 (int_wrapping_div w64 x y))
-        → Writes pc (pc + 3) regs d t (int_rem x y)
-    remains d a b t2 pc t regs x y has la lb high ex ey long fx fy some divides = subst (λ k. Writes pc k regs d t (int_rem x y)) len (record {
-      regs' = third.regs';
-      comes = comes_on _ _ _ first.comes (comes_on _ _ _ second.comes third.comes);
-      some = omega (arith, first.some);
-      long = third.long;
-      value = third.value;
-      kept = λ k below other. third.kept k below other ∙ second.kept k (omega (arith, below, high)) (omega (arith, below, high))
-          ∙ first.kept k (omega (arith, below, high)) (omega (arith, below, high));
-    })
-      where
-        q : ℤ
-        q = int_wrapping_div w64 x y
-
-        m : ℤ
-        m = int_wrapping_mul w64 (int_wrapping_div w64 x y) y
-
-        first : Writes pc (pc + 1) regs t2 t2 (int_wrapping_div w64 x y)
-        first = write pc t2 t2 regs (instr.Div t2 a b) (int_wrapping_div w64 x y) has.0 divides (valid pc _ has.0).0 long
-
-        product : int_wrapping_mul w64 (get_or first.regs' t2 (pos 0)) (get_or first.regs' b (pos 0)) ≡ int_wrapping_mul w64 (int_wrapping_div w64 x y) y
-        product = ap (λ z. int_wrapping_mul w64 z (get_or first.regs' b (pos 0))) first.value ∙ ap (int_wrapping_mul w64 (int_wrapping_div w64 x y)) (first.kept b lb (omega (arith, lb)) ∙ ey)
-
-        second : Writes (pc + 1) (pc + 1 + 1) first.regs' t2 t2 (int_wrapping_mul w64 (int_wrapping_div w64 x y) y)
-        second = write (pc + 1) t2 t2 first.regs' (instr.Mul t2 t2 b) (int_wrapping_mul w64 (int_wrapping_div w64 x y) y) has.1.0
-            (ap (λ z. Moves (write_and_step (at (pc + 1) first.regs') t2 z)) product) (valid (pc + 1) _ has.1.0).0 first.long
-
-        rest : int_wrapping_sub w64 (get_or second.regs' a (pos 0)) (get_or second.regs' t2 (pos 0)) ≡ int_rem x y
-        rest = ap (λ z. int_wrapping_sub w64 z (get_or second.regs' t2 (pos 0))) (second.kept a la (omega (arith, la)) ∙ first.kept a la (omega (arith, la)) ∙ ex)
-            ∙ ap (int_wrapping_sub w64 x) second.value ∙ remainder_is x y fx fy some (wrapped_fits _) (wrapped_fits _)
-
-        third : Writes (pc + 1 + 1) (pc + 1 + 1 + 1) second.regs' d t (int_rem x y)
-        third = write (pc + 1 + 1) d t second.regs' (instr.Sub d a t2) (int_rem x y) has.1.1.0 (ap (λ z. Moves (write_and_step (at (pc + 1 + 1) second.regs') d z)) rest)
-            (valid (pc + 1 + 1) _ has.1.1.0).0 second.long
-
-        len : pc + 1 + 1 + 1 ≡ pc + 3
-        len = omega arith
-
-    op_runs : (op : Operator) (d a b t2 pc t : ℕ) (regs : List ℤ) (x y : ℤ) → HasAt pc (op_code op d a b t2) → a < t2 → b < t2 → t ≤ t2 → get_or regs a (pos 0) ≡ x → get_or regs b (pos 0) ≡ y
-        → length regs ≡ size → FitsSigned w64 x → FitsSigned w64 y
-        → WritesIf pc (pc + length (op_code op d a b t2)) regs d t (result_of op x y)
-    op_runs Plus d a b t2 pc t regs x y has la lb high ex ey long fx fy = write pc d t regs (instr.Add d a b) _ has.0 (rw (ex, ey) refl) (valid pc _ has.0).0 long
-    op_runs Minus d a b t2 pc t regs x y has la lb high ex ey long fx fy = write pc d t regs (instr.Sub d a b) _ has.0 (rw (ex, ey) refl) (valid pc _ has.0).0 long
-    op_runs Times d a b t2 pc t regs x y has la lb high ex ey long fx fy = write pc d t regs (instr.Mul d a b) _ has.0 (rw (ex, ey) refl) (valid pc _ has.0).0 long
-    op_runs Below d a b t2 pc t regs x y has la lb high ex ey long fx fy = write pc d t regs (instr.Lt d a b) _ has.0 (rw (ex, ey) refl) (valid pc _ has.0).0 long
-    op_runs Over d a b t2 pc t regs x (pos zero) has la lb high ex ey long fx fy = one_fails pc regs (instr.Div d a b) has.0 (rw (ex, ey) refl)
-    op_runs Over d a b t2 pc t regs x (pos (suc n)) has la lb high ex ey long fx fy = write pc d t regs (instr.Div d a b) _ has.0 (rw (ex, ey) refl) (valid pc _ has.0).0 long
-    op_runs Over d a b t2 pc t regs x (negsuc n) has la lb high ex ey long fx fy = write pc d t regs (instr.Div d a b) _ has.0 (rw (ex, ey) refl) (valid pc _ has.0).0 long
-    op_runs Remainder d a b t2 pc t regs x (pos zero) has la lb high ex ey long fx fy = one_fails pc regs (instr.Div t2 a b) has.0 (rw (ex, ey) refl)
-    op_runs Remainder d a b t2 pc t regs x (pos (suc n)) has la lb high ex ey long fx fy = remains d a b t2 pc t regs x (pos (suc n)) has la lb high ex ey long fx fy (omega arith) (rw (ex, ey) refl)
-    op_runs Remainder d a b t2 pc t regs x (negsuc n) has la lb high ex ey long fx fy = remains d a b t2 pc t regs x (negsuc n) has la lb high ex ey long fx fy (omega arith) (rw (ex, ey) refl)
+    op_runs : (op : Operator) (d a b pc t : ℕ) (regs : List ℤ) (x y : ℤ) → HasAt pc (op_instr op d a b ∷ []) → get_or regs a (pos 0) ≡ x → get_or regs b (pos 0) ≡ y → length regs ≡ size
+        → WritesIf pc (pc + 1) regs d t (result_of op x y)
+    op_runs Plus d a b pc t regs x y has ex ey long = write pc d t regs (instr.Add d a b) _ has.0 (rw (ex, ey) refl) (valid pc _ has.0).0 long
+    op_runs Minus d a b pc t regs x y has ex ey long = write pc d t regs (instr.Sub d a b) _ has.0 (rw (ex, ey) refl) (valid pc _ has.0).0 long
+    op_runs Times d a b pc t regs x y has ex ey long = write pc d t regs (instr.Mul d a b) _ has.0 (rw (ex, ey) refl) (valid pc _ has.0).0 long
+    op_runs Below d a b pc t regs x y has ex ey long = write pc d t regs (instr.Lt d a b) _ has.0 (rw (ex, ey) refl) (valid pc _ has.0).0 long
+    op_runs Over d a b pc t regs x (pos zero) has ex ey long = one_fails pc regs (instr.Div d a b) has.0 (rw (ex, ey) refl)
+    op_runs Over d a b pc t regs x (pos (suc n)) has ex ey long = write pc d t regs (instr.Div d a b) _ has.0 (rw (ex, ey) refl) (valid pc _ has.0).0 long
+    op_runs Over d a b pc t regs x (negsuc n) has ex ey long = write pc d t regs (instr.Div d a b) _ has.0 (rw (ex, ey) refl) (valid pc _ has.0).0 long
+    op_runs Remainder d a b pc t regs x (pos zero) has ex ey long = one_fails pc regs (instr.Rem d a b) has.0 (rw (ex, ey) refl)
+    op_runs Remainder d a b pc t regs x (pos (suc n)) has ex ey long = write pc d t regs (instr.Rem d a b) _ has.0 (rw (ex, ey) refl) (valid pc _ has.0).0 long
+    op_runs Remainder d a b pc t regs x (negsuc n) has ex ey long = write pc d t regs (instr.Rem d a b) _ has.0 (rw (ex, ey) refl) (valid pc _ has.0).0 long
 
     pub operand_low : (n t : ℕ) (e : Expr) → IsWithin n e → n ≤ t → operand e t < above e t
     operand_low n t (Number z) h le = omega arith
@@ -223,31 +179,29 @@ module _ (procs : List (List Instr)) (slot width p size : ℕ) where
     still n t vars regs regs' le agree long kept = record { long = long; same = λ x low. kept x (omega (arith, low, le)) ∙ agree.same x low; fit = agree.fit }
 
     -- two operands and an operator
-    two_runs : (op : Operator) (ca cb : List Instr) (oa ob : Option ℤ) (d ra rb pc t t2 t3 : ℕ) (regs : List ℤ) → HasAt pc (ca ++ (cb ++ op_code op d ra rb t3)) → ra < t2 → t ≤ t2 → rb < t3 → t2 ≤ t3
-        → FitsIf oa → FitsIf ob
+    two_runs : (op : Operator) (ca cb : List Instr) (oa ob : Option ℤ) (d ra rb pc t t2 : ℕ) (regs : List ℤ) → HasAt pc (ca ++ (cb ++ op_instr op d ra rb ∷ [])) → ra < t2 → t ≤ t2
         → BringsIf pc (pc + length ca) regs ra t oa → ((regs' : List ℤ) → length regs' ≡ size → AreAllKept t regs regs' → BringsIf (pc + length ca) (pc + length ca + length cb) regs' rb t2 ob)
-        → WritesIf pc (pc + length (ca ++ (cb ++ op_code op d ra rb t3))) regs d t (on_both (result_of op) oa ob)
-    two_runs op ca cb None ob d ra rb pc t t2 t3 regs has low high low2 high2 fa fb first second = first
-    two_runs op ca cb (Some x) None d ra rb pc t t2 t3 regs has low high low2 high2 fa fb first second =
+        → WritesIf pc (pc + length (ca ++ (cb ++ op_instr op d ra rb ∷ []))) regs d t (on_both (result_of op) oa ob)
+    two_runs op ca cb None ob d ra rb pc t t2 regs has low high first second = first
+    two_runs op ca cb (Some x) None d ra rb pc t t2 regs has low high first second =
         fails_on _ _ first.comes (second first.regs' first.long first.kept)
-    two_runs op ca cb (Some x) (Some y) d ra rb pc t t2 t3 regs has low high low2 high2 fa fb first second =
-        last (result_of op x y) (op_runs op d ra rb t3 (pc + length ca + length cb) t next.regs' x y here (omega (arith, low, high2)) low2 (omega (arith, high, high2))
-        (next.kept ra low ∙ first.value) next.value next.long fa fb)
+    two_runs op ca cb (Some x) (Some y) d ra rb pc t t2 regs has low high first second =
+        last (result_of op x y) (op_runs op d ra rb (pc + length ca + length cb) t next.regs' x y here (next.kept ra low ∙ first.value) next.value next.long)
       where
         next : Brings (pc + length ca) (pc + length ca + length cb) first.regs' rb t2 y
         next = second first.regs' first.long first.kept
 
-        here : HasAt (pc + length ca + length cb) (op_code op d ra rb t3)
-        here = has_back (pc + length ca) cb (op_code op d ra rb t3) (has_back pc ca _ has)
+        here : HasAt (pc + length ca + length cb) (op_instr op d ra rb ∷ [])
+        here = has_back (pc + length ca) cb (op_instr op d ra rb ∷ []) (has_back pc ca _ has)
 
-        len : pc + length ca + length cb + length (op_code op d ra rb t3) ≡ pc + length (ca ++ (cb ++ op_code op d ra rb t3))
-        len = omega (arith, length-append ca (cb ++ op_code op d ra rb t3), length-append cb (op_code op d ra rb t3))
+        len : pc + length ca + length cb + length (op_instr op d ra rb ∷ []) ≡ pc + length (ca ++ (cb ++ op_instr op d ra rb ∷ []))
+        len = omega (arith, length-append ca (cb ++ op_instr op d ra rb ∷ []), length-append cb (op_instr op d ra rb ∷ []))
 
         both : Comes (at pc regs) (at (pc + length ca + length cb) next.regs')
         both = comes_on _ _ _ first.comes next.comes
 
-        last : (o : Option ℤ) → WritesIf (pc + length ca + length cb) (pc + length ca + length cb + length (op_code op d ra rb t3)) next.regs' d t o
-            → WritesIf pc (pc + length (ca ++ (cb ++ op_code op d ra rb t3))) regs d t o
+        last : (o : Option ℤ) → WritesIf (pc + length ca + length cb) (pc + length ca + length cb + length (op_instr op d ra rb ∷ [])) next.regs' d t o
+            → WritesIf pc (pc + length (ca ++ (cb ++ op_instr op d ra rb ∷ []))) regs d t o
         last None f = fails_on _ _ both f
         last (Some v) w = subst (λ q. Writes pc q regs d t v) len (record {
           regs' = w.regs';
@@ -294,9 +248,7 @@ module _ (procs : List (List Instr)) (slot width p size : ℕ) where
         let cb = operand_code b t2 in
         let high = above_high t a in
         let le2 : n ≤ t2 = omega (arith, high, le) in
-        two_runs op ca cb (value_of a slot width vars) (value_of b slot width vars) d (operand a t) (operand b t2) pc t t2 (above b t2) regs has (operand_low n t a h.0 le) high
-        (operand_low n t2 b h.1 le2) (above_high t2 b)
-        (value_fits a n slot width vars low_slot low_width h.0 agree.fit) (value_fits b n slot width vars low_slot low_width h.1 agree.fit)
+        two_runs op ca cb (value_of a slot width vars) (value_of b slot width vars) d (operand a t) (operand b t2) pc t t2 regs has (operand_low n t a h.0 le) high
         (brought_runs n pc t a vars regs h.0 le agree (has_front pc ca _ has) (value_runs a n t t pc vars regs h.0 le agree))
         (λ regs' long kept.
         let agree' = still n t vars regs regs' le agree long kept in

@@ -17,14 +17,14 @@ use Rattle.source_language.specs.declared.syntax.Stmt.TheVariants.{Skip, Then', 
 use Rattle.source_language.specs.declared.syntax.Function.{Function}
 use Rattle.job_compiler.specs.declared.labels.Label.{Label}
 
--- the instructions of an operator, of which a remainder uses the free register t
-abbrev pub op_code : Operator → (d a b t : ℕ) → List Instr
-op_code Plus d a b t = instr.Add d a b ∷ []
-op_code Minus d a b t = instr.Sub d a b ∷ []
-op_code Times d a b t = instr.Mul d a b ∷ []
-op_code Over d a b t = instr.Div d a b ∷ []
-op_code Remainder d a b t = instr.Div t a b ∷ instr.Mul t t b ∷ instr.Sub d a t ∷ []
-op_code Below d a b t = instr.Lt d a b ∷ []
+-- the instruction of an operator
+abbrev pub op_instr : Operator → (d a b : ℕ) → Instr
+op_instr Plus d a b = instr.Add d a b
+op_instr Minus d a b = instr.Sub d a b
+op_instr Times d a b = instr.Mul d a b
+op_instr Over d a b = instr.Div d a b
+op_instr Remainder d a b = instr.Rem d a b
+op_instr Below d a b = instr.Lt d a b
 
 -- the register of an operand: a variable's own, and else the first free one
 abbrev pub operand : Expr → (free : ℕ) → ℕ
@@ -47,7 +47,7 @@ value_code (Variable x) d t = instr.Set t (pos 0) ∷ instr.Add d x t ∷ []
 value_code Slot d t = instr.Slot d ∷ []
 value_code Width d t = instr.Width d ∷ []
 value_code (Two' op p a q b) d t =
-    brought a (value_code a t t) ++ (brought b (value_code b (above a t) (above a t)) ++ op_code op d (operand a t) (operand b (above a t)) (above b (above a t)))
+    brought a (value_code a t t) ++ (brought b (value_code b (above a t) (above a t)) ++ op_instr op d (operand a t) (operand b (above a t)) ∷ [])
 
 abbrev pub operand_code : Expr → (free : ℕ) → List Instr
 operand_code e t = brought e (value_code e t t)

@@ -1,5 +1,5 @@
 -- When a procedure is another one with fewer registers: each register has one of the few, and none that is still read is overwritten.
-use Rattle.std.specs.Prelude.{◌≡◌, ◌≢◌, ℕ, ◌+◌, ◌<◌, ◌⊎◌, Bool, true, List, [], ◌∷◌, length, Some, None, slice_get, slice_index_or, ℤ, pos}
+use Rattle.std.specs.Prelude.{◌≡◌, ◌≢◌, ℕ, ◌+◌, ◌<◌, ◌≤◌, ◌⊎◌, Bool, true, List, [], ◌∷◌, length, Some, None, slice_get, slice_index_or, ℤ, pos}
 use Rattle.std.specs.List.{AllByRecursion}
 use Rattle.job_language.specs.declared.instructions.Instr.{Instr}
 use Rattle.job_language.specs.declared.instructions.Instr.TheVariants.{Set, Add, Sub, Mul, Div, Lt, Rem, And, Or, Xor, Shl, Shr, Eq, Le, Jz, Jmp, Slot, Width, Spawn, Post, Wait, Cancel, Ask, Isolate, Load, Store, Sum, Count, Ret}
@@ -103,9 +103,9 @@ Flows c live ws k next = (u : ℕ) → live next u ≡ true → (IsAmong u ws �
 abbrev pub WritesBelow : ℕ → Instr → Type 0
 WritesBelow size i = AllByRecursion (λ d. d < size) (writes i)
 
--- At the beginning only the two arguments are read later, and they are in the first two registers.
+-- At the beginning the two arguments are in the first two registers, if they are read later; the others are 0, and in none of these two.
 abbrev pub BeginsWith : (c : ℕ → ℕ) (live : ℕ → ℕ → Bool) → Type 0
-BeginsWith c live = (u : ℕ) → live 0 u ≡ true → (u < 2) × (c u ≡ u)
+BeginsWith c live = (u : ℕ) → live 0 u ≡ true → ((u < 2) × (c u ≡ u)) ⊎ ((2 ≤ u) × (2 ≤ c u))
 
 -- vs has registers below `most`, and rs is vs with c for its registers; `live` says which registers are read later
 pub record IsColoured (most : ℕ) (vs rs : List Instr) (c : ℕ → ℕ) (live : ℕ → ℕ → Bool) : Type 0 where

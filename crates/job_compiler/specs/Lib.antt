@@ -5,7 +5,10 @@ pub mod Traces
 pub mod Compiled
 pub mod Runs
 pub mod Wanted
+pub mod Virtual
+pub mod Labels
 pub mod Colours
 pub mod Registers
+pub mod Refusals
 pub mod Programs
 pub mod Worked

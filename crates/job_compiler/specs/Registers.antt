@@ -1,8 +1,6 @@
 -- Which functions keep to the registers below a number.
-use Rattle.std.specs.Prelude.{ℕ, ◌<◌}
-use Rattle.job_language.specs.declared.instructions.TheConstants.{REGISTERS}
-use Rattle.source_language.specs.declared.syntax.Operator.{Operator}
-use Rattle.source_language.specs.declared.syntax.Operator.TheVariants.{Plus, Minus, Times, Over, Remainder, Below}
+use Rattle.std.specs.Prelude.{ℕ, ◌<◌, Option, Some, None}
+use Rattle.job_compiler.specs.declared.registers.TheConstants.{VIRTUAL_REGISTERS}
 use Rattle.source_language.specs.declared.syntax.Expr.{Expr}
 use Rattle.source_language.specs.declared.syntax.Expr.TheVariants.{Number, Variable, Slot, Width, Two'}
 use Rattle.source_language.specs.declared.syntax.Test.{Test}
@@ -14,22 +12,13 @@ use Rattle.source_language.specs.declared.syntax.Stmt.TheVariants.{Skip, Then', 
 use Rattle.source_language.specs.declared.syntax.Function.{Function}
 use Rattle.job_compiler.specs.Code.{above, register_for}
 
--- a remainder needs the free register t
-abbrev pub IsOpLow : (most : ℕ) → Operator → (free : ℕ) → Type 0
-IsOpLow m Plus t = Unit {0}
-IsOpLow m Minus t = Unit {0}
-IsOpLow m Times t = Unit {0}
-IsOpLow m Over t = Unit {0}
-IsOpLow m Remainder t = t < m
-IsOpLow m Below t = Unit {0}
-
 -- an operand, and what its code writes
 abbrev pub IsOperandLow : (most : ℕ) → Expr → (free : ℕ) → Type 0
 IsOperandLow m (Number z) t = t < m
 IsOperandLow m (Variable x) t = x < m
 IsOperandLow m Slot t = t < m
 IsOperandLow m Width t = t < m
-IsOperandLow m (Two' op p a q b) t = IsOperandLow m a t × IsOperandLow m b (above a t) × IsOpLow m op (above b (above a t)) × (t < m)
+IsOperandLow m (Two' op p a q b) t = IsOperandLow m a t × IsOperandLow m b (above a t) × (t < m)
 
 -- a value that goes to a variable that is there: a copy of another one needs the free register
 abbrev pub IsValueLow : (most : ℕ) → Expr → (free : ℕ) → Type 0
@@ -37,7 +26,12 @@ IsValueLow m (Number z) t = Unit {0}
 IsValueLow m (Variable x) t = (x < m) × (t < m)
 IsValueLow m Slot t = Unit {0}
 IsValueLow m Width t = Unit {0}
-IsValueLow m (Two' op p a q b) t = IsOperandLow m a t × IsOperandLow m b (above a t) × IsOpLow m op (above b (above a t))
+IsValueLow m (Two' op p a q b) t = IsOperandLow m a t × IsOperandLow m b (above a t)
+
+-- an operand, or a value that goes to a variable
+abbrev pub IsWantedLow : (most : ℕ) → Expr → (into : Option ℕ) → (free : ℕ) → Type 0
+IsWantedLow m e None t = IsOperandLow m e t
+IsWantedLow m e (Some d) t = IsValueLow m e t
 
 abbrev pub IsTestLow : (most : ℕ) → Test → (free : ℕ) → Type 0
 IsTestLow m (Holds e) t = IsOperandLow m e t
@@ -66,6 +60,6 @@ IsStmtLow m (Cancel g) t = Unit {0}
 IsStmtLow m (Read d q) t = d < m
 IsStmtLow m (Store k e) t = IsOperandLow m e t
 
--- Its variables and the values on the way fit the registers of a frame.
-abbrev pub UsesFewRegisters : Function → Type 0
-UsesFewRegisters f = IsStmtLow REGISTERS f.body f.variables
+-- Its variables and the values on the way fit the virtual registers.
+abbrev pub FitsVirtualRegisters : Function → Type 0
+FitsVirtualRegisters f = IsStmtLow VIRTUAL_REGISTERS f.body f.variables

@@ -141,7 +141,7 @@ fn is_in_range(len: usize, instr: &Instr) -> bool
 }
 
 /// Whether instructions make a procedure.
-pub(crate) fn is_valid_proc(instrs: &[Instr]) -> bool
+pub fn is_valid_proc(instrs: &[Instr]) -> bool
     ensures { IsTrue result ↔ IsValidProc instrs.now }
 {
     let len = instrs.len();

@@ -1,371 +1,235 @@
 // The code of a function.
-ghost use Rattle.std.specs.Prelude.{◌≡◌, ◌↔◌, ◌⊎◌, Err, ◌+◌, ℕ, [], ◌∷◌, ◌++◌, length, false, Some, None, IfOk, OnOk, if◌then◌else◌};
-ghost use Rattle.job_compiler.specs.Code.{op_code, operand, operand_code, register_for, make_code, make_instr, read_instr, jump_instrs, test_size, test_code, stmt_size, stmt_code, function_code};
+ghost use Rattle.std.specs.Prelude.{◌≡◌, ◌↔◌, ◌+◌, ◌<◌, ◌≤◌, ℕ, [], ◌∷◌, ◌++◌, length, false, None, if◌then◌else◌};
+ghost use Rattle.job_compiler.specs.Code.{above, operand, operand_code, register_for, make_code, make_instr, read_instr, jump_instrs, test_size, test_code, stmt_size, stmt_code, function_code};
 ghost use Rattle.job_language.specs.declared.instructions.Instr.TheVariants.{Jmp, Ret, Store, Wait};
-ghost use Rattle.job_compiler.specs.Compiled.{IsCompiled, IsFunction};
-ghost use Rattle.job_compiler.specs.Registers.{UsesFewRegisters};
-ghost use Rattle.job_language.specs.Program.{IsValidProc};
+ghost use Rattle.job_compiler.specs.Labels.{labels_of};
+ghost use Rattle.job_compiler.specs.Registers.{IsWantedLow, IsOperandLow, IsTestLow, IsMakerLow, IsStmtLow};
+ghost use Rattle.job_compiler.specs.Virtual.{instr_of};
 ghost use Rattle.job_compiler.specs.Wanted.{wanted_code};
 
-use crate::checks::{is_function, is_valid_proc};
-use crate::errors::{CompileError, Unfinished};
-use crate::labels::{Label, after_of, if_labels, inside, loop_labels, next_of, place};
-use crate::registers::stmt_low;
-use crate::sizes::{above, expr_size, stmt_size, sum, test_size};
-use job_language::{Group, Instr, Key, MAX_INSTRS, Proc, Register};
+use crate::labels::{Label, Labels, after_of, if_labels, loop_labels, next_of};
+use crate::registers::VIRTUAL_REGISTERS;
+use crate::sizes::{MAX_BODY, above, size_of_test};
+use crate::virtuals::{VirtualCode, VirtualInstr};
+use job_language::Key;
 use source_language::{Expr, Function, Maker, Operator, Question, Stmt, Test};
-use std::alloc::Global;
 
-/// The procedure of a function. Wherever it stands in a program, a new frame of it does the same as
-/// the function: the same shared operations, with the same numbers, in the same order.
-///
-/// A function is refused by what it is, in this order: it is none (`NoFunction`), it needs too many
-/// registers, or too many instructions. An error other than these is one of memory.
-pub fn compile_function(alloc: Global, function: &Function) -> Result<Proc, CompileError>
-    ensures code { IfOk result (λ proc. proc ≡ function_code function.now) }
-    ensures compiled { IfOk result (IsCompiled function.now) }
-    ensures function { OnOk result (IsFunction function.now) }
-    ensures no_function { (result ≡ Err CompileError.NoFunction) ↔ (¬ IsFunction function.now) }
-    ensures registers { (result ≡ Err CompileError.TooManyRegisters)
-        ↔ (IsFunction function.now × (¬ UsesFewRegisters function.now)) }
-    ensures too_long { result ≡ Err CompileError.TooLong
-        → IsFunction function.now × UsesFewRegisters function.now }
-    ensures refused { (result ≡ Err CompileError.TooManyRegisters) ⊎ (result ≡ Err CompileError.TooLong)
-        → (¬ IsValidProc (function_code function.now)) }
+/// The code of a function whose body has at most that many instructions.
+pub(crate) fn emit_function(code: &mut VirtualCode, function: &Function, end: u8)
+    requires empty { code.old ≡ [] }
+    requires low { IsStmtLow VIRTUAL_REGISTERS function.now.body function.now.variables }
+    requires size { end ≡ stmt_size function.now.body function.now.variables }
+    requires room { end ≤ MAX_BODY }
+    ensures { code.new ≡ function_code function.now }
 {
-    if !is_function(function) {
-        return Err(CompileError::NoFunction);
-    }
-    if !stmt_low(&function.body, function.variables) {
-        return Err(CompileError::TooManyRegisters);
-    }
-    let Ok(end) = stmt_size(&function.body, function.variables) else {
-        return Err(CompileError::NoMemory);
-    };
-    if end > MAX_INSTRS - 2 {
-        return Err(CompileError::TooLong);
-    }
-    match emit_function(alloc, function, end) {
-        Ok(code) => {
-            if is_valid_proc(&code) {
-                Ok(Proc::new(code))
-            } else {
-                Err(CompileError::TooLong)
-            }
-        }
-        Err(Unfinished) => Err(CompileError::NoMemory),
-    }
-}
-
-// The code of a function whose body has that many instructions.
-fn emit_function(alloc: Global, function: &Function, end: usize) -> Result<Vec<Instr>, Unfinished>
-    requires { end ≡ stmt_size function.now.body function.now.variables }
-    ensures { IfOk result (λ code. code.items ≡ function_code function.now) }
-{
-    let mut code = Vec::new(alloc);
     emit_stmt(
-        alloc,
-        &mut code,
+        code,
         &function.body,
         function.variables,
-        &[],
+        &Labels::Outside,
         end,
-    )?;
-    put(&mut code, Instr::Set(register(0)?, 0))?;
-    put(&mut code, Instr::Ret(register(0)?))?;
-    Ok(code)
-}
-
-fn register(number: u8) -> Result<Register, Unfinished>
-    ensures { IfOk result (λ r. r ≡ number) }
-{
-    match Register::new(u64::from(number)) {
-        Some(register) => Ok(register),
-        None => Err(Unfinished),
-    }
-}
-
-// One more instruction.
-fn put(code: &mut Vec<Instr>, instr: Instr) -> Result<(), Unfinished>
-    ensures { OnOk result (code.new.items ≡ code.old.items ++ instr ∷ []) }
-{
-    match code.push(instr) {
-        Ok(()) => Ok(()),
-        Err(_) => Err(Unfinished),
-    }
-}
-
-// The instructions of an operator, of which a remainder uses the register `free` of its own.
-fn emit_op(
-    code: &mut Vec<Instr>,
-    op: Operator,
-    registers: (Register, Register, Register),
-    free: u8,
-) -> Result<(), Unfinished>
-    ensures { OnOk result (code.new.items ≡ code.old.items
-        ++ op_code op registers.0 registers.1 registers.2 free) }
-{
-    let (d, a, b) = registers;
-    match op {
-        Operator::Plus => put(code, Instr::Add(d, a, b)),
-        Operator::Minus => put(code, Instr::Sub(d, a, b)),
-        Operator::Times => put(code, Instr::Mul(d, a, b)),
-        Operator::Over => put(code, Instr::Div(d, a, b)),
-        Operator::Remainder => {
-            let t = register(free)?;
-            put(code, Instr::Div(t, a, b))?;
-            put(code, Instr::Mul(t, t, b))?;
-            put(code, Instr::Sub(d, a, t))
-        }
-        Operator::Below => put(code, Instr::Lt(d, a, b)),
-    }
-}
-
-fn make_instr(m: Maker, p: u8, a: Register, b: Register) -> Result<Instr, Unfinished>
-    ensures { IfOk result (λ i. i ≡ make_instr m p a b) }
-{
-    match m {
-        Maker::Spawn(g) => Ok(Instr::Spawn(g, p, a, b)),
-        Maker::Post => Ok(Instr::Post(p, a, b)),
-        Maker::Isolate(d) => Ok(Instr::Isolate(register(d)?, p, a, b)),
-    }
-}
-
-fn read_instr(d: Register, q: Question) -> Instr
-    ensures { result ≡ read_instr d q }
-{
-    match q {
-        Question::Cancelled => Instr::Ask(d),
-        Question::Cell(k) => Instr::Load(d, k),
-        Question::CellSum(k) => Instr::Sum(d, k),
-        Question::CellCount(k) => Instr::Count(d, k),
-    }
+    );
+    code.put(VirtualInstr::Set(0, 0));
+    code.put(VirtualInstr::Ret(0));
 }
 
 /// The register of an operand.
-fn operand(e: &Expr, free: u8) -> Result<Register, Unfinished>
-    ensures { IfOk result (λ r. r ≡ operand e.now free) }
+fn operand(e: &Expr, free: u8) -> u8
+    ensures { result ≡ operand e.now free }
 {
     match e {
-        Expr::Variable(x) => register(*x),
-        _ => register(free),
+        Expr::Variable(x) => *x,
+        _ => free,
     }
 }
 
 /// The register that is written, if one is asked for, and else the first free one.
-fn written(into: Option<u8>, free: u8) -> Result<Register, Unfinished>
-    ensures { IfOk result (λ r. r ≡ register_for into free) }
+fn written(into: Option<u8>, free: u8) -> u8
+    ensures { result ≡ register_for into free }
 {
     match into {
-        Some(d) => register(d),
-        None => register(free),
+        Some(d) => d,
+        None => free,
     }
 }
 
-fn emit_expr(code: &mut Vec<Instr>, e: &Expr, into: Option<u8>, free: u8) -> Result<(), Unfinished>
-    ensures { OnOk result (code.new.items ≡ code.old.items ++ wanted_code e.now into free) }
+fn emit_expr(code: &mut VirtualCode, e: &Expr, into: Option<u8>, free: u8)
+    requires low { IsWantedLow VIRTUAL_REGISTERS e.now into free }
+    requires room { length code.old + length (wanted_code e.now into free) ≤ MAX_BODY }
+    ensures code { code.new ≡ code.old ++ wanted_code e.now into free }
+    ensures len { length code.new ≡ length code.old + length (wanted_code e.now into free) }
 {
     match e {
-        Expr::Number(n) => {
-            let d = written(into, free)?;
-            put(code, Instr::Set(d, *n))
-        }
-        Expr::Variable(x) => match into {
-            Some(d) => {
-                let to = register(d)?;
-                let from = register(*x)?;
-                let nought = register(free)?;
-                put(code, Instr::Set(nought, 0))?;
-                put(code, Instr::Add(to, from, nought))
+        Expr::Number(n) => code.put(VirtualInstr::Set(written(into, free), *n)),
+        Expr::Variable(x) => {
+            if let Some(d) = into {
+                code.put(VirtualInstr::Set(free, 0));
+                code.put(VirtualInstr::Two(Operator::Plus, d, *x, free));
             }
-            None => Ok(()),
-        },
-        Expr::Slot => {
-            let d = written(into, free)?;
-            put(code, Instr::Slot(d))
         }
-        Expr::Width => {
-            let d = written(into, free)?;
-            put(code, Instr::Width(d))
-        }
+        Expr::Slot => code.put(VirtualInstr::Slot(written(into, free))),
+        Expr::Width => code.put(VirtualInstr::Width(written(into, free))),
         Expr::Two(op, a, b) => {
-            emit_expr(code, a, None, free)?;
-            let second = above(a, free)?;
-            emit_expr(code, b, None, second)?;
-            let d = written(into, free)?;
-            let left = operand(a, free)?;
-            let right = operand(b, second)?;
-            emit_op(code, *op, (d, left, right), above(b, second)?)
+            emit_expr(code, a, None, free);
+            let second = above(a, free);
+            emit_expr(code, b, None, second);
+            let d = written(into, free);
+            let left = operand(a, free);
+            let right = operand(b, second);
+            code.put(VirtualInstr::Two(*op, d, left, right));
         }
     }
 }
 
-fn emit_test(
-    code: &mut Vec<Instr>,
-    c: &Test,
-    want: bool,
-    to: usize,
-    free: u8,
-) -> Result<(), Unfinished>
-    ensures { OnOk result (code.new.items ≡ code.old.items
-        ++ test_code c.now want to free (length code.old.items)) }
+fn emit_test(code: &mut VirtualCode, c: &Test, want: bool, to: u8, free: u8)
+    requires low { IsTestLow VIRTUAL_REGISTERS c.now free }
+    requires room { length code.old + test_size c.now want free ≤ MAX_BODY }
+    ensures code { code.new ≡ code.old ++ test_code c.now want to free (length code.old) }
+    ensures len { length code.new ≡ length code.old + test_size c.now want free }
 {
     match c {
         Test::Holds(e) => {
-            emit_expr(code, e, None, free)?;
-            let tested = operand(e, free)?;
-            emit_jump(code, want, tested, to)
+            emit_expr(code, e, None, free);
+            let tested = operand(e, free);
+            emit_jump(code, want, tested, to);
         }
         Test::Not(t) => emit_test(code, t, !want, to, free),
         Test::Both(a, b) => {
-            let size = test_size(c, want, free)?;
-            let after = sum(code.len(), size)?;
-            emit_test(code, a, false, chosen(want, after, to), free)?;
-            emit_test(code, b, want, to, free)
+            let after = code.next() + size_of_test(c, want, free);
+            emit_test(code, a, false, chosen(want, after, to), free);
+            emit_test(code, b, want, to, free);
         }
         Test::Either(a, b) => {
-            let size = test_size(c, want, free)?;
-            let after = sum(code.len(), size)?;
-            emit_test(code, a, true, chosen(want, to, after), free)?;
-            emit_test(code, b, want, to, free)
+            let after = code.next() + size_of_test(c, want, free);
+            emit_test(code, a, true, chosen(want, to, after), free);
+            emit_test(code, b, want, to, free);
         }
     }
 }
 
-fn chosen(want: bool, first: usize, second: usize) -> usize
+fn chosen(want: bool, first: u8, second: u8) -> u8
     ensures { result ≡ (if want then first else second) }
 {
     if want { first } else { second }
 }
 
-fn emit_jump(
-    code: &mut Vec<Instr>,
-    want: bool,
-    register: Register,
-    to: usize,
-) -> Result<(), Unfinished>
-    ensures { OnOk result (code.new.items ≡ code.old.items
-        ++ jump_instrs want register to (length code.old.items)) }
+fn emit_jump(code: &mut VirtualCode, want: bool, register: u8, to: u8)
+    requires { length code.old + (if want then 2 else 1) ≤ MAX_BODY }
+    ensures code { code.new ≡ code.old ++ jump_instrs want register to (length code.old) }
+    ensures len { length code.new ≡ length code.old + (if want then 2 else 1) }
 {
     if want {
-        let past = sum(code.len(), 2)?;
-        let after = place(past)?;
-        let target = place(to)?;
-        put(code, Instr::Jz(register, after))?;
-        put(code, Instr::Jmp(target))
+        let after = code.next() + 2;
+        code.put(VirtualInstr::Jz(register, after));
+        code.put(VirtualInstr::Jmp(to));
     } else {
-        let target = place(to)?;
-        put(code, Instr::Jz(register, target))
+        code.put(VirtualInstr::Jz(register, to));
     }
 }
 
-// A jump.
-fn put_jump(code: &mut Vec<Instr>, to: usize) -> Result<(), Unfinished>
-    ensures { OnOk result (code.new.items ≡ code.old.items ++ Jmp to ∷ []) }
+fn make_instr(m: Maker, p: u8, a: u8, b: u8) -> VirtualInstr
+    ensures { instr_of result ≡ make_instr m p a b }
 {
-    let target = place(to)?;
-    put(code, Instr::Jmp(target))
+    match m {
+        Maker::Spawn(g) => VirtualInstr::Spawn(g, p, a, b),
+        Maker::Post => VirtualInstr::Post(p, a, b),
+        Maker::Isolate(d) => VirtualInstr::Isolate(d, p, a, b),
+    }
+}
+
+fn read_instr(d: u8, q: Question) -> VirtualInstr
+    ensures { instr_of result ≡ read_instr d q }
+{
+    match q {
+        Question::Cancelled => VirtualInstr::Ask(d),
+        Question::Cell(k) => VirtualInstr::Load(d, k),
+        Question::CellSum(k) => VirtualInstr::Sum(d, k),
+        Question::CellCount(k) => VirtualInstr::Count(d, k),
+    }
 }
 
 // Two operands, and an instruction that makes a row of them.
-fn emit_make(
-    code: &mut Vec<Instr>,
-    m: Maker,
-    p: u8,
-    a: &Expr,
-    b: &Expr,
-    free: u8,
-) -> Result<(), Unfinished>
-    ensures { OnOk result (code.new.items ≡ code.old.items ++ make_code m p a.now b.now free) }
+fn emit_make(code: &mut VirtualCode, m: Maker, p: u8, a: &Expr, b: &Expr, free: u8)
+    requires first { IsOperandLow VIRTUAL_REGISTERS a.now free }
+    requires second { IsOperandLow VIRTUAL_REGISTERS b.now (above a.now free) }
+    requires room { length code.old + length (operand_code a.now free)
+        + length (operand_code b.now (above a.now free)) + 1 ≤ MAX_BODY }
+    ensures code { code.new ≡ code.old ++ make_code m p a.now b.now free }
+    ensures len { length code.new ≡ length code.old + length (operand_code a.now free)
+        + length (operand_code b.now (above a.now free)) + 1 }
 {
-    emit_expr(code, a, None, free)?;
-    let second = above(a, free)?;
-    emit_expr(code, b, None, second)?;
-    let left = operand(a, free)?;
-    let right = operand(b, second)?;
-    let instr = make_instr(m, p, left, right)?;
-    put(code, instr)
+    emit_expr(code, a, None, free);
+    let second = above(a, free);
+    emit_expr(code, b, None, second);
+    let left = operand(a, free);
+    let right = operand(b, second);
+    code.put(make_instr(m, p, left, right));
 }
 
-fn emit_return(code: &mut Vec<Instr>, e: &Expr, free: u8) -> Result<(), Unfinished>
-    ensures { OnOk result (code.new.items ≡ code.old.items
-        ++ (operand_code e.now free ++ Ret (operand e.now free) ∷ [])) }
+fn emit_return(code: &mut VirtualCode, e: &Expr, free: u8)
+    requires low { IsOperandLow VIRTUAL_REGISTERS e.now free }
+    requires room { length code.old + length (operand_code e.now free) + 1 ≤ MAX_BODY }
+    ensures code { code.new ≡ code.old ++ (operand_code e.now free ++ Ret (operand e.now free) ∷ []) }
+    ensures len { length code.new ≡ length code.old + length (operand_code e.now free) + 1 }
 {
-    emit_expr(code, e, None, free)?;
-    put(code, Instr::Ret(operand(e, free)?))
+    emit_expr(code, e, None, free);
+    code.put(VirtualInstr::Ret(operand(e, free)));
 }
 
-fn emit_store(code: &mut Vec<Instr>, k: Key, e: &Expr, free: u8) -> Result<(), Unfinished>
-    ensures { OnOk result (code.new.items ≡ code.old.items
-        ++ (operand_code e.now free ++ Store k (operand e.now free) ∷ [])) }
+fn emit_store(code: &mut VirtualCode, k: Key, e: &Expr, free: u8)
+    requires low { IsOperandLow VIRTUAL_REGISTERS e.now free }
+    requires room { length code.old + length (operand_code e.now free) + 1 ≤ MAX_BODY }
+    ensures code { code.new ≡ code.old
+        ++ (operand_code e.now free ++ Store k (operand e.now free) ∷ []) }
+    ensures len { length code.new ≡ length code.old + length (operand_code e.now free) + 1 }
 {
-    emit_expr(code, e, None, free)?;
-    put(code, Instr::Store(k, operand(e, free)?))
+    emit_expr(code, e, None, free);
+    code.put(VirtualInstr::Store(k, operand(e, free)));
 }
 
-// A wait whose total and status go to variables, or to the first free register.
-fn emit_wait(
-    code: &mut Vec<Instr>,
-    d: Option<u8>,
-    e: Option<u8>,
-    g: Group,
-    free: u8,
-) -> Result<(), Unfinished>
-    ensures { OnOk result (code.new.items ≡ code.old.items
-        ++ Wait (register_for d free) (register_for e free) g ∷ []) }
-{
-    let total = written(d, free)?;
-    let status = written(e, free)?;
-    put(code, Instr::Wait(total, status, g))
-}
-
-fn emit_stmt(
-    alloc: Global,
-    code: &mut Vec<Instr>,
-    s: &Stmt,
-    free: u8,
-    labels: &[Label],
-    end: usize,
-) -> Result<(), Unfinished>
-    ensures { OnOk result (code.new.items ≡ code.old.items
-        ++ stmt_code s.now free (length code.old.items) labels.now end) }
+fn emit_stmt(code: &mut VirtualCode, s: &Stmt, free: u8, labels: &Labels, end: u8)
+    requires low { IsStmtLow VIRTUAL_REGISTERS s.now free }
+    requires room { length code.old + stmt_size s.now free ≤ MAX_BODY }
+    ensures code { code.new ≡ code.old
+        ++ stmt_code s.now free (length code.old) (labels_of labels.now) end }
+    ensures len { length code.new ≡ length code.old + stmt_size s.now free }
 {
     match s {
-        Stmt::Skip => Ok(()),
+        Stmt::Skip => (),
         Stmt::Then(a, b) => {
-            emit_stmt(alloc, code, a, free, labels, end)?;
-            emit_stmt(alloc, code, b, free, labels, end)
+            emit_stmt(code, a, free, &*labels, end);
+            emit_stmt(code, b, free, &*labels, end);
         }
         Stmt::Assign(x, e) => emit_expr(code, e, Some(*x), free),
         Stmt::If(c, a, b) => {
-            let sides = if_labels(code.len(), c, a, b, free)?;
-            emit_test(code, c, false, sides.other, free)?;
-            emit_stmt(alloc, code, a, free, labels, end)?;
-            put(code, Instr::Jmp(sides.after))?;
-            emit_stmt(alloc, code, b, free, labels, end)
+            let sides = if_labels(code.next(), c, a, b, free);
+            emit_test(code, c, false, sides.other, free);
+            emit_stmt(code, a, free, &*labels, end);
+            code.put(VirtualInstr::Jmp(sides.after));
+            emit_stmt(code, b, free, &*labels, end);
         }
         Stmt::Loop(c, b, step) => {
-            let parts = loop_labels(sum(code.len(), 1)?, c, b, step, free)?;
-            let all = inside(alloc, parts.label, labels)?;
-            put_jump(code, parts.test)?;
-            emit_stmt(alloc, code, b, free, &all, end)?;
-            emit_stmt(alloc, code, step, free, labels, end)?;
-            emit_test(code, c, true, parts.body, free)
+            let parts = loop_labels(code.next() + 1, c, b, step, free);
+            code.put(VirtualInstr::Jmp(parts.test));
+            emit_stmt(code, b, free, &Labels::Inside(parts.label, &*labels), end);
+            emit_stmt(code, step, free, &*labels, end);
+            emit_test(code, c, true, parts.body, free);
         }
         Stmt::Repeat(c, b, step) => {
-            let parts = loop_labels(code.len(), c, b, step, free)?;
-            let all = inside(alloc, parts.label, labels)?;
-            emit_stmt(alloc, code, b, free, &all, end)?;
-            emit_stmt(alloc, code, step, free, labels, end)?;
-            emit_test(code, c, true, parts.body, free)
+            let parts = loop_labels(code.next(), c, b, step, free);
+            emit_stmt(code, b, free, &Labels::Inside(parts.label, &*labels), end);
+            emit_stmt(code, step, free, &*labels, end);
+            emit_test(code, c, true, parts.body, free);
         }
-        Stmt::Break(loops) => put_jump(code, after_of(labels, *loops, end)),
-        Stmt::Continue(loops) => put_jump(code, next_of(labels, *loops, end)),
+        Stmt::Break(loops) => code.put(VirtualInstr::Jmp(after_of(&*labels, *loops, end))),
+        Stmt::Continue(loops) => code.put(VirtualInstr::Jmp(next_of(&*labels, *loops, end))),
         Stmt::Return(e) => emit_return(code, e, free),
         Stmt::Make(m, p, a, b) => emit_make(code, *m, *p, a, b, free),
-        Stmt::Wait(d, e, g) => emit_wait(code, *d, *e, *g, free),
-        Stmt::Cancel(g) => put(code, Instr::Cancel(*g)),
-        Stmt::Read(d, q) => put(code, read_instr(register(*d)?, *q)),
+        Stmt::Wait(d, e, g) => {
+            code.put(VirtualInstr::Wait(written(*d, free), written(*e, free), *g));
+        }
+        Stmt::Cancel(g) => code.put(VirtualInstr::Cancel(*g)),
+        Stmt::Read(d, q) => code.put(read_instr(*d, *q)),
         Stmt::Store(k, e) => emit_store(code, *k, e, free),
     }
 }

@@ -1,16 +1,24 @@
-// Why a function is not compiled.
+// Why a function or a program is not compiled.
+
+/// Why a function has no procedure.
+#[derive(Clone, Copy, Debug, PartialEq, Eq)]
+pub enum Refusal {
+    /// It has fewer than two variables, or names one that it does not have.
+    NoFunction,
+    /// Its variables, with the values that are on the way at once, are more than 255.
+    TooManyValues,
+    /// It has more than 256 instructions.
+    TooLong,
+    /// It needs more than 8 registers.
+    TooManyRegisters,
+}
 
 /// Why a function is not compiled.
 #[derive(Clone, Copy, Debug, PartialEq, Eq)]
 pub enum CompileError {
     /// An allocation failed.
     NoMemory,
-    /// It has more than 256 instructions.
-    TooLong,
-    /// It needs more than 8 registers.
-    TooManyRegisters,
-    /// It has fewer than two variables, or names one that it does not have.
-    NoFunction,
+    Refused(Refusal),
 }
 
 /// Why functions make no program; a number is that of a function, from 0.
@@ -20,16 +28,7 @@ pub enum ProgramError {
     NoMemory,
     /// There is no function, or there are more than 16.
     Count,
-    /// It has more than 256 instructions.
-    TooLong(usize),
-    /// It needs more than 8 registers.
-    TooManyRegisters(usize),
-    /// It has fewer than two variables, or names one that it does not have.
-    NoFunction(usize),
+    Refused(usize, Refusal),
     /// It names a procedure that is not there.
     NoProcedure(usize),
 }
-
-/// Memory is missing, or something did not fit that the checks before have found to fit.
-#[derive(Clone, Copy, Debug)]
-pub(crate) struct Unfinished;

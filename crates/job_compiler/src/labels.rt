@@ -1,127 +1,113 @@
 // Places to jump to in the code of a function.
-ghost use Rattle.std.specs.Prelude.{◌≡◌, ◌+◌, ◌∷◌, false, true, IfOk, slice_get};
+ghost use Rattle.std.specs.Prelude.{◌≡◌, ◌+◌, ◌≤◌, ◌∷◌, false, true, slice_get, length};
 ghost use Rattle.job_compiler.specs.Code.{test_size, stmt_size, loop_test, loop_end, after_of, next_of};
+ghost use Rattle.job_compiler.specs.Labels.{labels_of};
+ghost use Rattle.job_compiler.specs.Registers.{IsTestLow, IsStmtLow};
 
-use crate::errors::Unfinished;
-use crate::sizes::{stmt_size, sum, test_size};
+use crate::registers::VIRTUAL_REGISTERS;
+use crate::sizes::{MAX_BODY, size_of_stmt, size_of_test};
 use source_language::{Stmt, Test};
-use std::alloc::Global;
 
 /// Where `continue` and `break` lead in the body of a loop: to the step, and to what follows the loop.
 #[derive(Clone, Copy)]
 pub(crate) struct Label {
-    pub(crate) next: usize,
-    pub(crate) after: usize,
+    pub(crate) next: u8,
+    pub(crate) after: u8,
 }
 
-/// A place to jump to.
-pub(crate) fn place(at: usize) -> Result<u8, Unfinished>
-    ensures { IfOk result (λ t. t ≡ at) }
-{
-    if at > 255 {
-        return Err(Unfinished);
-    }
-    Ok(at as u8)
+/// The labels of the loops around a statement.
+#[derive(Drop)]
+pub(crate) enum Labels<'a> {
+    Outside,
+    /// Those of the innermost loop, and of the loops around it.
+    Inside(Label, &'a Labels<'a>),
 }
 
 /// Where `break` leads out of a loop that is around that many others, in a function that ends at `end`.
-pub(crate) fn after_of(labels: &[Label], loops: u8, end: usize) -> usize
-    ensures { result ≡ after_of (slice_get labels.now loops) end }
+pub(crate) fn after_of(labels: &Labels, loops: u8, end: u8) -> u8
+    ensures { result ≡ after_of (slice_get (labels_of labels.now) loops) end }
 {
-    match labels.get(usize::from(loops)) {
-        Some(label) => label.after,
-        None => end,
+    match labels {
+        Labels::Outside => end,
+        Labels::Inside(label, around) => {
+            if loops == 0 {
+                label.after
+            } else {
+                after_of(around, loops - 1, end)
+            }
+        }
     }
 }
 
 /// Where `continue` leads in a loop that is around that many others.
-pub(crate) fn next_of(labels: &[Label], loops: u8, end: usize) -> usize
-    ensures { result ≡ next_of (slice_get labels.now loops) end }
+pub(crate) fn next_of(labels: &Labels, loops: u8, end: u8) -> u8
+    ensures { result ≡ next_of (slice_get (labels_of labels.now) loops) end }
 {
-    match labels.get(usize::from(loops)) {
-        Some(label) => label.next,
-        None => end,
-    }
-}
-
-/// The labels in the body of a loop, those of the loop itself first.
-pub(crate) fn inside(
-    alloc: Global,
-    label: Label,
-    labels: &[Label],
-) -> Result<Vec<Label>, Unfinished>
-    ensures { IfOk result (λ all. all.items ≡ label ∷ labels.now) }
-{
-    let mut all = Vec::new(alloc);
-    if all.push(label).is_err() {
-        return Err(Unfinished);
-    }
-    match all.extend_from_slice(labels) {
-        Ok(()) => Ok(all),
-        Err(_) => Err(Unfinished),
+    match labels {
+        Labels::Outside => end,
+        Labels::Inside(label, around) => {
+            if loops == 0 {
+                label.next
+            } else {
+                next_of(around, loops - 1, end)
+            }
+        }
     }
 }
 
 /// Where the other side of a choice is, and what follows both.
 #[derive(Clone, Copy)]
 pub(crate) struct IfLabels {
-    pub(crate) other: usize,
+    pub(crate) other: u8,
     pub(crate) after: u8,
 }
 
 /// The places of a choice whose condition is at `at`.
-pub(crate) fn if_labels(
-    at: usize,
-    c: &Test,
-    a: &Stmt,
-    b: &Stmt,
-    free: u8,
-) -> Result<IfLabels, Unfinished>
-    ensures { IfOk result (λ l. (l.other ≡ at + test_size c.now false free + stmt_size a.now free + 1)
-        × (l.after ≡ l.other + stmt_size b.now free)) }
+pub(crate) fn if_labels(at: u8, c: &Test, a: &Stmt, b: &Stmt, free: u8) -> IfLabels
+    requires condition { IsTestLow VIRTUAL_REGISTERS c.now free }
+    requires first { IsStmtLow VIRTUAL_REGISTERS a.now free }
+    requires second { IsStmtLow VIRTUAL_REGISTERS b.now free }
+    requires room { at + test_size c.now false free + stmt_size a.now free + 1 + stmt_size b.now free ≤ MAX_BODY }
+    ensures other { result.other ≡ at + test_size c.now false free + stmt_size a.now free + 1 }
+    ensures after { result.after ≡ result.other + stmt_size b.now free }
 {
-    let test = test_size(c, false, free)?;
-    let first = stmt_size(a, free)?;
-    let second = stmt_size(b, free)?;
-    let middle = sum(at, test)?;
-    let jump = sum(middle, first)?;
-    let other = sum(jump, 1)?;
-    let end = sum(other, second)?;
-    let after = place(end)?;
-    Ok(IfLabels { other, after })
+    let test = size_of_test(c, false, free);
+    let first = size_of_stmt(a, free);
+    let second = size_of_stmt(b, free);
+    let other = at + test + first + 1;
+    let after = other + second;
+    IfLabels { other, after }
 }
 
 /// Where the parts of a loop are: the body, the condition, and the labels of the body.
 #[derive(Clone, Copy)]
 pub(crate) struct LoopLabels {
-    pub(crate) body: usize,
-    pub(crate) test: usize,
+    pub(crate) body: u8,
+    pub(crate) test: u8,
     pub(crate) label: Label,
 }
 
 /// The places of a loop whose body is at `at`.
-pub(crate) fn loop_labels(
-    at: usize,
-    c: &Test,
-    b: &Stmt,
-    s: &Stmt,
-    free: u8,
-) -> Result<LoopLabels, Unfinished>
-    ensures { IfOk result (λ l. (l.body ≡ at)
-        × (l.test ≡ loop_test b.now s.now free at)
-        × (l.label.next ≡ at + stmt_size b.now free)
-        × (l.label.after ≡ loop_end c.now b.now s.now free at)) }
+pub(crate) fn loop_labels(at: u8, c: &Test, b: &Stmt, s: &Stmt, free: u8) -> LoopLabels
+    requires condition { IsTestLow VIRTUAL_REGISTERS c.now free }
+    requires body_low { IsStmtLow VIRTUAL_REGISTERS b.now free }
+    requires step { IsStmtLow VIRTUAL_REGISTERS s.now free }
+    requires room { at + stmt_size b.now free + stmt_size s.now free + test_size c.now true free ≤ MAX_BODY }
+    ensures body { result.body ≡ at }
+    ensures test { result.test ≡ loop_test b.now s.now free at }
+    ensures next { result.label.next ≡ at + stmt_size b.now free }
+    ensures after { result.label.after ≡ loop_end c.now b.now s.now free at }
 {
-    let body = stmt_size(b, free)?;
-    let step = stmt_size(s, free)?;
-    let condition = test_size(c, true, free)?;
-    let next = sum(at, body)?;
-    let test = sum(next, step)?;
-    let after = sum(test, condition)?;
+    let body = size_of_stmt(b, free);
+    let step = size_of_stmt(s, free);
+    let condition = size_of_test(c, true, free);
+    let next = at + body;
+    let test = next + step;
+    let after = test + condition;
     let label = Label { next, after };
-    Ok(LoopLabels {
+    LoopLabels {
         body: at,
         test,
         label,
-    })
+    }
 }

@@ -2,15 +2,23 @@
 #![tactic(auto)]
 
 mod checks;
+mod compile;
 mod emit;
 mod errors;
 mod labels;
 mod laws;
+mod memory;
+mod narrow;
 mod programs;
 mod registers;
 mod sizes;
+mod virtuals;
 
-pub use emit::compile_function;
-pub use errors::{CompileError, ProgramError};
+pub use checks::is_valid_proc;
+pub use compile::{code_in, compile_function, compile_in, plain_proc};
+pub use errors::{CompileError, ProgramError, Refusal};
 pub use laws::{code_is_compiled, coloured_code_is_compiled, runs_follow, worked_example};
-pub use programs::compile_program;
+pub use memory::{Memory, ProgramMemory};
+pub use narrow::narrow_two;
+pub use programs::{are_calls, compile_procs, compile_program};
+pub use virtuals::{VirtualCode, VirtualInstr};

@@ -1,12 +1,13 @@
 // The program of a list of functions.
-ghost use Rattle.std.specs.Prelude.{IsTrue, ◌≡◌, ◌↔◌, ◌⊎◌, ◌<◌, ◌≤◌, All, [], ◌∷◌, ◌++◌, length, map, IfOk, IfErr, OnOk};
-ghost use Rattle.job_language.specs.Program.{Calls, IsValidProc};
+ghost use Rattle.std.specs.Prelude.{IsTrue, ◌≡◌, ◌≢◌, ◌↔◌, ◌<◌, ◌≤◌, Err, length, map, IfOk, IfErr, OnOk};
+ghost use Rattle.std.specs.List.{All};
+ghost use Rattle.job_language.specs.Program.{Calls};
 ghost use Rattle.job_compiler.specs.Code.{function_code};
-ghost use Rattle.job_compiler.specs.Compiled.{IsFunction};
-ghost use Rattle.job_compiler.specs.Programs.{IsCompiledProgram, MakeProgram};
+ghost use Rattle.job_compiler.specs.Programs.{FitsProgram, HasCount, IsCompiledProgram, IsRefusedProgram, IsWrong, MakeProgram};
 
-use crate::emit::compile_function;
-use crate::errors::{CompileError, ProgramError};
+use crate::compile::compile_in;
+use crate::errors::ProgramError;
+use crate::memory::{Memory, ProgramMemory};
 use job_language::{Instr, MAX_PROCS, Proc, Program};
 use source_language::Function;
 use std::alloc::Global;
@@ -16,63 +17,55 @@ use std::alloc::Global;
 pub fn compile_program(alloc: Global, functions: &[Function]) -> Result<Program, ProgramError>
     ensures code { IfOk result (λ program. program ≡ map function_code functions.now) }
     ensures compiled { IfOk result (IsCompiledProgram functions.now) }
-    ensures refused { IfErr result (λ e. (e ≡ ProgramError.NoMemory) ⊎ (¬ MakeProgram functions.now)) }
+    ensures accepted { OnOk result (MakeProgram functions.now) }
+    ensures refused { IfErr result (IsRefusedProgram functions.now) }
 {
-    if functions.is_empty() || functions.len() > MAX_PROCS {
-        return Err(ProgramError::Count);
-    }
-    let procs = compile_all(alloc, functions)?;
-    match Program::new(alloc, procs) {
+    let Ok(memory) = ProgramMemory::new(alloc, functions.len()) else {
+        return Err(ProgramError::NoMemory);
+    };
+    match Program::new(alloc, compile_procs(memory, functions)?) {
         Ok(program) => Ok(program),
         Err(_) => Err(ProgramError::NoMemory),
     }
 }
 
-// The procedures, one after another.
-fn compile_all(alloc: Global, functions: &[Function]) -> Result<Vec<Proc>, ProgramError>
+/// The procedures of a program, in memory that is there for them.
+pub fn compile_procs(
+    memory: ProgramMemory,
+    functions: &[Function],
+) -> Result<Vec<Proc>, ProgramError>
+    requires { length functions.now ≤ memory }
     ensures code { IfOk result (λ procs. procs.items ≡ map function_code functions.now) }
-    ensures functions { OnOk result (All IsFunction functions.now) }
-    ensures valid { IfOk result (λ procs. All IsValidProc procs.items) }
-    ensures calls { IfOk result (λ procs. All (All (Calls (length functions.now))) procs.items) }
-    ensures refused { IfErr result (λ e. (e ≡ ProgramError.NoMemory) ⊎ (¬ MakeProgram functions.now)) }
+    ensures accepted { OnOk result (MakeProgram functions.now) }
+    ensures refused { IfErr result (IsRefusedProgram functions.now) }
+    ensures memory { result ≢ Err ProgramError.NoMemory }
 {
-    let mut procs = Vec::new(alloc);
+    if functions.is_empty() || functions.len() > MAX_PROCS {
+        return Err(ProgramError::Count);
+    }
+    let (mut each, mut procs) = memory.parts();
     for (number, function) in functions.iter().enumerate() {
-        match compile_one(alloc, functions.len(), number, function) {
-            Ok(proc) => add(&mut procs, proc)?,
+        let memory = each.pop().unwrap();
+        match compile_one(memory, functions.len(), number, function) {
+            Ok(proc) => procs.push(proc).unwrap(),
             Err(error) => return Err(error),
         }
     }
     Ok(procs)
 }
 
-// One more procedure.
-fn add(procs: &mut Vec<Proc>, proc: Proc) -> Result<(), ProgramError>
-    ensures items { OnOk result (procs.new.items ≡ procs.old.items ++ proc ∷ []) }
-    ensures memory { IfErr result (λ e. e ≡ ProgramError.NoMemory) }
-{
-    match procs.push(proc) {
-        Ok(()) => Ok(()),
-        Err(_) => Err(ProgramError::NoMemory),
-    }
-}
-
 // The procedure of the function of that number, in a program of `procs`.
 fn compile_one(
-    alloc: Global,
+    memory: Memory,
     procs: usize,
     number: usize,
     function: &Function,
 ) -> Result<Proc, ProgramError>
     ensures code { IfOk result (λ proc. proc ≡ function_code function.now) }
-    ensures functions { OnOk result (IsFunction function.now) }
-    ensures valid { IfOk result IsValidProc }
-    ensures calls { IfOk result (All (Calls procs)) }
-    ensures refused { IfErr result (λ e. (e ≡ ProgramError.NoMemory)
-        ⊎ (¬ (IsFunction function.now × IsValidProc (function_code function.now)
-        × All (Calls procs) (function_code function.now)))) }
+    ensures fits { OnOk result (FitsProgram procs function.now) }
+    ensures wrong { IfErr result (IsWrong procs function.now number) }
 {
-    match compile_function(alloc, function) {
+    match compile_in(memory, function) {
         Ok(proc) => {
             if are_calls(procs, proc.instrs()) {
                 Ok(proc)
@@ -80,15 +73,12 @@ fn compile_one(
                 Err(ProgramError::NoProcedure(number))
             }
         }
-        Err(CompileError::NoMemory) => Err(ProgramError::NoMemory),
-        Err(CompileError::TooLong) => Err(ProgramError::TooLong(number)),
-        Err(CompileError::TooManyRegisters) => Err(ProgramError::TooManyRegisters(number)),
-        Err(CompileError::NoFunction) => Err(ProgramError::NoFunction(number)),
+        Err(refusal) => Err(ProgramError::Refused(number, refusal)),
     }
 }
 
-// Whether each procedure that is named is there.
-fn are_calls(procs: usize, instrs: &[Instr]) -> bool
+/// Whether each procedure that is named is there, in a program of `procs`.
+pub fn are_calls(procs: usize, instrs: &[Instr]) -> bool
     ensures { IsTrue result ↔ All (Calls procs) instrs.now }
 {
     for instr in instrs {

@@ -1,79 +1,58 @@
-// Whether a function keeps to the registers of a frame.
+// Whether the variables and the values on the way fit the virtual registers.
 ghost use Rattle.std.specs.Prelude.{IsTrue, ◌≡◌, ◌+◌, ◌<◌, ◌↔◌, SomeIff};
 ghost use Rattle.job_compiler.specs.Code.{above, register_for};
-ghost use Rattle.job_compiler.specs.Registers.{IsOpLow, IsOperandLow, IsValueLow, IsTestLow, IsMakerLow, IsStmtLow};
+ghost use Rattle.job_compiler.specs.Registers.{IsOperandLow, IsValueLow, IsTestLow, IsMakerLow, IsStmtLow};
 
-use job_language::REGISTERS;
-use source_language::{Expr, Maker, Operator, Stmt, Test};
+use source_language::{Expr, Maker, Stmt, Test};
 
-// Whether a frame has a register of this number.
+/// How many virtual registers there are.
+pub(crate) const VIRTUAL_REGISTERS: u8 = 255;
+
+// Whether there is a virtual register of this number.
 fn is_low(number: u8) -> bool
-    ensures { IsTrue result ↔ (number < REGISTERS) }
+    ensures { IsTrue result ↔ (number < VIRTUAL_REGISTERS) }
 {
-    usize::from(number) < REGISTERS
-}
-
-fn op_low(op: Operator, free: u8) -> bool
-    ensures { IsTrue result ↔ IsOpLow REGISTERS op free }
-{
-    match op {
-        Operator::Plus => true,
-        Operator::Minus => true,
-        Operator::Times => true,
-        Operator::Over => true,
-        Operator::Remainder => is_low(free),
-        Operator::Below => true,
-    }
+    number < VIRTUAL_REGISTERS
 }
 
 // The next free register beside what is written into the first free one.
 fn next_low(free: u8) -> Option<u8>
-    ensures { SomeIff result (free < REGISTERS) (free + 1) }
+    ensures { SomeIff result (free < VIRTUAL_REGISTERS) (free + 1) }
 {
     if is_low(free) { Some(free + 1) } else { None }
 }
 
 /// The first free register beside an operand, if there are enough registers for it.
 fn operand_low(e: &Expr, free: u8) -> Option<u8>
-    ensures { SomeIff result (IsOperandLow REGISTERS e.now free) (above e.now free) }
+    ensures { SomeIff result (IsOperandLow VIRTUAL_REGISTERS e.now free) (above e.now free) }
 {
     match e {
         Expr::Number(_) => next_low(free),
         Expr::Variable(x) => { if is_low(*x) { Some(free) } else { None } }
         Expr::Slot => next_low(free),
         Expr::Width => next_low(free),
-        Expr::Two(op, a, b) => {
+        Expr::Two(_, a, b) => {
             let second = operand_low(a, free)?;
-            let last = operand_low(b, second)?;
-            if op_low(*op, last) {
-                next_low(free)
-            } else {
-                None
-            }
+            operand_low(b, second)?;
+            next_low(free)
         }
     }
 }
 
 fn value_low(e: &Expr, free: u8) -> bool
-    ensures { IsTrue result ↔ IsValueLow REGISTERS e.now free }
+    ensures { IsTrue result ↔ IsValueLow VIRTUAL_REGISTERS e.now free }
 {
     match e {
         Expr::Number(_) => true,
         Expr::Variable(x) => is_low(*x) && is_low(free),
         Expr::Slot => true,
         Expr::Width => true,
-        Expr::Two(op, a, b) => match operand_low(a, free) {
-            Some(second) => match operand_low(b, second) {
-                Some(last) => op_low(*op, last),
-                None => false,
-            },
-            None => false,
-        },
+        Expr::Two(_, a, b) => two_low(a, b, free),
     }
 }
 
 fn test_low(c: &Test, free: u8) -> bool
-    ensures { IsTrue result ↔ IsTestLow REGISTERS c.now free }
+    ensures { IsTrue result ↔ IsTestLow VIRTUAL_REGISTERS c.now free }
 {
     match c {
         Test::Holds(e) => operand_low(e, free).is_some(),
@@ -84,7 +63,7 @@ fn test_low(c: &Test, free: u8) -> bool
 }
 
 fn maker_low(m: Maker) -> bool
-    ensures { IsTrue result ↔ IsMakerLow REGISTERS m }
+    ensures { IsTrue result ↔ IsMakerLow VIRTUAL_REGISTERS m }
 {
     match m {
         Maker::Isolate(d) => is_low(d),
@@ -95,7 +74,7 @@ fn maker_low(m: Maker) -> bool
 
 fn two_low(a: &Expr, b: &Expr, free: u8) -> bool
     ensures { IsTrue result
-        ↔ (IsOperandLow REGISTERS a.now free × IsOperandLow REGISTERS b.now (above a.now free)) }
+        ↔ (IsOperandLow VIRTUAL_REGISTERS a.now free × IsOperandLow VIRTUAL_REGISTERS b.now (above a.now free)) }
 {
     match operand_low(a, free) {
         Some(second) => operand_low(b, second).is_some(),
@@ -104,7 +83,7 @@ fn two_low(a: &Expr, b: &Expr, free: u8) -> bool
 }
 
 fn one_low(into: Option<u8>, free: u8) -> bool
-    ensures { IsTrue result ↔ (register_for into free < REGISTERS) }
+    ensures { IsTrue result ↔ (register_for into free < VIRTUAL_REGISTERS) }
 {
     match into {
         Some(d) => is_low(d),
@@ -112,9 +91,9 @@ fn one_low(into: Option<u8>, free: u8) -> bool
     }
 }
 
-/// Whether a statement's variables and the values on the way fit the registers of a frame.
+/// Whether a statement's variables and the values on the way fit the virtual registers.
 pub(crate) fn stmt_low(s: &Stmt, free: u8) -> bool
-    ensures { IsTrue result ↔ IsStmtLow REGISTERS s.now free }
+    ensures { IsTrue result ↔ IsStmtLow VIRTUAL_REGISTERS s.now free }
 {
     match s {
         Stmt::Skip => true,

@@ -1,70 +1,60 @@
 // How many instructions there will be.
-ghost use Rattle.std.specs.Prelude.{◌≡◌, ◌+◌, ℕ, length, IfOk};
-ghost use Rattle.job_compiler.specs.Code.{op_code, operand, above, operand_code, test_size, stmt_size};
+ghost use Rattle.std.specs.Prelude.{◌≡◌, ◌+◌, ◌≤◌, length, SomeIff};
+ghost use Rattle.job_compiler.specs.Code.{above, test_size, stmt_size};
+ghost use Rattle.job_compiler.specs.Registers.{IsOperandLow, IsWantedLow, IsTestLow, IsStmtLow};
 ghost use Rattle.job_compiler.specs.Wanted.{wanted_code};
 
-use crate::errors::Unfinished;
-use source_language::{Expr, Operator, Stmt, Test};
+use crate::registers::VIRTUAL_REGISTERS;
+use source_language::{Expr, Stmt, Test};
 
-/// A sum of two sizes.
-pub(crate) fn sum(a: usize, b: usize) -> Result<usize, Unfinished>
-    ensures { IfOk result (λ n. n ≡ a + b) }
+/// How many instructions the body of a function may have: two more follow it.
+pub(crate) const MAX_BODY: u8 = 254;
+
+// A sum of two sizes, if it is one of a body.
+fn sum(a: u8, b: u8) -> Option<u8>
+    ensures { SomeIff result (a + b ≤ MAX_BODY) (a + b) }
 {
     match a.checked_add(b) {
-        Some(n) => Ok(n),
-        None => Err(Unfinished),
+        Some(n) => { if n <= MAX_BODY { Some(n) } else { None } }
+        None => None,
     }
 }
 
 /// The first free register beside an operand.
-pub(crate) fn above(e: &Expr, free: u8) -> Result<u8, Unfinished>
-    ensures { IfOk result (λ r. r ≡ above e.now free) }
+pub(crate) fn above(e: &Expr, free: u8) -> u8
+    requires { IsOperandLow VIRTUAL_REGISTERS e.now free }
+    ensures { result ≡ above e.now free }
 {
     match e {
-        Expr::Variable(_) => Ok(free),
-        _ => {
-            if free >= 8 {
-                return Err(Unfinished);
-            }
-            Ok(free + 1)
-        }
-    }
-}
-
-// How many instructions an operator has.
-fn op_size(op: Operator) -> usize
-    ensures { (d a b t : ℕ) → result ≡ length (op_code op d a b t) }
-{
-    match op {
-        Operator::Remainder => 3,
-        _ => 1,
+        Expr::Variable(_) => free,
+        _ => free + 1,
     }
 }
 
 /// The size of an expression's code: as an operand, or with a register to be written.
-pub(crate) fn expr_size(e: &Expr, into: Option<u8>, free: u8) -> Result<usize, Unfinished>
-    ensures { IfOk result (λ n. n ≡ length (wanted_code e.now into free)) }
+pub(crate) fn expr_size(e: &Expr, into: Option<u8>, free: u8) -> Option<u8>
+    requires { IsWantedLow VIRTUAL_REGISTERS e.now into free }
+    ensures { SomeIff result (length (wanted_code e.now into free) ≤ MAX_BODY) (length (wanted_code e.now into free)) }
 {
     match e {
-        Expr::Number(_) => Ok(1),
+        Expr::Number(_) => Some(1),
         Expr::Variable(_) => match into {
-            Some(_) => Ok(2),
-            None => Ok(0),
+            Some(_) => Some(2),
+            None => Some(0),
         },
-        Expr::Slot => Ok(1),
-        Expr::Width => Ok(1),
-        Expr::Two(op, a, b) => {
+        Expr::Slot => Some(1),
+        Expr::Width => Some(1),
+        Expr::Two(_, a, b) => {
             let first = expr_size(a, None, free)?;
-            let next = above(a, free)?;
-            let second = expr_size(b, None, next)?;
-            let both = sum(first, second)?;
-            sum(both, op_size(*op))
+            let second = expr_size(b, None, above(a, free))?;
+            sum(sum(first, second)?, 1)
         }
     }
 }
 
-pub(crate) fn test_size(c: &Test, want: bool, free: u8) -> Result<usize, Unfinished>
-    ensures { IfOk result (λ n. n ≡ test_size c.now want free) }
+fn test_size(c: &Test, want: bool, free: u8) -> Option<u8>
+    requires { IsTestLow VIRTUAL_REGISTERS c.now free }
+    ensures { SomeIff result (test_size c.now want free ≤ MAX_BODY) (test_size c.now want free) }
 {
     match c {
         Test::Holds(e) => sum(expr_size(e, None, free)?, if want { 2 } else { 1 }),
@@ -74,11 +64,13 @@ pub(crate) fn test_size(c: &Test, want: bool, free: u8) -> Result<usize, Unfinis
     }
 }
 
-pub(crate) fn stmt_size(s: &Stmt, free: u8) -> Result<usize, Unfinished>
-    ensures { IfOk result (λ n. n ≡ stmt_size s.now free) }
+/// The size of a statement's code, if it is one of a body.
+pub(crate) fn stmt_size(s: &Stmt, free: u8) -> Option<u8>
+    requires { IsStmtLow VIRTUAL_REGISTERS s.now free }
+    ensures { SomeIff result (stmt_size s.now free ≤ MAX_BODY) (stmt_size s.now free) }
 {
     match s {
-        Stmt::Skip => Ok(0),
+        Stmt::Skip => Some(0),
         Stmt::Then(a, b) => sum(stmt_size(a, free)?, stmt_size(b, free)?),
         Stmt::Assign(x, e) => expr_size(e, Some(*x), free),
         Stmt::If(c, a, b) => {
@@ -93,17 +85,35 @@ pub(crate) fn stmt_size(s: &Stmt, free: u8) -> Result<usize, Unfinished>
             let parts = sum(stmt_size(b, free)?, stmt_size(s, free)?)?;
             sum(parts, test_size(c, true, free)?)
         }
-        Stmt::Break(_) => Ok(1),
-        Stmt::Continue(_) => Ok(1),
+        Stmt::Break(_) => Some(1),
+        Stmt::Continue(_) => Some(1),
         Stmt::Return(e) => sum(expr_size(e, None, free)?, 1),
         Stmt::Make(_, _, a, b) => {
             let first = expr_size(a, None, free)?;
-            let second = expr_size(b, None, above(a, free)?)?;
+            let second = expr_size(b, None, above(a, free))?;
             sum(sum(first, second)?, 1)
         }
-        Stmt::Wait(_, _, _) => Ok(1),
-        Stmt::Cancel(_) => Ok(1),
-        Stmt::Read(_, _) => Ok(1),
+        Stmt::Wait(_, _, _) => Some(1),
+        Stmt::Cancel(_) => Some(1),
+        Stmt::Read(_, _) => Some(1),
         Stmt::Store(_, e) => sum(expr_size(e, None, free)?, 1),
     }
+}
+
+/// The size of a condition's code in a body.
+pub(crate) fn size_of_test(c: &Test, want: bool, free: u8) -> u8
+    requires low { IsTestLow VIRTUAL_REGISTERS c.now free }
+    requires room { test_size c.now want free ≤ MAX_BODY }
+    ensures { result ≡ test_size c.now want free }
+{
+    test_size(c, want, free).unwrap()
+}
+
+/// The size of a statement's code in a body.
+pub(crate) fn size_of_stmt(s: &Stmt, free: u8) -> u8
+    requires low { IsStmtLow VIRTUAL_REGISTERS s.now free }
+    requires room { stmt_size s.now free ≤ MAX_BODY }
+    ensures { result ≡ stmt_size s.now free }
+{
+    stmt_size(s, free).unwrap()
 }

@@ -1,5 +1,5 @@
 -- Two arguments of 64 bits.
-use Rattle.std.proofs.Common.{◌≡◌, ℕ, zero, suc, ℤ, pos, List, [], ◌∷◌, FitsSigned}
+use Rattle.std.proofs.Common.{ℕ, zero, suc, ℤ, pos, [], ◌∷◌, FitsSigned}
 use Rattle.std.specs.Prelude.{slice_index_or}
 use Rattle.std.specs.Int.{w64}
 use Rattle.source_serial.proofs.Turns.{nought_fits}

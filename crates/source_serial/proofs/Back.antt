@@ -1,5 +1,5 @@
 -- What a compiled program gives serially, its source gives.
-use Rattle.std.proofs.Common.{◌≡◌, ℕ, zero, suc, ◌+◌, ◌<◌, ◌≤◌, ◌^◌, ℤ, pos, Bool, true, false, if◌then◌else◌, List, [], ◌∷◌, get_or, set, replicate, Option, Some, None, option_map, IfSome, MatchOption, refl, sym, ap, subst, ◌∙◌, arith, FitsSigned}
+use Rattle.std.proofs.Common.{◌≡◌, ℕ, zero, suc, ◌+◌, ◌<◌, ◌≤◌, ℤ, pos, Bool, true, false, if◌then◌else◌, List, [], get_or, set, replicate, Option, Some, None, option_map, IfSome, MatchOption, refl, sym, ap, subst, ◌∙◌, arith, FitsSigned}
 use Rattle.std.specs.Prelude.{slice_get, slice_index_or}
 use Rattle.std.specs.Int.{w64}
 use Rattle.std.proofs.lemmas.Option.{none-some, same_Some}
@@ -8,9 +8,8 @@ use Rattle.job_language.specs.declared.instructions.Instr.TheVariants.{Set, Add,
 use Rattle.job_step.specs.declared.frames.Frame.{Frame}
 use Rattle.job_step.specs.Frame.{new_frame, register, instr_at}
 use Rattle.tenant_model.specs.declared.serials.SerialTask.{SerialTask}
-use Rattle.tenant_model.specs.declared.serials.SerialTurn.{SerialTurn}
-use Rattle.tenant_model.specs.declared.serials.SerialTurn.TheVariants.{Goes, Makes, Gives, Fails}
-use Rattle.tenant_model.specs.Serial.{Given, given_by, given_then, given_of, new_task, is_owing, turn_of, turn_at, after_wait, root_task, serial_value, TakesInstructions}
+use Rattle.tenant_model.specs.declared.serials.SerialTurn.TheVariants.{Gives, Fails}
+use Rattle.tenant_model.specs.Serial.{Given, given_by, given_then, given_of, new_task, turn_of, turn_at, after_wait, root_task, serial_value, TakesInstructions}
 use Rattle.tenant_model.proofs.SerialRule.{given_of-zero, given_of-suc, takes_instructions}
 use Rattle.source_language.specs.declared.syntax.Function.{Function}
 use Rattle.source_language.specs.Meaning.{Operation, Spawns, Posts, Isolates, Waits, Cancels, Asks, Loads, Sums, Counts, Stores, Returns, Point, Act, Divides, Does, act, answered, start}

@@ -1,5 +1,5 @@
 -- What a source gives, its compiled program gives, with enough instructions.
-use Rattle.std.proofs.Common.{◌≡◌, ℕ, zero, suc, ◌+◌, ◌<◌, ◌≤◌, ◌^◌, ℤ, pos, Bool, true, false, if◌then◌else◌, List, [], ◌∷◌, get_or, set, replicate, Option, Some, None, option_map, option_and_then, MatchOption, refl, sym, ap, subst, ◌∙◌, arith, FitsSigned}
+use Rattle.std.proofs.Common.{◌≡◌, ℕ, zero, suc, ◌+◌, ℤ, pos, Bool, true, false, if◌then◌else◌, List, [], ◌∷◌, set, Option, Some, None, option_map, option_and_then, MatchOption, refl, sym, ap, subst, ◌∙◌, arith, FitsSigned}
 use Rattle.std.specs.Prelude.{slice_get, slice_index_or}
 use Rattle.std.specs.Int.{w64}
 use Rattle.std.proofs.lemmas.Option.{none-some, same_Some}
@@ -12,14 +12,14 @@ use Rattle.job_step.specs.Frame.{new_frame, register, instr_at, effect}
 use Rattle.job_step.specs.Run.{effect_at}
 use Rattle.job_step.specs.Least.{moved_to, next_of, frame_after}
 use Rattle.tenant_model.specs.declared.serials.SerialTask.{SerialTask}
-use Rattle.tenant_model.specs.declared.serials.SerialTurn.TheVariants.{Goes, Makes, Gives, Fails}
+use Rattle.tenant_model.specs.declared.serials.SerialTurn.TheVariants.{Gives, Fails}
 use Rattle.tenant_model.specs.Serial.{Given, given_by, given_then, given_of, new_task, turn_of, turn_at, after_wait, root_task, serial_value}
 use Rattle.tenant_model.proofs.SerialRule.{given_of-suc}
 use Rattle.source_language.specs.declared.syntax.Function.{Function}
 use Rattle.source_language.specs.Meaning.{Operation, Spawns, Posts, Isolates, Waits, Cancels, Asks, Loads, Sums, Counts, Stores, Returns, Point, Act, Divides, Does, act, answered, start}
 use Rattle.source_language.specs.Meaning as source
 use Rattle.job_compiler.specs.Operations.{operation_of, resumed}
-use Rattle.job_compiler.specs.Traces.{Event, Did, Divided, Lost, is_return, source_by, source_events, frame_by, frame_at, frame_stops, frame_events, DoesTheSame}
+use Rattle.job_compiler.specs.Traces.{Event, Did, Divided, Lost, is_return, source_by, source_events, frame_by, frame_stops, frame_events, DoesTheSame}
 use Rattle.job_compiler.specs.Compiled.{IsCompiled}
 use Rattle.job_compiler.proofs.Events.{before_last}
 use Rattle.job_compiler.proofs.RunsFollow.{on, heads, did_same, did_divided, did_lost}

@@ -1,29 +1,28 @@
 -- Turns of tasks, and numbers that fit 64 bits.
-use Rattle.std.proofs.Common.{◌≡◌, ℕ, zero, suc, ◌+◌, ◌<◌, ◌≤◌, ◌^◌, ℤ, pos, negsuc, Bool, true, false, if◌then◌else◌, List, [], ◌∷◌, get_or, set, replicate, Option, Some, None, refl, sym, ap, subst, ◌∙◌, arith, FitsSigned}
-use Rattle.std.specs.Prelude.{int_lt, int_le, int_rem, unwrap_or, slice_index_or, option_and_then}
+use Rattle.std.proofs.Common.{◌≡◌, ℕ, zero, suc, ◌+◌, ◌<◌, ◌≤◌, ◌^◌, ℤ, pos, Bool, true, false, if◌then◌else◌, List, [], ◌∷◌, get_or, set, replicate, Option, Some, None, refl, sym, ap, subst, ◌∙◌, arith, FitsSigned}
+use Rattle.std.specs.Prelude.{int_lt, int_le, int_rem, unwrap_or, slice_index_or}
 use Rattle.std.specs.Int.{cast_signed, int_shr, w64}
 use Rattle.std.specs.Ordering.{int_eq}
 use lib.Signed.{mag_rem, mag_shr}
 use mir.ValLaws.{sfits_le}
 use borrow.Author.Differences.{fits_in, read_fits}
-use Rattle.std.proofs.Common.{◌⊎◌, ⊎_elim, length}
+use Rattle.std.proofs.Common.{⊎_elim, length}
 use Rattle.std.specs.Prelude.{slice_get}
 use Rattle.std.proofs.lemmas.Bool.{cases_lt}
 use Rattle.std.proofs.lemmas.List.{get_or_past}
 use Rattle.std.proofs.lemmas.List.Elements.{All-get_or}
 use Rattle.job_language.specs.Program.{IsValidProgram, IsValidProc, IsInRange}
-use Rattle.std.proofs.lemmas.Option.{none-some, same_Some, slice_get_within, get_or_from_slice_get}
+use Rattle.std.proofs.lemmas.Option.{none-some, slice_get_within, get_or_from_slice_get}
 use Rattle.job_language.specs.declared.instructions.Instr.{Instr}
 use Rattle.job_language.specs.declared.instructions.Instr.TheVariants.{Set, Add, Sub, Mul, Div, Lt, Rem, And, Or, Xor, Shl, Shr, Eq, Le, Jz, Jmp, Slot, Width, Spawn, Post, Wait, Cancel, Ask, Isolate, Load, Store, Sum, Count, Ret}
 use Rattle.job_step.specs.declared.frames.Frame.{Frame}
 use Rattle.job_step.specs.declared.effects.Effect.{Effect}
 use Rattle.job_step.specs.declared.effects.Effect.TheVariants.{Moves, DividesByZero, IsShared}
-use Rattle.job_step.specs.Frame.{instr_at, effect, register, write_and_step, is_zero, shift_count}
+use Rattle.job_step.specs.Frame.{instr_at, effect, register, is_zero, shift_count}
 use Rattle.job_step.specs.Least.{next_of, frame_after}
 use Rattle.tenant_model.specs.declared.serials.SerialTask.{SerialTask}
-use Rattle.tenant_model.specs.declared.serials.SerialTurn.{SerialTurn}
-use Rattle.tenant_model.specs.declared.serials.SerialTurn.TheVariants.{Goes, Makes, Gives, Fails}
-use Rattle.tenant_model.specs.Serial.{Given, given_by, given_then, given_of, turn_by, turn_of, turn_at}
+use Rattle.tenant_model.specs.declared.serials.SerialTurn.TheVariants.{Goes}
+use Rattle.tenant_model.specs.Serial.{given_by, given_of, turn_by, turn_of, turn_at}
 use Rattle.tenant_model.proofs.SerialRule.{given_of-zero, given_of-suc}
 use Rattle.job_compiler.proofs.Numbers.{small_fits}
 use Rattle.job_compiler.proofs.Steps.{after_more}

@@ -1,7 +1,6 @@
 -- The value of a serial job whose program is compiled.
-use Rattle.std.specs.Prelude.{◌≡◌, ℕ, ℤ, pos, true, List, [], ◌∷◌, ◌++◌, Option, Some, MatchOption, slice_get, slice_index_or, FitsSigned}
+use Rattle.std.specs.Prelude.{◌≡◌, ℕ, ℤ, pos, true, List, ◌∷◌, ◌++◌, Some, slice_index_or, FitsSigned}
 use Rattle.std.specs.Int.{w64}
-use Rattle.job_language.specs.declared.instructions.Instr.{Instr}
 use Rattle.source_language.specs.declared.syntax.Function.{Function}
 use Rattle.job_compiler.specs.Programs.{IsCompiledProgram}
 use Rattle.job_language.specs.Brought.{job_of}

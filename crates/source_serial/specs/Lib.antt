@@ -1,2 +1,3 @@
 pub mod SourceSerial
 pub mod Agree
+pub mod Refusals

@@ -1,9 +1,8 @@
 // The serial value of functions, by what is compiled from them.
-ghost use Rattle.std.specs.Prelude.{◌≡◌, ◌⊎◌, ℕ, true, [], ◌∷◌, map, Some, IfOk, IfErr, IfSome};
-ghost use Rattle.job_language.specs.Serial.{is_serial};
+ghost use Rattle.std.specs.Prelude.{◌≡◌, ℕ, [], ◌∷◌, map, Some, IfOk, IfErr, OnOk, IfSome};
 ghost use Rattle.tenant_model.specs.Serial.{serial_value};
 ghost use Rattle.job_compiler.specs.Code.{function_code};
-ghost use Rattle.job_compiler.specs.Programs.{MakeProgram};
+ghost use Rattle.source_serial.specs.Refusals.{HasNoValue, IsSerialProgram};
 ghost use Rattle.source_serial.specs.SourceSerial.{source_value};
 
 use crate::laws::source_values;
@@ -38,9 +37,8 @@ pub fn value(
         (n : ℕ) × (source_value functions.now (first ∷ second ∷ []) n ≡ Some v))) }
     ensures program { IfOk result (λ o.
         o ≡ serial_value (map function_code functions.now) (first ∷ second ∷ []) most) }
-    ensures refused { IfErr result (λ e. (e ≡ ValueError.NoMemory)
-        ⊎ (¬ (MakeProgram functions.now
-        × (is_serial (map function_code functions.now) ≡ true)))) }
+    ensures accepted { OnOk result (IsSerialProgram functions.now) }
+    ensures refused { IfErr result (HasNoValue functions.now) }
 {
     source_values();
     let program = match compile_program(alloc, functions) {

@@ -1,8 +1,7 @@
-use Rattle.std.proofs.Common.{◌≡◌, ℕ, ℤ, List, [], ◌∷◌, Option, Some, None, IfSome, map, sym, ap, ◌∙◌}
+use Rattle.std.proofs.Common.{◌≡◌, ℕ, ℤ, List, [], ◌∷◌, Option, Some, None, IfSome, sym, ap, ◌∙◌}
 use Rattle.std.specs.Int.{cast_signed, cast_unsigned, w64}
 use Rattle.std.proofs.lemmas.Int.{to_z-of_z}
 use Rattle.tenant_model.specs.Serial.{serial_value}
-use Rattle.job_compiler.specs.Code.{function_code}
 use Rattle.source_serial.specs.SourceSerial.{source_value}
 use Rattle.source_serial.proofs.Arguments.{arguments_fit}
 use Rattle.source_serial.proofs.values.value.Goals as goal
