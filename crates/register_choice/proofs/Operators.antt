@@ -1,0 +1,38 @@
+-- What the instruction of any operator reads and writes, and where it goes on.
+use Rattle.std.proofs.Common.{◌≡◌, ℕ, ◌+◌, [], ◌∷◌, refl}
+use Rattle.source_language.specs.declared.syntax.Operator.{Operator}
+use Rattle.source_language.specs.declared.syntax.Operator.TheVariants.{Plus, Minus, Times, Over, Remainder, Below}
+use Rattle.job_compiler.specs.Code.{op_instr}
+use Rattle.job_compiler.specs.Colours.{reads, writes, leads_to, renamed}
+
+pub two_reads : (op : Operator) (d a b : ℕ) → reads (op_instr op d a b) ≡ a ∷ b ∷ []
+two_reads Plus d a b = refl
+two_reads Minus d a b = refl
+two_reads Times d a b = refl
+two_reads Over d a b = refl
+two_reads Remainder d a b = refl
+two_reads Below d a b = refl
+
+pub two_writes : (op : Operator) (d a b : ℕ) → writes (op_instr op d a b) ≡ d ∷ []
+two_writes Plus d a b = refl
+two_writes Minus d a b = refl
+two_writes Times d a b = refl
+two_writes Over d a b = refl
+two_writes Remainder d a b = refl
+two_writes Below d a b = refl
+
+pub two_leads : (op : Operator) (d a b k : ℕ) → leads_to (op_instr op d a b) k ≡ (k + 1) ∷ []
+two_leads Plus d a b k = refl
+two_leads Minus d a b k = refl
+two_leads Times d a b k = refl
+two_leads Over d a b k = refl
+two_leads Remainder d a b k = refl
+two_leads Below d a b k = refl
+
+pub two_renamed : (c : ℕ → ℕ) (op : Operator) (d a b : ℕ) → renamed c (op_instr op d a b) ≡ op_instr op (c d) (c a) (c b)
+two_renamed c Plus d a b = refl
+two_renamed c Minus d a b = refl
+two_renamed c Times d a b = refl
+two_renamed c Over d a b = refl
+two_renamed c Remainder d a b = refl
+two_renamed c Below d a b = refl

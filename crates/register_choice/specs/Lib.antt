@@ -1,0 +1,5 @@
+pub mod Choice
+pub mod Reasons
+pub mod Refusals
+pub mod Programs
+pub mod Names
