@@ -1,0 +1,4 @@
+pub mod FirstLine
+pub mod Journal
+pub mod Printed
+pub mod Torn

@@ -1,0 +1,4 @@
+pub mod Cuts
+pub mod JournalLines
+pub mod Journals
+pub mod Parts
