@@ -30,6 +30,7 @@ PROMISES = [
     ("dumps that are written", ["dump_lines::write_dump", "dump_lines::dumps_have_these_lines"]),
     ("torn dumps and journals", ["part_lines::read_part", "part_lines::read_journal", "part_lines::torn_parts_read_back", "part_lines::torn_journals_read_back"]),
     ("a tenant that is recovered and finished", ["tenant_finish::recover_tenant", "tenant_finish::finish_tenant", "job_finish::quiet_tenants_are_done"]),
+    ("outcomes that are kept", ["job_outcomes::JobOutcomes"]),
     ("many tenants", ["world_model::tenants_are_isolated"]),
     ("many tenants on one thread", ["world_core::World"]),
     ("the fast arena", ["arena_core::Arena"]),
