@@ -53,6 +53,8 @@ OWN = [ask(execute(MIXED)), *[advance(0)] * 3, ask(submit(SEVEN)), arrive(1), as
        *[advance(0), advance(1)] * 5, *[advance(0)] * 6, *[advance(1)] * 3, ask(collect(1)), ask(cells(0)), ask(RETIRE),
        ask(poll(1)), ask(submit(MIXED)), *[arrive(1), advance(1), advance(1)] * 2, ask(cancel(3)), ask(poll(3)),
        ask(hello("acme")), ask(ARENA), ask(RETIRE)]
+# What is left to do then. No other slot has rows.
+FINISHED = [advance(1)] * 9
 RUN = [line("acme", execute(MIXED)), *[master(0)] * 3, push("acme", 1), line("beta", submit(SEVEN)), push("beta", 0),
        worker("pop", 0), worker("pop", 1), worker("arrive", 0), worker("arrive", 1), line("acme", collect(1)),
        *[master(0), worker("advance", 0), worker("advance", 1)] * 4, *[master(0)] * 7, push("acme", 1),
@@ -72,10 +74,11 @@ def tenant_answer(tenant: Tenant, step: dict) -> dict:
     return tenant.arrive(step["slot"]) if step["step"] == "arrive" else tenant.advance(step["slot"])
 
 
-def dump() -> Iterator[dict]:
-    """The entries among the steps of `own`, as lines of a dump."""
+def dump(steps: list[dict]) -> Iterator[dict]:
+    """A tenant and the entries among some steps of it, as lines of a dump."""
     tenant, entries = Tenant(TENANT), 0
-    for step in OWN:
+    yield {"tenant": TENANT}
+    for step in steps:
         answered = tenant_answer(tenant, step)
         if tenant.entries > entries:
             yield {**step, "reply": answered} if step["step"] == "ask" else {**step, **answered}
@@ -102,7 +105,8 @@ class Script:
         self.name, self.words = f"arena-script {word}", [PROGRAM, word]
         self.text, self.answers = text_of(lines), text_of(answers)
         self.refusals = {text_of(others): f"a refusal of step {others.index(NO_MEMORY) + 1}" for others in refusals}
-        self.effects = [*(f"the end after {count} answers" for count in range(len(answers))), *self.refusals.values()]
+        counts = [0] if word == "finish" else range(len(answers))  # a finished dump is written at once
+        self.effects = [*(f"the end after {count} answers" for count in counts), *self.refusals.values()]
 
     def run(self, room: dict[str, str]) -> Outcome:
         """Runs it, for half a minute at most."""
@@ -135,4 +139,5 @@ def scripts() -> list[Script]:
     return [Script("own", [{"tenant": TENANT}, *OWN], [tenant_answer(tenant, step) for step in OWN]),
             Script("run", [WORLD, *RUN], world_answers(), refusals),
             Script("serial", JOBS, [serial_answer(job) for job in JOBS]),
-            Script("check", [{"tenant": TENANT}, *dump()], ["yes"])]
+            Script("check", [*dump(OWN)], ["yes"]),
+            Script("finish", [*dump(OWN)], [*dump([*OWN, *FINISHED])])]

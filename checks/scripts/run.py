@@ -1,12 +1,14 @@
 #!/usr/bin/env python3
 """Gives `arena-script`, as `rt ci` or `make build` built it, the worked rows (`rows.py`), whole scripts
-(`whole.py`) and dumps (`dumps.py`), and compares what it prints, its status, and what it says on standard
-error. It builds the program first if a source is newer than it. The last line says how many there are.
+(`whole.py`), dumps (`dumps.py`) and dumps whose ends are missing (`finishes.py`), and compares what it prints,
+its status, and what it says on standard error. It builds the program first if a source is newer than it. The
+last line says how many there are.
 """
 import json
 import sys
 
 from dumps import DUMPS
+from finishes import differing_finishes
 from rows import COUNTS, OUTCOMES, ROWS, SERIAL
 from script import advance, arrive, build, collect, execute, line_of, poll, run, submit, tenant
 from whole import SCRIPTS
@@ -69,7 +71,7 @@ def differing_texts():
 
 def main():
     build()
-    differences = [*differing_rows(), *differing_outcomes(), *differing_values(), *differing_texts()]
+    differences = [*differing_rows(), *differing_outcomes(), *differing_values(), *differing_texts(), *differing_finishes()]
     for difference in differences:
         print(difference)
     jobs = len(OUTCOMES) + len(COUNTS) + len(SERIAL)

@@ -5,7 +5,7 @@ use Rattle.request_reader.specs.Calls.{AreCalls}
 use Rattle.request_reader.proofs.Calling.{calls_then}
 use Rattle.arena_script.specs.Faults.{HasCause}
 use Rattle.arena_script.specs.declared.ends.ScriptEnd.{ScriptEnd}
-use Rattle.arena_script.specs.declared.ends.ScriptEnd.TheVariants.{Done, BadLine, Words, Config, Device, Memory}
+use Rattle.arena_script.specs.declared.ends.ScriptEnd.TheVariants.{Done, BadLine, Words, Config, History, Device, Memory}
 
 -- The reader failed, or no call is left.
 pub lost : {X : Type 0} (called : X → X → Type 0) (n m : ℕ) (a b : X) (failed written : Type 0) → AreCalls called n m a b → failed ⊎ (m ≡ 0) → HasCause failed (AreCalls called n 0 a b) written Device
@@ -25,6 +25,7 @@ cause_after called n m a b c failed written Done first is = tt
 cause_after called n m a b c failed written BadLine first is = tt
 cause_after called n m a b c failed written Words first is = tt
 cause_after called n m a b c failed written Config first is = tt
+cause_after called n m a b c failed written History first is = tt
 cause_after called n m a b c failed written Memory first is = tt
 
 -- Each error of a result has it.

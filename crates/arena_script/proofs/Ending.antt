@@ -12,6 +12,7 @@ done_of : (it : Command) → Contains (ends_of (Some it)) end.Done
 done_of command.Own = (0, omega arith, refl)
 done_of command.Run = (0, omega arith, refl)
 done_of command.Check = (0, omega arith, refl)
+done_of command.Finish = (0, omega arith, refl)
 done_of command.Serial = (0, omega arith, refl)
 
 fault_of : (it : Command) (e : ScriptEnd) → IsFault it e → Contains (ends_of (Some it)) e
@@ -24,6 +25,10 @@ fault_of command.Run end.Memory is = (3, omega arith, refl)
 fault_of command.Check end.BadLine is = (1, omega arith, refl)
 fault_of command.Check end.Device is = (2, omega arith, refl)
 fault_of command.Check end.Memory is = (3, omega arith, refl)
+fault_of command.Finish end.Config is = (1, omega arith, refl)
+fault_of command.Finish end.History is = (2, omega arith, refl)
+fault_of command.Finish end.Device is = (3, omega arith, refl)
+fault_of command.Finish end.Memory is = (4, omega arith, refl)
 fault_of command.Serial end.Device is = (1, omega arith, refl)
 fault_of command.Serial end.Memory is = (2, omega arith, refl)
 fault_of it e is = absurd is

@@ -5,3 +5,6 @@ mod Telling
 mod Running
 mod Verdicts
 mod Causes
+mod Finished
+mod Reading
+mod Recorded

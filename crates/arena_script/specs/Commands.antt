@@ -5,13 +5,14 @@ use Rattle.std.specs.Str.{bytes_eq}
 use Rattle.arena_script.specs.declared.commands.Command.{Command}
 use Rattle.arena_script.specs.declared.commands.Command.TheVariants as command
 use Rattle.arena_script.specs.declared.ends.ScriptEnd.{ScriptEnd}
-use Rattle.arena_script.specs.declared.ends.ScriptEnd.TheVariants.{Done, BadLine, Words, Config, Device, Memory}
+use Rattle.arena_script.specs.declared.ends.ScriptEnd.TheVariants.{Done, BadLine, Words, Config, History, Device, Memory}
 
 abbrev pub command_named : List ℕ → Option Command
 command_named word =
     if bytes_eq word (codes "own") then Some command.Own
     else if bytes_eq word (codes "run") then Some command.Run
     else if bytes_eq word (codes "check") then Some command.Check
+    else if bytes_eq word (codes "finish") then Some command.Finish
     else if bytes_eq word (codes "serial") then Some command.Serial
     else None
 
@@ -25,5 +26,6 @@ command_of (word ∷ other ∷ words) = None
 abbrev pub ends_of : Option Command → List ScriptEnd
 ends_of None = Words ∷ []
 ends_of (Some command.Check) = Done ∷ BadLine ∷ Device ∷ Memory ∷ []
+ends_of (Some command.Finish) = Done ∷ Config ∷ History ∷ Device ∷ Memory ∷ []
 ends_of (Some command.Serial) = Done ∷ Device ∷ Memory ∷ []
 ends_of (Some steps) = Done ∷ Config ∷ Device ∷ Memory ∷ []

@@ -3,7 +3,7 @@ use Rattle.std.specs.Prelude.{◌⊎◌}
 use Rattle.arena_script.specs.declared.commands.Command.{Command}
 use Rattle.arena_script.specs.declared.commands.Command.TheVariants as command
 use Rattle.arena_script.specs.declared.ends.ScriptEnd.{ScriptEnd}
-use Rattle.arena_script.specs.declared.ends.ScriptEnd.TheVariants.{BadLine, Config, Device, Memory}
+use Rattle.arena_script.specs.declared.ends.ScriptEnd.TheVariants.{BadLine, Config, History, Device, Memory}
 
 -- A device's fault comes only if the reader failed or was called as often as it may be, or if the writer failed.
 abbrev pub HasCause : (reader_failed reader_spent writer_failed : Type 0) → ScriptEnd → Type 0
@@ -20,4 +20,6 @@ abbrev pub IsFault : Command → ScriptEnd → Type 0
 IsFault command.Own Config = Unit {0}
 IsFault command.Run Config = Unit {0}
 IsFault command.Check BadLine = Unit {0}
+IsFault command.Finish Config = Unit {0}
+IsFault command.Finish History = Unit {0}
 IsFault it end = IsLost end

@@ -7,6 +7,8 @@ pub mod DumpText
 pub mod DumpVerdict
 pub mod Ends
 pub mod Faults
+pub mod Finishing
+pub mod ReadBytes
 pub mod RunAnswers
 pub mod ScriptAnswers
 pub mod ScriptLines

@@ -11,6 +11,8 @@ pub enum Command {
     Run,
     /// The lines are a dump, whose verdict is asked.
     Check,
+    /// The lines are a dump, whose end may be missing, to be finished.
+    Finish,
     /// Each line is a job, whose serial value is asked.
     Serial,
 }
@@ -24,6 +26,7 @@ impl Command {
             [] | ["own"] => Some(Command::Own),
             ["run"] => Some(Command::Run),
             ["check"] => Some(Command::Check),
+            ["finish"] => Some(Command::Finish),
             ["serial"] => Some(Command::Serial),
             _ => None,
         }

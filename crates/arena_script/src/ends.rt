@@ -17,6 +17,8 @@ pub enum ScriptEnd {
     Words,
     /// The first line names no tenant, or is no configuration.
     Config,
+    /// An entry of the dump that was to be finished is not what its tenant answers.
+    History,
     /// The reader or the writer failed, or the reader was called too often.
     Device,
     /// An allocation failed.
@@ -30,7 +32,7 @@ impl ScriptEnd {
     {
         match self {
             ScriptEnd::Done => 0,
-            ScriptEnd::BadLine | ScriptEnd::Words | ScriptEnd::Config => 2,
+            ScriptEnd::BadLine | ScriptEnd::Words | ScriptEnd::Config | ScriptEnd::History => 2,
             ScriptEnd::Device | ScriptEnd::Memory => 3,
         }
     }
@@ -43,6 +45,7 @@ impl ScriptEnd {
             ScriptEnd::Done | ScriptEnd::BadLine => None,
             ScriptEnd::Words => Some("arena-script: words"),
             ScriptEnd::Config => Some("arena-script: config"),
+            ScriptEnd::History => Some("arena-script: history"),
             ScriptEnd::Device => Some("arena-script: device"),
             ScriptEnd::Memory => Some("arena-script: memory"),
         }

@@ -1,11 +1,13 @@
 //! The scripts of `arena-script`: lines of steps in, lines of answers out.
 #![tactic(auto)]
 
+mod bytes;
 mod checks;
 mod commands;
 mod devices;
 mod dumps;
 mod ends;
+mod finishing;
 mod inputs;
 mod own;
 mod runs;

@@ -8,10 +8,12 @@ ghost use Rattle.tenant_model.specs.State.{State};
 ghost use Rattle.arena_core.specs.Stands.{StandsFor};
 ghost use Rattle.dump_lines.specs.Parts.{AppendsPart};
 ghost use Rattle.dump_lines.specs.Requests.{tenant_in};
+ghost use Rattle.part_lines.specs.Parts.{part_in};
 ghost use Rattle.arena_script.specs.Commands.{command_of, ends_of};
 ghost use Rattle.arena_script.specs.DumpData.{dump_of};
 ghost use Rattle.arena_script.specs.DumpText.{AnswersDump};
 ghost use Rattle.arena_script.specs.Faults.{HasCause, IsFault};
+ghost use Rattle.arena_script.specs.Finishing.{Finishes, IsWrongPart, StartsFinished, bytes_in};
 ghost use Rattle.arena_script.specs.RunAnswers.{AnswersRun, HasNoConfig, StartsRun};
 ghost use Rattle.arena_script.specs.ScriptAnswers.{own_answers, own_text};
 ghost use Rattle.arena_script.specs.ScriptLines.{script_lines, all_lines, first_tenant, lines_in};
@@ -22,6 +24,7 @@ use crate::checks::check_dump;
 use crate::commands::Command;
 use crate::devices::put;
 use crate::ends::ScriptEnd;
+use crate::finishing::finish_dump;
 use crate::inputs::{Input, MAX_SCRIPT_LINE, next_input};
 use crate::own::{read_arena, take_line};
 use crate::runs::run;
@@ -37,7 +40,8 @@ use std::alloc::Global;
 /// tenant and the others are its steps. With the word `run` the first line is a configuration and
 /// the others are the steps of its world. With the word `serial` each line is a job, whose serial
 /// value is asked. With the word `check` it reads a dump and writes one line: its verdict, or the
-/// number of its first bad line.
+/// number of its first bad line. With the word `finish` it reads a dump whose end may be missing, lets
+/// its tenant's jobs go on until each has an outcome, and writes the dump of all that.
 pub fn script<R: Source, W: Sink>(
     alloc: Global,
     words: &[&str],
@@ -50,6 +54,7 @@ pub fn script<R: Source, W: Sink>(
     // Nothing is written before the first line is a tenant, or a configuration.
     ensures unwritten { result ≡ ScriptEnd.Words → writer.new ≡ writer.old }
     ensures no_answer { result ≡ ScriptEnd.Config → writer.new ≡ writer.old }
+    ensures no_history { result ≡ ScriptEnd.History → writer.new ≡ writer.old }
 
     // Where the bytes are known, the answers to all lines are written, or the result of a check.
     ensures no_tenant { command_of words.now ≡ Some Command.Own → result ≡ ScriptEnd.Config
@@ -82,6 +87,17 @@ pub fn script<R: Source, W: Sink>(
         → Appends (W.contents writer.old) (W.contents writer.new)
         (serial_answers (all_lines (R.remaining reader.old))) }
 
+    ensures finished { command_of words.now ≡ Some Command.Finish → result ≡ ScriptEnd.Done
+        → IsSome (R.remaining reader.old)
+        → Finishes (bytes_in (R.remaining reader.old))
+        (W.contents writer.old) (W.contents writer.new) }
+    ensures no_dump { command_of words.now ≡ Some Command.Finish → result ≡ ScriptEnd.Config
+        → IsSome (R.remaining reader.old)
+        → part_in (bytes_in (R.remaining reader.old)) ≡ None }
+    ensures wrong { command_of words.now ≡ Some Command.Finish → result ≡ ScriptEnd.History
+        → IsSome (R.remaining reader.old)
+        → IsWrongPart (bytes_in (R.remaining reader.old)) }
+
     // A device's fault is the reader's or the writer's.
     ensures cause { HasCause (R.failed reader.new)
         (AreCalls R.called MAX_TURNS 0 reader.old reader.new) (W.failed writer.new) result }
@@ -96,6 +112,10 @@ pub fn script<R: Source, W: Sink>(
     ensures check_part { command_of words.now ≡ Some Command.Check → IsSome (R.remaining reader.old)
         → (text : List ℕ) → AnswersDump (dump_of (lines_in (R.remaining reader.old))) text
         → AppendsPart (W.contents writer.old) (W.contents writer.new) text }
+    ensures finish_part { command_of words.now ≡ Some Command.Finish
+        → IsSome (R.remaining reader.old)
+        → StartsFinished (bytes_in (R.remaining reader.old))
+        (W.contents writer.old) (W.contents writer.new) }
     ensures serial_part { command_of words.now ≡ Some Command.Serial
         → IsSome (R.remaining reader.old)
         → AppendsPart (W.contents writer.old) (W.contents writer.new)
@@ -105,6 +125,7 @@ pub fn script<R: Source, W: Sink>(
         Some(Command::Own) => own(alloc, reader, writer),
         Some(Command::Run) => run::<Arena, R, W>(alloc, reader, writer),
         Some(Command::Check) => check_dump(alloc, reader, writer),
+        Some(Command::Finish) => finish_dump(alloc, reader, writer),
         Some(Command::Serial) => serial_values(alloc, reader, writer),
         None => Err(ScriptEnd::Words),
     };

@@ -1,4 +1,4 @@
-use Rattle.std.proofs.Common.{◌≡◌, ◌≢◌, rules, List, ℕ, [], ◌∷◌, ◌++◌, ap, ◌∙◌, Ok, refl, Err}
+use Rattle.std.proofs.Common.{◌≡◌, rules, List, ℕ, [], ◌∷◌, ◌++◌, ap, ◌∙◌, Ok, refl, Err}
 use Rattle.request_reader.specs.Lines.{Line}
 use Rattle.arena_core.specs.Stands.{StandsFor}
 use Rattle.dump_lines.proofs.Parts.{part_none}
