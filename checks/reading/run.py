@@ -29,6 +29,7 @@ PROMISES = [
     ("its scripts but for worlds, with regions and rows that are never stuck", ["arena_script::script without run outcomes no_config run_part", "tenant_model::regions_protect_cells", "tenant_model::never_stuck"]),
     ("dumps that are written", ["dump_lines::write_dump", "dump_lines::dumps_have_these_lines"]),
     ("torn dumps and journals", ["part_lines::read_part", "part_lines::read_journal", "part_lines::torn_parts_read_back", "part_lines::torn_journals_read_back"]),
+    ("dumps and journals that are written as histories are made", ["part_writer::add_slice", "part_writer::bring_journal_to_disk", "part_writer::add_entries", "part_writer::bring_to_disk"]),
     ("a tenant that is recovered and finished", ["tenant_finish::recover_tenant", "tenant_finish::finish_tenant", "job_finish::quiet_tenants_are_done"]),
     ("outcomes that are kept", ["job_outcomes::JobOutcomes"]),
     ("many tenants", ["world_model::tenants_are_isolated"]),

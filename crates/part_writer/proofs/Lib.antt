@@ -1,0 +1,4 @@
+mod Journal
+mod Lines
+mod Moments
+mod Written

@@ -1,0 +1,3 @@
+pub mod Journals
+pub mod Moments
+pub mod Writing
