@@ -165,7 +165,9 @@ def terms_wait_for_their_files() -> None:
     for number in range(MOST_TERMS):
         os.makedirs(host.path("dumps", f"acme.{number:06}.jsonl", "full"))
     load = Load(host, 4)
-    by_deadline(lambda: load.replies["full"] >= 3, PATIENCE)
+    by_deadline(lambda: host.told("waiting"), PATIENCE)
+    so_far = load.replies["full"]
+    by_deadline(lambda: load.replies["full"] >= so_far + 3, PATIENCE)
     beta = host.connect("beta")
     assert ask(beta, fib(6))["value"] == 8
     rotate(host, 1, "beta")

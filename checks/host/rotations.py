@@ -38,8 +38,8 @@ def three_by_history() -> None:
 
 def a_noisy_tenant_disturbs_no_other() -> None:
     """A tenant that fills its history all the time has one term after another. The connection, the cells, the numbers and
-    the jobs of a quiet one live through it."""
-    host = Host([tenant("noisy", steps=400), tenant("quiet", slots=2)], "--connections", 8, workers=2)
+    the jobs of a quiet one live through it. The noisy one's own jobs end too, but for those at work when a history ends."""
+    host = Host([tenant("noisy", steps=2000), tenant("quiet", slots=2)], "--connections", 8, workers=2)
     quiet = host.connect("quiet")
     assert ask(quiet, {"op": "execute", "job": COUNTS})["status"] == "complete"
     cells = ask(quiet, {"op": "cells", "key": 0})
@@ -49,7 +49,7 @@ def a_noisy_tenant_disturbs_no_other() -> None:
         time.sleep(0.1)
     by_deadline(lambda: len(host.told("opened", tenant="noisy")) >= 10)
     replies = load.end()
-    assert set(replies) == {"right"}, replies
+    assert set(replies) <= {"right", "full"} and replies["right"] > replies["full"], replies
     assert ask(quiet, {"op": "cells", "key": 0}) == cells
     assert ask(quiet, {"op": "poll", "job": 2}) == {"job": 2, "status": "complete", "value": 8}
     assert len(host.told("opened", tenant="quiet")) == 1
