@@ -1,10 +1,12 @@
 """How a host ends, while clients do what they like."""
 import os
 import random
+import signal
+import subprocess
 import time
 
-from hosts import Host, Load, ask, dump_lines, dumps, fib, hang_up, is_at_end, rotate, tenant
-from servers import by_deadline
+from hosts import PARENT, PARENT_SETTINGS, Host, Load, ask, dump_lines, dumps, fib, hang_up, is_at_end, results, rotate, tenant
+from servers import PATIENCE, by_deadline
 
 # What a client may get from a host that ends: a reply that is right, none, or the end of its connection.
 ENDED = {"right", "None", "FileNotFoundError", "ConnectionResetError", "BrokenPipeError", "ConnectionRefusedError"}
@@ -34,6 +36,27 @@ def stop_while_two_terms_live() -> None:
     assert host.stop() == 0
     assert sorted(host.closed()["acme"]) == [0, 1] and dumps(host, "acme") == [0, 1]
     assert host.told("stop") and is_at_end(client)
+
+
+def signals_stop_a_host_in_order() -> None:
+    """If `arena host` runs it: each job has its outcome, and every history is on the disk. That it is sent before there is a
+    socket to remove changes nothing."""
+    for number in (signal.SIGTERM, signal.SIGINT, signal.SIGHUP):
+        host = Host([tenant("acme")], "--finish", 20, below=True)
+        client = host.connect()
+        assert ask(client, {"op": "submit", "job": fib(8)["job"]}) == {"job": 1}
+        host.process.send_signal(number)
+        assert host.ended() == 0
+        assert host.told("stop") and host.told("closed", tenant="acme", lost=0) and dumps(host, "acme") == [0]
+        assert results(host, "acme", 0) == [{"job": 1, "status": "complete", "value": 21}]
+        hang_up(client)
+    os.unlink(host.path("lock"))
+    command = [*PARENT, host.run, "--config", host.config]
+    with subprocess.Popen(command, stdout=subprocess.PIPE, stderr=subprocess.DEVNULL, text=True, env=PARENT_SETTINGS) as early:
+        by_deadline(lambda: os.path.exists(host.path("lock")))
+        early.send_signal(signal.SIGTERM)
+        assert "acme.000001: closed, 0 entries\n" in early.stdout
+        assert early.wait(timeout=PATIENCE) == 0
 
 
 def kills_at_drawn_moments() -> None:
@@ -90,5 +113,5 @@ def stop_while_files_wait() -> None:
     assert (dumps(host, "acme"), dumps(host, "beta")) == ([0, 1], [0])
 
 
-CHECKS = [stop_under_load, stop_while_two_terms_live, kills_at_drawn_moments, a_folder_that_takes_no_dumps,
-          stop_while_files_wait]
+CHECKS = [stop_under_load, stop_while_two_terms_live, signals_stop_a_host_in_order, kills_at_drawn_moments,
+          a_folder_that_takes_no_dumps, stop_while_files_wait]

@@ -21,6 +21,9 @@ sys.path.append(str(pathlib.Path(__file__).resolve().parents[1] / "server"))  # 
 from servers import PATIENCE, SCRIPT, Bound, by_deadline  # noqa: E402
 
 PROGRAM = os.path.abspath("crates/host_program/out/host_program")
+# What runs a host in the folder that follows, with the words after that.
+PARENT = [sys.executable, "-m", "arena", "host", "--program", PROGRAM]
+PARENT_SETTINGS = {**os.environ, "PYTHONPATH": os.path.abspath("python")}
 
 # fib(n) by tasks; fib(8) makes 233 entries or so.
 FIB = [[["set", 2, 2], ["lt", 3, 0, 2], ["jz", 3, 4], ["ret", 0], ["set", 2, 1], ["sub", 3, 0, 2], ["spawn", 0, 0, 3, 1],
@@ -54,19 +57,19 @@ class Host:
     """A host in a folder of its own, or in the one that another host left."""
 
     def __init__(self, tenants: list[dict], *words: object, workers: int = 2, after: "Host | None" = None,
-                 stdout: int = subprocess.PIPE, stderr: int = subprocess.PIPE, preload: str = "") -> None:
+                 stdout: int = subprocess.PIPE, stderr: int = subprocess.PIPE, preload: str = "", below: bool = False) -> None:
         """Starts it with these words after the ones that it must have, and waits until it listens. What it prints and
         reports is kept, unless `stdout` or `stderr` is a descriptor of the caller's. `preload` is the path of a library
-        that is loaded before the C library."""
+        that is loaded before the C library. One that is `below` is run by `arena host`, which is the process then."""
         self.keep = int(words[words.index("--keep") + 1]) if "--keep" in words else KEEP
         self.folder = after.folder if after else tempfile.TemporaryDirectory()
         self.run = os.path.join(self.folder.name, "run")
         os.makedirs(self.run, exist_ok=True)
         self.config = os.path.join(self.folder.name, "config.json")
         self.configure(tenants, workers)
-        command = [PROGRAM, "--config", self.config, "--run", self.run, *map(str, words)]
-        self.process = subprocess.Popen(command, stdout=stdout, stderr=stderr, text=True,
-                                        env={**os.environ, "LD_PRELOAD": preload})
+        started = [*PARENT, self.run] if below else [PROGRAM, "--run", self.run]
+        self.process = subprocess.Popen([*started, "--config", self.config, *map(str, words)], stdout=stdout, stderr=stderr,
+                                        text=True, env={**PARENT_SETTINGS, "LD_PRELOAD": preload})
         # What it printed, the lines of its events, and the fault that it ended with.
         self.lines, self.events, self.faults = [], [], []
         atexit.register(self.process.kill)  # where a check fails, its host goes too

@@ -93,6 +93,29 @@ def host_that_ends_does_not_rotate(it):
         it.call("rotate", host.path, status=11, err="the host ended before a new term served\n$")
 
 
+def hosts_are_run(it):
+    with Folder() as folder:
+        def program(name, *lines):
+            """The path of a stand-in for arena-host, of these lines of the shell."""
+            path = folder.file(name)
+            with open(path, "w") as text:
+                text.write("\n".join(["#!/bin/sh", *lines, ""]))
+            os.chmod(path, 0o700)
+            return path
+
+        words = program("words", 'echo "$*"', "exit 3")
+        for rest in ("--config", "c", "--json"), ("--", "--config", "c", "--json"):
+            it.call("host", "--program", words, folder.path, *rest, status=3, how=arena_process,
+                    out=f"--config c --json --run {folder.path}\n")
+        it.call("host", folder.path, status=3, how=arena_process, ARENA_HOST=words, out=f"--run {folder.path}\n")
+        killed = program("killed", "kill -9 $$")
+        it.call("host", "--program", killed, folder.path, status=137, how=arena_process)
+        it.call("host", "--program", "/nowhere/host", folder.path, status=10, err="^arena: /nowhere/host: No such file or directory\n$")
+        it.call("host", "--program", folder.path, folder.path, status=10, err=": Permission denied\n$")
+        with FakeHost() as host:
+            it.call("host", "--program", words, host.path, status=11, err=f"^arena: {host.path}: an arena-host runs here already\n$")
+
+
 def dumps_are_checked(it):
     with Folder() as folder:
         script = folder.judge()
@@ -190,7 +213,7 @@ def dumps_that_go_meanwhile(it):
                 "1 dump: 1 yes, 0 not; 0 in part, 0 missing\n")
 
 
-CHECKS = [hosts_are_stopped, hosts_are_rotated, orders_need_a_host,
+CHECKS = [hosts_are_stopped, hosts_are_rotated, hosts_are_run, orders_need_a_host,
           host_that_ends_does_not_rotate, dumps_are_checked, parts_are_told, missing_dumps_are_told,
           what_is_right_is_not_missing, dumps_that_go_meanwhile]
 

@@ -31,17 +31,10 @@ job "arena" {
         MALLOC_MMAP_THRESHOLD_ = "16384"
       }
 
-      # The first wait ends with the signal, the second with the host, whose status is the task's.
+      # Its parent answers Nomad's signal by the order to stop.
       config {
-        command = "/bin/sh"
-        args = ["-c", <<-EOT
-          trap 'rm -f /var/lib/arena/socket' TERM INT
-          /usr/bin/arena-host --config /etc/arena/config.json --run /var/lib/arena --mode 660 & host=$!
-          wait $host; status=$?
-          while kill -0 $host 2>/dev/null; do wait $host; status=$?; done
-          exit $status
-        EOT
-        ]
+        command = "/usr/bin/arena"
+        args    = ["host", "/var/lib/arena", "--config", "/etc/arena/config.json", "--mode", "660"]
       }
 
       volume_mount {

@@ -15,7 +15,8 @@ ABOUT = ("Runs jobs on arena-server, looks after them, and shows what happened t
 MODULES = {"jobs": ("run", "submit", "wait", "release", "poll", "cancel", "cells", "info", "retire"),
            "building": ("build", "asm", "dis", "lint"), "authoring": ("test", "fmt", "doc"), "advise": ("advise",),
            "shell": ("shell",), "bench": ("bench",), "dumps": ("check", "stat", "timeline"), "host": ("status", "top"),
-           "metrics": ("metrics",), "orders": ("stop", "rotate"), "series": ("check-dumps",), "queue": ("queue",), "pages": ("pages",)}
+           "metrics": ("metrics",), "orders": ("stop", "rotate", "host"), "series": ("check-dumps",), "queue": ("queue",),
+           "pages": ("pages",)}
 """The modules of the subcommands: only that of the one that is called is loaded."""
 
 
@@ -86,6 +87,7 @@ def described(fault: Exception) -> tuple[int, str] | None:
     from arena.command.script import ProgramFault
     from arena.command.sources import SourceWrong
     from arena.host.orders import NoHost, NotYet
+    from arena.host.parent import Taken
     from arena.host.status import StatusFault
     from arena.pool.faults import Final
     from arena.queue.model import QueueError
@@ -113,7 +115,7 @@ def described(fault: Exception) -> tuple[int, str] | None:
             return Status.DUMP, str(fault)
         case ProgramFault():
             return Status.PROGRAM, str(fault)
-        case StatusFault() | NoHost():
+        case StatusFault() | NoHost() | Taken():
             return Status.HOST, str(fault)
         case OSError():
             name = getattr(fault, "filename", None) or "file"

@@ -1,7 +1,10 @@
-"""The commands that order arena-host: stop, rotate."""
+"""The commands that order arena-host: stop, rotate, and host, which runs it."""
+import argparse
+
 from arena.command.call import Call
-from arena.command.words import ITS_FOLDER, Command, Status, Word, option, seconds
-from arena.host import orders
+from arena.command.script import ProgramFault, program_named
+from arena.command.words import ITS_FOLDER, Command, Completes, Status, Word, option, positional, seconds
+from arena.host import orders, parent
 
 
 def stop(call: Call) -> int:
@@ -24,6 +27,16 @@ def rotate(call: Call) -> int:
     return Status.DONE
 
 
+def host(call: Call) -> int:
+    """Runs a host until it has ended; a signal that ends services stops it in order. Returns its status."""
+    program = program_named("arena-host", "--program", call.words.program, "ARENA_HOST")
+    words = call.words.WORDS[1:] if call.words.WORDS[:1] == ["--"] else call.words.WORDS
+    try:
+        return parent.run_host(program, words, call.folder)
+    except (FileNotFoundError, PermissionError) as fault:
+        raise ProgramFault(f"{program}: {fault.strerror}") from None
+
+
 def wait_word(default: int) -> Word:
     """How long an order may take."""
     return option("--wait", help=f"how long the order may take; {default} without it", type=seconds, metavar="SECONDS",
@@ -42,4 +55,12 @@ COMMANDS = (
             "left. Connections and jobs that are there stay.",
             "arena rotate /var/lib/arena --wait 10", rotate,
             (ITS_FOLDER, option("--only", help="the tenant; each one without it", metavar="NAME"), wait_word(30))),
+    Command("host", "run a host that SIGTERM stops in order",
+            "Runs `arena-host WORDS --run D` and waits for its end. SIGTERM, SIGINT and SIGHUP remove D/socket, which is the order "
+            "to stop, where arena-host itself would end at once by them. So it is what a container, or a supervisor that "
+            "sends signals, should start. Its exit status is that of arena-host, or 128 and the number of the signal that ended it.",
+            "arena host /var/lib/arena --config /etc/arena/config.json --mode 660", host,
+            (option("--program", help="the program arena-host; else ARENA_HOST, else the one on the PATH, else out/arena-host",
+                    metavar="PATH", completes=Completes.FILE),
+             ITS_FOLDER, positional("WORDS", "the words of arena-host, but for --run", nargs=argparse.REMAINDER))),
 )

@@ -1,4 +1,5 @@
 """`arena pages`: the manual page and the completions, made from the table of the words."""
+import argparse
 from collections.abc import Iterator, Sequence
 
 from arena.command.call import Call
@@ -42,7 +43,8 @@ def manual(commands: Sequence[Command], about: str) -> str:
               "the tenant's name",
               ".TP", ".B ARENA_RUN", "the run folder of arena\\-host", ".TP", ".B ARENA_QUEUE",
               "the file of the queue, for `queue`", ".TP", ".B ARENA_SCRIPT",
-              "the program arena\\-script, for `check` and `check\\-dumps`", ".TP", ".B NO_COLOR",
+              "the program arena\\-script, for `check` and `check\\-dumps`", ".TP", ".B ARENA_HOST",
+              "the program arena\\-host, for `host`", ".TP", ".B NO_COLOR",
               "no colours, if it is set"]
     return "\n".join(lines)
 
@@ -209,7 +211,7 @@ def _zsh_case(command: Command) -> str:
 def _zsh_word(word: Word) -> str:
     """A word, as `_arguments` reads it."""
     if not word.is_option:
-        many = "*" if word.more.get("nargs") in ("*", "+") else ":" if word.more.get("nargs") == "?" else ""
+        many = "*" if word.more.get("nargs") in ("*", "+", argparse.REMAINDER) else ":" if word.more.get("nargs") == "?" else ""
         return _quoted(f"{many}:{_zsh_text(word.help)}:{_zsh_values(word)}")
     text = word.help.replace("[", r"\[").replace("]", r"\]")
     about = _quoted(f"[{text}]" + "".join(_zsh_takes(word)))

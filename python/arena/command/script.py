@@ -1,4 +1,4 @@
-"""The program arena-script, which checks dumps."""
+"""The programs of the house that the command calls: arena-script, which checks dumps, and arena-host."""
 import os
 import shutil
 import subprocess
@@ -11,18 +11,23 @@ SCRIPT = option("--script", "--program", metavar="PATH", completes=Completes.FIL
 
 
 class ProgramFault(Exception):
-    """arena-script is not there, or failed."""
+    """One of the programs is not there, or failed."""
 
 
 def script_of(call: Call) -> str:
     """The program arena-script: --script, ARENA_SCRIPT, one on the PATH, or out/arena-script. Raises ProgramFault."""
-    said = call.words.script or os.environ.get("ARENA_SCRIPT")
-    found = said or shutil.which("arena-script") or (os.path.abspath("out/arena-script")
-                                                     if os.path.exists("out/arena-script") else None)
+    return program_named("arena-script", "--script", call.words.script, "ARENA_SCRIPT")
+
+
+def program_named(name: str, option: str, said: str | None, variable: str) -> str:
+    """A program of the house: the one that the option says, else the variable of the environment, else the one on the PATH, else
+    the one in out. Raises ProgramFault."""
+    made = f"out/{name}"
+    found = said or os.environ.get(variable) or shutil.which(name) or (os.path.abspath(made) if os.path.exists(made) else None)
     if not found:
-        raise ProgramFault("no arena-script on the PATH; name it by --script or ARENA_SCRIPT (`make build` proves and "
-                           "makes out/arena-script, which takes long; `checks/build/unproved.py arena-script` makes "
-                           "out/unproved/arena-script, which is not proved, within a minute or two)")
+        raise ProgramFault(f"no {name} on the PATH; name it by {option} or {variable} (`make build` proves and makes {made}, "
+                           f"which takes long; `checks/build/unproved.py {name}` makes out/unproved/{name}, which is not "
+                           "proved, within a minute or two)")
     return found
 
 
