@@ -2,11 +2,10 @@
 import os
 import random
 import signal
-import subprocess
 import time
 
-from hosts import PARENT, PARENT_SETTINGS, Host, Load, ask, dump_lines, dumps, fib, hang_up, is_at_end, results, rotate, tenant
-from servers import PATIENCE, by_deadline
+from hosts import Host, Load, ask, dump_lines, dumps, fib, hang_up, is_at_end, results, rotate, tenant
+from servers import by_deadline
 
 # What a client may get from a host that ends: a reply that is right, none, or the end of its connection.
 ENDED = {"right", "None", "FileNotFoundError", "ConnectionResetError", "BrokenPipeError", "ConnectionRefusedError"}
@@ -39,8 +38,7 @@ def stop_while_two_terms_live() -> None:
 
 
 def signals_stop_a_host_in_order() -> None:
-    """If `arena host` runs it: each job has its outcome, and every history is on the disk. That it is sent before there is a
-    socket to remove changes nothing."""
+    """If `arena host` runs it: each job has its outcome, and every history is on the disk."""
     for number in (signal.SIGTERM, signal.SIGINT, signal.SIGHUP):
         host = Host([tenant("acme")], "--finish", 20, below=True)
         client = host.connect()
@@ -50,13 +48,6 @@ def signals_stop_a_host_in_order() -> None:
         assert host.told("stop") and host.told("closed", tenant="acme", lost=0) and dumps(host, "acme") == [0]
         assert results(host, "acme", 0) == [{"job": 1, "status": "complete", "value": 21}]
         hang_up(client)
-    os.unlink(host.path("lock"))
-    command = [*PARENT, host.run, "--config", host.config]
-    with subprocess.Popen(command, stdout=subprocess.PIPE, stderr=subprocess.DEVNULL, text=True, env=PARENT_SETTINGS) as early:
-        by_deadline(lambda: os.path.exists(host.path("lock")))
-        early.send_signal(signal.SIGTERM)
-        assert "acme.000001: closed, 0 entries\n" in early.stdout
-        assert early.wait(timeout=PATIENCE) == 0
 
 
 def kills_at_drawn_moments() -> None:

@@ -108,6 +108,10 @@ def hosts_are_run(it):
             it.call("host", "--program", words, folder.path, *rest, status=3, how=arena_process,
                     out=f"--config c --json --run {folder.path}\n")
         it.call("host", folder.path, status=3, how=arena_process, ARENA_HOST=words, out=f"--run {folder.path}\n")
+        slow = program("slow", "kill -$1 $PPID; sleep 0.3; : > $3/socket",
+                       "for _ in 1 2 3 4 5; do sleep 0.2; [ -e $3/socket ] || exit 0; done; exit 1")
+        for name in ("TERM", "INT", "HUP"):  # before there is a socket
+            it.call("host", "--program", slow, folder.path, name, how=arena_process)
         killed = program("killed", "kill -9 $$")
         it.call("host", "--program", killed, folder.path, status=137, how=arena_process)
         it.call("host", "--program", "/nowhere/host", folder.path, status=10, err="^arena: /nowhere/host: No such file or directory\n$")
