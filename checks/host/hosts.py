@@ -23,7 +23,6 @@ from servers import PATIENCE, SCRIPT, Bound, by_deadline  # noqa: E402
 PROGRAM = os.path.abspath("crates/host_program/out/host_program")
 # What runs a host in the folder that follows, with the words after that.
 PARENT = [sys.executable, "-m", "arena", "host", "--program", PROGRAM]
-PARENT_SETTINGS = {**os.environ, "PYTHONPATH": os.path.abspath("python")}
 
 # fib(n) by tasks; fib(8) makes 233 entries or so.
 FIB = [[["set", 2, 2], ["lt", 3, 0, 2], ["jz", 3, 4], ["ret", 0], ["set", 2, 1], ["sub", 3, 0, 2], ["spawn", 0, 0, 3, 1],
@@ -69,7 +68,7 @@ class Host:
         self.configure(tenants, workers)
         started = [*PARENT, self.run] if below else [PROGRAM, "--run", self.run]
         self.process = subprocess.Popen([*started, "--config", self.config, *map(str, words)], stdout=stdout, stderr=stderr,
-                                        text=True, env={**PARENT_SETTINGS, "LD_PRELOAD": preload})
+                                        text=True, env={**os.environ, "LD_PRELOAD": preload, "PYTHONPATH": os.path.abspath("python")})
         # What it printed, the lines of its events, and the fault that it ended with.
         self.lines, self.events, self.faults = [], [], []
         atexit.register(self.process.kill)  # where a check fails, its host goes too
