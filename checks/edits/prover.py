@@ -45,7 +45,8 @@ def build_libraries(crates: dict[str, list[str]], names: list[str]) -> None:
 def words_for(crates: dict[str, list[str]], name: str, functions: list[str]) -> list[str]:
     """Returns the command that checks these functions of a crate, and takes by its statement what has a hole for a proof."""
     own = [other for other in crates[name] if other in crates]
-    words = [str(KIT / "bin/rattle"), "check", "--crate-name", name, "src/lib.rt", "-L", f"dependency={KIT}/rlibs"]
+    root = next(it for it in ("src/lib.rt", "src/main.rt") if pathlib.Path("crates", name, it).exists())
+    words = [str(KIT / "bin/rattle"), "check", "--crate-name", name, root, "-L", f"dependency={KIT}/rlibs"]
     for other in ["std", *(other for other in crates[name] if other not in crates)]:
         words += ["--extern", f"{other}={KIT}/rlibs/{other}.rlib"]
     for other in own:

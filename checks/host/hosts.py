@@ -57,7 +57,7 @@ class Host:
 
     def __init__(self, tenants: list[dict], *words: object, workers: int = 2, after: "Host | None" = None,
                  stdout: int = subprocess.PIPE, stderr: int = subprocess.PIPE, preload: str = "", below: bool = False) -> None:
-        """Starts it with these words after the ones that it must have, and waits until it listens. What it prints and
+        """Starts it with these words after the ones that it must have, and waits until its terms are open. What it prints and
         reports is kept, unless `stdout` or `stderr` is a descriptor of the caller's. `preload` is the path of a library
         that is loaded before the C library. One that is `below` is run by `arena host`, which is the process then."""
         self.keep = int(words[words.index("--keep") + 1]) if "--keep" in words else KEEP
@@ -81,6 +81,8 @@ class Host:
         self.readers = [threading.Thread(target=self.read, args=it, daemon=True) for it in streams if it[0]]
         for reader in self.readers:
             reader.start()
+        if self.process.stderr:
+            by_deadline(lambda: len(self.told("opened")) >= len(tenants))
 
     def read(self, stream: IO[str], into: list[str]) -> None:
         """Keeps the lines of a stream as they come, until it ends."""

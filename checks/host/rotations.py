@@ -19,9 +19,10 @@ def terms_of(host: Host, name: str) -> list[dict]:
 
 
 def three_by_history() -> None:
-    """Under load the host rotates by history, and no client finds a full one."""
-    tenants = [tenant("acme", steps=40_000), tenant("beta", steps=60_000)]
-    host = Host(tenants, "--connections", 8, workers=2)
+    """Under load the host rotates by history, and no client finds a full one: what is left when the next term is asked for lasts
+    until a slow disk has its numbers."""
+    tenants = [tenant("acme", steps=400_000), tenant("beta", steps=600_000)]
+    host = Host(tenants, "--connections", 8, "--rotate-at", 10, workers=2)
     load = Load(host, 8, ("acme", "beta"))
     by_deadline(lambda: all(len(host.told("opened", tenant=name)) >= 4 for name in ("acme", "beta")), seconds=60)
     replies = load.end()
