@@ -34,8 +34,7 @@ HOST ?= out/arena-host
 
 host: build ## hosts the same tenants for any number of connections, in the folder RUN (/tmp/arena); Ctrl-C stops it in order
 	@mkdir -p $(RUN)
-	@trap 'rm -f $(RUN)/socket' INT; MALLOC_MMAP_THRESHOLD_=16384 setsid $(HOST) --config $(CONFIG) --run $(RUN) & host=$$!; \
-	    while kill -0 $$host 2>/dev/null; do wait $$host; done; wait $$host
+	@PYTHONPATH=python MALLOC_MMAP_THRESHOLD_=16384 python3 -m arena host --program $(HOST) $(RUN) --config $(CONFIG)
 
 host-unproved: ## the same within a few minutes, by a host that is built without proofs
 	@checks/build/unproved.py arena-host
