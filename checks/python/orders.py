@@ -7,6 +7,7 @@ import contextlib
 import json
 import os
 import re
+import signal
 import sys
 
 sys.path.insert(0, os.path.abspath("python"))
@@ -109,9 +110,12 @@ def hosts_are_run(it):
                     out=f"--config c --json --run {folder.path}\n")
         it.call("host", folder.path, status=3, how=arena_process, ARENA_HOST=words, out=f"--run {folder.path}\n")
         slow = program("slow", "kill -$1 $PPID; sleep 0.3; : > $3/socket",
-                       "for _ in 1 2 3 4 5; do sleep 0.2; [ -e $3/socket ] || exit 0; done; exit 1")
+                       "for _ in 1 2 3 4 5; do sleep 0.2; [ -e $3/socket ] || exit 0; done; exit 4")
         for name in ("TERM", "INT", "HUP"):  # before there is a socket
-            it.call("host", "--program", slow, folder.path, name, how=arena_process)
+            for handler, status in ((signal.SIG_DFL, 0), (signal.SIG_IGN, 4)):
+                before = signal.signal(signal.Signals[f"SIG{name}"], handler)
+                it.call("host", "--program", slow, folder.path, name, status=status, how=arena_process)
+                signal.signal(signal.Signals[f"SIG{name}"], before)
         killed = program("killed", "kill -9 $$")
         it.call("host", "--program", killed, folder.path, status=137, how=arena_process)
         it.call("host", "--program", "/nowhere/host", folder.path, status=10, err="^arena: /nowhere/host: No such file or directory\n$")

@@ -10,7 +10,7 @@ from arena.host.folder import RunFolder
 from arena.host.orders import POLL_SECONDS
 
 ENDINGS = (signal.SIGTERM, signal.SIGINT, signal.SIGHUP)
-"""The signals that ask for the end."""
+"""The signals that ask for the end, but for those that are ignored where this begins, as SIGHUP is below nohup."""
 
 
 class Taken(Exception):
@@ -40,7 +40,8 @@ def run_host(program: str, words: Sequence[str], folder: RunFolder) -> int:
 def _signals() -> Iterator[int]:
     """A descriptor that can be read once one of the signals has come. They end nothing meanwhile."""
     read, write = os.pipe2(os.O_CLOEXEC | os.O_NONBLOCK)
-    handlers = {it: signal.signal(it, lambda *_: None) for it in ENDINGS}
+    asking = [it for it in ENDINGS if signal.getsignal(it) != signal.SIG_IGN]
+    handlers = {it: signal.signal(it, lambda *_: None) for it in asking}
     before = signal.set_wakeup_fd(write, warn_on_full_buffer=False)
     try:
         yield read
