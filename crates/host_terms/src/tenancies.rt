@@ -88,6 +88,7 @@ impl Tenancy {
         }
     }
 
+    /// The tenant's name.
     pub fn name(&self) -> TenantName {
         self.name
     }
