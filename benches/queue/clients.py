@@ -1,8 +1,8 @@
 #!/usr/bin/env python3
 """A client that keeps K jobs in flight for some seconds, each submitted, waited for and read, and prints how many a second ended,
-and the median time of one in milliseconds.
+the median time of one in milliseconds, and the client's processor time for one in microseconds.
 
-usage: clients.py queue FILE SYNCHRONOUS K SECONDS, or clients.py celery K SECONDS
+usage: clients.py queue FILE-OR-URL SYNCHRONOUS K SECONDS, clients.py celery K SECONDS, or clients.py beanstalk PORT K SECONDS
 """
 import collections
 import json
@@ -53,8 +53,16 @@ def main() -> None:
     """Measures, and prints."""
     kind, *words, most, seconds = sys.argv[1:]
     began = time.perf_counter()
-    took = by_queue(*words, int(most), float(seconds)) if kind == "queue" else by_celery(int(most), float(seconds))
-    print(json.dumps({"rate": len(took) / (time.perf_counter() - began), "ms": 1000 * statistics.median(took)}))
+    match kind:
+        case "queue":
+            took = by_queue(words[0], words[1], int(most), float(seconds))
+        case "celery":
+            took = by_celery(int(most), float(seconds))
+        case _:
+            from beanstalk import by_beanstalk
+            took = by_beanstalk(int(words[0]), int(most), float(seconds))
+    print(json.dumps({"jobs": len(took), "rate": len(took) / (time.perf_counter() - began), "ms": 1000 * statistics.median(took),
+                      "us": 1e6 * time.process_time() / len(took)}))
 
 
 if __name__ == "__main__":

@@ -68,6 +68,7 @@ SAMPLES = {
     "arena_rows_waiting": {"tenant=acme term=122": 3, "tenant=acme term=123": 0},
     "arena_close_duration_seconds": {"tenant=acme term=121 why=file": 0.035},
     "arena_close_lost_jobs": {"tenant=acme term=121 why=file": 0},
+    "arena_close_left_jobs": {"tenant=acme term=121 why=file": 0},
     "arena_close_entries": {"tenant=acme term=121 why=file": 9000},
     "arena_close_fault": {"tenant=acme term=121 why=file": 0},
     "arena_close_dumped": {"tenant=acme term=121 why=file": 1},

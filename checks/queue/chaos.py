@@ -1,6 +1,7 @@
 """Hosts, dispatchers and submitters are killed and frozen at drawn moments, above all those that have jobs under way; then each
 acknowledged job must have exactly one outcome, the right one, under its key."""
 import collections
+import contextlib
 import json
 import random
 import signal
@@ -9,7 +10,13 @@ import time
 from dataclasses import dataclass, field
 
 from jobs import Drawn
-from processes import HERE, PATIENCE, Place, Process, until
+from processes import HERE, PATIENCE, Place, Process, connect, until
+from stepped import set_clock
+from tests.postgres_server import Server
+
+from arena.queue.base import is_url
+from arena.queue.model import SECOND
+from arena.queue.policy import LONGEST_DELAY
 
 LEASE = 2.0
 HOSTS, SUBMITTERS = 2, 2
@@ -19,6 +26,13 @@ DISPATCHERS = ((0,), (1,), (0, 1))
 KINDS = {"dispatcher": 4, "host": 2, "submitter": 1, "freeze": 4, "freeze host": 1, "rotate": 1}
 """What is done, and how often: a process is killed, or frozen, or a host told to rotate. `dispatcher` and `freeze` are of one that
 has jobs under way."""
+
+IN_A_FILE = {**KINDS, "clock": 2}
+IN_POSTGRES = {**KINDS, "server": 2}
+"""The clock of dispatchers and submitters is set; the server, whose clock it would be otherwise, is killed."""
+
+CLOCKS = (-200_000, -3_600, -30, 0, 30, 3_600, 200_000)
+"""By how many seconds the clock is off."""
 
 BUSY_SECONDS = 0.5
 """How long such a one is looked for."""
@@ -30,6 +44,14 @@ CREATE TRIGGER watch_end AFTER UPDATE ON job WHEN OLD.ended_at IS NULL AND NEW.e
     INSERT INTO outcome VALUES (NEW.id, NEW.state, NEW.value, NEW.fault); END;
 CREATE TRIGGER watch_change AFTER UPDATE ON job WHEN OLD.ended_at IS NOT NULL BEGIN
     INSERT INTO outcome VALUES (NEW.id, 'changed', NEW.value, NEW.fault); END;
+"""
+WATCH_POSTGRES = """
+CREATE TABLE outcome (job bigint, state text, value bigint, fault integer);
+CREATE FUNCTION watch() RETURNS trigger LANGUAGE plpgsql AS $$ BEGIN
+    INSERT INTO outcome VALUES (NEW.id, CASE WHEN OLD.ended_at IS NULL THEN NEW.state ELSE 'changed' END, NEW.value, NEW.fault);
+    RETURN NULL; END $$;
+CREATE TRIGGER watch_end AFTER UPDATE ON job FOR EACH ROW
+    WHEN (OLD.ended_at IS NOT NULL OR NEW.ended_at IS NOT NULL) EXECUTE FUNCTION watch();
 """
 
 
@@ -51,45 +73,51 @@ class Found:
         self.examples.setdefault(what, more)
 
 
+def watch(queue: str) -> None:
+    """Has each outcome noted in a table of the queue's database."""
+    with contextlib.closing(connect(queue)) as base:
+        if is_url(queue):
+            base.cursor().execute(WATCH_POSTGRES)
+        else:
+            base.executescript(WATCH)
+
+
 class Chaos:
     """The processes, and what is done to them."""
 
-    def __init__(self, place: Place, seed: int, rate: float) -> None:
-        self.place, self.draws = place, random.Random(seed)
+    def __init__(self, place: Place, seed: int, rate: float, server: Server | None = None) -> None:
+        self.place, self.draws, self.server = place, random.Random(seed), server
         place.arena("queue", "init", "--keep", 0, "--keep-jobs", 0)
-        self._watch()
+        watch(place.queue)
         self.hosts = [place.host(it) for it in range(HOSTS)]
         self.dispatchers = [place.dispatcher(number, *its, lease=LEASE) for number, its in enumerate(DISPATCHERS)]
         self.submitters = [place.process(f"submitter{it}", sys.executable, HERE / "submitter.py", place.folder, f"s{it}", seed, rate)
                            for it in range(SUBMITTERS)]
-        self.down: list[tuple[float, Process]] = []
+        self.down: list[tuple[float, Process | Server]] = []
         self.frozen: list[tuple[float, Process]] = []
         self.done: collections.Counter[str] = collections.Counter()
 
-    def _watch(self) -> None:
-        import sqlite3
-        base = sqlite3.connect(self.place.queue)
-        base.executescript(WATCH)
-        base.close()
-
     def run(self, seconds: float, kinds: dict[str, int] = KINDS, until_changed: bool = False) -> None:
-        """Does harm of these kinds for so many seconds, or until an outcome is changed, and then lets everything end."""
+        """Does harm of these kinds for so many seconds, each once at first and then as drawn, or until an outcome is changed, and
+        then lets everything end."""
         for it in (*self.hosts, *self.dispatchers, *self.submitters):
             it.start()
         until(lambda: self.place.rows("SELECT 1 FROM outcome LIMIT 1"), "the first outcome")
         end = time.monotonic() + seconds
-        next_at = 0.0
+        next_at, first = 0.0, self.draws.sample([*kinds], len(kinds))
         while time.monotonic() < end and not (until_changed and self._is_changed()):
             self._bring_back(time.monotonic())
             if time.monotonic() >= next_at:
                 next_at = time.monotonic() + self.draws.uniform(0.2, 1.5)
-                self._harm(self.draws.choices([*kinds], [*kinds.values()])[0])
+                if self._harm(first[-1] if first else self.draws.choices([*kinds], [*kinds.values()])[0]) and first:
+                    first.pop()
             time.sleep(0.01)
         self._bring_back(float("inf"))
+        set_clock(self.place.clock, max(CLOCKS))  # so that everything is due
         (self.place.folder / "stop").touch()
         for it in self.submitters:
             assert it.wait() == 0, it.printed()
-        until(self._is_done, "the last outcome", 2 * PATIENCE, lambda: f"{self._left()} {self._printed()}")
+        until(self._is_done, "the last outcome", PATIENCE + LONGEST_DELAY / SECOND, lambda: f"{self._left()} {self._printed()}")
         for it in self.dispatchers:
             it.signal(signal.SIGTERM)
             assert it.wait() == 0, it.printed()
@@ -98,8 +126,8 @@ class Chaos:
         return not self.place.rows("SELECT 1 FROM job WHERE ended_at IS NULL LIMIT 1")
 
     def _left(self) -> object:
-        return self.place.rows("SELECT tenant, state, count(*), max(failures), max(alone), min(run_at) - unixepoch() * 1000000 FROM job "
-                               "WHERE ended_at IS NULL GROUP BY tenant, state")
+        return self.place.rows("SELECT tenant, state, count(*), max(failures), max(alone), min(run_at) FROM job WHERE "
+                               "ended_at IS NULL GROUP BY tenant, state")
 
     def _printed(self) -> str:
         return "\n".join(f"{it.name}: {it.printed()[-1000:]}" for it in self.dispatchers)
@@ -115,17 +143,22 @@ class Chaos:
             self.frozen.remove((at, it))
             it.signal(signal.SIGCONT)
 
-    def _harm(self, what: str) -> None:
-        """Does something to a process that is well."""
+    def _harm(self, what: str) -> bool:
+        """Does something to a process that is well; whether there was one."""
+        if what == "clock":
+            self.done[what] += 1
+            set_clock(self.place.clock, self.draws.choice(CLOCKS))
+            return True
         ill = {it for _, it in (*self.down, *self.frozen)}
-        of = {"host": self.hosts, "rotate": self.hosts, "freeze host": self.hosts, "submitter": self.submitters}
+        of = {"host": self.hosts, "rotate": self.hosts, "freeze host": self.hosts, "submitter": self.submitters,
+              "server": [] if self.server is None else [self.server]}
         well = [it for it in of.get(what, self.dispatchers) if it not in ill]
         if what in ("dispatcher", "freeze"):
             wanted, end = well, time.monotonic() + BUSY_SECONDS
             while not (well := self._busy(wanted)) and time.monotonic() < end:
                 time.sleep(0.005)
         if not well:
-            return
+            return False
         one, clock = self.draws.choice(well), time.monotonic()
         self.done[what] += 1
         if what == "rotate":
@@ -137,9 +170,12 @@ class Chaos:
         else:
             one.kill()
             self.down.append((clock + self.draws.uniform(0, 1.5), one))
+        return True
 
     def _busy(self, well: list[Process]) -> list[Process]:
         """Those of some dispatchers that have jobs under way."""
+        if any(it is self.server for _, it in self.down):
+            return []  # nobody knows
         names = [str(it) for it, in self.place.rows("SELECT name FROM dispatcher d WHERE EXISTS (SELECT 1 FROM job WHERE state = "
                                                     "'running' AND dispatcher = d.id)")]
         return [it for it in well if any(name.endswith(f":{it.pid}") for name in names)]
@@ -168,10 +204,11 @@ class Chaos:
         keys = [row[1] for row in rows.values()]
         if len(set(keys)) != len(keys):
             found.note("a key twice", collections.Counter(keys).most_common(3))
-        if (said := self.place.rows("PRAGMA integrity_check")) != [("ok",)]:
+        if self.server is None and (said := self.place.rows("PRAGMA integrity_check")) != [("ok",)]:
             found.note("integrity", said)
         counted = self.place.rows("SELECT tenant, state, count(*) FROM job GROUP BY tenant, state ORDER BY tenant, state")
-        if counted != self.place.rows("SELECT tenant, state, jobs FROM tally WHERE jobs <> 0 ORDER BY tenant, state"):
+        if counted != self.place.rows("SELECT tenant, state, sum(jobs) FROM tally GROUP BY tenant, state HAVING sum(jobs) <> 0 "
+                                      "ORDER BY tenant, state"):
             found.note("counts", counted)
         found.acknowledged = len(acknowledged)
         (found.run_alone,), = self.place.rows("SELECT count(*) FROM job WHERE alone > 0")

@@ -1,16 +1,24 @@
 """What a user does: submits, kills everything, starts it again; a full disk; one job that is run durably."""
 import json
-import resource
+import pathlib
 import signal
 import subprocess
 import sys
+from collections.abc import Iterator
+from contextlib import contextmanager
 
 import places
-from processes import PATIENCE, place, until
+from chaos import watch
+from processes import HERE, PATIENCE, place, until
 
 SQUARE = {"args": [0, 0], "fuel": 100, "procs": [[["mul", 2, 0, 0], ["ret", 2]]]}
 LIMIT = 400_000
-"""How many bytes a file may have on the disk that is full."""
+"""How many bytes a file may have, if no disk can be made that is full."""
+
+DISK, BALLAST = 1 << 20, 600_000
+"""How many bytes the disk has that gets full, and how many of them are in use from the beginning."""
+
+REFUSED = ("database or disk is full", "disk I/O error")
 
 
 def ten_jobs_outlive_everything() -> None:
@@ -32,30 +40,49 @@ def ten_jobs_outlive_everything() -> None:
         assert json.loads(at.arena("queue", "stats", "--json"))["tenants"] == {"acme": {"complete": 10}}
 
 
-def a_full_disk_loses_nothing() -> None:
-    """Where files can't grow, submissions are refused, and what was acknowledged stays; a dispatcher goes on elsewhere."""
-    with place() as at:
-        job = at.folder / "square.json"
-        job.write_text(json.dumps(SQUARE))
-        at.arena("queue", "init")
+@contextmanager
+def small_disk(folder: pathlib.Path) -> Iterator[bool]:
+    """A folder on a disk of its own on which there is little room, if that may be made; whether it was."""
+    folder.mkdir()
+    if subprocess.run(["mount", "-t", "tmpfs", "-o", f"size={DISK}", "tmpfs", folder], capture_output=True).returncode:
+        print("no disk could be mounted (only root may): that one is full is tried by a limit for the submitter's files")
+        yield False
+        return
+    try:
+        (folder / "ballast").write_bytes(bytes(BALLAST))
+        yield True
+    finally:
+        subprocess.run(["umount", "-l", folder], check=True)
 
-        def submits() -> subprocess.Popen[str]:
-            """Submits jobs without end, where files have a limit."""
-            words = [sys.executable, "-m", "arena", "-t", "acme", "queue", "submit", job, "--lines", "-q", at.queue]
-            return subprocess.Popen([str(it) for it in words], stdin=subprocess.PIPE, stdout=subprocess.PIPE, stderr=subprocess.PIPE,
-                                    text=True, env={"PYTHONPATH": places.PACKAGE, "PATH": "/usr/bin:/bin"},
-                                    preexec_fn=lambda: resource.setrlimit(resource.RLIMIT_FSIZE, (LIMIT, LIMIT)))
-        process = submits()
-        out, err = process.communicate("".join(f"{n % 1000}\n" for n in range(20_000)), timeout=PATIENCE)
-        assert process.returncode == 12 and "arena: " in err, (process.returncode, err)
-        acknowledged = [int(it) for it in out.split()]
-        kept, = at.rows("SELECT count(*), max(id) FROM job")
-        assert 1000 <= len(acknowledged) == kept[0], (len(acknowledged), kept)
+
+def a_full_disk_loses_nothing() -> None:
+    """While nothing more can be written, submissions are refused, and a dispatcher tries again, also one that is started anew; once
+    there is room, each job that was acknowledged gets its outcome, once."""
+    with place() as at, small_disk(at.folder / "disk") as is_full:
+        at.queue = str(at.folder / "disk" / "queue.sqlite")
+        at.arena("queue", "init")
+        watch(at.queue)
         host, dispatcher = at.host(0), at.dispatcher(0, 0)
-        for it in (host, dispatcher):
-            it.start()
-        until(lambda: not at.rows("SELECT 1 FROM job WHERE ended_at IS NULL LIMIT 1"), "the last outcome")
-        assert at.rows("SELECT count(*) FROM job WHERE state = 'complete' AND value = x * x") == [(len(acknowledged),)]
+        if is_full:
+            host.start(), dispatcher.start()
+            until(lambda: "is taken" in dispatcher.printed(), "a dispatcher")
+        words = [sys.executable, HERE / "filler.py", at.queue, *([] if is_full else [LIMIT])]
+        done = subprocess.run([str(it) for it in words], capture_output=True, text=True, timeout=PATIENCE)
+        assert done.returncode == 0 and done.stderr.strip() in REFUSED, done
+        acknowledged = [int(it) for it in done.stdout.split()]
+        if is_full:
+            until(lambda: "it is tried again" in dispatcher.printed(), "a dispatcher that meets the full disk", why=dispatcher.printed)
+            dispatcher.kill()
+            dispatcher.start()
+            (at.folder / "disk" / "ballast").unlink()
+            subprocess.run(["mount", "-o", "remount,size=64m", at.folder / "disk"], check=True)
+        else:
+            host.start(), dispatcher.start()
+        until(lambda: not at.rows("SELECT 1 FROM job WHERE ended_at IS NULL LIMIT 1"), "the last outcome", why=dispatcher.printed)
+        assert len(acknowledged) >= 100, done
+        right = at.rows("SELECT id FROM job WHERE state = 'complete' AND value = x * x ORDER BY id")
+        assert {it for it, in right} >= {*acknowledged}, "acknowledged, and without its value"
+        assert at.rows("SELECT job FROM outcome GROUP BY job HAVING count(*) > 1") == [], "two outcomes"
 
 
 def a_job_is_run_durably() -> None:

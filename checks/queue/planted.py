@@ -5,20 +5,24 @@ import shutil
 
 import places
 
-FENCE = "WHERE id = ? AND state = 'running' AND dispatcher = ? AND attempt = ?\"\"\""
-NO_FENCE = "WHERE id = ? AND ? > 0 AND ? > 0\"\"\""
-LEASE = "raise LeaseLost(\"its lease had run out, and another dispatcher has taken it away\")"
-NO_LEASE = ("self.base.change(\"INSERT INTO dispatcher VALUES (?, ?, 0, ?, ?)\", dispatcher, f\"again:{__import__('os').getpid()}\", "
-            "boot(), uptime() + 10 * SECOND)")
+EDITS = {
+    "sqlite/statements.py": ("WHERE id = ? AND state = 'running' AND dispatcher = ? AND attempt = ?\"\"\"",
+                             "WHERE id = ? AND ? > 0 AND ? > 0\"\"\""),
+    "postgres/statements.py": ("WHERE job.id = new.id AND job.state = 'running' AND job.dispatcher = ? AND job.attempt = new.attempt RETURNING",
+                               "WHERE job.id = new.id AND ? > 0 RETURNING"),
+    "turns.py": ("raise LeaseLost(\"its lease had run out, and another dispatcher has taken it away\")",
+                 "self.base.change(\"UPDATE dispatcher SET id = ?, name = ? WHERE id = ?\", dispatcher, f\"again:{__import__('os').getpid()}\", "
+                 "self.base.register(\"again\", 10.0))"),
+}
+"""What is replaced in files of the queue, and by what."""
 
 
 def without_fence(folder: pathlib.Path) -> str:
     """The path of a copy of the package that lacks the fence."""
     shutil.copytree(places.TOP / "python" / "arena", folder / "arena", ignore=shutil.ignore_patterns("__pycache__"))
-    turns = folder / "arena" / "queue" / "turns.py"
-    text = turns.read_text()
-    for old, new in ((FENCE, NO_FENCE), (LEASE, NO_LEASE)):
+    for name, (old, new) in EDITS.items():
+        path = folder / "arena" / "queue" / name
+        text = path.read_text()
         assert text.count(old) == 1, old
-        text = text.replace(old, new)
-    turns.write_text(text)
+        path.write_text(text.replace(old, new))
     return str(folder)

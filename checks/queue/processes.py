@@ -1,4 +1,5 @@
 """The processes of the check: hosts, dispatchers and submitters in a folder of its own, which are killed and frozen."""
+import contextlib
 import json
 import os
 import pathlib
@@ -10,9 +11,12 @@ import tempfile
 import time
 from collections.abc import Callable, Iterator
 from contextlib import contextmanager, suppress
+from typing import Any
 
 import places
 from jobs import ROWS, SLOTS
+
+from arena.queue.base import faults_of, is_url
 
 PATIENCE = 120.0
 """How many seconds something may take that is to come by itself."""
@@ -64,13 +68,18 @@ class Process:
 class Place:
     """A folder with a queue, hosts, and processes that work there."""
 
-    def __init__(self, folder: pathlib.Path) -> None:
-        self.folder, self.queue = folder, folder / "queue.sqlite"
+    def __init__(self, folder: pathlib.Path, queue: str | None = None) -> None:
+        self.folder = folder
+        self.queue = str(folder / "queue.sqlite") if queue is None else queue
+        """Where the queue is: a path or a URL."""
+        self.clock = str(folder / "clock")
+        """The file that says how far the clock of dispatchers and submitters is off."""
         self._all: list[Process] = []
+        self._base: Any = None
 
     def process(self, name: str, *words: object, **more: str) -> Process:
         """A process that is ended with the place."""
-        made = Process(name, [str(it) for it in words], self.folder, **more)
+        made = Process(name, [str(it) for it in words], self.folder, **{"ARENA_QUEUE": self.queue, **more})
         self._all.append(made)
         return made
 
@@ -86,37 +95,60 @@ class Place:
     def dispatcher(self, number: int, *hosts: int, lease: float = 2.0) -> Process:
         """A dispatcher of some hosts."""
         runs = [self.folder / f"host{it}" / "socket" for it in hosts]
-        return self.process(f"dispatcher{number}", sys.executable, "-m", "arena", "queue", "run", *runs, "-q", self.queue, "--lease",
-                            lease, "--window", 32)
+        return self.process(f"dispatcher{number}", sys.executable, HERE / "stepped.py", self.clock, "queue", "run", *runs, "-q", self.queue,
+                            "--lease", lease, "--window", 32)
 
     def arena(self, *words: object, status: int = 0, text: str = "") -> str:
         """What the command prints that ends with a status."""
         done = subprocess.run([sys.executable, "-m", "arena", *(str(it) for it in words)], input=text, capture_output=True,
                               text=True, timeout=PATIENCE, cwd=self.folder, env={**os.environ, "PYTHONPATH": places.PACKAGE,
-                                                                "ARENA_QUEUE": str(self.queue), "ARENA_TENANT": "acme"})
+                                                                "ARENA_QUEUE": self.queue, "ARENA_TENANT": "acme"})
         assert done.returncode == status, (words, done)
         return done.stdout
 
     def rows(self, sql: str, *values: object) -> list[tuple[object, ...]]:
-        """What a query of the queue's file gives, by a connection of its own."""
-        base = sqlite3.connect(self.queue, timeout=30)
-        try:
-            return base.execute(sql, values).fetchall()
-        finally:
-            base.close()
+        """What a query of the queue's database gives, by a connection of the check's own. A server is waited for."""
+        deadline = time.monotonic() + PATIENCE
+        while True:
+            try:
+                return self._rows(sql, values)
+            except faults_of(self.queue):
+                self._base = None
+                if not is_url(self.queue) or time.monotonic() > deadline:
+                    raise
+                time.sleep(0.05)
+
+    def _rows(self, sql: str, values: tuple[object, ...]) -> list[tuple[object, ...]]:
+        if self._base is None:
+            self._base = connect(self.queue)
+        with contextlib.closing(self._base.cursor()) as at:
+            at.execute(sql.replace("?", "%s") if is_url(self.queue) else sql, values)
+            return at.fetchall()
 
     def end(self) -> None:
         """Ends all processes."""
         for it in self._all:
             it.signal(signal.SIGCONT)
             it.kill()
+        if self._base is not None:
+            self._base.close()
+
+
+def connect(queue: str) -> Any:
+    """A connection to the database of a queue, without the package."""
+    if not is_url(queue):
+        return sqlite3.connect(queue, timeout=30)
+    import psycopg2
+    base = psycopg2.connect(queue)
+    base.autocommit = True
+    return base
 
 
 @contextmanager
-def place() -> Iterator[Place]:
-    """A place that goes with all its processes."""
+def place(queue: str | None = None) -> Iterator[Place]:
+    """A place that goes with all its processes; the queue is in its folder, or elsewhere."""
     with tempfile.TemporaryDirectory(prefix="queue-") as folder:
-        made = Place(pathlib.Path(folder))
+        made = Place(pathlib.Path(folder), queue)
         try:
             yield made
         finally:

@@ -14,7 +14,7 @@ from unittest import mock
 
 from arena.pool.task import Settings as HostSettings
 from arena.queue import Job, NewJob, Program, State, Store
-from arena.queue.database import Database
+from arena.queue.sqlite.database import Sqlite
 from arena.queue.dispatcher import Dispatcher, Settings
 from arena.queue.turns import Turns
 from tests.standin import StandIn
@@ -30,11 +30,15 @@ SOON = 20.0
 class WithDispatcher(unittest.TestCase):
     """Each test has a queue and a host."""
 
+    def where(self) -> str:
+        """Where the queue is to be."""
+        return os.path.join(self.folder, "queue.sqlite")
+
     def setUp(self) -> None:
         logging.disable()
         self.addCleanup(logging.disable, logging.NOTSET)
         self.folder = self.enterContext(tempfile.TemporaryDirectory())
-        self.path = os.path.join(self.folder, "queue.sqlite")
+        self.path = self.where()
         self.queue = self.enterContext(Store(self.path, "off", make=True))
         self.host = self.enterContext(StandIn(("acme", "beta")))
 
@@ -114,6 +118,24 @@ class Runs(WithDispatcher):
         self.run_dispatcher(purge=0.05)
         self.ended_or_gone(self.submit(1, 2, 3))
 
+    def test_a_clock_that_is_set_ahead_removes_nothing(self) -> None:
+        jobs, real = self.submit(1, 2), time.time_ns
+        self.run_dispatcher(purge=0.05)
+        self.assertEqual(self.values(jobs), [1, 4])
+        with mock.patch.object(time, "time_ns", lambda: real() + 10**9 * 86_400 * 30):
+            self.assertEqual(self.values(self.submit(3)), [9])
+            time.sleep(0.3)
+        self.assertEqual(len(self.queue.listed()), 3)
+
+    def test_a_clock_that_is_set_back_holds_up_nothing(self) -> None:
+        self.host.cuts = 2
+        real, before = time.time_ns, self.submit(1, 2, 3)
+        with mock.patch.object(time, "time_ns", lambda: real() + 10**9 * 86_400):
+            self.run_dispatcher(lease=0.3)
+            while not sum(it.failures for it in self.queue.listed()):
+                time.sleep(0.001)
+        self.assertEqual(self.values(before), [1, 4, 9])
+
     def ended_or_gone(self, jobs: list[int]) -> None:
         """Waits until the queue has none of the jobs."""
         deadline = time.monotonic() + SOON
@@ -136,6 +158,15 @@ class Again(WithDispatcher):
         self.run_dispatcher()
         self.assertEqual(self.values(self.submit(*range(40))), [n * n for n in range(40)])
         self.assertGreater(sum(it.failures for it in self.queue.listed()), 0)
+
+    def test_without_a_host_it_rests(self) -> None:
+        """While no host is there, jobs that wait cost next to no time of the processor."""
+        self.submit(1)
+        self.run_dispatcher([os.path.join(self.folder, "nobody")])
+        time.sleep(0.5)
+        began = time.process_time()
+        time.sleep(1)
+        self.assertLess(time.process_time() - began, 0.5)
 
     def test_a_host_that_is_started_later(self) -> None:
         self.host.kill()
@@ -235,15 +266,29 @@ class Dispatchers(WithDispatcher):
         self.assertEqual(self.queue.job(jobs[0]).state, State.SCHEDULED)
         self.host.go.set()
 
-    def test_a_file_that_can_not_be_written_for_a_while(self) -> None:
-        faults, real = [sqlite3.OperationalError("database or disk is full")] * 3, Database.change_many
+    def test_a_program_that_can_not_be_read_for_a_while(self) -> None:
+        faults, real = [sqlite3.OperationalError("disk I/O error")], Turns.program
 
-        def change_many(base: Database, sql: str, values: Sequence[tuple[object, ...]]) -> int:
+        def program(queue: Turns, number: int) -> tuple[str, bool]:
+            """Fails once, at the second program of a turn, when its jobs are claimed."""
+            if number == 2 and faults:
+                raise faults.pop()
+            return real(queue, number)
+        jobs = [*self.submit(1, 2), *self.submit(3, program=CELL), *self.submit(4)]
+        with mock.patch.object(Turns, "program", program):
+            self.run_dispatcher()
+            self.assertEqual(self.values(jobs), [1, 4, 3, 16])
+        self.assertEqual((faults, {it.attempts for it in self.queue.listed()}), ([], {2}))
+
+    def test_a_file_that_can_not_be_written_for_a_while(self) -> None:
+        faults, real = [sqlite3.OperationalError("database or disk is full")] * 3, Sqlite.change_many
+
+        def change_many(base: Sqlite, sql: str, values: Sequence[tuple[object, ...]]) -> int:
             """Fails at first where outcomes are recorded."""
             if sql.startswith("UPDATE") and faults:
                 raise faults.pop()
             return real(base, sql, values)
-        with mock.patch.object(Database, "change_many", change_many):
+        with mock.patch.object(Sqlite, "change_many", change_many):
             self.run_dispatcher()
             self.assertEqual(self.values(self.submit(*range(20))), [n * n for n in range(20)])
         self.assertEqual((faults, {it.attempts for it in self.queue.listed()}), ([], {1}))

@@ -155,7 +155,7 @@ class Lanes(unittest.TestCase):
         mine, self.other = socket.socketpair()
         self.lane: Lane[int] = Lane(MadeSocket(mine), "acme", SOON)
         self.addCleanup(self.lane.close)
-        self.tasks = [Task(n, Prepared(SQUARE).submit((n, 0), 100)) for n in range(3)]
+        self.tasks = [Task(n, Prepared(SQUARE).line("submit", (n, 0), 100)) for n in range(3)]
         for it in self.tasks:
             self.lane.feed(it)
         self.lane.flush()
@@ -208,7 +208,7 @@ class Desks(WithHost):
 
     def result(self, desk: Desk[int]) -> object:
         """What becomes of the task."""
-        desk.feed([Task(1, Prepared(SQUARE).submit((3, 0), 100), alone=True)], time.monotonic())
+        desk.feed([Task(1, Prepared(SQUARE).line("submit", (3, 0), 100), alone=True)], time.monotonic())
         deadline = time.monotonic() + SOON
         while not desk.results:
             self.assertLess(time.monotonic(), deadline)

@@ -1,4 +1,5 @@
 """The queue's promises, by its file alone: keys, order, leases and their fence, losses, cancels, what is kept and counted."""
+import math
 import os
 import sqlite3
 import tempfile
@@ -7,8 +8,12 @@ import time
 import unittest
 
 from arena.queue import Keeping, KeyTaken, NewJob, NoProgram, Parts, Program, QueueError, State, UnknownQueueJob
-from arena.queue.database import Database
+from arena.queue.sqlite.database import Sqlite
+from arena.queue.base import shown
+from arena.queue.figures import Histogram, What
 from arena.queue.model import SECOND, Claim, Ending, GiveBack, LeaseLost, Turn, Wants, now
+from arena.queue.sqlite import statements
+from arena.queue.sqlite.schema import STEPS
 from arena.queue.turns import Turns
 
 ONE, TWO = Program.of([[["ret", 0]]]), Program.of([[["add", 2, 0, 1], ["ret", 2]]])
@@ -20,9 +25,13 @@ SOON = 10.0
 class WithQueue(unittest.TestCase):
     """Each test has a queue of its own."""
 
+    def where(self) -> str:
+        """Where the queue is to be."""
+        return os.path.join(self.folder, "queue.sqlite")
+
     def setUp(self) -> None:
         self.folder = self.enterContext(tempfile.TemporaryDirectory())
-        self.path = os.path.join(self.folder, "queue.sqlite")
+        self.path = self.where()
         self.queue = self.enterContext(Turns(self.path, "off", make=True))
 
     def submit(self, *jobs: NewJob) -> list[int]:
@@ -80,6 +89,32 @@ class Submitting(WithQueue):
         self.queue.base.change("DELETE FROM job WHERE program = (SELECT max(id) FROM program)")
         self.assertEqual(self.queue.purge_programs(), 1)
 
+    def test_tables_of_an_earlier_step(self) -> None:
+        path = os.path.join(self.folder, "old.sqlite")
+        base = sqlite3.connect(path)
+        for statement in (it for step in STEPS[:2] for it in step):
+            base.execute(statement)
+        base.executescript("""PRAGMA user_version = 2;
+            INSERT INTO program VALUES (1, 'h', '[[["ret",0]]]', 1, 0);
+            INSERT INTO job (tenant, program, x, y, fuel, priority, state, run_at, most_failures, made_at)
+                VALUES ('acme', 1, 7, 0, 9, 0, 'ready', 0, 20, 0);
+            INSERT INTO token VALUES ('h', 'acme', '', 0)""")
+        base.close()
+        with self.assertRaises(QueueError):
+            Turns(path)
+        with Turns(path, make=True) as queue:
+            me = queue.register("me", SOON)
+            claim, = queue.turn(me, wants=ANY).claims["acme"]
+            queue.turn(me, [Ending(claim.job, claim.attempt, State.COMPLETE, 7)])
+            self.assertEqual((queue.counts(State.COMPLETE), queue.entered("acme")[State.READY]), (1, 1))
+
+    def test_no_password_is_shown(self) -> None:
+        for where, wanted in (("/a/b:c@d.sqlite", "/a/b:c@d.sqlite"), ("postgresql://a@h/q", "postgresql://a@h/q"),
+                              ("postgresql://a:b%40@h:5/q", "postgresql://a:..@h:5/q"), ("postgres://:b@h/q", "postgres://:..@h/q"),
+                              ("postgres://h/q?user=a&password=b&x=y", "postgres://h/q?user=a&password=..&x=y"),
+                              ("postgresql://a:b@c@h/q", "postgresql://a:..@h/q")):
+            self.assertEqual(shown(where), wanted)
+
     def test_files_that_are_no_queue(self) -> None:
         with self.assertRaises(QueueError):
             Turns(os.path.join(self.folder, "none"))
@@ -103,8 +138,8 @@ class Claiming(WithQueue):
         self.assertEqual([it.job for it in self.claim(me)], [high, low])
         turn = self.queue.turn(me, wants=ANY)
         self.assertEqual(turn.claims, {})
-        assert turn.next_at is not None
-        time.sleep(max(0, turn.next_at - now()) / SECOND)
+        assert turn.next_in is not None
+        time.sleep(max(0, turn.next_in) / SECOND)
         self.assertEqual([it.job for it in self.claim(me)], [later])
 
     def test_each_tenant_has_its_share(self) -> None:
@@ -128,9 +163,10 @@ class Ends(WithQueue):
         job, = self.submit(NewJob("acme", ONE))
         late = self.queue.register("late", 0.01)
         old, = self.claim(late)
-        time.sleep(0.02)
         quick = self.queue.register("quick", SOON)
-        self.queue.turn(quick, lease=SOON)  # takes leases away that have run out
+        for _ in range(2):  # takes leases away that have run out, or of which nothing was heard since the first time
+            time.sleep(0.02)
+            self.queue.turn(quick, lease=SOON)
         self.assertEqual((self.state(job), self.queue.job(job).failures), (State.SCHEDULED, 0), "no failure of the job")
         with self.assertRaises(LeaseLost):
             self.end(late, Ending(job, old.attempt, State.COMPLETE, 1))
@@ -275,6 +311,34 @@ class Keeps(WithQueue):
         self.assertEqual((stats["ended_last_minute"], [it["name"] for it in stats["dispatchers"]]), (3, ["me"]))
         self.assertEqual(self.queue.stats("beta")["tenants"], {"beta": {"scheduled": 1}})
 
+    def test_figures(self) -> None:
+        *_, over = self.ended(4)
+        waits, job = self.submit(NewJob("acme", ONE), NewJob("beta", ONE))
+        me = self.queue.register("me", SOON)
+        claim, = self.claim(me, Wants({"acme": 1}, 0, 0))
+        self.assertGreater(self.queue.age("acme", State.RUNNING), 0)
+        self.end(me, Ending(over, 1, State.COMPLETE, 1, tenant="acme", ran=5 * SECOND),
+                 Ending(waits, claim.attempt, State.COMPLETE, 1, tenant="acme", ran=2 * SECOND))
+        for minutes in (None, 1, 5):
+            found = self.queue.figures("acme", minutes)
+            self.assertEqual([found[it].jobs for it in What], [5, 5, 1], "an outcome that is refused is not counted")
+            self.assertEqual((found[What.RAN].within(.5), found[What.RAN].micros), (3.0, 2 * SECOND))
+        self.queue.base.change("UPDATE figure SET minute = minute - 100")
+        self.queue.fold_figures()
+        self.assertEqual(self.queue.base.rows("SELECT DISTINCT minute FROM figure"), [(0,)])
+        self.assertEqual([self.queue.figures("acme", it)[What.MADE].jobs for it in (None, 5)], [5, 0])
+        self.assertEqual((self.queue.age("acme"), self.queue.age("acme", State.RUNNING)), (None, None))
+        self.assertLess(self.queue.age("beta") or SOON, SOON)
+        self.queue.cancel(job)
+        self.queue.purge(0)
+        entered = self.queue.entered("acme")
+        self.assertEqual([entered[it] for it in (State.READY, State.RUNNING, State.COMPLETE)], [5, 5, 5], "though they are removed")
+
+    def test_histograms(self) -> None:
+        it = Histogram.of([(0, 50, 50), (5, 45, 45), (13, 5, 5)])
+        self.assertEqual([it.within(share) for share in (.5, .51, .95, .96)], [.001, .3, .3, math.inf])
+        self.assertEqual((it.jobs, it.micros, Histogram.of([]).within(.5)), (100, 100, None))
+
     def test_values_are_reused_if_that_is_wanted(self) -> None:
         def run(job: NewJob, value: int) -> tuple[State, int | None]:
             """Submits a job, and runs it if it is not complete at once; what it has at the submission."""
@@ -302,15 +366,16 @@ class Keeps(WithQueue):
         self.assertEqual(self.queue.listed(limit=-5), [])
 
     def test_queries_use_their_indexes(self) -> None:
-        for sql, index in (("SELECT min(run_at) FROM job WHERE state = 'ready'", "job_oldest"),
-                           ("SELECT min(run_at) FROM job WHERE state = 'scheduled'", "job_scheduled"),
+        for sql, index in (("SELECT min(run_at) FROM job WHERE state = 'scheduled'", "job_scheduled"),
+                           (statements.HURRY, "job_given_back"), (statements.PROMOTE, "job_scheduled"),
+                           ("SELECT arena_now() - min(run_at) FROM job WHERE tenant = 'a' AND state = 'ready'", "job_oldest"),
                            ("SELECT id FROM job WHERE state = 'ready' AND tenant = 'a' ORDER BY priority DESC, id LIMIT 9",
                             "job_ready"),
                            ("SELECT id FROM job WHERE ended_at IS NOT NULL ORDER BY ended_at LIMIT 9", "job_ended"),
                            ("SELECT id FROM job j WHERE j.state = 'dead' ORDER BY j.id DESC LIMIT 9", "job_dead"),
                            ("SELECT id FROM job WHERE tenant = 'a' AND program = 1 AND x = 1 AND y = 1 AND state = 'complete' "
                             "AND reuse = 1 AND fuel <= 9 LIMIT 1", "job_value")):
-            plan = " ".join(it[3] for it in self.queue.base.rows(f"EXPLAIN QUERY PLAN {sql}"))
+            plan = " ".join(it[3] for it in self.queue.base.rows(f"EXPLAIN QUERY PLAN {sql}", *[1] * sql.count("?")))
             self.assertIn(f"INDEX {index}", plan)
             self.assertNotIn("TEMP B-TREE", plan)
 
@@ -319,7 +384,7 @@ class Waking(WithQueue):
     """Those who wait learn at once what was committed."""
 
     def test_wakers(self) -> None:
-        with self.queue.base.waker("ready") as ready, self.queue.base.waker("ended") as ended, Database(self.path) as other:
+        with self.queue.base.waker("ready") as ready, self.queue.base.waker("ended") as ended, Sqlite(self.path) as other:
             with other.transaction():
                 other.wake("ready")
                 ready.wait(0)

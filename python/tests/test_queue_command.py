@@ -4,7 +4,7 @@ import os
 import tempfile
 import unittest
 
-from arena.queue.model import Ending, State, Wants
+from arena.queue.model import Ending, Grant, State, Wants
 from arena.queue.turns import Turns
 from tests.test_authoring import command
 
@@ -44,6 +44,14 @@ class Commands(unittest.TestCase):
         value = json.loads(self.run_it("result", "1", "--json")[1])
         self.assertEqual((value["state"], value["value"], value["key"], value["attempts"]), ("complete", 9, "k", 1))
         self.assertIn("value: 9\n", self.run_it("show", "1")[1])
+
+    def test_programs(self) -> None:
+        status, out, _ = self.run_it("program", self.job)
+        with Turns(self.path, "off") as queue:
+            self.assertEqual((status, queue.purge_programs()), (0, 0))
+            found = queue.program_of_hash("acme", out.strip())
+            assert found is not None
+            self.assertEqual((found.hash, found.procs), (out.strip(), '[[["mul",2,0,0],["ret",2]]]'))
 
     def test_lines(self) -> None:
         status, out, _ = self.run_it("submit", self.job, "--lines", stdin="7\n8 -1\n\n9 0x10 my key\n")
@@ -105,10 +113,10 @@ class Commands(unittest.TestCase):
     def test_tokens(self) -> None:
         _, out, _ = self.run_it("token", "--note", "shop")
         with Turns(self.path, "off") as queue:
-            self.assertEqual(queue.tenant_of_token(out.strip()), "acme")
-            self.assertIsNone(queue.tenant_of_token("nobody's"))
+            self.assertEqual(queue.grant_of(out.strip()), Grant("acme"))
+            self.assertIsNone(queue.grant_of("nobody's"))
             self.assertEqual(self.run_it("token", "--revoke")[:2], (0, "1 token of acme revoked\n"))
-            self.assertIsNone(queue.tenant_of_token(out.strip()))
+            self.assertIsNone(queue.grant_of(out.strip()))
 
     def test_wrong_words(self) -> None:
         self.assertEqual(command("queue", "stats")[0], 2, "no queue is named")

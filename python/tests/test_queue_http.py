@@ -9,6 +9,7 @@ import tempfile
 import threading
 import time
 import unittest
+from base64 import b64encode
 from urllib.parse import quote
 
 from arena.host.address import Address
@@ -134,13 +135,47 @@ class Requests(WithService):
         self.assertIn('arena_queue_jobs{tenant="acme",state="ready"} 1\n', str(self.ask("GET", "/metrics")[1]))
         self.assertNotIn("acme", str(self.ask("GET", "/metrics", token=self.beta)[1]))
 
+    def test_limits_of_a_token(self) -> None:
+        small = self.queue.new_token("acme", rate=0.001, bytes=60)
+        self.assertEqual(self.ask("POST", "/v1/jobs", raw=b" " * 61, token=small)[0], 413)
+        self.assertEqual(self.ask("GET", "/v1/stats", token=small)[0], 429)
+        self.assertEqual(self.ask("POST", "/v1/jobs", {"procs": SQUARE})[0], 201, "others have their own")
+
+    def test_a_body_without_a_length(self) -> None:
+        small = self.queue.new_token("acme", bytes=60)
+        for body, wanted in ((b"{" + b" " * 60, 413), (b'{"procs":[[["ret",0]]]}', 201)):
+            connection = http.client.HTTPConnection("127.0.0.1", self.port, timeout=SOON)
+            connection.request("POST", "/v1/jobs", iter([body]), {"Authorization": f"Bearer {small}"}, encode_chunked=True)
+            self.assertEqual(connection.getresponse().status, wanted)
+            connection.close()
+
+    def test_the_page(self) -> None:
+        self.ask("POST", "/v1/jobs", {"source": "fn main(a) {\n    return 1 / a;\n}", "key": "<k>"})
+        me = self.queue.register("me", SOON)
+        self.queue.turn(me, wants=ALL)
+        self.queue.turn(me, [Ending(1, 1, State.FAULT, fault=1)])
+        self.ask("POST", "/v1/jobs", {"procs": SQUARE})
+        for way, wanted in (("Bearer " + self.acme, 200), ("Basic " + b64encode(f":{self.acme}".encode()).decode(), 200),
+                            ("Basic " + b64encode(self.acme.encode()).decode(), 401), ("Basic \u00e9", 401), ("", 401)):
+            connection = http.client.HTTPConnection("127.0.0.1", self.port, timeout=SOON)
+            connection.request("GET", "/", headers={"Authorization": way.encode()})
+            said = connection.getresponse()
+            text = said.read().decode()
+            self.assertEqual(said.status, wanted, way)
+            self.assertIn("Basic" if wanted == 401 else "default-src 'none'",
+                          said.headers["WWW-Authenticate" if wanted == 401 else "Content-Security-Policy"])
+            if wanted == 200:
+                for part in ("main, line 2", "return 1 / a;", "&lt;k&gt;", '<b class="ready">1</b>'):
+                    self.assertIn(part, text)
+            connection.close()
+
     def test_tokens(self) -> None:
         for token in (None, "nobody", "\u00e9"):
             self.assertEqual(self.ask("GET", "/v1/jobs", token=token)[0], 401)
         self.assertEqual(self.ask("GET", "/healthz", token=None), (200, {"ok": True}))
         self.assertEqual(self.ask("GET", "/v1/jobs", token=self.queue.base.rows("SELECT hash FROM token")[0][0])[0], 401)
         self.assertEqual(self.queue.drop_tokens("acme"), 1)
-        self.assertIsNone(self.queue.tenant_of_token(self.acme))
+        self.assertIsNone(self.queue.grant_of(self.acme))
 
     def test_cancel_and_retry(self) -> None:
         self.ask("POST", "/v1/jobs", {"procs": SQUARE, "delay": 3600})
@@ -151,10 +186,10 @@ class Requests(WithService):
 
     def test_what_is_wrong(self) -> None:
         for body in ({}, 7, None, "x", {"procs": SQUARE, "source": ""}, {"procs": []}, {"procs": {}}, {"procs": [[["nothing"]]]},
-                     {"source": "fn main( {"}, {"source": 7}, {"source": "\ud800"}, {"program": "none"}, {"program": "\u00e9"},
+                     {"source": "fn main( {"}, {"source": 7}, {"source": "\ud800"}, {"program": "none"}, {"program": "a\0"}, {"source": "a\0"}, {"program": "\u00e9"},
                      *({"procs": SQUARE, **it} for it in (
                          {"args": [1]}, {"args": [1, 2**63]}, {"args": [1, True]}, {"args": [1, 1.5]}, {"fuel": "1"}, {"key": 7},
-                         {"key": ""}, {"key": "k" * 201}, {"key": "\ud800"}, {"priority": 1001}, {"delay": -1}, {"delay": "1"},
+                         {"key": ""}, {"key": "a\0"}, {"key": "k" * 201}, {"key": "\ud800"}, {"priority": 1001}, {"delay": -1}, {"delay": "1"},
                          {"failures": 0}, {"more": 1}))):
             status, fault = self.ask("POST", "/v1/jobs", body, raw=b"null" if body is None else None)
             self.assertEqual((status, isinstance(fault, dict) and list(fault)), (400, ["error"]), body)

@@ -5,7 +5,8 @@ from arena.command.words import JOB_WORDS, Command, Completes, option, positiona
 STATES = ("scheduled", "ready", "running", "complete", "fault", "canceled", "dead")
 ENDED = STATES[3:]
 
-QUEUE = option("-q", "--queue", help="the queue's file; else ARENA_QUEUE", metavar="FILE", completes=Completes.FILE)
+QUEUE = option("-q", "--queue", help="the queue's file, or its URL in PostgreSQL; else ARENA_QUEUE", metavar="FILE",
+               completes=Completes.FILE)
 SYNCHRONOUS = option("--synchronous", help="full, unless this says otherwise: each commit is on the disk before it is "
                      "acknowledged. normal: the end of the machine, though not of a process, may lose the last ones",
                      choices=("full", "normal"))
@@ -14,8 +15,8 @@ NUMBERS = positional("JOB", "the jobs' numbers in the queue", type=int, nargs="+
 
 INNER = (
     Command("init", "make a queue, or bring its tables up to date",
-            "Makes the queue's file, or brings the tables in it up to date, and says how long jobs are kept that have ended: "
-            "7 days and 1,000,000 jobs, unless the words say otherwise.", "arena queue init -q /var/lib/arena/queue.sqlite",
+            "Makes the queue's file, or its tables in PostgreSQL, or brings the tables up to date, and says how long jobs are kept "
+            "that have ended: 7 days and 1,000,000 jobs, unless the words say otherwise.", "arena queue init -q /var/lib/arena/queue.sqlite",
             queueing.init,
             (QUEUE, option("--keep", help="keep ended jobs for so long; 0 is for ever", type=seconds, metavar="SECONDS"),
              option("--keep-jobs", help="keep so many ended jobs at most, of all tenants; 0 is all", type=int, metavar="N"),
@@ -32,6 +33,10 @@ INNER = (
              option("--failures", help="how often it may be lost before it is dead; 20, unless this says otherwise", type=int,
                     default=20, metavar="N"),
              option("--lines", help="a job for each line X, X Y or X Y KEY of standard input", action="store_true"), SYNCHRONOUS)),
+    Command("program", "keep the program of a job, and print its hash",
+            "Keeps the program of a job and prints its hash, so that jobs can name it: over HTTP as `program`, and in SQL as that of "
+            "arena_submit(..). It stays though no job has it.", "arena queue program examples/jobs/fib.job", queueing.program,
+            (*JOB_WORDS, QUEUE)),
     Command("run", "run a dispatcher, which runs the jobs on hosts",
             "Runs the queue's jobs on hosts until SIGTERM or Ctrl-C, and then lets those end that are under way, for 30 seconds. Any "
             "number of dispatchers may run; each host has one of them at a time.", "arena queue run /var/lib/arena", queueing.run,
@@ -77,18 +82,23 @@ INNER = (
             "Makes a token for a tenant and prints it; the queue keeps only its hash. --revoke makes all tokens of the tenant "
             "worthless, within 10 seconds where one is in use.", "arena queue token -t acme --note shop", queueing.token,
             (QUEUE, option("--note", help="what the token is for", default="", metavar="TEXT"),
+             option("--rate", help="requests a second; what `serve` says, unless this says otherwise", type=float, metavar="N"),
+             option("--bytes", help="how long a request may be; what `serve` says, unless this says otherwise", type=int, metavar="N"),
              option("--revoke", help="make all tokens of the tenant worthless", action="store_true"))),
     Command("serve", "serve the queue over HTTP",
             "Serves the queue over HTTP, for whoever has a token, until SIGTERM or Ctrl-C. It needs aiohttp. It speaks no TLS: put a "
             "proxy in front where other machines ask.", "arena queue serve --listen 127.0.0.1:9780", queueing.serve,
             (QUEUE, option("--listen", help="where; 127.0.0.1:9780, unless this says otherwise", default="127.0.0.1:9780",
                            metavar="ADDRESS:PORT"),
-             option("--rate", help="requests a second for each token; 100, unless this says otherwise", type=float, default=100.0,
-                    metavar="N"))),
+             option("--rate", help="requests a second for each token; 100, unless this or the token says otherwise", type=float,
+                    default=100.0, metavar="N"),
+             option("--bytes", help="how long a request may be; 8388608, unless this or the token says otherwise", type=int,
+                    default=8 * 1024 * 1024, metavar="N"),
+             option("--processes", help="how many processes serve; 1, unless this says otherwise", type=int, default=1, metavar="N"))),
 )
 
 COMMANDS = (
-    Command("queue", "keep jobs in a file until they have their outcome",
-            "A durable queue before hosts: jobs are kept in a file, and dispatchers run them on hosts, whatever dies meanwhile "
-            "(docs/QUEUE.md).", "arena queue submit examples/jobs/fib.job --args 20", inner=INNER),
+    Command("queue", "keep jobs until they have their outcome",
+            "A durable queue before hosts: jobs are kept in a file or in PostgreSQL, and dispatchers run them on hosts, whatever dies "
+            "meanwhile (docs/QUEUE.md).", "arena queue submit examples/jobs/fib.job --args 20", inner=INNER),
 )

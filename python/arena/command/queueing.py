@@ -1,10 +1,12 @@
 """What the commands of `arena queue` do."""
+import argparse
 import json
 import logging
 import signal
 import sys
 import time
 from collections.abc import Callable, Iterator, Sequence
+from dataclasses import replace
 from itertools import islice
 from typing import TYPE_CHECKING, Any
 
@@ -21,24 +23,30 @@ if TYPE_CHECKING:
 BATCH = 1000
 """How many jobs are submitted in one transaction."""
 
+MOST_PROCESSES = 64
+"""How many processes serve at most."""
+
+LONGEST_SOURCE = 65_536
+"""How many characters of a source are kept at most."""
+
 MICROSECONDS = 1_000_000
 
 Run = Callable[[Call], int]
 
 
-def path_of(call: Call) -> str:
-    """The path of the queue's file. Raises WordsFault if none is said."""
+def where_of(call: Call) -> str:
+    """Where the queue is: a path or a URL. Raises WordsFault if none is said."""
     import os
-    path = call.words.queue or os.environ.get("ARENA_QUEUE")
-    if not path:
-        raise WordsFault("no queue is named; give --queue FILE, or set ARENA_QUEUE")
-    return str(path)
+    where = call.words.queue or os.environ.get("ARENA_QUEUE")
+    if not where:
+        raise WordsFault("no queue is named; give --queue FILE or URL, or set ARENA_QUEUE")
+    return str(where)
 
 
 def store_of(call: Call, *, make: bool = False) -> "Store":
     """The queue."""
     from arena.queue.store import Store
-    return Store(path_of(call), getattr(call.words, "synchronous", None) or "full", make=make)
+    return Store(where_of(call), getattr(call.words, "synchronous", None) or "full", make=make)
 
 
 def tenant_of(call: Call) -> str | None:
@@ -49,6 +57,7 @@ def tenant_of(call: Call) -> str | None:
 
 def init(call: Call) -> int:
     """Makes the queue, and says what is kept."""
+    from arena.queue.base import shown
     from arena.queue.store import Keeping
     words = call.words
     if words.reuse and not tenant_of(call):
@@ -63,8 +72,9 @@ def init(call: Call) -> int:
             queue.set_reuse(tenant_of(call) or "", words.reuse == "yes")
         kept = "for ever" if keeping.seconds is None else f"for {keeping.seconds:,} seconds"
         most = "all of them" if keeping.jobs is None else f"{keeping.jobs:,} at most"
-        call.output.say(f"{queue.base.path}: ended jobs are kept {kept}, {most}",
-                        {"keep_jobs": keeping.jobs, "keep_seconds": keeping.seconds, "queue": queue.base.path})
+        where = shown(queue.base.where)
+        call.output.say(f"{where}: ended jobs are kept {kept}, {most}",
+                        {"keep_jobs": keeping.jobs, "keep_seconds": keeping.seconds, "queue": where})
     return Status.DONE
 
 
@@ -85,7 +95,7 @@ def submit(call: Call) -> int:
 
 
 def _new_jobs(call: Call) -> "Iterator[NewJob]":
-    from arena.queue.model import NewJob, now
+    from arena.queue.model import NewJob
     from arena.queue.programs import Parts
     words, tenant = call.words, call.tenant
     if words.lines and words.FILE == "-":
@@ -93,11 +103,12 @@ def _new_jobs(call: Call) -> "Iterator[NewJob]":
     if words.lines and words.key:
         raise WordsFault("with --lines each line may have a key, and --key is for one job")
     parts = Parts.of(job_of(words))
-    run_at = now() + int(words.delay * MICROSECONDS) if words.delay else None
+    program = replace(parts.program, source=_source(words))
+    delay = int((words.delay or 0) * MICROSECONDS)
 
     def new(args: tuple[int, int], key: str | None) -> NewJob:
         """A job with these arguments."""
-        return NewJob(tenant, parts.program, args, parts.fuel, key, words.priority, run_at, words.failures)
+        return NewJob(tenant, program, args, parts.fuel, key, words.priority, most_failures=words.failures, delay=delay)
 
     if not words.lines:
         yield new(parts.args, words.key)
@@ -105,6 +116,23 @@ def _new_jobs(call: Call) -> "Iterator[NewJob]":
     for number, line in enumerate(sys.stdin, 1):
         if line.strip():
             yield new(*_arguments(number, line))
+
+
+def program(call: Call) -> int:
+    """Keeps the program of a job, and prints its hash."""
+    from arena.queue.programs import Parts
+    parts = Parts.of(job_of(call.words))
+    with store_of(call) as queue:
+        queue.keep_program(replace(parts.program, source=_source(call.words)))
+    call.output.say(parts.program.hash, {"program": parts.program.hash, "serial": parts.program.is_serial})
+    return Status.DONE
+
+
+def _source(words: argparse.Namespace) -> str | None:
+    """What a job was compiled from, if that is all there is to know."""
+    from arena.command.sources import read_text
+    text = read_text(words.FILE) if words.FILE.endswith(".job") and not words.define else None
+    return text if text is None or len(text) <= LONGEST_SOURCE else None
 
 
 def _arguments(number: int, line: str) -> tuple[tuple[int, int], str | None]:
@@ -127,10 +155,9 @@ def run(call: Call) -> int:
     from arena.pool.task import Settings as HostSettings
     from arena.queue.dispatcher import Dispatcher, Settings
     words = call.words
-    store_of(call).close()  # a file that is no queue ends this at once; later it is waited for
-    logging.basicConfig(level=logging.INFO, stream=sys.stderr, format="%(asctime)s arena queue: %(message)s")
+    _look(call)
     hosts = HostSettings(window=words.window, lanes=words.lanes, connections=words.connections, retire=True)
-    dispatcher = Dispatcher(path_of(call), words.D, Settings(hosts, lease=words.lease), synchronous=words.synchronous or "full")
+    dispatcher = Dispatcher(where_of(call), words.D, Settings(hosts, lease=words.lease), synchronous=words.synchronous or "full")
     before = {it: signal.signal(it, lambda *_: dispatcher.stop()) for it in (signal.SIGTERM, signal.SIGINT)}
     try:
         dispatcher.run()
@@ -141,6 +168,17 @@ def run(call: Call) -> int:
     call.output.say(f"{counted(counts.get('ended', 0), 'job')} ended; jobs were given back {counts.get('given_back', 0)} times",
                     counts)
     return Status.DONE
+
+
+def _look(call: Call) -> None:
+    """Begins to write what happens, and looks whether there is a queue: what is none ends this at once, and a database that can't be
+    used now is waited for."""
+    from arena.queue.base import faults_of
+    logging.basicConfig(level=logging.INFO, stream=sys.stderr, format="%(asctime)s arena queue: %(message)s")
+    try:
+        store_of(call).close()
+    except faults_of(where_of(call)) as fault:
+        logging.warning("the queue's database: %s; it is waited for", str(fault).strip())
 
 
 def tell(call: Call, job: "Job") -> int:
@@ -277,12 +315,13 @@ def stats(call: Call) -> int:
 def token(call: Call) -> int:
     """Makes a token, or makes all of a tenant worthless."""
     tenant = call.tenant
+    _limits(call)
     with store_of(call) as queue:
         if call.words.revoke:
             gone = queue.drop_tokens(tenant)
             call.output.say(f"{counted(gone, 'token')} of {tenant} revoked", {"revoked": gone, "tenant": tenant})
         else:
-            made = queue.new_token(tenant, call.words.note)
+            made = queue.new_token(tenant, call.words.note, call.words.rate, call.words.bytes)
             call.output.say(made, {"tenant": tenant, "token": made})
     return Status.DONE
 
@@ -298,14 +337,24 @@ def serve(call: Call) -> int:
         address = Address.parse(call.words.listen)
     except ValueError as fault:
         raise WordsFault(f"--listen {call.words.listen}: ADDRESS:PORT is wanted: {fault}") from None
-    if not call.words.rate > 0:
-        raise WordsFault(f"--rate {call.words.rate:g}: a number above 0 is wanted")
-    store_of(call).close()  # a file that is no queue ends this at once
-    logging.basicConfig(level=logging.INFO, stream=sys.stderr, format="%(asctime)s arena queue: %(message)s")
+    _limits(call)
+    _look(call)
 
     def began(port: int) -> None:
         """Says where."""
         call.output.say(f"serving at http://{Address(address.host, port)}", {"port": port})
         sys.stdout.flush()
-    serve_http(path_of(call), address, call.words.rate, began)
-    return Status.DONE
+    if not 1 <= call.words.processes <= MOST_PROCESSES:
+        raise WordsFault(f"--processes {call.words.processes}: 1 to {MOST_PROCESSES} are possible")
+    is_stopped = serve_http(where_of(call), address, call.words.rate, call.words.bytes, call.words.processes, began)
+    if not is_stopped:
+        call.output.complain("arena: a process of the service ended by itself, and with it the others")
+    return Status.DONE if is_stopped else Status.QUEUE
+
+
+def _limits(call: Call) -> None:
+    """Raises WordsFault for a rate or a size that nothing could keep."""
+    for name in ("rate", "bytes"):
+        limit = getattr(call.words, name)
+        if limit is not None and not 0 < limit < 1e12:
+            raise WordsFault(f"--{name} {limit:g}: a number above 0 is wanted")

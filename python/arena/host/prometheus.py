@@ -130,6 +130,7 @@ def _closed(status: HostStatus) -> Iterator[Family]:
 
     yield each("arena_close_duration_seconds", "How long closing and writing a term took.", lambda it: it.ms / 1000)
     yield each("arena_close_lost_jobs", "How many jobs of a term had no outcome when it was closed.", lambda it: it.lost)
+    yield each("arena_close_left_jobs", "How many jobs of a term get their outcome at the next start.", lambda it: it.left)
     yield each("arena_close_entries", "How many entries a term's history had at the close.", lambda it: it.entries)
     yield each("arena_close_fault", "The number of a term's close fault, 0 if it had none.", lambda it: it.fault or 0)
     yield each("arena_close_dumped", "Whether a term's dump was written.", lambda it: int(it.dumped))

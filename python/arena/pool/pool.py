@@ -65,7 +65,7 @@ class Work:
 
     def task(self) -> "Task[Work]":
         """It as a task for a desk."""
-        return Task(self, self.request, self.alone_tries > 0 or self.losses >= SUSPECT)
+        return Task(self, self.request.line, self.alone_tries > 0 or self.losses >= SUSPECT, self.request.program)
 
     def may_be_by_load(self, outcome: Outcome) -> bool:
         """Whether an outcome is a fault that the job might not have alone, and it is still to be tried alone."""

@@ -1,9 +1,9 @@
 """Jobs that are to be run on a host, and what can become of them."""
+from collections.abc import Mapping
 from dataclasses import dataclass
-from typing import Generic, TypeVar
+from typing import Any, Generic, TypeVar
 
 from arena.replies import ArenaError, Outcome, Refused
-from arena.requests import Request
 
 Tag = TypeVar("Tag")
 
@@ -13,12 +13,14 @@ class Task(Generic[Tag]):
     """A job to run. `tag` is what its owner knows it by; `alone` is whether no other job of the desk runs beside it."""
 
     tag: Tag
-    request: Request[int]
-    """The request that submits it."""
+    line: bytes
+    """The line that submits it."""
     alone: bool = False
+    program: Mapping[str, Any] | None = None
+    """The JOB, so that an error can say what is wrong with it."""
 
 
-@dataclass(frozen=True, slots=True)
+@dataclass(slots=True)
 class Ended(Generic[Tag]):
     """The job has this outcome."""
 

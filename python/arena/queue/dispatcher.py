@@ -2,11 +2,11 @@
 
 One thread does everything. While a transaction is written, hosts go on with the jobs that they have, and all outcomes
 that have come by its end go into the next one, which also claims the next jobs. """
+import contextlib
 import logging
 import os
 import selectors
 import socket
-import sqlite3
 import time
 from collections import Counter
 from collections.abc import Sequence
@@ -16,7 +16,8 @@ from arena.pool.task import Ended, Lost, Never, NotRun, Result, Task
 from arena.pool.task import Settings as HostSettings
 from arena.prepared import Prepared
 from arena.queue import policy
-from arena.queue.model import SECOND, Claim, Ending, GiveBack, LeaseLost, Turn, Wants, now
+from arena.queue.base import faults_of
+from arena.queue.model import SECOND, Claim, Ending, GiveBack, LeaseLost, Turn, Wants
 from arena.queue.post import Held, Post
 from arena.queue.turns import Turns
 from arena.queue.wake import Waker
@@ -25,10 +26,16 @@ from arena.replies import UnknownTenant
 LOG = logging.getLogger("arena.queue")
 
 FIRST_PAUSE, LONGEST_PAUSE = 0.05, 2.0
-"""How many seconds pass before the queue's file is opened again that could not be read or written."""
+"""How many seconds pass before the queue's database is opened again that could not be used."""
 
 PROGRAMS = 10_000
 """How many programs are kept in mind."""
+
+FOLDS = 60.0
+"""How often, in seconds, the figures of past minutes are summed up."""
+
+CLOCK_STEP = 60.0
+"""How many seconds the clock may be set ahead between two looks, so that nobody thinks of it."""
 
 UNKNOWN_DELAY = 1.0
 """How many seconds a job waits whose host does not know its tenant."""
@@ -58,10 +65,11 @@ class Kept:
 
 
 class Dispatcher:
-    """Runs jobs of the queue at a path on the hosts at some paths, until `stop` is called."""
+    """Runs jobs of the queue at a path or URL on the hosts at some paths, until `stop` is called."""
 
-    def __init__(self, path: str, hosts: Sequence[str], settings: Settings = Settings(), *, synchronous: str = "full") -> None:
-        self.path, self.settings = path, settings
+    def __init__(self, where: str, hosts: Sequence[str], settings: Settings = Settings(), *, synchronous: str = "full") -> None:
+        self.where, self.settings = where, settings
+        self._faults = faults_of(where)
         self.name = f"{socket.gethostname()}:{os.getpid()}"
         self.counts: Counter[str] = Counter()
         self._synchronous = synchronous
@@ -74,9 +82,11 @@ class Dispatcher:
         self._under_way: dict[int, int] = {}
         self._notes: list[Ending | GiveBack] = []
         self._looks = True
-        self._looked = self._beaten = self._purged = 0.0
-        self._next_at: int | None = None
+        self._looked = self._beaten = self._purged = self._folded = 0.0
+        self._next_at: float | None = None
         self._stops_at: float | None = None
+        self._ahead: float | None = None
+        self._is_clock_set = False
 
     def stop(self) -> None:
         """Takes no more jobs, and ends when those that it has have ended. A signal's handler may call it."""
@@ -84,7 +94,7 @@ class Dispatcher:
             self._stops_at = time.monotonic() + self.settings.patience
 
     def run(self) -> None:
-        """Runs jobs until it is stopped. While the queue's file can't be used, it tries again."""
+        """Runs jobs until it is stopped. While the queue's database can't be used, it tries again."""
         pause = FIRST_PAUSE
         while True:
             try:
@@ -99,8 +109,8 @@ class Dispatcher:
             except LeaseLost as fault:
                 LOG.warning("%s", fault)
                 self._drop()
-            except sqlite3.Error as fault:
-                LOG.warning("%s: %s; it is tried again", self.path, fault)
+            except self._faults as fault:
+                LOG.warning("the queue's database: %s; it is tried again", str(fault).strip())
                 self._close_queue()
                 time.sleep(pause)
                 pause = min(LONGEST_PAUSE, 2 * pause)
@@ -112,11 +122,11 @@ class Dispatcher:
             return False
         return not self._under_way or time.monotonic() > self._stops_at
 
-    # The queue's file.
+    # The queue.
 
     def _open(self) -> Turns:
         if self._queue is None:
-            self._queue = Turns(self.path, self._synchronous)
+            self._queue = Turns(self.where, self._synchronous)
             self._waker = self._queue.base.waker("ready")
             self._selector.register(self._waker, selectors.EVENT_READ, self._woken)
             self._looks = True
@@ -143,7 +153,7 @@ class Dispatcher:
     def _reconcile(self, queue: Turns) -> None:
         """Gives back what was claimed by a transaction whose end was not heard of."""
         settled = {it.job for it in self._notes}
-        self._notes += [GiveBack(job, attempt, "the queue's file was lost as it was claimed", False)
+        self._notes += [GiveBack(job, attempt, "the queue's database was lost as it was claimed", False)
                         for job, attempt in queue.running(self._number).items()
                         if self._under_way.get(job) != attempt and job not in settled]
 
@@ -152,7 +162,8 @@ class Dispatcher:
             self._selector.unregister(self._waker)
             self._waker.close()
         if self._queue is not None:
-            self._queue.close()
+            with contextlib.suppress(*self._faults):
+                self._queue.close()
         self._queue = self._waker = None
 
     def _drop(self) -> None:
@@ -172,9 +183,10 @@ class Dispatcher:
         for post in self._posts:
             post.attend(clock)
             for result in post.results():
-                self._take(result)
-        if self._is_due(clock):
-            self._turn(queue, clock)
+                self._take(result, clock)
+        wants = self._wants(clock)
+        if self._is_due(clock, wants):
+            self._turn(queue, clock, wants)
         if clock >= self._purged + self.settings.purge:
             self._purge(queue, clock)
 
@@ -184,24 +196,26 @@ class Dispatcher:
         has_room = bool(self._wants(clock))
         if self._looks and has_room:
             return 0.0
-        times = [self._beaten + self.settings.lease / 3, self._looked + self.settings.look]
-        if self._next_at is not None and has_room:
-            times.append(clock + (self._next_at - now()) / SECOND)
+        times = [self._beaten + self.settings.lease / 3]
+        if has_room:
+            times.append(self._looked + self.settings.look)
+            if self._next_at is not None:
+                times.append(self._next_at)
         times += [it for it in (post.next_at(clock) for post in self._posts) if it is not None]
         if self._stops_at is not None:
             times.append(self._stops_at)
         return max(0.0, min(times) - clock)
 
-    def _is_due(self, clock: float) -> bool:
+    def _is_due(self, clock: float, wants: Wants) -> bool:
         if self._notes or clock >= self._beaten + self.settings.lease / 3:
             return True
-        is_next = self._next_at is not None and now() >= self._next_at
-        return (self._looks or is_next or clock >= self._looked + self.settings.look) and bool(self._wants(clock))
+        is_next = self._next_at is not None and clock >= self._next_at
+        return (self._looks or is_next or clock >= self._looked + self.settings.look) and bool(wants)
 
-    def _turn(self, queue: Turns, clock: float) -> None:
+    def _turn(self, queue: Turns, clock: float, wants: Wants) -> None:
         """A transaction with what has come, and what comes of it."""
         beats = clock >= self._beaten + self.settings.lease / 3
-        wants, notes = self._wants(clock), self._notes[:]
+        notes = self._notes[:]
         endings = [it for it in notes if isinstance(it, Ending)]
         backs = [it for it in notes if isinstance(it, GiveBack)]
         turn = queue.turn(self._number, endings, backs, wants, self.settings.lease if beats else None)
@@ -213,7 +227,8 @@ class Dispatcher:
             if not all(it.is_mine for it in self._posts):
                 self._take_hosts(queue)
         if wants:
-            self._looks, self._looked, self._next_at = turn.has_more, clock, turn.next_at
+            self._looks, self._looked = turn.has_more, clock
+            self._next_at = None if turn.next_in is None else clock + turn.next_in / SECOND
         self.counts.update(turns=1, ended=len(endings), given_back=len(backs), refused=len(turn.refused),
                            claimed=sum(map(len, turn.claims.values())))
         self._follow(queue, turn, clock)
@@ -221,15 +236,30 @@ class Dispatcher:
     def _follow(self, queue: Turns, turn: Turn, clock: float) -> None:
         """Runs what a turn has claimed, and cancels."""
         for tenant, claims in turn.claims.items():
-            self._spread(tenant, [self._task(queue, it) for it in claims], clock)
+            tasks = [self._task(queue, it, clock) for it in claims]  # if a program can't be read, none of them is under way
+            self._under_way |= {it.job: it.attempt for it in claims}
+            self._spread(tenant, tasks, clock)
         if turn.cancels:
             self._cancel(set(turn.cancels))
 
     def _purge(self, queue: Turns, clock: float) -> None:
-        gone = queue.purge_by_settings()
+        if clock >= self._folded + FOLDS:
+            queue.fold_figures()
+            self._folded = clock
+        gone = queue.purge_by_settings(by_age=self._clock_goes_on(queue))
         self.counts.update(purged=gone)
         if gone < 1000:  # else there is more, which waits for the next step
             self._purged = clock
+
+    def _clock_goes_on(self, queue: Turns) -> bool:
+        """Whether the clock by which jobs have their ages was not set ahead while this runs: ages since are none."""
+        ahead = queue.base.rows("SELECT arena_now()")[0][0] / SECOND - time.clock_gettime(time.CLOCK_BOOTTIME)
+        step = 0.0 if self._ahead is None else ahead - self._ahead
+        if step > CLOCK_STEP and not self._is_clock_set:
+            LOG.warning("the clock was set ahead by %.0f s: no job is removed for its age until this is started anew", step)
+            self._is_clock_set = True
+        self._ahead = ahead
+        return not self._is_clock_set
 
     # Jobs.
 
@@ -245,10 +275,10 @@ class Dispatcher:
             others += post.new_desks if post.host.is_ready(clock) else 0
         return Wants(each, self.settings.hosts.window if others else 0, others)
 
-    def _task(self, queue: Turns, claim: Claim) -> Task[Held]:
+    def _task(self, queue: Turns, claim: Claim, clock: float) -> Task[Held]:
         kept = self._kept(queue, claim.program)
-        self._under_way[claim.job] = claim.attempt
-        return Task(Held(claim, kept.is_serial), kept.prepared.submit((claim.x, claim.y), claim.fuel), policy.runs_alone(claim))
+        return Task(Held(claim, kept.is_serial, clock), kept.prepared.line("submit", (claim.x, claim.y), claim.fuel),
+                    policy.runs_alone(claim))
 
     def _kept(self, queue: Turns, number: int) -> Kept:
         if number not in self._programs:
@@ -278,12 +308,13 @@ class Dispatcher:
                     if task.tag.claim.job in jobs:
                         desk.cancel(task)
 
-    def _take(self, result: Result[Held]) -> None:
+    def _take(self, result: Result[Held], clock: float) -> None:
         """Notes what became of a job, for the next turn."""
-        claim = result.task.tag.claim
+        held = result.task.tag
+        claim = held.claim
         match result:
             case Ended(_, outcome):
-                self._notes.append(policy.ended(claim, result.task.tag.is_serial, outcome))
+                self._notes.append(policy.ended(claim, held.is_serial, outcome, clock - held.began))
             case NotRun(_, why, fault):
                 self.counts[f"not run: {why}"] += 1
                 is_unknown = isinstance(fault, UnknownTenant)

@@ -63,8 +63,9 @@ class LeaseLost(QueueError):
 
 @dataclass(frozen=True, slots=True)
 class NewJob:
-    """A job to submit. Two of one tenant with one key are the same job. It is not run before `run_at`, and jobs of a higher
-    priority are run first; after `most_failures` losses it is dead. Raises QueueError for what is out of range."""
+    """A job to submit. Two of one tenant with one key are the same job. It is not run before `run_at`, or, if there is a
+    `delay`, before so many microseconds after it was submitted, by the clock of the queue; jobs of a higher priority are run
+    first; after `most_failures` losses it is dead. Raises QueueError for what is out of range."""
 
     tenant: str
     program: Program
@@ -74,12 +75,15 @@ class NewJob:
     priority: int = 0
     run_at: int | None = None
     most_failures: int = MOST_FAILURES
+    delay: int = 0
 
     def __post_init__(self) -> None:
         if not self.tenant:
             raise QueueError("a job has a tenant")
         if self.key is not None and not 1 <= len(self.key) <= LONGEST_KEY:
             raise QueueError(f"a key has 1 to {LONGEST_KEY} characters")
+        if "\0" in self.tenant or "\0" in (self.key or ""):
+            raise QueueError("the names of tenants and keys have no character 0")
         if not -1000 <= self.priority <= 1000:
             raise QueueError(f"{self.priority}: a priority is from -1000 to 1000")
         if not 1 <= self.most_failures <= 1_000_000:
@@ -154,10 +158,13 @@ class Claim(NamedTuple):
     fuel: int
     failures: int
     alone: int
+    tenant: str
+    waited: int
+    """For how many microseconds it was ready."""
 
 
 class Ending(NamedTuple):
-    """The outcome of an attempt."""
+    """The outcome of an attempt. `ran` is how many microseconds the attempt took, if a host has run the job."""
 
     job: int
     attempt: int
@@ -165,6 +172,8 @@ class Ending(NamedTuple):
     value: int | None = None
     fault: int | None = None
     error: str | None = None
+    tenant: str = ""
+    ran: int | None = None
 
 
 class GiveBack(NamedTuple):
@@ -177,6 +186,16 @@ class GiveBack(NamedTuple):
     counts: bool
     delay: int = 0
     alone: bool = False
+
+
+@dataclass(frozen=True, slots=True)
+class Grant:
+    """What a token allows: to ask for a tenant, so many times a second, with so many bytes at a time; None is what the service
+    says."""
+
+    tenant: str
+    rate: float | None = None
+    bytes: int | None = None
 
 
 @dataclass(frozen=True, slots=True)
@@ -194,10 +213,10 @@ class Wants:
 @dataclass(slots=True)
 class Turn:
     """What a dispatcher's transaction did: the jobs that it claimed for each tenant, whether there are more, the outcomes that
-    were refused since their attempt was over, running jobs that are to be cancelled, and when the next scheduled job is due."""
+    were refused since their attempt was over, running jobs that are to be cancelled, and in how many microseconds the next scheduled job is due."""
 
     claims: dict[str, list[Claim]] = field(default_factory=dict)
     has_more: bool = False
     refused: list[int] = field(default_factory=list)
     cancels: list[int] = field(default_factory=list)
-    next_at: int | None = None
+    next_in: int | None = None

@@ -15,17 +15,18 @@ def runs_alone(claim: Claim) -> bool:
     return claim.alone > 0 or claim.failures >= SUSPECT
 
 
-def ended(claim: Claim, is_serial: bool, outcome: Outcome) -> Ending | GiveBack:
-    """What an outcome means."""
+def ended(claim: Claim, is_serial: bool, outcome: Outcome, seconds: float) -> Ending | GiveBack:
+    """What an outcome means that came so many seconds after the claim."""
+    ran = int(seconds * SECOND)
     match outcome:
         case Complete(value):
-            return Ending(claim.job, claim.attempt, State.COMPLETE, value)
+            return Ending(claim.job, claim.attempt, State.COMPLETE, value, tenant=claim.tenant, ran=ran)
         case Fault(code):
             if is_serial and code in BY_LOAD and claim.alone < ALONE_TRIES:
                 return GiveBack(claim.job, claim.attempt, f"fault {code.value}, to be tried alone", False, alone=True)
-            return Ending(claim.job, claim.attempt, State.FAULT, fault=code.value)
+            return Ending(claim.job, claim.attempt, State.FAULT, fault=code.value, tenant=claim.tenant, ran=ran)
         case Canceled():
-            return Ending(claim.job, claim.attempt, State.CANCELED)
+            return Ending(claim.job, claim.attempt, State.CANCELED, tenant=claim.tenant, ran=ran)
 
 
 def lost(claim: Claim, why: str) -> GiveBack:

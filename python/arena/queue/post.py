@@ -12,12 +12,13 @@ from arena.pool.task import Result, Settings
 from arena.queue.model import Claim
 
 
-@dataclass(frozen=True, slots=True)
+@dataclass(slots=True)
 class Held:
-    """A claimed job, and whether its program is serial."""
+    """A claimed job, whether its program is serial, and when it was claimed, by the monotonic clock."""
 
     claim: Claim
     is_serial: bool
+    began: float
 
 
 class Post:

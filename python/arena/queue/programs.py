@@ -2,7 +2,7 @@
 import hashlib
 import json
 from collections.abc import Mapping, Sequence
-from dataclasses import dataclass
+from dataclasses import dataclass, field
 from typing import Any
 
 from arena import lint
@@ -28,16 +28,18 @@ class Program:
     hash: str
     procs: str
     is_serial: bool
+    source: str | None = field(default=None, compare=False)
+    """What it was compiled from, if that is known."""
 
     @classmethod
-    def of(cls, procs: Sequence[Any]) -> "Program":
+    def of(cls, procs: Sequence[Any], source: str | None = None) -> "Program":
         """The program of procedures. Raises NoProgram."""
         _check({"args": [0, 0], "fuel": 1, "procs": procs})
         text = json.dumps(procs, separators=(",", ":"))
         if len(text) + LONGEST_FRAME > REQUEST_BYTES:
             raise NoProgram(f"the program takes {len(text):,} bytes; a request has {REQUEST_BYTES:,} at most")
         is_serial = not any(it[0] in NOT_SERIAL for proc in procs for it in proc)
-        return cls(hashlib.sha256(text.encode()).hexdigest(), text, is_serial)
+        return cls(hashlib.sha256(text.encode()).hexdigest(), text, is_serial, source)
 
 
 def _check(value: object) -> None:

@@ -1,5 +1,6 @@
 """How a process learns at once that another one has committed something. These are hints: what is missed is found by
 looking now and then."""
+import abc
 import contextlib
 import os
 import select
@@ -7,8 +8,35 @@ import socket
 from typing import Self
 
 
-class Waker:
-    """Becomes readable when there may be something new of a topic: a datagram socket in a folder beside the queue's file."""
+class Waker(abc.ABC):
+    """Becomes readable when there may be something new of a topic."""
+
+    @abc.abstractmethod
+    def fileno(self) -> int:
+        """What to wait for."""
+
+    @abc.abstractmethod
+    def drain(self) -> None:
+        """Takes what has come. Raises what its database raises if nothing more will come."""
+
+    def wait(self, seconds: float) -> None:
+        """Waits until there may be something new, so many seconds at most."""
+        if select.select([self], [], [], max(0.0, seconds))[0]:
+            self.drain()
+
+    @abc.abstractmethod
+    def close(self) -> None:
+        """Ends it."""
+
+    def __enter__(self) -> Self:
+        return self
+
+    def __exit__(self, *_: object) -> None:
+        self.close()
+
+
+class SocketWaker(Waker):
+    """A datagram socket in a folder beside the queue's file."""
 
     def __init__(self, folder: str, topic: str) -> None:
         os.makedirs(folder, exist_ok=True)
@@ -23,31 +51,20 @@ class Waker:
             os.close(at)
 
     def fileno(self) -> int:
-        """What to wait for."""
+        """See `Waker`."""
         return self._socket.fileno()
 
     def drain(self) -> None:
-        """Takes what has come."""
+        """See `Waker`."""
         with contextlib.suppress(BlockingIOError):
             while True:
                 self._socket.recv(16)
 
-    def wait(self, seconds: float) -> None:
-        """Waits until there may be something new, so many seconds at most."""
-        if select.select([self], [], [], max(0.0, seconds))[0]:
-            self.drain()
-
     def close(self) -> None:
-        """Ends it."""
+        """See `Waker`."""
         self._socket.close()
         with contextlib.suppress(FileNotFoundError):
             os.unlink(self.path)
-
-    def __enter__(self) -> Self:
-        return self
-
-    def __exit__(self, *_: object) -> None:
-        self.close()
 
 
 class Sender:

@@ -1,14 +1,14 @@
-"""The queue for an event loop: one thread with one connection to the file, so that what comes meanwhile is done together."""
+"""The queue for an event loop: one thread with one connection to the database, so that what comes meanwhile is done together."""
 import asyncio
 import collections
 import concurrent.futures
 import contextlib
-import sqlite3
 import time
 from collections.abc import Callable, Sequence
 from typing import TypeVar
 
-from arena.queue.model import Job, KeyTaken, NewJob, QueueError, Submitted
+from arena.queue.model import Grant, Job, KeyTaken, NewJob, QueueError, Submitted
+from arena.queue.base import faults_of
 from arena.queue.store import Store, marks, parts
 from arena.queue.wake import Waker
 
@@ -28,20 +28,22 @@ PAUSE = 0.2
 
 
 class Unavailable(Exception):
-    """The queue's file can't be used now; what was asked for was not done, or it is not known."""
+    """The queue's database can't be used now; what was asked for was not done, or it is not known."""
 
 
 class Access:
-    """The queue in a file. `begin` is called in the loop, and `end` at its end."""
+    """The queue at a path or URL. `begin` is called in the loop, and `end` at its end."""
 
-    def __init__(self, path: str, synchronous: str = "full") -> None:
-        self._path, self._synchronous = path, synchronous
+    def __init__(self, where: str, synchronous: str = "full") -> None:
+        self._where, self._synchronous, self._faults = where, synchronous, faults_of(where)
+        self._lost: tuple[type[Exception], ...] = (OSError, Unavailable, QueueError, *self._faults)
+        self._waker: Waker | None = None
         self._thread = concurrent.futures.ThreadPoolExecutor(1, "queue")
         self._store: Store | None = None
         self._new: collections.deque[tuple[Sequence[NewJob], asyncio.Future[list[Submitted]]]] = collections.deque()
         self._submitting: asyncio.Task[None] | None = None
         self._waiting: dict[int, set[asyncio.Event]] = {}
-        self._tokens: dict[str, tuple[float, str | None]] = {}
+        self._tokens: dict[str, tuple[float, Grant | None]] = {}
         self._watching: asyncio.Task[None] | None = None
 
     def begin(self) -> None:
@@ -54,6 +56,7 @@ class Access:
             self._watching.cancel()
             with contextlib.suppress(asyncio.CancelledError):
                 await self._watching
+        self._deafen()
         await asyncio.get_running_loop().run_in_executor(self._thread, self._close)
         self._thread.shutdown()
 
@@ -68,10 +71,10 @@ class Access:
             """What the thread does."""
             try:
                 if self._store is None:
-                    self._store = Store(self._path, self._synchronous)
+                    self._store = Store(self._where, self._synchronous)
                 return call(self._store)
-            except sqlite3.Error as fault:
-                with contextlib.suppress(sqlite3.Error):
+            except self._faults as fault:
+                with contextlib.suppress(*self._faults):
                     self._close()
                 raise Unavailable(str(fault)) from None
         return await asyncio.get_running_loop().run_in_executor(self._thread, asked)
@@ -111,15 +114,15 @@ class Access:
         except (QueueError, Unavailable) as fault:
             return fault
 
-    async def tenant(self, token: str) -> str | None:
-        """Whose token it is."""
-        until, tenant = self._tokens.get(token, (0.0, None))
+    async def grant(self, token: str) -> Grant | None:
+        """What a token allows; None if it is none."""
+        until, grant = self._tokens.get(token, (0.0, None))
         if until < time.monotonic():
-            tenant = await self.ask(lambda store: store.tenant_of_token(token))
+            grant = await self.ask(lambda store: store.grant_of(token))
             if len(self._tokens) >= TOKENS:
                 self._tokens.clear()
-            self._tokens[token] = (time.monotonic() + TOKEN_SECONDS, tenant)
-        return tenant
+            self._tokens[token] = (time.monotonic() + TOKEN_SECONDS, grant)
+        return grant
 
     async def job(self, number: int, tenant: str, seconds: float) -> Job:
         """A job, once it has ended or so many seconds have passed. Raises UnknownQueueJob."""
@@ -144,32 +147,42 @@ class Access:
         """Wakes those whose jobs have ended: one query for all of them, when something was committed."""
         while True:
             try:
-                waker = Waker(f"{self._path}-wake", "ended")
-            except OSError:
+                await self._look(await self.ask(self._listen))
+            except self._lost:
                 await asyncio.sleep(PAUSE)
-                continue
-            try:
-                await self._look(waker)
-            except (Unavailable, QueueError):
-                await asyncio.sleep(PAUSE)
-            finally:
-                asyncio.get_running_loop().remove_reader(waker.fileno())
-                waker.close()
+
+    def _listen(self, store: Store) -> Waker:
+        """A waker, in the place of the last one."""
+        self._deafen()
+        self._waker = store.base.waker("ended")
+        return self._waker
+
+    def _deafen(self) -> None:
+        if self._waker is not None:
+            self._waker.close()
+            self._waker = None
 
     async def _look(self, waker: Waker) -> None:
         came = asyncio.Event()
-        asyncio.get_running_loop().add_reader(waker.fileno(), came.set)
-        while True:
-            with contextlib.suppress(TimeoutError):
-                async with asyncio.timeout(LOOK):
-                    await came.wait()
-            waker.drain()
-            came.clear()
-            if self._waiting:
-                numbers = list(self._waiting)
-                for number in await self.ask(lambda store: _ended(store, numbers)):
-                    for event in self._waiting.get(number, ()):
-                        event.set()
+        loop, file = asyncio.get_running_loop(), waker.fileno()
+        loop.add_reader(file, came.set)
+        try:
+            while True:
+                with contextlib.suppress(TimeoutError):
+                    async with asyncio.timeout(LOOK):
+                        await came.wait()
+                waker.drain()
+                came.clear()
+                await self._tell()
+        finally:
+            loop.remove_reader(file)
+
+    async def _tell(self) -> None:
+        """Wakes those whose jobs have ended."""
+        if numbers := list(self._waiting):
+            for number in await self.ask(lambda store: _ended(store, numbers)):
+                for event in self._waiting.get(number, ()):
+                    event.set()
 
 
 def _ended(store: Store, numbers: Sequence[int]) -> list[int]:

@@ -6,7 +6,7 @@ from typing import Any
 
 from arena.jobs import GREATEST_FUEL, GREATEST_NUMBER, LEAST_NUMBER
 from arena.language import SourceFault, compile_source
-from arena.queue.model import MOST_FAILURES, SECOND, NewJob, QueueError, now
+from arena.queue.model import MOST_FAILURES, SECOND, NewJob, QueueError
 from arena.queue.programs import NoProgram, Program
 
 MOST_JOBS = 1000
@@ -19,6 +19,10 @@ LONGEST_DELAY = 366 * 86_400
 """How many seconds a job may be delayed."""
 
 MEMBERS = {"source", "procs", "program", "args", "fuel", "key", "priority", "delay", "failures"}
+
+
+compact = json.JSONEncoder(separators=(",", ":")).encode
+"""A value as compact JSON."""
 
 
 class BadBody(ValueError):
@@ -39,7 +43,7 @@ def compiled(source: str) -> Program:
     if len(source) > LONGEST_SOURCE:
         raise BadBody(f"source: {LONGEST_SOURCE:,} characters at most")
     try:
-        return Program.of(compile_source(source).job.to_value()["procs"])
+        return Program.of(compile_source(source).job.to_value()["procs"], source)
     except (SourceFault, NoProgram, RecursionError) as fault:
         raise BadBody(f"source: {fault}") from None
 
@@ -76,8 +80,9 @@ def _new_job(value: object, tenant: str, kept: Callable[[str], Program | None], 
             raise BadBody(f"{min(others)[:40]!r} is no member of a job; it has {', '.join(sorted(MEMBERS))}")
         return NewJob(tenant, _program(value, kept), _args(value.get("args", [0, 0])),
                       whole(value.get("fuel", GREATEST_FUEL), "fuel", 1, GREATEST_FUEL), _key(value.get("key")),
-                      whole(value.get("priority", 0), "priority", -1000, 1000), _run_at(value.get("delay", 0)),
-                      whole(value.get("failures", MOST_FAILURES), "failures", 1, 1_000_000))
+                      whole(value.get("priority", 0), "priority", -1000, 1000),
+                      most_failures=whole(value.get("failures", MOST_FAILURES), "failures", 1, 1_000_000),
+                      delay=_delay(value.get("delay", 0)))
     except (BadBody, QueueError) as fault:
         raise BadBody(f"{place}{fault}") from None
 
@@ -88,8 +93,8 @@ def _program(value: Mapping[str, Any], kept: Callable[[str], Program | None]) ->
         raise BadBody("a job has one of source, procs and program")
     it = value[given[0]]
     if given[0] == "procs":
-        return checked(json.dumps(it, separators=(",", ":")))
-    if not isinstance(it, str) or not _is_text(it):
+        return checked(compact(it))
+    if not isinstance(it, str) or not is_text(it):
         raise BadBody(f"{given[0]}: a text")
     if given[0] == "source":
         return compiled(it)
@@ -99,13 +104,14 @@ def _program(value: Mapping[str, Any], kept: Callable[[str], Program | None]) ->
     return program
 
 
-def _is_text(text: str) -> bool:
-    """Whether a text can be written in UTF-8: JSON may have halves of characters."""
+def is_text(text: str) -> bool:
+    """Whether a text can be kept: JSON may have halves of characters, which can't be written in UTF-8, and the character 0, which no
+    database has to take."""
     try:
         text.encode()
     except UnicodeEncodeError:
         return False
-    return True
+    return "\0" not in text
 
 
 def _args(value: object) -> tuple[int, int]:
@@ -116,12 +122,12 @@ def _args(value: object) -> tuple[int, int]:
 
 
 def _key(value: object) -> str | None:
-    if value is not None and not (isinstance(value, str) and _is_text(value)):
+    if value is not None and not (isinstance(value, str) and is_text(value)):
         raise BadBody("key: a text")
     return value
 
 
-def _run_at(value: object) -> int | None:
+def _delay(value: object) -> int:
     if isinstance(value, bool) or not isinstance(value, (int, float)) or not 0 <= value <= LONGEST_DELAY:
         raise BadBody(f"delay: seconds, from 0 to {LONGEST_DELAY}")
-    return now() + int(value * SECOND) if value else None
+    return int(value * SECOND)

@@ -37,6 +37,10 @@ def _content(schema: object, description: str) -> dict[str, Any]:
     return {"description": description, "content": {"application/json": {"schema": schema}}}
 
 
+def _text(kind: str, description: str) -> dict[str, Any]:
+    return {"description": description, "content": {kind: {"schema": {"type": "string"}}}}
+
+
 def _operation(name: str, summary: str, answer: dict[str, Any], *errors: int, status: int = 200, **more: object) -> dict[str, Any]:
     texts = {400: "the request is wrong", 401: "no such token", 404: "the tenant has no such job",
              409: "the job is another one, or not in that state", 413: "the body is too large", 429: "too many requests",
@@ -73,8 +77,13 @@ def document() -> dict[str, Any]:
             "/v1/jobs/{job}/retry": {"post": _operation("retry", "runs a job again that ended without a value", state, 400, 404, 409,
                                                         parameters=[_ID])},
             "/v1/stats": {"get": _operation("stats", "how many jobs there are", _content({"type": "object"}, "counts"))},
-            "/metrics": {"get": _operation("metrics", "the same for Prometheus", {"description": "text"})},
+            "/metrics": {"get": _operation("metrics", "counts, rates, times and ages for Prometheus", _text("text/plain", "text"))},
+            "/": {"get": _operation("page", "a page with all of this, for a browser", _text("text/html", "the page"),
+                                    security=[{"token": []}, {"password": []}])},
             "/healthz": {"get": {"operationId": "health", "summary": "whether the queue's file can be used", "security": [],
-                                 "responses": {"200": {"description": "it can"}, "503": {"description": "it can't"}}}}},
-        "components": {"securitySchemes": {"token": {"type": "http", "scheme": "bearer"}},
+                                 "responses": {"200": _content({"type": "object", "properties": {"ok": {"type": "boolean"}}}, "it can"),
+                                               "503": _content(_of("Error"), "it can't")}}}},
+        "components": {"securitySchemes": {"token": {"type": "http", "scheme": "bearer"},
+                                           "password": {"type": "http", "scheme": "basic",
+                                                        "description": "the token as the password, with any name"}},
                        "schemas": {"Job": _JOB, "NewJob": _NEW, "Made": _MADE, "Error": _ERROR}}}

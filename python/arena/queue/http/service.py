@@ -1,20 +1,26 @@
-"""The requests and their answers. Whatever is refused is answered as JSON with a member `error`."""
+"""The requests and their answers. Whatever is refused is answered as JSON with a member `error`, but for the page."""
 import asyncio
-import json
+import base64
 import logging
 import math
 import signal
-from collections.abc import Awaitable, Callable, Iterator
+import socket
+from collections.abc import Awaitable, Callable
 from typing import Any
 
 from aiohttp import web
 
 from arena.host.address import Address
 from arena.queue.http.access import Access, Unavailable
-from arena.queue.http.bodies import BadBody, new_jobs, value_of, whole
+from arena.queue.http.bodies import BadBody, compact, is_text, new_jobs, value_of, whole
+from arena.queue.http.exposition import TYPE, exposed
+from arena.queue.http.lines import Place, place_of
 from arena.queue.http.openapi import document
+from arena.queue.http.page import HEADERS, page
+from arena.queue.http.processes import serve_in
 from arena.queue.http.rates import Rates
-from arena.queue.model import Job, NewJob, QueueError, State, UnknownQueueJob
+from arena.queue.http.view import Numbers, View
+from arena.queue.model import Grant, Job, NewJob, QueueError, State, UnknownQueueJob
 from arena.queue.store import Store
 
 LOG = logging.getLogger("arena.queue.http")
@@ -26,13 +32,18 @@ GREATEST = 2**63 - 1
 OPEN = ("/healthz", "/openapi.json")
 """What is answered without a token."""
 
+PAGE = "/"
+"""The page, which takes a token as the password of a browser too. Nothing that changes something does: a browser adds such a
+password to whatever any page has it ask for."""
+
+JSON = "application/json; charset=utf-8"
+
 Handler = Callable[[web.Request], Awaitable[web.StreamResponse]]
 
 
 def answer(value: object, status: int = 200, **headers: str) -> web.Response:
     """A value as JSON."""
-    text = json.dumps(value, separators=(",", ":"))
-    return web.Response(text=text, status=status, content_type="application/json", headers=headers)
+    return web.Response(body=compact(value).encode(), status=status, headers={"Content-Type": JSON, **headers})
 
 
 def refusal(status: int, text: str, **headers: str) -> web.Response:
@@ -41,10 +52,11 @@ def refusal(status: int, text: str, **headers: str) -> web.Response:
 
 
 class Service:
-    """The requests over a queue."""
+    """The requests over a queue: `rate` a second with up to `size` bytes for each token that has no limits of its own."""
 
-    def __init__(self, access: Access, rate: float) -> None:
-        self.access, self.rates = access, Rates(rate)
+    def __init__(self, access: Access, rate: float, size: int = LONGEST_BODY) -> None:
+        self.access, self.rate, self.size = access, rate, size
+        self._rates = Rates()
 
     def application(self) -> web.Application:
         """The application of aiohttp."""
@@ -56,7 +68,7 @@ class Service:
         made.add_routes([
             web.post("/v1/jobs", self.submit), web.get("/v1/jobs", self.listing), web.get(r"/v1/jobs/{job}", self.job),
             web.post(r"/v1/jobs/{job}/cancel", self.cancel), web.post(r"/v1/jobs/{job}/retry", self.retry),
-            web.get("/v1/stats", self.stats), web.get("/metrics", self.metrics), web.get("/openapi.json", self.openapi),
+            web.get(PAGE, self.page), web.get("/v1/stats", self.stats), web.get("/metrics", self.metrics), web.get("/openapi.json", self.openapi),
             web.get("/healthz", self.health)])
         made.on_startup.append(self._began)
         made.on_cleanup.append(self._ended)
@@ -88,29 +100,43 @@ class Service:
 
     async def _refused(self, request: web.Request) -> web.Response | None:
         """Why a request is not answered: its token is none, or has made too many. Its tenant is noted otherwise."""
-        kind, _, token = request.headers.get("Authorization", "").partition(" ")
-        is_token = kind.lower() == "bearer" and token.isascii()
-        tenant = await self.access.tenant(token.strip()) if is_token else None
-        if tenant is None:
-            return refusal(401, "a token is wanted: Authorization: Bearer TOKEN", **{"WWW-Authenticate": "Bearer"})
-        if (wait := self.rates.wait(token)) > 0:
+        token = _token(request.headers.get("Authorization", ""), request.path == PAGE)
+        grant = None if token is None else await self.access.grant(token)
+        if token is None or grant is None:
+            how = 'Basic realm="a token as the password", charset="UTF-8"' if request.path == PAGE else "Bearer"
+            return refusal(401, "a token is wanted: Authorization: Bearer TOKEN", **{"WWW-Authenticate": how})
+        if (wait := self._rates.wait(token, self.rate if grant.rate is None else grant.rate)) > 0:
             return refusal(429, "too many requests", **{"Retry-After": str(math.ceil(wait))})
-        request["tenant"] = tenant
+        request["tenant"], request["grant"] = grant.tenant, grant
         return None
+
+    async def _body(self, request: web.Request) -> bytes:
+        """The body of a request. Raises HTTPRequestEntityTooLarge for one that is longer than its token may send."""
+        grant: Grant = request["grant"]
+        most = self.size if grant.bytes is None else grant.bytes
+        body, length = bytearray(), request.content_length or 0
+        if length <= most:
+            async for some in request.content.iter_any():
+                body += some
+                if len(body) > most:
+                    break
+        if max(length, len(body)) > most:
+            raise web.HTTPRequestEntityTooLarge(most, max(length, len(body)))
+        return bytes(body)
 
     # Jobs.
 
     async def submit(self, request: web.Request) -> web.Response:
         """Keeps jobs."""
-        tenant, value = request["tenant"], value_of(await request.read())
+        tenant, value = request["tenant"], value_of(await self._body(request))
         hashes = {it["program"] for it in (value if isinstance(value, list) else [value])
-                  if isinstance(it, dict) and isinstance(it.get("program"), str) and it["program"].isascii()}
+                  if isinstance(it, dict) and isinstance(it.get("program"), str) and is_text(it["program"])}
         kept = await self.access.ask(lambda store: {it: store.program_of_hash(tenant, it) for it in hashes}) if hashes else {}
 
         def read() -> list[NewJob]:
             """Reads the jobs, which may take a while."""
             return new_jobs(value, tenant, kept.get)
-        made = await self.access.submit(await asyncio.to_thread(read))
+        made = await self.access.submit(await asyncio.to_thread(read) if isinstance(value, list) else read())
         found = [{"job": it.job, "made": it.made} for it in made]
         return answer(found if isinstance(value, list) else found[0], 201)
 
@@ -146,19 +172,28 @@ class Service:
 
     # Figures.
 
-    async def _counts(self, tenant: str) -> dict[str, int]:
-        found = await self.access.ask(lambda store: store.stats(tenant))
-        counts: dict[str, int] = found["tenants"].get(tenant, {})
-        return {it.value: counts.get(it.value, 0) for it in State}
-
     async def stats(self, request: web.Request) -> web.Response:
         """How many jobs of the tenant there are."""
-        return answer({"tenant": request["tenant"], "jobs": await self._counts(request["tenant"])})
+        tenant = request["tenant"]
+        counts = await self.access.ask(lambda store: store.counts_of(tenant))
+        return answer({"tenant": tenant, "jobs": {state.value: count for state, count in counts.items()}})
 
     async def metrics(self, request: web.Request) -> web.Response:
-        """The same for Prometheus."""
-        return web.Response(text="\n".join(exposed(request["tenant"], await self._counts(request["tenant"]))) + "\n",
-                            headers={"Content-Type": "text/plain; version=0.0.4; charset=utf-8"})
+        """The tenant's numbers for Prometheus."""
+        tenant = request["tenant"]
+        numbers = await self.access.ask(lambda store: Numbers.of(store, tenant))
+        return web.Response(text=exposed(numbers), headers={"Content-Type": TYPE})
+
+    async def page(self, request: web.Request) -> web.Response:
+        """The tenant's page."""
+        tenant = request["tenant"]
+        view = await self.access.ask(lambda store: View.of(store, tenant))
+
+        def places() -> dict[int, Place | None]:
+            """Where the faults were, which may take a while."""
+            return {job.job: place_of(job, procs, source) for job, procs, source in view.faults}
+        text = page(view, await asyncio.to_thread(places))
+        return web.Response(text=text, content_type="text/html", charset="utf-8", headers=HEADERS)
 
     async def openapi(self, _: web.Request) -> web.Response:
         """The description."""
@@ -170,12 +205,17 @@ class Service:
         return answer({"ok": True})
 
 
-def exposed(tenant: str, counts: dict[str, int]) -> Iterator[str]:
-    """Lines for Prometheus."""
-    label = tenant.replace("\\", "\\\\").replace('"', '\\"').replace("\n", "\\n")
-    yield "# HELP arena_queue_jobs How many jobs there are, by their state."
-    yield "# TYPE arena_queue_jobs gauge"
-    yield from (f'arena_queue_jobs{{tenant="{label}",state="{state}"}} {count}' for state, count in counts.items())
+def _token(header: str, is_page: bool) -> str | None:
+    """The token of a header `Authorization`; None if it has none."""
+    kind, _, text = header.partition(" ")
+    if kind.lower() == "basic" and is_page:
+        try:
+            text = base64.b64decode(text, validate=True).decode("ascii").partition(":")[2]
+        except ValueError:
+            return None
+    elif kind.lower() != "bearer":
+        return None
+    return text.strip() if text.isascii() else None
 
 
 def _number(request: web.Request) -> int:
@@ -204,12 +244,15 @@ def _seconds(text: str) -> float:
     return seconds
 
 
-async def served(path: str, address: Address, rate: float, began: Callable[[int], object], ended: asyncio.Event) -> None:
-    """Serves a queue until `ended` is set; `began` is told the port. Raises OSError, QueueError."""
-    runner = web.AppRunner(Service(Access(path), rate).application(), access_log=None)
+async def served(where: str, address: Address | socket.socket, rate: float, began: Callable[[int], object], ended: asyncio.Event,
+                 size: int = LONGEST_BODY) -> None:
+    """Serves a queue, at an address or a socket that listens, until `ended` is set; `began` is told the port. Raises OSError,
+    QueueError."""
+    runner = web.AppRunner(Service(Access(where), rate, size).application(), access_log=None)
     await runner.setup()
     try:
-        site = web.TCPSite(runner, address.host, address.port, shutdown_timeout=5)
+        site: web.BaseSite = (web.SockSite(runner, address, shutdown_timeout=5) if isinstance(address, socket.socket)
+                              else web.TCPSite(runner, address.host, address.port, shutdown_timeout=5))
         await site.start()
         began(runner.addresses[0][1])
         await ended.wait()
@@ -217,12 +260,25 @@ async def served(path: str, address: Address, rate: float, began: Callable[[int]
         await runner.cleanup()
 
 
-def serve(path: str, address: Address, rate: float, began: Callable[[int], object]) -> None:
-    """Serves a queue until SIGTERM or Ctrl-C."""
-    async def main() -> None:
-        """What the loop does."""
-        ended = asyncio.Event()
-        for number in (signal.SIGTERM, signal.SIGINT):
-            asyncio.get_running_loop().add_signal_handler(number, ended.set)
-        await served(path, address, rate, began, ended)
-    asyncio.run(main())
+def serve(where: str, address: Address, rate: float, size: int, processes: int, began: Callable[[int], object]) -> bool:
+    """Serves a queue until SIGTERM or Ctrl-C, by several processes, each of which has its share of a token's rate. Whether that was
+    what ended it, and not one of the processes."""
+    with socket.create_server((address.host, address.port), family=socket.AF_INET6 if ":" in address.host else socket.AF_INET,
+                              backlog=1024) as listening:
+        began(listening.getsockname()[1])
+
+        def one(parent: int) -> None:
+            """What each process does."""
+            asyncio.run(_until_signal(where, listening, rate / processes, size, parent))
+        return serve_in(processes, one)
+
+
+async def _until_signal(where: str, listening: socket.socket, rate: float, size: int, parent: int) -> None:
+    ended, loop = asyncio.Event(), asyncio.get_running_loop()
+    for number in (signal.SIGTERM, signal.SIGINT):
+        loop.add_signal_handler(number, ended.set)
+    loop.add_reader(parent, ended.set)
+    try:
+        await served(where, listening, rate, lambda port: None, ended, size)
+    finally:
+        loop.remove_reader(parent)

@@ -1,6 +1,10 @@
 """The tables of the queue, as steps that are done in order, each once. What an index is for stands before it."""
 from collections.abc import Sequence
 
+_CAME = """INSERT INTO tally (tenant, state, jobs) VALUES (NEW.tenant, NEW.state, 1)
+    ON CONFLICT (tenant, state) DO UPDATE SET jobs = jobs + 1;"""
+_WENT = "UPDATE tally SET jobs = jobs - 1, passed = passed + 1 WHERE tenant = OLD.tenant AND state = OLD.state;"
+
 STEPS: Sequence[Sequence[str]] = (
     (
         """CREATE TABLE program (
@@ -71,5 +75,33 @@ STEPS: Sequence[Sequence[str]] = (
         # Who may ask over HTTP for which tenant, by the hash of a token alone.
         """CREATE TABLE token (
             hash TEXT PRIMARY KEY, tenant TEXT NOT NULL, note TEXT NOT NULL, made_at INTEGER NOT NULL) WITHOUT ROWID""",
+    ),
+    (
+        # What a token may ask for, where that is not what the service says.
+        "ALTER TABLE token ADD COLUMN rate REAL",
+        "ALTER TABLE token ADD COLUMN bytes INTEGER",
+        # What a program was compiled from, so that a fault has its line.
+        "ALTER TABLE program ADD COLUMN source TEXT",
+        # How long the oldest one of a tenant waits.
+        "DROP INDEX job_oldest",
+        "CREATE INDEX job_oldest ON job (tenant, run_at) WHERE state = 'ready'",
+        # How many jobs were in a state, and are no more.
+        "ALTER TABLE tally ADD COLUMN passed INTEGER NOT NULL DEFAULT 0",
+        "DROP TRIGGER job_made",
+        "DROP TRIGGER job_moved",
+        "DROP TRIGGER job_gone",
+        f"CREATE TRIGGER job_made AFTER INSERT ON job BEGIN {_CAME} END",
+        f"CREATE TRIGGER job_moved AFTER UPDATE OF state ON job WHEN OLD.state <> NEW.state BEGIN {_WENT} {_CAME} END",
+        f"CREATE TRIGGER job_gone AFTER DELETE ON job BEGIN {_WENT} END",
+        # How many jobs came, and how long they waited and ran, by the minute (`figures`).
+        """CREATE TABLE figure (
+            tenant TEXT NOT NULL, minute INTEGER NOT NULL, what TEXT NOT NULL, bucket INTEGER NOT NULL, jobs INTEGER NOT NULL,
+            micros INTEGER NOT NULL, PRIMARY KEY (tenant, minute, what, bucket)) WITHOUT ROWID""",
+    ),
+    (
+        # Programs that stay though no job has them.
+        "ALTER TABLE program ADD COLUMN kept INTEGER NOT NULL DEFAULT 0",
+        # Those that were given back, so that a clock that was set back does not hold them up.
+        "CREATE INDEX job_given_back ON job (run_at) WHERE state = 'scheduled' AND attempt > 0",
     ),
 )

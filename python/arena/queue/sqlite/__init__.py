@@ -1,0 +1,1 @@
+"""The queue in a file: SQLite in WAL mode, for the processes of one machine."""
