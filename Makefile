@@ -11,7 +11,7 @@ help: ## lists the targets
 run: ## runs an example within a minute or two, unproved unless it is built: make run EXAMPLE=isolated_waiter
 	@python3 examples/show.py $(EXAMPLE)
 
-build: ## proves arena-script, arena-server and arena-host, and builds them into out/
+build: ## proves arena-compile, arena-script, arena-server and arena-host, and builds them into out/
 	@python3 checks/build/run.py
 
 SOCKET ?= /tmp/arena.sock
@@ -62,7 +62,7 @@ deb: ## builds a Debian package of what stands in out/ (docs/OPERATIONS.md, Inst
 dist: ## packs the proved programs with the gate's last line and their checksums
 	@packaging/dist.py --programs "$(PROGRAMS)"
 
-test: ## passes everything: examples, each proof, edit, test and program, the wrong bodies of calls, stored runs, scripts, a second evaluator, ranges, the server, the host, failed allocations, drawn steps, the Python package, the queue, counts of instructions, the pages, the crates' groups, installations, HAProxy before servers
+test: ## passes everything: examples, each proof, edit, test and program, the wrong bodies of calls, stored runs, scripts, a second evaluator, ranges, the server, the host, failed allocations, drawn steps, drawn sources by two compilers, the Python package, the queue, counts of instructions, the pages, the crates' groups, installations, HAProxy before servers
 	@mkdir -p out && date +%s > out/test-began
 	checks/examples/run.sh
 	checks/gate/run.py
@@ -75,6 +75,7 @@ test: ## passes everything: examples, each proof, edit, test and program, the wr
 	checks/host/run.py
 	checks/failed_allocations/run.py
 	checks/fuzz/run.py
+	checks/compile/run.py
 	checks/python/run.py
 	checks/queue/run.py
 	checks/cost/run.py --built .

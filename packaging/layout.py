@@ -9,9 +9,9 @@ from dataclasses import dataclass
 
 HERE = pathlib.Path(__file__).resolve().parent
 TOP = HERE.parent
-PROGRAMS = ("arena-script", "arena-server", "arena-host")
-MANUALS = {"arena": "man1/arena.1", "arena-script": "man1/arena-script.1", "arena-server": "man8/arena-server.8",
-           "arena-host": "man8/arena-host.8"}
+PROGRAMS = ("arena-compile", "arena-script", "arena-server", "arena-host")
+MANUALS = {"arena": "man1/arena.1", "arena-compile": "man1/arena-compile.1", "arena-script": "man1/arena-script.1",
+           "arena-server": "man8/arena-server.8", "arena-host": "man8/arena-host.8"}
 
 
 @dataclass(frozen=True)

@@ -1,6 +1,6 @@
 #!/usr/bin/env python3
-"""Proves the crates that arena-script, arena-server and arena-host stand on, from the lowest up, and builds these into
-out/.
+"""Proves the crates that arena-compile, arena-script, arena-server and arena-host stand on, from the lowest up, and builds
+these into out/.
 
 usage: checks/build/run.py, at the top of the repository. It prints a line before and after each crate,
 with the minutes since the start; a crate that has not changed since its last proof takes seconds.
@@ -14,7 +14,8 @@ import time
 from crates import below, read_crates
 from kit import functions_in, is_proved
 
-PROGRAMS = {"script_program": "arena-script", "server_program": "arena-server", "host_program": "arena-host"}
+PROGRAMS = {"compile_program": "arena-compile", "script_program": "arena-script", "server_program": "arena-server",
+            "host_program": "arena-host"}
 START = time.monotonic()
 
 

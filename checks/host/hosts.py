@@ -159,14 +159,16 @@ class Host:
         return closed
 
     def look_at_dumps(self) -> None:
-        """Each tenant has a dump of its newest terms that were closed, or the host said that it could not be written. Each
-        dump is whole and as long as was told."""
+        """Each tenant has a dump of its newest terms that were closed, or the host said that it could not be written, or that jobs
+        are left to the next start. Each dump is whole and as long as was told."""
         for name, entries in self.closed().items():
             newest = sorted(entries)[-self.keep:]
             for number, count in entries.items():
                 path = self.path("dumps", f"{name}.{number:06}.jsonl")
                 if os.path.exists(path):
                     assert dump_lines(path) == count + 1, (path, count)
+                elif any(it["left"] for it in self.told("closed", tenant=name, term=number)):
+                    assert glob.glob(self.path("journals", f"{name}.{number:06}.*")), path
                 else:
                     assert number not in newest or self.told("fault", what="dump", tenant=name, term=number), path
 

@@ -124,25 +124,35 @@ def lost_jobs_are_counted() -> None:
 
 
 def history_that_is_not_written_is_a_fault() -> None:
-    """Without a folder for dumps the host tries for half a minute, with all tenants together, and ends with the status of a
-    device that failed."""
+    """Without a folder for dumps the host tries for half a minute, with all tenants together. Without journals it ends with the
+    status of a device that failed; with them it ends well, and the next start writes what they have."""
     names = [f"t{number}" for number in range(6)]
-    host = Host([tenant(name) for name in names])
-    client = host.connect("t3")
-    assert ask(client, fib(6))["value"] == 8
-    hang_up(client)
-    os.rename(host.path("dumps"), host.path("gone"))
+    hosts = {durable: Host([tenant(name) for name in names], "--durable", durable) for durable in ("off", "write")}
+    for host in hosts.values():
+        client = host.connect("t3")
+        assert ask(client, fib(6))["value"] == 8
+        hang_up(client)
+        os.rename(host.path("dumps"), host.path("gone"))
     began = time.monotonic()
-    os.unlink(host.path("socket"))
-    status = host.process.wait(timeout=PATIENCE)
+    for host in hosts.values():
+        os.unlink(host.path("socket"))
+    ends = {}
+    for durable, host in hosts.items():
+        ends[durable] = host.process.wait(timeout=PATIENCE), host.faults
     took = time.monotonic() - began
-    for reader in host.readers:
-        reader.join()
-    assert (status, host.faults) == (3, ["arena-host: device"]), (status, host.faults, host.events)
+    for host in hosts.values():
+        for reader in host.readers:
+            reader.join()
+    assert ends == {"off": (3, ["arena-host: device"]), "write": (0, [])}, ends
     assert 25 < took < 45, f"it took {took:.1f} s"
-    closed = host.status()["closed"]
-    assert sorted((it["tenant"], it["dumped"]) for it in closed) == [(name, False) for name in names]
-    assert len(host.told("fault", what="dump")) >= 2 * len(names)
+    for host in hosts.values():
+        closed = host.status()["closed"]
+        assert sorted((it["tenant"], it["dumped"]) for it in closed) == [(name, False) for name in names]
+        assert len(host.told("fault", what="dump")) >= 2 * len(names)
+    host = Host([tenant(name) for name in names], after=hosts["write"])
+    assert sorted(it["tenant"] for it in host.told("recovered")) == names
+    assert [dumps(host, name) for name in names] == [[0]] * len(names)
+    assert host.stop() == 0
 
 
 def one_tenant_keeps_no_other_from_its_dump() -> None:
@@ -315,7 +325,7 @@ def dumps_have_their_names_on_the_disk() -> None:
         host = Host([tenant("acme"), tenant("beta")], preload=library)
         assert host.stop() == 0
         with open(orders) as it:
-            noted = [line.rstrip("\n") for line in it if "status.json" not in line]
+            noted = [line.rstrip("\n") for line in it if line.startswith(("rename", "folder")) and "status.json" not in line]
     made = [it for it in noted if "/terms" not in it]
     expected = []
     for name in ("acme", "beta"):

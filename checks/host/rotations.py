@@ -187,9 +187,10 @@ def what_it_shows() -> None:
                 "--finish", 7)
     connections = asks_both(host)
     status = by_deadline(lambda: shown(host, lambda acme, beta: acme["asks"] == 4 and beta["asks"] == 3))
-    assert set(status) == {"time", "began", "connections", "connected", "served", "rotate_at", "keep", "finish", "memory",
+    assert set(status) == {"time", "began", "connections", "connected", "served", "rotate_at", "keep", "finish", "durable", "memory",
                            "workers", "terms", "closed"}
     assert (status["connections"], status["rotate_at"], status["keep"], status["finish"]) == (3, 50, 5, 7)
+    assert status["durable"] == "write"
     assert (status["connected"], status["served"]) == (2, 2)
     assert abs(status["time"] - time.time()) < 5 and status["memory"] > 1 << 20 and status["closed"] == []
     acme, beta = status["terms"]
@@ -209,7 +210,8 @@ def what_it_shows() -> None:
     closed = {it.pop("tenant"): it for it in host.status()["closed"]}
     beta = closed["beta"]
     assert beta.pop("ended") >= beta.pop("began") and beta.pop("ms") >= 0
-    assert beta == {"term": 0, "why": "stop", "base": 0, "entries": 3, "lost": 1, "fault": None, "dumped": True}
+    assert beta == {"term": 0, "why": "stop", "base": 0, "entries": 3, "lost": 1, "left": 0, "fault": None,
+                    "dumped": True}
     assert set(closed) == {"acme", "beta"} and host.status()["terms"] == []
 
 

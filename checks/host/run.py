@@ -8,13 +8,14 @@ import sys
 import time
 
 import clients
+import durable
 import ends
 import losses
 import rotations
 import sharing
 import starts
 
-CHECKS = [check for module in (starts, clients, sharing, rotations, losses, ends) for check in module.CHECKS]
+CHECKS = [check for module in (starts, clients, sharing, rotations, losses, durable, ends) for check in module.CHECKS]
 
 
 def main() -> None:

@@ -58,7 +58,8 @@ def modes() -> None:
 
 
 def starts_again_after_a_kill() -> None:
-    """What a killed host leaves is cleared, and the numbers of terms and of jobs go on behind all that may have been given."""
+    """What a killed host leaves is finished or cleared, and the numbers of terms and of jobs go on behind all that may have been
+    given."""
     host = Host([tenant("acme", steps=1000)])
     connection = host.connect()
     assert ask(connection, fib(6)) == {"job": 1, "status": "complete", "value": 8}
@@ -77,7 +78,8 @@ def starts_again_after_a_kill() -> None:
     connection = host.connect()
     assert ask(connection, fib(6)) == {"job": 2001, "status": "complete", "value": 8}
     assert host.stop() == 0
-    assert sorted(os.listdir(host.path("dumps"))) == ["acme.000000.jsonl", "acme.000002.jsonl"]
+    assert sorted(os.listdir(host.path("dumps"))) == [f"acme.{term:06}.jsonl" for term in range(3)]
+    assert os.listdir(host.path("journals")) == []
     hang_up(connection)
 
 

@@ -13,6 +13,7 @@ ALWAYS = """
 644 share/doc/arena/examples/arena-server.service
 """
 OF_PROGRAM = {
+    "arena-compile": "755 bin/arena-compile\n644 share/man/man1/arena-compile.1@z@",
     "arena-script": "755 bin/arena-script\n644 share/man/man1/arena-script.1@z@",
     "arena-server": "755 bin/arena-server\n644 share/man/man8/arena-server.8@z@",
     "arena-host": """755 bin/arena-host

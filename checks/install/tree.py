@@ -34,7 +34,7 @@ def is_installed_and_uninstalled(room: Room) -> None:
     assert "nothing is installed" in room.make("uninstall", DESTDIR=root, status=2)
 
 
-OF_ALL = {"arena-script", "arena-server", "arena-host"}
+OF_ALL = {"arena-compile", "arena-script", "arena-server", "arena-host"}
 
 
 def _runs(room: Room, program: str) -> None:

@@ -35,10 +35,10 @@ def term(number: int, tenant: str = "acme", state: str = "serving", why: str | N
 
 
 def closed(number: int, tenant: str = "acme", why: str = "history", began: int = 0, ended: int = 0, entries: int = 0,
-           lost: int = 0, fault: int | None = None, dumped: bool = True, ms: int = 0) -> dict:
+           lost: int = 0, left: int = 0, fault: int | None = None, dumped: bool = True, ms: int = 0) -> dict:
     """A term that was closed."""
     return {"tenant": tenant, "term": number, "began": began, "ended": ended, "why": why, "base": 0, "entries": entries,
-            "lost": lost, "fault": fault, "dumped": dumped, "ms": ms}
+            "lost": lost, "left": left, "fault": fault, "dumped": dumped, "ms": ms}
 
 
 class Folder:
@@ -71,7 +71,7 @@ class Folder:
                served: int = 0, at: float | None = None) -> dict:
         """A status of now, or of a time in seconds since 1970, that has these terms."""
         return {"time": int(time.time() if at is None else at), "began": began, "connections": 64, "connected": 0,
-                "served": served, "rotate_at": 50, "keep": 8, "finish": 10, "memory": None, "workers": [*workers],
+                "served": served, "rotate_at": 50, "keep": 8, "finish": 10, "durable": "write", "memory": None, "workers": [*workers],
                 "terms": [*terms], "closed": [*closed]}
 
     def dump(self, name: str, verdict: str = "yes") -> None:

@@ -3,6 +3,7 @@ ghost use Rattle.std.specs.Prelude.{◌≡◌, true, false};
 
 use dump_lines::DumpFault;
 use host_status::Fault;
+use part_writer::PartFault;
 use program_words::WordsFault;
 use server_io::ServerEnd;
 
@@ -66,5 +67,21 @@ pub(crate) fn event_dump_fault(fault: DumpFault) -> Fault {
     match fault {
         DumpFault::Memory => Fault::Memory,
         DumpFault::Device | DumpFault::NoEntry => Fault::Dump,
+    }
+}
+
+/// How the host ends that can't write a history at its start.
+pub(crate) fn dump_end(fault: DumpFault) -> ServerEnd {
+    match fault {
+        DumpFault::Memory => ServerEnd::Memory,
+        DumpFault::Device | DumpFault::NoEntry => ServerEnd::Device,
+    }
+}
+
+/// How the host ends that can't begin a journal.
+pub(crate) fn part_end(fault: PartFault) -> ServerEnd {
+    match fault {
+        PartFault::Memory => ServerEnd::Memory,
+        PartFault::Failed | PartFault::NoEntry => ServerEnd::Device,
     }
 }

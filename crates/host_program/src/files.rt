@@ -31,7 +31,7 @@ pub(crate) fn put_text<R: Files<File = File>>(
 }
 
 /// Brings the names in a folder to the disk, if its file system can do that for a folder.
-fn sync_folder<R: Files<File = File>>(rt: &R, folder: &str) -> io::Result<()> {
+pub(crate) fn sync_folder<R: Files<File = File>>(rt: &R, folder: &str) -> io::Result<()> {
     match File::open(rt, folder)?.sync_all() {
         Err(fault) if fault.kind() != ErrorKind::InvalidInput => Err(fault),
         _ => Ok(()),
@@ -47,5 +47,17 @@ pub(crate) fn text_of<R: Files<File = File>>(
     let mut bytes = Vec::new(alloc);
     let file = File::open(rt, path)?;
     file.take(MOST_BYTES).read_to_end(&mut bytes)?;
+    Ok(bytes)
+}
+
+/// All bytes of a file, however many it has.
+pub(crate) fn bytes_of<R: Files<File = File>>(
+    rt: &R,
+    alloc: Global,
+    path: &str,
+) -> io::Result<Vec<u8>> {
+    let mut bytes = Vec::new(alloc);
+    let mut file = File::open(rt, path)?;
+    file.read_to_end(&mut bytes)?;
     Ok(bytes)
 }

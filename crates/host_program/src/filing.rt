@@ -1,5 +1,6 @@
 // The histories and outcomes of closed terms become files.
 ghost use Rattle.std.specs.Prelude.{◌≡◌, ◌||◌, ◌&&◌, not};
+ghost use Rattle.host_program.specs.Fates.{is_lost};
 
 use crate::clocks::{millis, seconds};
 use crate::ends::{Faults, event_dump_fault};
@@ -13,6 +14,7 @@ use dump_lines::DumpFault;
 use host_status::{ClosedTerm, Event, Fault};
 use host_terms::TermEnd;
 use std::alloc::{AllocError, Global};
+use std::fs;
 use std::fs::{File, Files};
 use std::sync::Wait;
 use std::time::Clock;
@@ -25,6 +27,28 @@ const PATIENCE: u64 = 30_000;
 
 /// How many terms that are closed are shown.
 const SHOWN: usize = 64;
+
+/// What became of a term's history.
+#[derive(Clone, Copy, Debug, PartialEq, Eq)]
+enum Fate {
+    /// It is in its file.
+    Dumped,
+    /// Its journal has it, for the next start.
+    Journaled,
+    /// It is lost.
+    Lost,
+}
+
+impl Fate {
+    /// That of a history that can't be written to its file.
+    fn unwritten(end: &TermEnd) -> Fate {
+        if end.is_journaled {
+            Fate::Journaled
+        } else {
+            Fate::Lost
+        }
+    }
+}
 
 /// The terms whose files are to be written, and what was closed so far.
 #[derive(Drop)]
@@ -68,7 +92,7 @@ impl Filing {
         self.waiting.is_empty() && !writer.is_busy(rt)
     }
 
-    /// Takes a term whose files are to be written. Without memory for it, its history is lost.
+    /// Takes a term whose files are to be written. Without memory for it, it is left to its journal.
     pub(crate) fn add<R: Wait + Clock>(
         &mut self,
         rt: &R,
@@ -77,7 +101,8 @@ impl Filing {
         left: Left,
     ) {
         if let Err(refused) = self.waiting.push(left) {
-            self.finish(rt, alloc, site, refused.value, false);
+            let fate = Fate::unwritten(&refused.value.end);
+            self.finish(rt, alloc, site, refused.value, fate);
         }
     }
 
@@ -110,8 +135,9 @@ impl Filing {
             tell_end(rt, alloc, site, &left.end);
             left.is_told = true;
         }
-        if !matches!(left.end.end, Some(Ok(_))) {
-            return self.finish(rt, alloc, site, left, false);
+        if left.end.is_left_over() || !matches!(left.end.end, Some(Ok(_))) {
+            let fate = Fate::unwritten(&left.end);
+            return self.finish(rt, alloc, site, left, fate);
         }
         let made = match dump_path(alloc, site, &left.end) {
             Ok(path) => make_part(rt, alloc, path.as_str()),
@@ -146,7 +172,8 @@ impl Filing {
             left.end.span.number,
             site.words.keep,
         );
-        self.finish(rt, alloc, site, left, true);
+        remove_journal(rt, alloc, site, &left.end);
+        self.finish(rt, alloc, site, left, Fate::Dumped);
     }
 
     /// A file could not be written. It is tried again each second, for a while from the first time on.
@@ -170,12 +197,14 @@ impl Filing {
         let now = millis(rt);
         let until = left.until.unwrap_or(now.saturating_add(PATIENCE));
         if until <= now {
-            return self.finish(rt, alloc, site, left, false);
+            let fate = Fate::unwritten(&left.end);
+            return self.finish(rt, alloc, site, left, fate);
         }
         left.until = Some(until);
         left.rest = now.saturating_add(REST);
         if let Err(refused) = self.waiting.push(left) {
-            self.finish(rt, alloc, site, refused.value, false);
+            let fate = Fate::unwritten(&refused.value.end);
+            self.finish(rt, alloc, site, refused.value, fate);
         }
     }
 
@@ -186,10 +215,10 @@ impl Filing {
         alloc: Global,
         site: Site<'_>,
         left: Left,
-        dumped: bool,
+        fate: Fate,
     ) {
         let has_fault = matches!(left.end.end, Some(Err(_)));
-        self.note(has_fault, dumped);
+        self.note(has_fault, fate);
         let number = left.end.span.number;
         let named = left.end.tenant.tenant().name;
         if has_fault {
@@ -204,6 +233,7 @@ impl Filing {
                 term: number,
                 why: left.end.why,
                 lost: left.end.lost(),
+                left: left.end.left_over(),
                 ms,
             },
         );
@@ -211,18 +241,18 @@ impl Filing {
             tenancy.end(rt, number);
         }
         // It is missing among those that are shown, and nowhere else.
-        let _ = self.show(alloc, &left.end, seconds(rt), ms, dumped);
+        let _ = self.show(alloc, &left.end, seconds(rt), ms, fate);
     }
 
     /// Notes what went wrong with a term's history.
-    fn note(&mut self, has_fault: bool, dumped: bool)
+    fn note(&mut self, has_fault: bool, fate: Fate)
         ensures close { self.new.faults.has_close_fault
             ≡ (self.old.faults.has_close_fault || has_fault) }
         ensures lost { self.new.faults.has_lost_history
-            ≡ (self.old.faults.has_lost_history || (not has_fault && not dumped)) }
+            ≡ (self.old.faults.has_lost_history || (not has_fault && is_lost fate)) }
     {
         self.faults.has_close_fault |= has_fault;
-        self.faults.has_lost_history |= !has_fault && !dumped;
+        self.faults.has_lost_history |= !has_fault && fate == Fate::Lost;
     }
 
     /// Shows a term among the last ones that were closed.
@@ -232,7 +262,7 @@ impl Filing {
         end: &TermEnd,
         ended: u64,
         ms: u64,
-        dumped: bool,
+        fate: Fate,
     ) -> Result<(), AllocError> {
         let named = end.tenant.tenant().name;
         let (entries, fault) = match &end.end {
@@ -249,8 +279,9 @@ impl Filing {
             base: end.span.base,
             entries,
             lost: end.lost(),
+            left: end.left_over(),
             fault,
-            dumped,
+            dumped: fate == Fate::Dumped,
             ms,
         };
         if self.closed.len() >= SHOWN {
@@ -316,6 +347,16 @@ where
         path.as_str(),
         text.as_slice(),
     )
+}
+
+/// Removes a term's journal, if it has one, once its history and outcomes are in their files.
+fn remove_journal<R: Files<File = File>>(rt: &R, alloc: Global, site: Site<'_>, end: &TermEnd) {
+    let named = end.tenant.tenant().name;
+    let (number, base) = (end.span.number, end.span.base);
+    if let Ok(path) = site.folder.journal(alloc, named.as_str(), number, base) {
+        // It is removed at the next start if it can't be now.
+        let _ = fs::remove_file(rt, path.as_str());
+    }
 }
 
 /// Prints how a term was closed.

@@ -27,6 +27,19 @@ pub(crate) struct Folder {
     dumps: String,
     terms: String,
     pub(crate) results: String,
+    pub(crate) journals: String,
+}
+
+/// The journal of a term, which a host left that was killed or stopped before its jobs had their outcomes.
+#[derive(Drop)]
+pub(crate) struct LeftJournal {
+    pub(crate) path: String,
+    /// The tenant's name.
+    pub(crate) name: String,
+    /// The term's number.
+    pub(crate) term: u64,
+    /// The number of a job after which its jobs are numbered.
+    pub(crate) base: u64,
 }
 
 /// What a folder says of a tenant's terms.
@@ -50,6 +63,7 @@ impl Folder {
             dumps: format!(in alloc; "{run}/dumps")?,
             terms: format!(in alloc; "{run}/terms")?,
             results: format!(in alloc; "{run}/results")?,
+            journals: format!(in alloc; "{run}/journals")?,
         })
     }
 
@@ -66,6 +80,17 @@ impl Folder {
         term: u64,
     ) -> Result<String, AllocError> {
         format!(in alloc; "{}/{name}.{term:06}.jsonl", self.results.as_str())
+    }
+
+    /// The file of a tenant's journal in a term whose jobs are numbered after `base`.
+    pub(crate) fn journal(
+        &self,
+        alloc: Global,
+        name: &str,
+        term: u64,
+        base: u64,
+    ) -> Result<String, AllocError> {
+        format!(in alloc; "{}/{name}.{term:06}.{base}.jsonl", self.journals.as_str())
     }
 
     /// The file by which somebody asks for a tenant's next term.
@@ -146,7 +171,7 @@ impl Folder {
         rt: &R,
         keep: u32,
     ) -> Result<Shelves, ServerEnd> {
-        for folder in [&self.dumps, &self.terms, &self.results] {
+        for folder in [&self.dumps, &self.terms, &self.results, &self.journals] {
             // It may be there; if it can't be made, nothing can be written to it either.
             let _ = DirBuilder::new().mode(0o700).create(rt, folder.as_str());
         }
@@ -165,6 +190,30 @@ impl Folder {
             }
         }
         Ok(shelves)
+    }
+
+    /// The journals that a host left. `Device` if the folder can't be listed, and `Memory` if an allocation fails.
+    pub(crate) fn left_journals<R: Files + AllocGlobal + Clone + Drop>(
+        &self,
+        rt: &R,
+    ) -> Result<Vec<LeftJournal>, ServerEnd> {
+        let alloc = rt.alloc();
+        let mut journals = Vec::new(alloc);
+        for entry in &listed(rt, self.journals.as_str())? {
+            let path = entry.as_str();
+            if let Some((name, term, base)) = journal_in(path) {
+                if self.journal(alloc, name, term, base)?.as_str() == path {
+                    journals.reserve(1)?;
+                    journals.push_reserved(LeftJournal {
+                        path: String::from_str(alloc, path)?,
+                        name: String::from_str(alloc, name)?,
+                        term,
+                        base,
+                    });
+                }
+            }
+        }
+        Ok(journals)
     }
 
     /// Notes a path if it is the one of a dump, and removes the tenant's dump that is too old then.
@@ -252,4 +301,13 @@ fn parts_of(path: &str) -> Option<(&str, u64)> {
     let (name, rest) = file.split_once('.')?;
     let number = rest.strip_suffix(".jsonl")?;
     Some((name, number.parse::<u64>().ok()?))
+}
+
+/// The name of the tenant, the number of the term and the base of its jobs' numbers of a journal's path.
+fn journal_in(path: &str) -> Option<(&str, u64, u64)> {
+    let (_, file) = path.rsplit_once('/')?;
+    let (name, rest) = file.split_once('.')?;
+    let (term, base) = rest.strip_suffix(".jsonl")?.split_once('.')?;
+    TenantName::new(name)?;
+    Some((name, term.parse::<u64>().ok()?, base.parse::<u64>().ok()?))
 }

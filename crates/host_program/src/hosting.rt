@@ -7,7 +7,9 @@ use crate::configs::read_config;
 use crate::ends::end_of;
 use crate::filing::Filing;
 use crate::folders::Folder;
+use crate::journaling::keep_journals;
 use crate::keeping::Keeper;
+use crate::recovering::recover_all;
 use crate::showing::show;
 use crate::site::{Progress, Site};
 use crate::system::System;
@@ -49,12 +51,7 @@ pub(crate) fn host_tenants<'h, R: System>(
         return Err(ServerEnd::Words);
     };
     let config = read_config(rt, alloc, words.config)?;
-    let shelves = folder.prepare(rt, words.keep)?;
-    let access = Access {
-        mode: words.mode,
-        group: words.group,
-    };
-    let endpoint = Endpoint::bind(rt, alloc, folder.socket.as_str(), access)?;
+    let mut shelves = folder.prepare(rt, words.keep)?;
     let host = Host::new(alloc);
     let desks = new_desks(alloc, connections)?;
     let places = new_places(alloc, config.workers())?;
@@ -70,6 +67,12 @@ pub(crate) fn host_tenants<'h, R: System>(
         connections,
     };
     site.say(rt, alloc, Event::Start);
+    recover_all(rt, alloc, site, &mut shelves)?;
+    let access = Access {
+        mode: words.mode,
+        group: words.group,
+    };
+    let endpoint = Endpoint::bind(rt, alloc, folder.socket.as_str(), access)?;
     let mut keeper = Keeper::new(alloc, config.workers(), Filing::new(alloc, shelves));
     keeper.adopt(rt, alloc, site, &config)?;
     keeper.open_all(rt, alloc, site)?;
@@ -99,10 +102,11 @@ fn serve<'h, R: System>(
         let is_writing = scope
             .spawn(move || write_histories(rt, alloc, writes))
             .is_ok();
+        let is_journaling = scope.spawn(move || keep_journals(rt, alloc, site)).is_ok();
         let is_accepting = scope
             .spawn(move || accept_all(rt, alloc, site, endpoint, accepting))
             .is_ok();
-        let end = if started && is_writing && is_accepting {
+        let end = if started && is_writing && is_journaling && is_accepting {
             Ok(keep_hosting(rt, alloc, site, endpoint, keeper, writes))
         } else {
             Err(ServerEnd::Device)

@@ -5,6 +5,7 @@ use crate::configs::read_config;
 use crate::ends::event_fault;
 use crate::filing::Filing;
 use crate::folders::Begin;
+use crate::journaling::begin_journal;
 use crate::site::Site;
 use crate::writing::{Left, Writer};
 use host_status::{Event, Fault};
@@ -205,6 +206,9 @@ impl Keeper {
     ) {
         let serving = tenancy.serving(rt);
         if let Some(term) = &serving {
+            if term.is_broken() {
+                tenancy.wish(rt, Why::Journal);
+            }
             if is_term_used(rt, term, site.words.rotate_at) {
                 tenancy.wish(rt, Why::History);
             }
@@ -246,6 +250,16 @@ impl Keeper {
     ) {
         let named = tenancy.name();
         if let Some(term) = tenancy.serving(rt) {
+            if why == Why::Journal {
+                let number = term.span().number;
+                site.say_fault(
+                    rt,
+                    alloc,
+                    Fault::Journal,
+                    Some(named.as_str()),
+                    Some(number),
+                );
+            }
             site.say(
                 rt,
                 alloc,
@@ -266,7 +280,7 @@ impl Keeper {
             if let Some(tended) = self.tended.get_mut(tenant) {
                 tended.rest = millis(rt).saturating_add(REST);
             }
-            if why == Why::History {
+            if why == Why::History || why == Why::Journal {
                 tenancy.refuse_waits(rt);
             } else {
                 tenancy.refuse(rt);
@@ -331,6 +345,7 @@ impl Keeper {
         if site.connections == 0 {
             return Err(ServerEnd::Words);
         }
+        let journal = begin_journal(rt, alloc, site, span, &given)?;
         let term = HostTerm::open(
             alloc,
             span,
@@ -338,6 +353,7 @@ impl Keeper {
             seconds(rt),
             self.workers,
             site.connections,
+            journal,
         )?;
         site.host.begin(rt, alloc, tenant, term, why)?;
         site.say(

@@ -64,6 +64,11 @@ impl Shelves {
         }
     }
 
+    /// Whether the tenant of that name has a dump of that term.
+    pub(crate) fn has(&self, name: &str, term: u64) -> bool {
+        self.numbers(name).iter().any(|number| *number == term)
+    }
+
     fn newest(&self, name: &str) -> Option<u64> {
         self.numbers(name).iter().copied().max()
     }

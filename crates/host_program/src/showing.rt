@@ -39,6 +39,7 @@ pub(crate) fn show<R: Files<File = File> + Wait + Clock + AllocGlobal>(
         rotate_at: words.rotate_at,
         keep: words.keep,
         finish: words.finish,
+        durable: words.durable.word(),
         memory: resident(rt),
         workers: workers.as_slice(),
         terms: terms.as_slice(),

@@ -23,6 +23,8 @@ pub enum Fault {
     Dump,
     /// The outcomes of a term's jobs were not written.
     Results,
+    /// A journal could not be written, or has something that its tenant has not done.
+    Journal,
     /// A tenant's history and what its threads noted of it differ.
     Close,
     /// A tenant has had as many jobs as numbers are for.
@@ -55,11 +57,21 @@ pub enum Event<'e> {
         why: Why,
     },
     /// A term that was left for that reason is closed, which took `ms` milliseconds with its files. `lost` of its jobs had no
-    /// outcome.
+    /// outcome, and `left` more are to get theirs at the next start.
     Closed {
         tenant: &'e str,
         term: u64,
         why: Why,
+        lost: usize,
+        left: usize,
+        ms: u64,
+    },
+    /// A term whose journal was found at the start is finished and written, which took `ms` milliseconds. It has `jobs` jobs
+    /// that are neither retired nor released, `lost` of which have no outcome.
+    Recovered {
+        tenant: &'e str,
+        term: u64,
+        jobs: usize,
         lost: usize,
         ms: u64,
     },

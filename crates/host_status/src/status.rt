@@ -78,8 +78,10 @@ pub struct ClosedTerm {
     pub base: u64,
     /// How many entries its history had; 0 after a close fault.
     pub entries: usize,
-    /// How many of its jobs had no outcome.
+    /// How many of its jobs had no outcome, and get none.
     pub lost: usize,
+    /// How many get theirs at the next start.
+    pub left: usize,
     /// The number of the close fault, if there was one.
     pub fault: Option<u8>,
     /// Whether its history was written.
@@ -107,6 +109,8 @@ pub struct HostStatus<'s> {
     pub keep: u32,
     /// How many seconds jobs have to end once the host is to stop.
     pub finish: u32,
+    /// How far what a client was told outlives the host: `off`, `write`, `second` or `reply`.
+    pub durable: &'s str,
     /// The resident bytes of the process, if the system says.
     pub memory: Option<u64>,
     /// By their numbers.

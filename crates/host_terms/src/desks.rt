@@ -160,7 +160,7 @@ pub fn attend_desk<R: Wait + Clock>(
     desk: &Desk,
     waker: &Waker,
 ) {
-    let mut doors = HostDoors::new(rt, host, desk);
+    let mut doors = HostDoors::new(rt, alloc, host, desk);
     for _guest in rt.forever() {
         let Some(stream) = desk.next_guest(rt) else {
             return;

@@ -27,7 +27,9 @@ pub struct TermEnd {
     pub why: Why,
     /// How far its jobs are that are neither retired nor released.
     pub outcomes: Vec<Outcome>,
-    /// Its tenant's history, or what is wrong. None if an allocation failed: the history is lost.
+    /// Whether its journal has all of its history.
+    pub is_journaled: bool,
+    /// Its tenant's history, or what is wrong. None if an allocation failed.
     pub end: Option<Result<Closed, CloseFault>>,
 }
 
@@ -40,7 +42,8 @@ impl Ending {
         }
     }
 
-    /// Closes the term, if no worker is there any more. Otherwise it comes back.
+    /// Closes the term, if no worker is there any more, and brings its journal, if it has one, to the disk before. Otherwise
+    /// it comes back.
     pub fn close<R: Wait>(self, rt: &R, alloc: Global) -> Result<TermEnd, Ending> {
         let Ending {
             term,
@@ -55,6 +58,7 @@ impl Ending {
             });
         }
         let (span, tenant, began) = (term.span(), *term.tenant(), term.began());
+        let is_journaled = term.catch_up(rt, alloc, true);
         match Arc::try_unwrap(term) {
             Ok(term) => Ok(TermEnd {
                 span,
@@ -62,6 +66,7 @@ impl Ending {
                 began,
                 why,
                 outcomes,
+                is_journaled,
                 end: term.close(alloc),
             }),
             Err(term) => Err(Ending {
@@ -74,8 +79,36 @@ impl Ending {
 }
 
 impl TermEnd {
-    /// How many jobs have no outcome.
+    /// How many jobs have no outcome, and get none.
     pub fn lost(&self) -> usize {
+        if self.is_left_over() {
+            0
+        } else {
+            self.running()
+        }
+    }
+
+    /// How many jobs have no outcome, and get theirs at the host's next start.
+    pub fn left_over(&self) -> usize {
+        if self.is_left_over() {
+            self.running()
+        } else {
+            0
+        }
+    }
+
+    /// Whether its journal is to be finished at the host's next start: some jobs have no outcome, its tenant has a slot for
+    /// workers, and its history, all of which the journal has, has room for more.
+    pub fn is_left_over(&self) -> bool {
+        let tenant = self.tenant.tenant();
+        let has_room = match &self.end {
+            Some(Ok(closed)) => closed.history.len() < tenant.steps,
+            _ => false,
+        };
+        self.is_journaled && has_room && tenant.reserved < tenant.slots && self.running() > 0
+    }
+
+    fn running(&self) -> usize {
         self.outcomes
             .iter()
             .filter(|outcome| outcome.status == Status::Running)

@@ -117,6 +117,21 @@ impl Host {
         }
     }
 
+    /// Brings the histories of all terms to their journals, and these to the disk if they are to be synced. Without memory
+    /// for handles it is done the next time.
+    pub fn catch_up<R: Wait>(&self, rt: &R, alloc: Global, syncs: bool) {
+        for tenant in 0..self.count(rt) {
+            let live = match self.tenancy(rt, tenant) {
+                Some(tenancy) => tenancy.live(rt, alloc).ok(),
+                None => None,
+            };
+            for term in live.unwrap_or(Vec::new(alloc)) {
+                // One that fails is seen by who looks after terms.
+                let _is_there = term.catch_up(rt, alloc, syncs);
+            }
+        }
+    }
+
     /// Wakes all that wait in a term, each to look whether to go on.
     pub fn wake<R: Wait>(&self, rt: &R) {
         for tenant in 0..self.count(rt) {

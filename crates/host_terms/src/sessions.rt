@@ -3,6 +3,7 @@ ghost use Rattle.std.specs.Prelude.{◌≡◌, ◌≢◌};
 
 use crate::desks::Desk;
 use crate::hosts::Host;
+use crate::journals::Kept;
 use crate::tenancies::{Found, Tenancy};
 use crate::terms::Booking;
 use job_language::{Error, Moved, Reply, Request, TenantName};
@@ -10,6 +11,8 @@ use job_step::{Segment, View};
 use nested_wait::{Attended, Door};
 use server_house::Told;
 use session_core::{Answered, Doors};
+use std::alloc::Global;
+use std::net::Shutdown;
 use std::sync::{Arc, Wait};
 use std::time::Clock;
 
@@ -21,6 +24,7 @@ const TRIES: u32 = 4;
 #[derive(Drop)]
 pub(crate) struct HostDoors<'h, R: Wait + Clock> {
     rt: &'h R,
+    alloc: Global,
     host: &'h Host,
     desk: &'h Desk,
     /// The tenant that it is bound to.
@@ -29,9 +33,10 @@ pub(crate) struct HostDoors<'h, R: Wait + Clock> {
 
 impl<'h, R: Wait + Clock> HostDoors<'h, R> {
     /// A session that is bound to no tenant yet.
-    pub(crate) fn new(rt: &'h R, host: &'h Host, desk: &'h Desk) -> Self {
+    pub(crate) fn new(rt: &'h R, alloc: Global, host: &'h Host, desk: &'h Desk) -> Self {
         HostDoors {
             rt,
+            alloc,
             host,
             desk,
             tenancy: None,
@@ -60,19 +65,42 @@ impl<'h, R: Wait + Clock> HostDoors<'h, R> {
                 return Reply::Refused(Error::HistoryFull);
             };
             let span = booking.term().span();
+            if booking.term().is_broken() {
+                self.desk.keep_booking(self.rt, booking);
+                if tenancy.wait_for_next(self.rt, Some(span.number), stop) {
+                    continue;
+                }
+                return Reply::Refused(Error::HistoryFull);
+            }
             let spare = request.try_clone().ok();
             let (booking, told) = booking.ask(self.rt, self.host.board(), stop, request);
+            let is_full = told.reply == Reply::Refused(Error::HistoryFull);
+            let reply = self.outside(&booking, told);
             self.desk.keep_booking(self.rt, booking);
             let Some(again) = spare else {
-                return at_once(outside(told, span.base));
+                return at_once(reply);
             };
-            let is_full = told.reply == Reply::Refused(Error::HistoryFull);
             if !is_full || !tenancy.wait_for_next(self.rt, Some(span.number), stop) {
-                return at_once(outside(told, span.base));
+                return at_once(reply);
             }
             request = again;
         }
         Reply::Refused(Error::HistoryFull)
+    }
+
+    /// What the session is told outside of the term where it was told that, once what the term was asked is kept. If that
+    /// can't be, the client is told nothing: its connection ends.
+    fn outside(&self, booking: &Booking, told: Told) -> Reply {
+        if told.reply == Reply::Pending {
+            return Reply::Pending;
+        }
+        match booking.term().kept(self.rt, self.alloc) {
+            Some(kept) => acknowledged(told, booking.term().span().base, kept),
+            None => {
+                self.desk.shut(self.rt, Shutdown::Both);
+                Reply::Refused(Error::HistoryFull)
+            }
+        }
     }
 
     /// A place in the term that serves.
@@ -109,8 +137,9 @@ impl<'h, R: Wait + Clock> HostDoors<'h, R> {
                     self.desk.is_gone(),
                     inner,
                 );
+                let reply = self.outside(&booking, told);
                 self.desk.keep_booking(self.rt, booking);
-                outside(told, base)
+                reply
             }
             Found::Answered(reply) => reply,
         }
@@ -142,8 +171,9 @@ fn at_once(reply: Reply) -> Reply
     }
 }
 
-/// What a session is told outside of a term whose jobs are numbered there after `base`.
-fn outside(told: Told, base: u64) -> Reply {
+/// What a session is told outside of a term whose jobs are numbered there after `base`, and which has kept it.
+fn acknowledged(told: Told, base: u64, kept: Kept) -> Reply {
+    kept.end();
     if told.attended == Some(Attended::Full) {
         return Reply::Refused(Error::HistoryFull);
     }

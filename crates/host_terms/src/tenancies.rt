@@ -224,6 +224,8 @@ impl Tenancy {
             return Ok(None);
         }
         let outcomes = lives.live[place].outcomes(rt, alloc)?;
+        // From now on they are told without its journal.
+        let _is_there = lives.live[place].catch_up(rt, alloc, false);
         let term = lives.live.remove(place);
         let span = term.span();
         lives.terms.close(span.number);

@@ -2,6 +2,7 @@
 ghost use Rattle.std.specs.Prelude.{◌≤◌};
 
 use crate::board::{Board, Calls, TermSignal};
+use crate::journals::{Journal, Kept, bring_to_journal};
 use crate::outcomes::Outcome;
 use crate::places::{Place, TermGate};
 use job_language::{Config, Level, Request, TenantConfig};
@@ -40,6 +41,8 @@ pub struct HostTerm {
     /// When it was opened, in seconds since 1970.
     began: u64,
     house: Arc<House>,
+    /// Its tenant's history in a file, unless that is to end with the host.
+    journal: Option<Journal>,
     calls: Calls,
     /// Whether it takes no new jobs.
     is_left: AtomicBool,
@@ -61,6 +64,7 @@ impl HostTerm {
         began: u64,
         workers: usize,
         sessions: u8,
+        journal: Option<Journal>,
     ) -> Result<HostTerm, ServerEnd>
         requires { 1 ≤ sessions }
     {
@@ -83,6 +87,7 @@ impl HostTerm {
             tenant,
             began,
             house,
+            journal,
             calls: Calls::new(tenant.tenant().priority),
             is_left: AtomicBool::new(false),
             posts: Mutex::new(posts),
@@ -146,6 +151,28 @@ impl HostTerm {
         let (post, _is_called) = post.serve_call(rt, &signal, &gate, Visiting::Sharing);
         // There is room for it: it was there before.
         let _kept = self.posts.lock(rt).push(post);
+    }
+
+    /// Brings to its journal, if it has one, what its tenant was asked. None if that fails.
+    pub(crate) fn kept<R: Wait>(&self, rt: &R, alloc: Global) -> Option<Kept> {
+        bring_to_journal(rt, alloc, self.journal.as_ref(), self.door())
+    }
+
+    /// Brings all of its history to its journal, and that to the disk if it is to be synced. It says whether all of it is
+    /// there.
+    pub(crate) fn catch_up<R: Wait>(&self, rt: &R, alloc: Global, syncs: bool) -> bool {
+        match (&self.journal, self.door()) {
+            (Some(journal), Some(door)) => journal.catch_up(rt, alloc, door, syncs),
+            _ => false,
+        }
+    }
+
+    /// Whether its journal failed, so that nothing that it is asked can be acknowledged.
+    pub fn is_broken(&self) -> bool {
+        match &self.journal {
+            Some(journal) => journal.is_broken(),
+            None => false,
+        }
     }
 
     /// Whether no session is there.
@@ -216,6 +243,7 @@ impl HostTerm {
             tenant: _tenant,
             began: _began,
             house,
+            journal,
             calls: _calls,
             is_left: _is_left,
             posts,
@@ -223,6 +251,7 @@ impl HostTerm {
             clients,
             sessions: _sessions,
         } = self;
+        drop(journal);
         drop(posts);
         let mut seats = ClientSeats::new(alloc);
         for client in clients.into_inner() {

@@ -2,3 +2,4 @@ mod Journal
 mod Lines
 mod Moments
 mod Written
+mod MoveTexts

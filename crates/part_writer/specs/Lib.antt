@@ -1,3 +1,4 @@
 pub mod Journals
 pub mod Moments
 pub mod Writing
+pub mod Moves

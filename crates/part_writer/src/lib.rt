@@ -3,10 +3,13 @@
 
 mod files;
 mod journals;
+mod moves;
+mod parts;
 mod texts;
 mod writers;
 
 pub use files::{PartFault, PartFile};
 pub use journals::{add_slice, bring_journal_to_disk};
+pub use parts::LivePart;
 pub use texts::entries_of;
 pub use writers::{add_entries, bring_to_disk};

@@ -21,7 +21,7 @@ pub fn entries_of(alloc: Global, entries: &[Entry]) -> Result<String, PartFault>
 }
 
 /// Adds the line of an entry.
-fn add_line(alloc: Global, text: &mut String, entry: &Entry) -> Result<(), PartFault>
+pub(crate) fn add_line(alloc: Global, text: &mut String, entry: &Entry) -> Result<(), PartFault>
     ensures text { OnOk result (string_bytes text.new ≡ string_bytes text.old ++ entry_text entry.now) }
     ensures line { OnOk result (HasLine entry.now) }
     ensures says { OnOk result (SaysItself entry.now) }

@@ -2,6 +2,7 @@
 use Rattle.std.specs.Prelude.{◌≡◌, ◌⊎◌, ℕ, List, Option, Some, None, false, codes}
 use Rattle.clap.specs.Words.{App, Row, Text, app_of, first_of, matches_of, new_app, takes, with_rule}
 use Rattle.clap.specs.declared.builder.command.Command.{Command}
+use Rattle.program_words.specs.Durable.{IsGivenDurable, IsMisgivenDurable}
 use Rattle.program_words.specs.Numbers.{NamesNumber, IsGiven, IsMisgiven}
 use Rattle.program_words.specs.declared.numbers.Range.{Range}
 use Rattle.program_words.specs.Rules.{option_rule, required_rule}
@@ -18,7 +19,7 @@ serving_app = with_rule (with_rule (with_rule (with_rule needed_app
 
 -- the host's command
 abbrev pub host_app : App
-host_app = with_rule (with_rule serving_app (option_rule (codes "mode"))) (option_rule (codes "group"))
+host_app = with_rule (with_rule (with_rule serving_app (option_rule (codes "durable"))) (option_rule (codes "mode"))) (option_rule (codes "group"))
 
 abbrev pub IsHostCommand : Command → Type 0
 IsHostCommand c = app_of c ≡ host_app
@@ -62,6 +63,7 @@ pub record AreRead (options : List Row) (w : HostWords) : Type 0 where
   pub rotate_at : IsGiven rotate_range 50 (first_of (codes "rotate-at") options) w.rotate_at
   pub keep : IsGiven keep_range 8 (first_of (codes "keep") options) w.keep
   pub finish : IsGiven finish_range 10 (first_of (codes "finish") options) w.finish
+  pub durable : IsGivenDurable (first_of (codes "durable") options) w.durable
   pub mode : IsGiven mode_range 384 (first_of (codes "mode") options) w.mode
   pub group : IsGivenOption group_range (first_of (codes "group") options) w.group
 
@@ -72,6 +74,7 @@ LackValues options = (first_of (codes "config") options ≡ None) ⊎ (first_of 
     ⊎ IsMisgiven rotate_range (first_of (codes "rotate-at") options)
     ⊎ IsMisgiven keep_range (first_of (codes "keep") options)
     ⊎ IsMisgiven finish_range (first_of (codes "finish") options)
+    ⊎ IsMisgivenDurable (first_of (codes "durable") options)
     ⊎ IsMisgiven mode_range (first_of (codes "mode") options)
     ⊎ IsMisgiven group_range (first_of (codes "group") options)
 

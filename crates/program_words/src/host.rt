@@ -5,6 +5,7 @@ ghost use Rattle.program_words.specs.Numbers.{IsMisgiven};
 ghost use Rattle.program_words.specs.HostOptions.{host_app, needed_app, serving_app, options_in, group_range, AreRead, AreRefused, LackValues, IsGivenOption, IsHostCommand};
 ghost use Rattle.program_words.specs.declared.faults.WordsFault.{WordsFault};
 
+use crate::durable::{Durable, durable_in};
 use crate::faults::WordsFault;
 use crate::numbers::Range;
 use crate::options::{matches_in, option, required, value_of};
@@ -26,6 +27,8 @@ pub struct HostWords<'a> {
     pub keep: u32,
     /// How many seconds jobs have to end once the host is to stop, up to 86,400.
     pub finish: u32,
+    /// How far what a client was told outlives the host.
+    pub durable: Durable,
     /// The mode of the socket, up to 0o777.
     pub mode: u32,
     /// The group of the socket, if it is not the process' own.
@@ -33,8 +36,8 @@ pub struct HostWords<'a> {
 }
 
 /// Reads the words of a command line, the program's name first: `arena-host --config F --run D [--connections N]
-/// [--rotate-at P] [--keep K] [--finish S] [--mode M] [--group G]`, in any order, also as `--config=F`. M is in
-/// octal digits, all other numbers are in decimal ones.
+/// [--rotate-at P] [--keep K] [--finish S] [--durable off|write|second|reply] [--mode M] [--group G]`, in any order,
+/// also as `--config=F`. M is in octal digits, all other numbers are in decimal ones.
 pub fn read_host_words<'a>(alloc: Global, words: &'a [&'a str]) -> Result<HostWords<'a>, WordsFault>
     ensures read { IfOk result
         (λ read. AreRead (options_in (map (λ word. word.now) words.entry.now)) read) }
@@ -56,6 +59,7 @@ fn values_of<'a>(matches: &ArgMatches<'a>) -> Option<HostWords<'a>>
     let rotate_at = Range::decimal(1, 100).given_or(value_of(matches, "rotate-at"), 50)?;
     let keep = Range::decimal(1, 999_999).given_or(value_of(matches, "keep"), 8)?;
     let finish = Range::decimal(0, 86_400).given_or(value_of(matches, "finish"), 10)?;
+    let durable = durable_in(value_of(matches, "durable"))?;
     let mode = octal().given_or(value_of(matches, "mode"), 0o600)?;
     let group = group_in(value_of(matches, "group"))?;
     Some(HostWords {
@@ -65,6 +69,7 @@ fn values_of<'a>(matches: &ArgMatches<'a>) -> Option<HostWords<'a>>
         rotate_at,
         keep,
         finish,
+        durable,
         mode,
         group,
     })
@@ -99,6 +104,7 @@ fn command<'a>(alloc: Global) -> Result<Command<'a>, AllocError>
     ensures { IfOk result (λ command. IsHostCommand command) }
 {
     serving(alloc, needed(alloc)?)?
+        .arg(option(alloc, "durable"))?
         .arg(option(alloc, "mode"))?
         .arg(option(alloc, "group"))
 }

@@ -1,6 +1,7 @@
 //! The words that `arena-server` and `arena-host` are called with.
 #![tactic(auto)]
 
+mod durable;
 mod faults;
 mod host;
 mod numbers;
@@ -9,6 +10,7 @@ mod server;
 #[cfg(test)]
 mod tests;
 
+pub use durable::Durable;
 pub use faults::WordsFault;
 pub use host::{HostWords, read_host_words};
 pub use server::{MAX_CONNECTIONS, ServerWords, read_server_words};

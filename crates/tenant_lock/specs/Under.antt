@@ -1,5 +1,5 @@
 -- What a call did to the cell that lay under the lock.
-use Rattle.std.specs.Prelude.{ℕ, ◌≡◌, ◌≢◌, ◌≤◌, ◌<◌, ◌⊎◌, true, false, IfSome, IsSome, Option, Some, None, length, count_by}
+use Rattle.std.specs.Prelude.{ℕ, ◌≡◌, ◌≢◌, ◌≤◌, ◌<◌, ◌⊎◌, true, false, ◌++◌, IfOk, IfSome, IsSome, List, OnOk, Option, Result, Some, None, drop, length, count_by, take}
 use Rattle.job_language.specs.declared.answers.Came.TheVariants.{Nothing}
 use Rattle.job_language.specs.declared.answers.Moved.TheVariants.{Stale}
 use Rattle.job_language.specs.declared.answers.Reply.TheVariants.{Refused}
@@ -9,6 +9,7 @@ use Rattle.job_step.specs.declared.segments.Top.{Top}
 use Rattle.job_step.specs.declared.segments.View.{View}
 use Rattle.market_config.specs.declared.calls.Call.{Call}
 use Rattle.job_language.specs.declared.answers.Status.{Status}
+use Rattle.job_language.specs.declared.steps.Entry.{Entry}
 use Rattle.tenant_model.specs.Asks.{known_job}
 use Rattle.tenant_model.specs.Changes.{open_rows}
 use Rattle.tenant_model.specs.Walks.{height, is_unstarted}
@@ -87,6 +88,14 @@ AndLooked t view moved c d = moved c d × IsLookAfter t view d
 -- The slot of a pass was moved, and the rows on it counted after that.
 abbrev pub AndCounted : Turned → (CellData → CellData → Type 0) → CellData → CellData → Type 0
 AndCounted t moved c d = moved c d × IsCountAfter t d
+
+-- The entries from that number on, that many at most, were added to a vector.
+abbrev pub AreCopied : (from most : ℕ) → (old new : List Entry) → CellData → Type 0
+AreCopied from most old new c = new ≡ old ++ take most (drop from c.history)
+
+-- The same, if that was told with how many entries there are.
+abbrev pub AreCopiesOf : {E : Type 0} → (from most : ℕ) → (old new : List Entry) → Result ℕ E → CellData → Type 0
+AreCopiesOf from most old new told c = OnOk told (AreCopied from most old new c) × IfOk told (λ all. all ≡ length c.history)
 
 -- how much of the history is used
 abbrev pub AreCounts : Counts → CellData → Type 0

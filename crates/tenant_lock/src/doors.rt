@@ -13,7 +13,7 @@ ghost use Rattle.job_language.specs.Collecting.{IsCollect};
 ghost use Rattle.tenant_record.specs.Cell.{IsRight, state_of};
 ghost use Rattle.tenant_lock.specs.Closing.{Agree, Closes, IsFault, IsRefused};
 ghost use Rattle.tenant_lock.specs.Doors.{ComesBack, ComesWith, door_of};
-ghost use Rattle.tenant_lock.specs.Under.{AndCounted, AndLooked, AreCounts, IsAdvanceOf, IsArrivalOf, IsAskOf, IsCommitOf, IsGivenHome, IsHandOverOf, IsHigh, IsNextJob, IsStatus, IsTally, WasThere, WasUnder};
+ghost use Rattle.tenant_lock.specs.Under.{AndCounted, AndLooked, AreCopiesOf, AreCounts, IsAdvanceOf, IsArrivalOf, IsAskOf, IsCommitOf, IsGivenHome, IsHandOverOf, IsHigh, IsNextJob, IsStatus, IsTally, WasThere, WasUnder};
 ghost use Rattle.tenant_lock.specs.Sleepers.{MayLeave};
 
 use crate::closing::fault_of;
@@ -240,6 +240,21 @@ impl TenantDoor {
         ensures { WasThere self.now.tenant (AreCounts result) }
     {
         self.lock(rt).counts()
+    }
+
+    /// Adds copies of the entries of the tenant's history from that number on to a vector, `most` of them at most, and
+    /// gives how many entries there are. At a fault some were added.
+    pub fn copy_entries<R: Wait>(
+        &self,
+        rt: &R,
+        from: usize,
+        most: usize,
+        copies: &mut Vec<Entry>,
+    ) -> Result<usize, AllocError>
+        ensures { WasThere self.now.tenant
+            (AreCopiesOf from most copies.old.items copies.new.items result) }
+    {
+        self.lock(rt).copy_entries(from, most, copies)
     }
 
     /// How far the tenant's jobs are, and how many of its rows are open.

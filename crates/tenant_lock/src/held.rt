@@ -1,5 +1,5 @@
 // What a tenant's lock keeps, and the calls to which it is lent.
-ghost use Rattle.std.specs.Prelude.{◌≡◌, ◌≢◌, ◌<◌, ◌≤◌, ◌↔◌, true, false, IfSome, IsSome, IsTrue, None, count_by, replicate};
+ghost use Rattle.std.specs.Prelude.{◌≡◌, ◌≢◌, ◌<◌, ◌≤◌, ◌↔◌, true, false, IfOk, IfSome, IsSome, IsTrue, None, OnOk, count_by, length, replicate};
 ghost use Rattle.job_language.specs.Brought.{job_of};
 ghost use Rattle.job_language.specs.Recorded.{is_entry, is_recorded_reply};
 ghost use Rattle.job_language.specs.declared.answers.Moved.{Moved};
@@ -16,17 +16,19 @@ ghost use Rattle.tenant_lock.specs.Awaited.{is_open};
 ghost use Rattle.tenant_lock.specs.Doors.{ComesWith};
 ghost use Rattle.tenant_lock.specs.Looks.{IsCountAfter, IsLook, IsLookAfter, IsShown, rows_on};
 ghost use Rattle.tenant_lock.specs.Sleepers.{CanMove, IsIdle, MayLeave, must_stop, with_sleeper, with_waiter};
-ghost use Rattle.tenant_lock.specs.Under.{AreCounts, IsAdvanceOf, IsArrivalOf, IsAskOf, IsCommitOf, IsGivenHome, IsHandOverOf, IsNextJob, IsStatus, IsTally};
+ghost use Rattle.tenant_lock.specs.Under.{AreCopied, AreCounts, IsAdvanceOf, IsArrivalOf, IsAskOf, IsCommitOf, IsGivenHome, IsHandOverOf, IsNextJob, IsStatus, IsTally};
 ghost use Rattle.tenant_lock.specs.Watch.{IsTurn, KeepsWatch};
 
 use crate::awaited::{Jobs, is_open, note};
+use crate::copies::{copy_all, slice_of};
 use crate::counts::{Counts, JobTally, Tally};
 use crate::looks::by_length;
 use crate::news::{Done, is_over};
 use crate::waits::{Waiting, Waits};
-use job_language::{Answer, Came, Error, Moved, Reply, Request, Status};
+use job_language::{Answer, Came, Entry, Error, Moved, Reply, Request, Status};
 use job_step::{Segment, View};
 use market_config::Call;
+use std::alloc::AllocError;
 use std::marker::Model;
 use tenant_model::MAX_JOBS;
 use tenant_record::{Advanced, Arrived, AskOutcome, Pass, Seat, TenantCell};
@@ -330,6 +332,23 @@ impl Held {
         ensures { result ≡ must_stop self.now }
     {
         is_over(&self.cell, self.is_stopped)
+    }
+
+    /// Adds copies of the entries of the history from that number on to a vector, `most` of them at most, and gives how
+    /// many entries there are.
+    pub(crate) fn copy_entries(
+        &self,
+        from: usize,
+        most: usize,
+        copies: &mut Vec<Entry>,
+    ) -> Result<usize, AllocError>
+        ensures copied { OnOk result (AreCopied from most copies.old.items copies.new.items self.now.cell) }
+        ensures all { IfOk result (λ all. all ≡ length self.now.cell.history) }
+        ensures right { IsRight self.now.cell }
+    {
+        let history = self.cell.history();
+        copy_all(slice_of(history, from, most), copies)?;
+        Ok(history.len())
     }
 
     /// How much of the history is used.

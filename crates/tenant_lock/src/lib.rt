@@ -3,6 +3,7 @@
 
 mod awaited;
 mod closing;
+mod copies;
 mod counts;
 mod doors;
 mod faults;

@@ -19,6 +19,8 @@ pub enum Why {
     File,
     /// The tenant's configuration has changed, or it has none any more.
     Config,
+    /// Its journal could not be written any more.
+    Journal,
     /// The host stops.
     Stop,
 }

@@ -82,14 +82,13 @@ def guarded(call: Call, run: Callable[[Call], int]) -> int:
 
 def described(fault: Exception) -> tuple[int, str] | None:
     """The exit status and the text of what went wrong; None for what should not happen."""
-    import sqlite3
-
     from arena.command.script import ProgramFault
     from arena.command.sources import SourceWrong
     from arena.host.orders import NoHost, NotYet
     from arena.host.parent import Taken
     from arena.host.status import StatusFault
     from arena.pool.faults import Final
+    from arena.queue.base import all_faults
     from arena.queue.model import QueueError
     from arena.queue.programs import NoProgram
     from arena.replies import ArenaError, Refused, TimedOut
@@ -99,8 +98,10 @@ def described(fault: Exception) -> tuple[int, str] | None:
             return Status.REFUSED + fault.code, str(fault)
         case Final():
             return Status.REFUSED + fault.fault.code, str(fault)
-        case QueueError() | sqlite3.Error():
+        case QueueError():
             return Status.QUEUE, str(fault)
+        case Exception() if isinstance(fault, all_faults()):
+            return Status.QUEUE, str(fault).strip()
         case NoProgram():
             return Status.SOURCE, str(fault)
         case TimedOut() | NotYet():

@@ -3,7 +3,8 @@ import json
 
 from arena.command.call import Call
 from arena.command.output import GREEN
-from arena.command.sources import JobSource, SourceWrong, assembled, compiled, job_of, read_json, source_of
+from arena.command.proving import proved
+from arena.command.sources import JobSource, SourceWrong, assembled, compiled, job_of, read_json, read_text, source_of
 from arena.command.words import JOB_WORDS, Command, Completes, Status, option
 
 TO = option("-o", "--output", help="write to this file, not to standard output", metavar="FILE",
@@ -37,8 +38,21 @@ def build(call: Call) -> int:
     elif words.map:
         write(call, line_of({**done.source_map(), "procs": done.job.to_value()["procs"]}))
     else:
-        write(call, line_of(done.job.to_value()))
+        write(call, proved_line(call) or line_of(done.job.to_value()))
     return Status.DONE
+
+
+def proved_line(call: Call) -> str | None:
+    """The JOB by the proved compiler, where that is there and takes the source as it stands. Standard error has which compiler
+    made it."""
+    words = call.words
+    if words.define or words.fuel is not None:
+        return None
+    found = proved(read_text(words.FILE), tuple(words.args or ()))
+    if found is None:
+        return None
+    call.output.complain(found.told(words.FILE))
+    return found.line
 
 
 def asm(call: Call) -> int:
@@ -91,7 +105,8 @@ COMMANDS = (
     Command("build", "compile a .job file to a JOB",
             "Compiles a .job file to the JOB that the server reads, in JSON. -S writes the listing in its place, --map "
             "which line of the source each instruction is of (`arena stat --map` reads it), and --serial whether the "
-            "job is serial.",
+            "job is serial. The JOB is that of arena-compile, which is proved, if ARENA_COMPILE or the PATH has it and it "
+            "takes the source, without -D and --fuel; standard error then says which compiler made it.",
             "arena build queens.job -D N=8 -o queens.json", build,
             (*JOB_WORDS, option("-S", help="the listing: labels, registers by name, source lines", action="store_true"),
              option("--map", help="the source line of each instruction, as JSON", action="store_true"),

@@ -74,6 +74,8 @@ class Known:
         closed = next((it for it in self.closed if (it.tenant, it.number) == (tenant, term)), None)
         if closed is None:
             return None
+        if closed.left:
+            return Hole(tenant, term, term, "its journal is left to the next start", amiss=False)
         why = "it was written, and is gone" if closed.dumped else "it could not be written"
         if closed.fault is not None:
             why = f"close fault {closed.fault}"

@@ -45,7 +45,7 @@ def _host(status: HostStatus, watch: Watch | None) -> Section:
     waiting = sum(it.tenant is None for it in status.workers)
     notes = [f"{counted(status.connected, 'connection')} now of {status.connections} at most, {status.served:,} so far",
              f"rotates at {status.rotate_at} %, keeps {counted(status.keep, 'dump')} of a tenant, finishes within "
-             f"{duration(status.finish)}"]
+             f"{duration(status.finish)}, durable: {status.durable.value}"]
     if status.workers:
         notes.append(f"workers: {len(status.workers) - waiting} with a tenant, {waiting} waiting for a call")
     total = watch.total() if watch else None
@@ -105,9 +105,11 @@ def _faults(closed: ClosedTerm) -> Iterator[str]:
     """What went wrong when a term was closed."""
     if closed.lost:
         yield f"{closed.lost:,} {'job' if closed.lost == 1 else 'jobs'} lost"
+    if closed.left:
+        yield f"{closed.left:,} {'job' if closed.left == 1 else 'jobs'} left to the next start"
     if closed.fault is not None:
         yield f"close fault {closed.fault}"
-    elif not closed.dumped:
+    elif not closed.left and not closed.dumped:
         yield "no dump"
 
 

@@ -37,13 +37,23 @@ class State(enum.Enum):
 
 
 class Why(enum.Enum):
-    """Why a term was left: its history was nearly full, a file asked for it, the tenant's configuration changed, or the host
-    was stopped."""
+    """Why a term was left: its history was nearly full, a file asked for it, the tenant's configuration changed, its journal
+    could not be written, or the host was stopped."""
 
     HISTORY = "history"
     FILE = "file"
     CONFIG = "config"
+    JOURNAL = "journal"
     STOP = "stop"
+
+
+class Durable(enum.Enum):
+    """What a host's replies wait for, and so what outlives what, as docs/HOST.md says."""
+
+    OFF = "off"
+    WRITE = "write"
+    SECOND = "second"
+    REPLY = "reply"
 
 
 @dataclass(frozen=True, slots=True)
@@ -100,8 +110,8 @@ class WorkerStatus:
 
 @dataclass(frozen=True, slots=True)
 class ClosedTerm:
-    """A term that was closed. `began` and `ended` are in seconds since 1970; `lost` is how many of its jobs had no outcome;
-    `fault` is the number of the close fault or None, `dumped` whether its dump was written; `ms` is how many milliseconds
+    """A term that was closed. `began` and `ended` are in seconds since 1970; `lost` is how many of its jobs had no outcome,
+    and `left` how many more get theirs at the next start; `fault` is the number of the close fault or None, `dumped` whether its dump was written; `ms` is how many milliseconds
     closing and writing took."""
 
     tenant: str
@@ -112,6 +122,7 @@ class ClosedTerm:
     base: int
     entries: int
     lost: int
+    left: int
     fault: int | None
     dumped: bool
     ms: int
@@ -131,6 +142,7 @@ class HostStatus:
     rotate_at: int
     keep: int
     finish: int
+    durable: Durable
     memory: int | None
     workers: tuple[WorkerStatus, ...]
     terms: tuple[Term, ...]
@@ -289,7 +301,8 @@ def parse_status(data: bytes, file: str = "status.json") -> Parsed:
 def _host(part: _Part) -> HostStatus:
     status = HostStatus(
         part.number("time"), part.number("began"), part.number("connections"), part.number("connected"), part.number("served"),
-        part.number("rotate_at"), part.number("keep"), part.number("finish"), part.or_none("memory", part.number),
+        part.number("rotate_at"), part.number("keep"), part.number("finish"), part.one_of("durable", Durable),
+        part.or_none("memory", part.number),
         tuple(map(_worker, part.parts("workers"))), tuple(map(_term, part.parts("terms"))),
         tuple(map(_closed, part.parts("closed"))))
     known: list[Term | ClosedTerm] = [*status.terms, *status.closed]
@@ -319,4 +332,4 @@ def _rows_now(part: _Part) -> RowsNow:
 def _closed(part: _Part) -> ClosedTerm:
     return ClosedTerm(part.text("tenant"), part.number("term"), part.number("began"), part.number("ended"),
                       part.one_of("why", Why), part.number("base"), part.number("entries"), part.number("lost"),
-                      part.or_none("fault", part.number), part.flag("dumped"), part.number("ms"))
+                      part.number("left"), part.or_none("fault", part.number), part.flag("dumped"), part.number("ms"))

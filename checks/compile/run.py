@@ -1,0 +1,110 @@
+#!/usr/bin/env python3
+"""Compares arena-compile with the compiler in Python, and both with the interpreter of checks/python, which was written from
+docs/LANGUAGE.md alone, on drawn sources: what both make is rehearsed on drawn schedules. Sources with faults must be refused
+at the first one. The last line says how many.
+
+usage: checks/compile/run.py [SEED [PROGRAMS]], at the top of the repository; the seed is 1, and 400 programs are drawn, if none
+is said. It runs what `rt ci` or `rt run` left in crates/compile_program, or else builds arena-compile without proofs.
+"""
+import json
+import pathlib
+import random
+import subprocess
+import sys
+from collections import Counter
+
+TOP = pathlib.Path(__file__).resolve().parents[2]
+sys.path[:0] = [str(TOP / "checks" / "python"), str(TOP / "checks" / "build"), str(TOP / "python")]
+
+from core_sources import Sources  # noqa: E402
+from arena.language import SourceFault, compile_source  # noqa: E402
+from arena.replies import Complete, Fault, FaultCode  # noqa: E402
+from arena.trace.rehearsal import rehearse  # noqa: E402
+from reference import TooLong, interpreted  # noqa: E402
+from refused_places import REFUSED  # noqa: E402
+from unproved import built  # noqa: E402
+
+LIMITS = {"this function needs more than 8 registers": "registers", "this function is too long for a procedure": "instructions",
+          "needs more than 8 registers": "registers", "a procedure has at most": "instructions"}
+"""What is said of a function that can't be compiled, by either, and what it has too many of."""
+
+FEWEST = {"complete": 0.4, "fault": 0.01}
+"""Which share of the programs is at least so."""
+
+
+def compiled(program: str, source: str, arguments: tuple[int, ...] = ()) -> tuple[int, str, str]:
+    """What arena-compile says of a source: its status, its output, and standard error."""
+    done = subprocess.run([program, *map(str, arguments)], input=source, capture_output=True, text=True, timeout=60)
+    return done.returncode, done.stdout, done.stderr
+
+
+def ended(job: object, draws: random.Random) -> object:
+    """What a job gives: its value, or None for fault 1."""
+    match rehearse(job, draws.randint(1, 4), draws).outcome:
+        case Complete(value=value):
+            return value
+        case Fault(code=FaultCode.DIVISION):
+            return None
+        case other:
+            return str(other)
+
+
+def of_python(source: str, arguments: tuple[int, int], draws: random.Random) -> object:
+    """What the job of the compiler in Python gives, or that it needs too many registers."""
+    try:
+        return ended(compile_source(source, args=arguments).job.to_value(), draws)
+    except SourceFault as fault:
+        return next((kind for words, kind in LIMITS.items() if words in fault.message), f"refused: {fault}")
+
+
+def difference(program: str, source: str, arguments: tuple[int, int], draws: random.Random, seen: Counter[str]) -> str:
+    """What is wrong with a source, if something is."""
+    try:
+        wanted = interpreted(source, arguments)
+    except TooLong:
+        seen["too long"] += 1
+        return ""
+    status, output, said = compiled(program, source, arguments)
+    limit = next((kind for words, kind in LIMITS.items() if status == 1 and said == f"{source.count('#') + 1}:1: {words}\n"), "")
+    if limit:
+        seen[limit] += 1
+        return ""
+    found = ended(json.loads(output), draws) if status == 0 else f"status {status}: {said}"
+    python = of_python(source, arguments, draws)
+    seen["fault" if wanted is None else "complete"] += 1
+    if found != wanted or python not in (wanted, *LIMITS.values()):
+        return f"{found}, in Python {python}, and not {wanted}, of arguments {arguments}:\n{source}"
+    return ""
+
+
+def refused_difference(program: str, source: str, place: str) -> str:
+    """What is wrong with a source that has its first fault there, if something is."""
+    status, output, said = compiled(program, source)
+    if (status, output, said.split(": ")[0]) != (1, "", place):
+        return f"status {status}, {said or output}, and not at {place}:\n{source}"
+    return ""
+
+
+def main(seed: int = 1, programs: int = 400) -> list[str]:
+    """Compares programs, and returns what differs."""
+    proved = TOP / "crates" / "compile_program" / "out" / "compile_program"
+    program = str(proved if proved.exists() else built("arena-compile"))
+    draws, seen, found = random.Random(seed), Counter[str](), []
+    sources = Sources(draws)
+    for _ in range(programs):
+        source, arguments = sources.source(), (draws.randint(-5, 9), draws.randint(-5, 9))
+        said = difference(program, source, arguments, draws, seen)
+        found += [said] if said else []
+    found += [said for source, place in REFUSED if (said := refused_difference(program, source, place))]
+    for it in found[:3]:
+        print(it)
+    rare = [it for it, share in FEWEST.items() if seen[it] < share * programs]
+    if rare:
+        print(f"too few programs are {', '.join(rare)}")
+    shown = ", ".join(f"{count} {kind}" for kind, count in sorted(seen.items()))
+    print(f"{programs} sources by two compilers ({shown}), {len(REFUSED)} refused: {len(found)} differences")
+    return found or rare
+
+
+if __name__ == "__main__":
+    sys.exit(bool(main(*map(int, sys.argv[1:]))))

@@ -1,0 +1,67 @@
+// Why a source makes no job, in words.
+use register_choice::ChoiceRefusal;
+use source_reader::{Place, SourceFault, Wrong};
+
+/// What is wrong with a source, and where: a place of its text, or the function that can't be compiled.
+#[derive(Clone, Copy, Debug, PartialEq, Eq)]
+pub enum CompileFault {
+    Source(SourceFault),
+    /// The function that begins there has more instructions, variables or values on the way than it may have.
+    TooLong(Place),
+    /// The function that begins there needs more registers than there are.
+    Registers(Place),
+}
+
+/// Why there is no job.
+#[derive(Clone, Copy, Debug, PartialEq, Eq)]
+pub enum CompileError {
+    /// An allocation failed.
+    Memory,
+    Fault(CompileFault),
+}
+
+impl CompileFault {
+    /// Where it is.
+    pub fn place(&self) -> Place {
+        match self {
+            CompileFault::Source(fault) => fault.place,
+            CompileFault::TooLong(place) => *place,
+            CompileFault::Registers(place) => *place,
+        }
+    }
+
+    /// What it is, in words.
+    pub fn words(&self) -> &'static str {
+        match self {
+            CompileFault::Source(fault) => words_of(fault.wrong),
+            CompileFault::TooLong(_) => "this function is too long for a procedure",
+            CompileFault::Registers(_) => "this function needs more than 8 registers",
+        }
+    }
+}
+
+fn words_of(wrong: Wrong) -> &'static str {
+    match wrong {
+        Wrong::Unexpected => "this is not expected here, or is not taken by arena-compile",
+        Wrong::UnknownName => "no variable of this name is known here",
+        Wrong::KnownName => "a variable of this name is there already",
+        Wrong::TooManyNames => "a function has at most 240 variables",
+        Wrong::Comparison => "a comparison is no operand of this operator here",
+        Wrong::TooLong => "what begins here is too long, or nested too deep",
+        Wrong::NeverReached => "this is never reached: leave it out",
+        Wrong::NoLoop => "there is no loop around this",
+        Wrong::KnownFunction =>
+            "a function of this name is there already, or `main` is not the first one",
+        Wrong::TooManyFunctions => "a job has at most 16 functions",
+        Wrong::NoFunction => "there is no fn: write `fn main(x, y) { .. }`",
+    }
+}
+
+/// The fault of a function that begins there.
+pub(crate) fn fault_of(refusal: ChoiceRefusal, place: Place) -> CompileFault {
+    match refusal {
+        ChoiceRefusal::Refused(_) => CompileFault::TooLong(place),
+        ChoiceRefusal::Crowded(_) => CompileFault::Registers(place),
+        ChoiceRefusal::NoChoice => CompileFault::Registers(place),
+    }
+}

@@ -1,0 +1,72 @@
+// The job of a source.
+ghost use Rattle.std.specs.Prelude.{◌≡◌, IfOk, map};
+ghost use Rattle.source_reader.specs.Source.{Says};
+ghost use Rattle.source_reader.specs.Trees.{function_tree_of};
+ghost use Rattle.job_compiler.specs.Programs.{IsCompiledProgram};
+ghost use Rattle.arena_compile.specs.Jobs.{IsJobOf};
+
+use crate::errors::{CompileError, CompileFault, fault_of};
+use job_language::{Fuel, Job, MAX_FUEL, Program};
+use register_choice::{ChoiceProgramError, compile_program};
+use source_language::Function;
+use source_reader::{SourceError, function_place, read_source};
+use std::alloc::Global;
+
+/// The job of a source with these arguments, and with all the fuel that a job may have.
+pub fn job_of(alloc: Global, args: [i64; 2], text: &[u8]) -> Result<Job, CompileError>
+    ensures { IfOk result (IsJobOf args text.now) }
+{
+    match read_source(alloc, text) {
+        Ok(functions) => job_with(alloc, args, text, functions.as_slice()),
+        Err(SourceError::Memory) => Err(CompileError::Memory),
+        Err(SourceError::Fault(fault)) => Err(CompileError::Fault(CompileFault::Source(fault))),
+    }
+}
+
+/// The job of the functions that a text says.
+fn job_with(
+    alloc: Global,
+    args: [i64; 2],
+    text: &[u8],
+    functions: &[Function],
+) -> Result<Job, CompileError>
+    requires { Says text.now (map function_tree_of functions.now) }
+    ensures { IfOk result (IsJobOf args text.now) }
+{
+    let program = program_of(alloc, functions, text)?;
+    let fuel = most_fuel();
+    Ok(Job {
+        program,
+        args,
+        fuel,
+    })
+}
+
+/// All the fuel that a job may have.
+fn most_fuel() -> Fuel
+    ensures { result ≡ MAX_FUEL }
+{
+    Fuel::new(MAX_FUEL).unwrap()
+}
+
+/// The program of functions. A refusal has the place of its function.
+fn program_of(alloc: Global, functions: &[Function], text: &[u8]) -> Result<Program, CompileError>
+    ensures { IfOk result (IsCompiledProgram functions.now) }
+{
+    match compile_program(alloc, functions) {
+        Ok(program) => Ok(program),
+        Err(error) => Err(error_of(alloc, error, text)),
+    }
+}
+
+fn error_of(alloc: Global, error: ChoiceProgramError, text: &[u8]) -> CompileError {
+    match error {
+        ChoiceProgramError::Refused(number, refusal) => {
+            match function_place(alloc, text, number) {
+                Ok(place) => CompileError::Fault(fault_of(refusal, place)),
+                Err(_) => CompileError::Memory,
+            }
+        }
+        _ => CompileError::Memory,
+    }
+}

@@ -1,0 +1,11 @@
+// The words that the program is called with.
+
+/// The arguments of a job: as many numbers as there are words, at most two, and 0 for those that are left out.
+pub fn args_in(words: &[&str]) -> Option<[i64; 2]> {
+    match words {
+        [] => Some([0, 0]),
+        [first] => Some([first.parse::<i64>().ok()?, 0]),
+        [first, second] => Some([first.parse::<i64>().ok()?, second.parse::<i64>().ok()?]),
+        _ => None,
+    }
+}

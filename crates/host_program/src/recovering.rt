@@ -1,0 +1,191 @@
+// Journals that a host left become histories and outcomes: each job that was acknowledged gets its outcome.
+
+use crate::clocks::millis;
+use crate::ends::dump_end;
+use crate::files::{bytes_of, put_text};
+use crate::folders::LeftJournal;
+use crate::results::outcomes_text;
+use crate::shelves::Shelves;
+use crate::site::Site;
+use crate::system::System;
+use dump_files::dump_history;
+use host_status::{Event, Fault};
+use host_terms::Outcome;
+use job_language::{Entry, Status, TenantConfig};
+use job_outcomes::JobOutcomes;
+use part_lines::{PartRead, read_part};
+use server_io::ServerEnd;
+use std::alloc::{AllocError, Global};
+use std::fs;
+use std::fs::{File, Files};
+use std::sync::Wait;
+use std::time::Clock;
+use tenant_finish::{Recovered, finish_tenant, recover_tenant};
+use tenant_record::Replay;
+
+/// What a term was finished to.
+#[derive(Drop)]
+struct Finished {
+    config: TenantConfig,
+    replay: Replay,
+    /// Whether its journal had an entry that the tenant has not done.
+    is_torn_wrong: bool,
+}
+
+/// Finishes each journal that a host left, and writes its history and outcomes. If the host is killed meanwhile, it can be
+/// done again: a journal is removed once both are on the disk, and a history that is there is taken in its place.
+pub(crate) fn recover_all<R: System>(
+    rt: &R,
+    alloc: Global,
+    site: Site<'_>,
+    shelves: &mut Shelves,
+) -> Result<(), ServerEnd> {
+    for journal in &site.folder.left_journals(rt)? {
+        recover(rt, alloc, site, shelves, journal)?;
+    }
+    Ok(())
+}
+
+fn recover<R: Files<File = File> + Wait + Clock>(
+    rt: &R,
+    alloc: Global,
+    site: Site<'_>,
+    shelves: &mut Shelves,
+    journal: &LeftJournal,
+) -> Result<(), ServerEnd> {
+    let began = millis(rt);
+    let name = journal.name.as_str();
+    let term = journal.term;
+    let dump = site.folder.dump(alloc, name, term)?;
+    let is_dumped = shelves.has(name, term);
+    let source = if is_dumped {
+        dump.as_str()
+    } else {
+        journal.path.as_str()
+    };
+    let Some(finished) = finished_of(rt, alloc, source)? else {
+        // It has no whole first line: the host was killed before the term served, or this is no journal.
+        site.say_fault(rt, alloc, Fault::Journal, Some(name), Some(term));
+        return Ok(());
+    };
+    if finished.is_torn_wrong {
+        site.say_fault(rt, alloc, Fault::Journal, Some(name), Some(term));
+    }
+    let outcomes = outcomes_of(alloc, &finished.replay, journal.base)?;
+    if !is_dumped {
+        let history = finished.replay.history();
+        let written = dump_history(rt, alloc, dump.as_str(), &finished.config, history);
+        if let Err(fault) = written {
+            return Err(dump_end(fault));
+        }
+    }
+    put_outcomes(rt, alloc, site, journal, outcomes.as_slice())?;
+    site.folder
+        .shelve(rt, alloc, shelves, name, term, site.words.keep)?;
+    // If it can't be removed, it is done again at the next start.
+    let _ = fs::remove_file(rt, journal.path.as_str());
+    site.say(
+        rt,
+        alloc,
+        Event::Recovered {
+            tenant: name,
+            term,
+            jobs: outcomes.len(),
+            lost: lost_among(outcomes.as_slice()),
+            ms: millis(rt).saturating_sub(began),
+        },
+    );
+    Ok(())
+}
+
+/// The tenant that has done what a part says, and whose jobs are finished. None if the part names no tenant.
+fn finished_of<R: Files<File = File>>(
+    rt: &R,
+    alloc: Global,
+    path: &str,
+) -> Result<Option<Finished>, ServerEnd> {
+    let Some(part) = part_of(rt, alloc, path)? else {
+        return Ok(None);
+    };
+    let PartRead { config, entries } = part;
+    match recover_tenant(alloc, config, entries)? {
+        Recovered::Tenant(replay) => Ok(Some(finish(config, replay, false))),
+        Recovered::WrongAfter(right) => {
+            let Some(part) = part_of(rt, alloc, path)? else {
+                return Ok(None);
+            };
+            match recover_tenant(alloc, config, first_of(part.entries, right))? {
+                Recovered::Tenant(replay) => Ok(Some(finish(config, replay, true))),
+                Recovered::WrongAfter(_) => Ok(None),
+            }
+        }
+    }
+}
+
+fn finish(config: TenantConfig, replay: Replay, is_torn_wrong: bool) -> Finished {
+    let mut replay = replay;
+    finish_tenant(&mut replay);
+    Finished {
+        config,
+        replay,
+        is_torn_wrong,
+    }
+}
+
+/// The first of some entries.
+fn first_of(entries: Vec<Entry>, count: usize) -> Vec<Entry> {
+    let mut entries = entries;
+    entries.truncate(count);
+    entries
+}
+
+/// What the file of a journal or a dump says.
+fn part_of<R: Files<File = File>>(
+    rt: &R,
+    alloc: Global,
+    path: &str,
+) -> Result<Option<PartRead>, ServerEnd> {
+    match bytes_of(rt, alloc, path) {
+        Ok(bytes) => Ok(read_part(alloc, bytes.as_slice())?),
+        Err(_) => Err(ServerEnd::Device),
+    }
+}
+
+/// The outcomes of a tenant's jobs, by their numbers outside.
+fn outcomes_of(alloc: Global, replay: &Replay, base: u64) -> Result<Vec<Outcome>, AllocError> {
+    let held = JobOutcomes::of(alloc, replay)?;
+    let mut outcomes = Vec::new(alloc);
+    for outcome in held.as_slice() {
+        outcomes.push(Outcome {
+            job: base.saturating_add(outcome.job),
+            status: outcome.status,
+        })?;
+    }
+    Ok(outcomes)
+}
+
+/// How many of them are those of jobs without an outcome.
+fn lost_among(outcomes: &[Outcome]) -> usize {
+    outcomes
+        .iter()
+        .filter(|outcome| outcome.status == Status::Running)
+        .count()
+}
+
+fn put_outcomes<R: Files<File = File>>(
+    rt: &R,
+    alloc: Global,
+    site: Site<'_>,
+    journal: &LeftJournal,
+    outcomes: &[Outcome],
+) -> Result<(), ServerEnd> {
+    let path = site
+        .folder
+        .result(alloc, journal.name.as_str(), journal.term)?;
+    let text = outcomes_text(alloc, outcomes)?;
+    let folder = site.folder.results.as_str();
+    match put_text(rt, alloc, folder, path.as_str(), text.as_slice()) {
+        Ok(()) => Ok(()),
+        Err(_) => Err(ServerEnd::Device),
+    }
+}

@@ -1,0 +1,162 @@
+-- Functions.
+use Rattle.std.specs.Prelude.{ℕ, zero, suc, ◌+◌, ◌==◌, ◌||◌, nat_lt, Bool, true, false, List, [], ◌∷◌, ◌++◌, drop, Option, Some, None, Result, Ok, Err, if◌then◌else◌}
+use Rattle.source_tokens.specs.declared.tokens.Kind.{Kind}
+use Rattle.source_tokens.specs.declared.tokens.Kind.TheVariants as kind
+use Rattle.source_tokens.specs.declared.tokens.Token.{Token}
+use Rattle.source_reader.specs.declared.faults.Fault.{Fault}
+use Rattle.source_reader.specs.declared.faults.Wrong.TheVariants as wrong
+use Rattle.source_reader.specs.declared.functions.Named.{Named}
+use Rattle.source_reader.specs.declared.functions.Parameters.{Parameters}
+use Rattle.source_reader.specs.declared.functions.TheConstants.{BODY_FUEL}
+use Rattle.source_reader.specs.Faults.{◌>>=◌, fault_at}
+use Rattle.source_reader.specs.Trees.{StmtTree, FunctionTree, function_tree_of, SkipTree, ThenTree, AssignTree, IfTree, LoopTree, RepeatTree, BreakTree, ContinueTree, ReturnTree, MakeTree, WaitTree, CancelTree, ReadTree, StoreTree}
+use Rattle.source_reader.specs.Values.{unexpected, after_open, after_close}
+use Rattle.source_reader.specs.Lines.{is_line_end, after_line_ends}
+use Rattle.source_reader.specs.Simple.{ReadStmt}
+use Rattle.source_reader.specs.Statements.{Block, stmt_at}
+
+abbrev pub larger : ℕ → ℕ → ℕ
+larger a b = if nat_lt a b then b else a
+
+abbrev pub number_after : ℕ → ℕ
+number_after x = if nat_lt x 255 then x + 1 else 255
+
+-- how many variables a statement needs that was read
+abbrev pub variables_of : StmtTree → ℕ
+variables_of SkipTree = 0
+variables_of (ThenTree a b) = larger (variables_of a) (variables_of b)
+variables_of (AssignTree x e) = number_after x
+variables_of (IfTree c a b) = larger (variables_of a) (variables_of b)
+variables_of (LoopTree c a b) = larger (variables_of a) (variables_of b)
+variables_of (RepeatTree c a b) = larger (variables_of a) (variables_of b)
+variables_of (BreakTree k) = 0
+variables_of (ContinueTree k) = 0
+variables_of (ReturnTree e) = 0
+variables_of (MakeTree m p a b) = 0
+variables_of (WaitTree d e g) = 0
+variables_of (CancelTree g) = 0
+variables_of (ReadTree d q) = 0
+variables_of (StoreTree k e) = 0
+
+abbrev pub after_fn_of : Kind → List Token → List Token → Result (List Token) Fault
+after_fn_of kind.Fn rest ts = Ok rest
+after_fn_of k rest ts = unexpected ts
+
+abbrev pub after_fn : List Token → Result (List Token) Fault
+after_fn [] = unexpected []
+after_fn (t ∷ ts) = after_fn_of t.kind ts (t ∷ ts)
+
+abbrev pub after_comma_of : Kind → List Token → List Token → Result (List Token) Fault
+after_comma_of kind.Comma rest ts = Ok rest
+after_comma_of k rest ts = unexpected ts
+
+abbrev pub after_comma : List Token → Result (List Token) Fault
+after_comma [] = unexpected []
+after_comma (t ∷ ts) = after_comma_of t.kind ts (t ∷ ts)
+
+abbrev pub is_close_of : Kind → Bool
+is_close_of kind.Close = true
+is_close_of k = false
+
+abbrev pub is_close : List Token → Bool
+is_close [] = false
+is_close (t ∷ ts) = is_close_of t.kind
+
+abbrev pub is_this : ℕ → Option ℕ → Bool
+is_this x None = false
+is_this x (Some y) = y == x
+
+abbrev pub is_known : ℕ → List (Option ℕ) → Bool
+is_known x [] = false
+is_known x (first ∷ others) = is_this x first || is_known x others
+
+abbrev pub main_first : List (Option ℕ) → List Token → Result (Option ℕ) Fault
+main_first [] ts = Ok None
+main_first (first ∷ others) ts = Err (fault_at ts wrong.KnownFunction)
+
+-- A name is no number for `main`, which only the first function may be called.
+abbrev pub function_name_of : Kind → List (Option ℕ) → List Token → Result (Option ℕ) Fault
+function_name_of kind.Main known ts = main_first known ts
+function_name_of (kind.Name x) known ts = if is_known x known then Err (fault_at ts wrong.KnownFunction) else Ok (Some x)
+function_name_of k known ts = unexpected ts
+
+abbrev pub function_name : List (Option ℕ) → List Token → Result (Option ℕ) Fault
+function_name known [] = unexpected []
+function_name known (t ∷ ts) = function_name_of t.kind known (t ∷ ts)
+
+abbrev pub name_at_of : Kind → List Token → Result ℕ Fault
+name_at_of (kind.Name x) ts = Ok x
+name_at_of k ts = unexpected ts
+
+abbrev pub name_at : List Token → Result ℕ Fault
+name_at [] = unexpected []
+name_at (t ∷ ts) = name_at_of t.kind (t ∷ ts)
+
+abbrev pub second_name : ℕ → List Token → Result ℕ Fault
+second_name x ts = name_at ts >>= λ y. if y == x then Err (fault_at ts wrong.KnownName) else Ok y
+
+abbrev pub second_parameter : ℕ → List Token → Result (Parameters × List Token) Fault
+second_parameter x ts = do
+  rest ← after_comma ts
+  y ← second_name x rest
+  after ← after_close (drop 1 rest)
+  Ok (record { first = Some x; second = Some y }, after)
+
+abbrev pub first_parameter : List Token → Result (Parameters × List Token) Fault
+first_parameter ts = name_at ts >>= λ x. if is_close (drop 1 ts) then Ok (record { first = Some x; second = None }, drop 1 (drop 1 ts)) else second_parameter x (drop 1 ts)
+
+-- behind `(`, with what follows `)`
+abbrev pub parameters_at : List Token → Result (Parameters × List Token) Fault
+parameters_at ts = if is_close ts then Ok (record { first = None; second = None }, drop 1 ts) else first_parameter ts
+
+abbrev pub second_of : ℕ → Option ℕ → List (ℕ × ℕ)
+second_of x None = (x, 0) ∷ []
+second_of x (Some y) = (y, 1) ∷ (x, 0) ∷ []
+
+abbrev pub names_in : Option ℕ → Option ℕ → List (ℕ × ℕ)
+names_in None second = []
+names_in (Some x) second = second_of x second
+
+abbrev pub body_at : Parameters → List Token → ReadStmt
+body_at p ts = stmt_at BODY_FUEL (names_in p.first p.second) (Block false) ts
+
+-- a function, its name, and what follows it
+pub record NamedTree : Type 0 where
+  pub name : Option ℕ
+  pub function : FunctionTree
+  pub rest : List Token
+
+abbrev pub view_named : Named → NamedTree
+view_named n = record { name = n.name; function = function_tree_of n.function; rest = n.rest.now }
+
+abbrev pub function_at : List (Option ℕ) → List Token → Result NamedTree Fault
+function_at known ts = do
+  named ← after_fn ts
+  name ← function_name known named
+  inside ← after_open (drop 1 named)
+  ps ← parameters_at inside
+  body ← body_at ps.0 ps.1
+  Ok (record { name = name; function = record { variables = larger 2 (variables_of body.0); body = body.0 }; rest = body.1 })
+
+abbrev pub item_ended : List Token → Result (List Token) Fault
+item_ended [] = Ok []
+item_ended (t ∷ ts) = if is_line_end t.kind then Ok (t ∷ ts) else unexpected (t ∷ ts)
+
+abbrev pub Items : Type 0
+Items = List (Option ℕ) → List FunctionTree → List Token → Result (List FunctionTree) Fault
+
+abbrev pub one_more : Items → Items
+one_more next known before [] = Ok before
+one_more next known before (t ∷ ts) = do
+  f ← function_at known (t ∷ ts)
+  rest ← item_ended f.rest
+  next (known ++ f.name ∷ []) (before ++ f.function ∷ []) rest
+
+abbrev pub no_more : List FunctionTree → List Token → Result (List FunctionTree) Fault
+no_more before [] = Ok before
+no_more before (t ∷ ts) = Err (fault_at (t ∷ ts) wrong.TooManyFunctions)
+
+-- so many functions at most, behind those before
+unfoldable pub functions_from : ℕ → Items
+functions_from zero known before ts = no_more before (after_line_ends ts)
+functions_from (suc n) known before ts = one_more (functions_from n) known before (after_line_ends ts)

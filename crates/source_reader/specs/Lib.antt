@@ -1,0 +1,11 @@
+pub mod Faults
+pub mod Trees
+pub mod Names
+pub mod Joining
+pub mod Values
+pub mod Lines
+pub mod Simple
+pub mod Statements
+pub mod Functions
+pub mod Places
+pub mod Source

@@ -1,0 +1,80 @@
+-- Statements without blocks.
+use Rattle.std.specs.Prelude.{ℕ, pos, ◌||◌, List, [], ◌∷◌, drop, Option, Some, None, Result, Ok, Err, if◌then◌else◌}
+use Rattle.source_reader.specs.declared.simple.TheConstants.{VALUE_FUEL}
+use Rattle.source_tokens.specs.declared.tokens.Kind.{Kind}
+use Rattle.source_tokens.specs.declared.tokens.Kind.TheVariants as kind
+use Rattle.source_tokens.specs.declared.tokens.Token.{Token}
+use Rattle.source_reader.specs.declared.faults.Fault.{Fault}
+use Rattle.source_reader.specs.declared.faults.Wrong.TheVariants as wrong
+use Rattle.source_reader.specs.Faults.{◌>>=◌, fault_at}
+use Rattle.source_reader.specs.Trees.{TestTree, ValueTree, StmtTree, Constant, Variable, NumberTree, ReturnTree}
+use Rattle.source_reader.specs.Names.{variable_named, new_number}
+use Rattle.source_reader.specs.Joining.{test_in, operation, a_number}
+use Rattle.source_reader.specs.Values.{unexpected, Level, value_at}
+use Rattle.source_reader.specs.Lines.{assigned, returned, after_set, is_line_end, is_end}
+
+-- a value, and the tokens after it
+unfoldable pub whole_value : List (ℕ × ℕ) → List Token → Result (ValueTree × List Token) Fault
+whole_value names ts = value_at VALUE_FUEL names (Level 0) ts
+
+abbrev pub condition_at : List (ℕ × ℕ) → List Token → Result (TestTree × List Token) Fault
+condition_at names ts = do
+  v ← whole_value names ts
+  Ok (test_in v.0, v.1)
+
+-- a statement, and the tokens after it
+abbrev pub ReadStmt : Type 0
+ReadStmt = Result (StmtTree × List Token) Fault
+
+abbrev pub new_unless : Option ℕ → List (ℕ × ℕ) → List Token → Result ℕ Fault
+new_unless (Some v) names ts = Err (fault_at ts wrong.KnownName)
+new_unless None names ts = new_number names ts
+
+abbrev pub new_name_of : Kind → List (ℕ × ℕ) → List Token → Result ℕ Fault
+new_name_of (kind.Name x) names ts = new_unless (variable_named x names) names ts
+new_name_of k names ts = unexpected ts
+
+-- the number of a new variable with the name at the front, if no other has it
+abbrev pub new_name : List (ℕ × ℕ) → List Token → Result ℕ Fault
+new_name names [] = unexpected []
+new_name names (t ∷ ts) = new_name_of t.kind names (t ∷ ts)
+
+-- behind `let`
+abbrev pub let_at : List (ℕ × ℕ) → List Token → ReadStmt
+let_at names ts = do
+  n ← new_name names ts
+  rest ← after_set (drop 1 ts)
+  v ← whole_value names rest
+  Ok (assigned n v.0, v.1)
+
+abbrev pub set_at : List (ℕ × ℕ) → ℕ → List Token → ReadStmt
+set_at names x rest = do
+  v ← whole_value names rest
+  Ok (assigned x v.0, v.1)
+
+abbrev pub updated_of : Kind → List (ℕ × ℕ) → ℕ → List Token → List Token → ReadStmt
+updated_of kind.Set names x rest ts = set_at names x rest
+updated_of (kind.Update op) names x rest ts = do
+  v ← whole_value names rest
+  e ← a_number (operation op (NumberTree (Variable x)) v.0 ts)
+  Ok (assigned x e, v.1)
+updated_of k names x rest ts = unexpected ts
+
+-- behind the name of a variable
+abbrev pub updated : List (ℕ × ℕ) → ℕ → List Token → ReadStmt
+updated names x [] = unexpected []
+updated names x (t ∷ ts) = updated_of t.kind names x ts (t ∷ ts)
+
+abbrev pub assigned_at : List (ℕ × ℕ) → Option ℕ → List Token → List Token → ReadStmt
+assigned_at names None ts rest = Err (fault_at ts wrong.UnknownName)
+assigned_at names (Some x) ts rest = updated names x rest
+
+abbrev pub value_returned : List (ℕ × ℕ) → List Token → ReadStmt
+value_returned names ts = do
+  v ← whole_value names ts
+  Ok (returned v.0, v.1)
+
+-- behind `return`
+abbrev pub return_at : List (ℕ × ℕ) → List Token → ReadStmt
+return_at names [] = unexpected []
+return_at names (t ∷ ts) = if is_line_end t.kind || is_end t.kind then Ok (ReturnTree (Constant (pos 0)), t ∷ ts) else value_returned names (t ∷ ts)

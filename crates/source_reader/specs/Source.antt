@@ -1,0 +1,53 @@
+-- What a text says.
+use Rattle.std.specs.Prelude.{◌≡◌, ◌==◌, ◌-◌, ℕ, Bool, true, false, List, [], ◌∷◌, length, map, Result, Ok, Err, if◌then◌else◌}
+use Rattle.std.specs.Global.{Vec}
+use Rattle.source_language.specs.declared.syntax.Function.{Function}
+use Rattle.source_tokens.specs.declared.tokens.Token.{Token}
+use Rattle.source_tokens.specs.declared.tokens.Kind.{Kind}
+use Rattle.source_tokens.specs.declared.tokens.Kind.TheVariants as kind
+use Rattle.source_tokens.specs.Tokens.{tokens_of}
+use Rattle.source_reader.specs.declared.faults.Fault.{Fault}
+use Rattle.source_reader.specs.declared.faults.Wrong.TheVariants as wrong
+use Rattle.source_reader.specs.declared.places.Place.{Place}
+use Rattle.source_reader.specs.declared.source.SourceFault.{SourceFault}
+use Rattle.source_reader.specs.declared.source.SourceError.{SourceError}
+use Rattle.source_reader.specs.declared.source.SourceError.TheVariants as errors
+use Rattle.source_reader.specs.Faults.{◌>>=◌, fault_at}
+use Rattle.source_reader.specs.Trees.{FunctionTree, function_tree_of}
+use Rattle.source_reader.specs.Functions.{functions_from}
+use Rattle.source_reader.specs.Places.{place_of, place_left}
+
+abbrev pub some_functions : List FunctionTree → Result (List FunctionTree) Fault
+some_functions [] = Err (fault_at [] wrong.NoFunction)
+some_functions (f ∷ fs) = Ok (f ∷ fs)
+
+abbrev pub read_tokens : List Token → Result (List FunctionTree) Fault
+read_tokens ts = functions_from 16 [] [] ts >>= some_functions
+
+-- The text says these functions.
+abbrev pub Says : List ℕ → List FunctionTree → Type 0
+Says text fs = read_tokens (tokens_of text) ≡ Ok fs
+
+-- It says none: this is the first fault, and its place.
+abbrev pub HasFault : List ℕ → SourceFault → Type 0
+HasFault text fault = (left : ℕ) × (read_tokens (tokens_of text) ≡ Err (record { left = left; wrong = fault.wrong })) × (fault.place ≡ place_left (tokens_of text) text left)
+
+abbrev pub GivesError : List ℕ → SourceError → Type 0
+GivesError text errors.Memory = Unit {0}
+GivesError text (errors.Fault fault) = HasFault text fault
+
+abbrev pub GivesSource : List ℕ → Result (Vec Function) SourceError → Type 0
+GivesSource text (Ok v) = Says text (map function_tree_of v.items)
+GivesSource text (Err e) = GivesError text e
+
+abbrev pub is_fn : Kind → Bool
+is_fn kind.Fn = true
+is_fn k = false
+
+-- where the function of that number begins, or else the end
+abbrev pub nth_fn : List Token → (number end : ℕ) → ℕ
+nth_fn [] n end = end
+nth_fn (t ∷ ts) n end = if is_fn t.kind then (if n == 0 then t.at else nth_fn ts (n - 1) end) else nth_fn ts n end
+
+abbrev pub function_place : List ℕ → (number : ℕ) → Place
+function_place text n = place_of text (nth_fn (tokens_of text) n (length text))

@@ -1,0 +1,105 @@
+-- Statements and blocks.
+use Rattle.std.specs.Prelude.{ℕ, zero, suc, Bool, true, false, List, [], ◌∷◌, Option, Some, None, Result, Ok, Err, if◌then◌else◌}
+use Rattle.source_tokens.specs.declared.tokens.Kind.{Kind}
+use Rattle.source_tokens.specs.declared.tokens.Kind.TheVariants as kind
+use Rattle.source_tokens.specs.declared.tokens.Token.{Token}
+use Rattle.source_reader.specs.declared.faults.Fault.{Fault}
+use Rattle.source_reader.specs.declared.faults.Wrong.TheVariants as wrong
+use Rattle.source_reader.specs.Faults.{◌>>=◌, fault_at}
+use Rattle.source_reader.specs.Trees.{StmtTree, SkipTree, ThenTree, IfTree, LoopTree, BreakTree, ContinueTree}
+use Rattle.source_reader.specs.Names.{variable_named, new_number}
+use Rattle.source_reader.specs.Values.{unexpected}
+use Rattle.source_reader.specs.Lines.{leaves, after_begin, after_line_ends, ended, after_end, let_name}
+use Rattle.source_reader.specs.Simple.{ReadStmt, condition_at, let_at, assigned_at, return_at}
+
+-- What is read: `{ .. }`; what follows `{`, where what comes may never be reached; a statement; or what may follow the block of an `if`. Each says whether there is a loop around it.
+pub data Part : Type 0 where
+  Block : (in_loop : Bool) → Part
+  Rest : (in_loop left : Bool) → Part
+  Line : (in_loop : Bool) → Part
+  Otherwise : (in_loop : Bool) → Part
+
+abbrev pub Reader : Type 0
+Reader = List (ℕ × ℕ) → Part → List Token → ReadStmt
+
+-- the names behind a statement
+abbrev pub with_name : Option ℕ → List (ℕ × ℕ) → List Token → Result (List (ℕ × ℕ)) Fault
+with_name None names ts = Ok names
+with_name (Some x) names ts = do
+  n ← new_number names ts
+  Ok ((x, n) ∷ names)
+
+abbrev pub line_and_rest : Reader → List (ℕ × ℕ) → Bool → List Token → ReadStmt
+line_and_rest next names in_loop ts = do
+  first ← next names (Line in_loop) ts
+  rest ← ended first.1
+  inner ← with_name (let_name ts) names ts
+  others ← next inner (Rest in_loop (leaves first.0)) rest
+  Ok (ThenTree first.0 others.0, others.1)
+
+abbrev pub rest_of : Reader → List (ℕ × ℕ) → (in_loop left : Bool) → Option (List Token) → List Token → ReadStmt
+rest_of next names in_loop left (Some after) ts = Ok (SkipTree, after)
+rest_of next names in_loop true None ts = Err (fault_at ts wrong.NeverReached)
+rest_of next names in_loop false None ts = line_and_rest next names in_loop ts
+
+abbrev pub while_at : Reader → List (ℕ × ℕ) → List Token → ReadStmt
+while_at next names ts = do
+  c ← condition_at names ts
+  b ← next names (Block true) c.1
+  Ok (LoopTree c.0 b.0 SkipTree, b.1)
+
+abbrev pub if_at : Reader → List (ℕ × ℕ) → Bool → List Token → ReadStmt
+if_at next names in_loop ts = do
+  c ← condition_at names ts
+  a ← next names (Block in_loop) c.1
+  b ← next names (Otherwise in_loop) a.1
+  Ok (IfTree c.0 a.0 b.0, b.1)
+
+abbrev pub if_in_loop : Bool → StmtTree → List Token → List Token → ReadStmt
+if_in_loop true s rest ts = Ok (s, rest)
+if_in_loop false s rest ts = Err (fault_at ts wrong.NoLoop)
+
+abbrev pub line_of : Reader → List (ℕ × ℕ) → Bool → Kind → List Token → List Token → ReadStmt
+line_of next names in_loop kind.Let rest ts = let_at names rest
+line_of next names in_loop (kind.Name x) rest ts = assigned_at names (variable_named x names) ts rest
+line_of next names in_loop kind.Return rest ts = return_at names rest
+line_of next names in_loop kind.Break rest ts = if_in_loop in_loop (BreakTree 0) rest ts
+line_of next names in_loop kind.Continue rest ts = if_in_loop in_loop (ContinueTree 0) rest ts
+line_of next names in_loop kind.While rest ts = while_at next names rest
+line_of next names in_loop kind.If rest ts = if_at next names in_loop rest
+line_of next names in_loop k rest ts = unexpected ts
+
+abbrev pub line_at : Reader → List (ℕ × ℕ) → Bool → List Token → ReadStmt
+line_at next names in_loop [] = unexpected []
+line_at next names in_loop (t ∷ ts) = line_of next names in_loop t.kind ts (t ∷ ts)
+
+abbrev pub is_if_of : Kind → Bool
+is_if_of kind.If = true
+is_if_of k = false
+
+abbrev pub is_if : List Token → Bool
+is_if [] = false
+is_if (t ∷ ts) = is_if_of t.kind
+
+-- behind `else`
+abbrev pub else_at : Reader → List (ℕ × ℕ) → Bool → List Token → ReadStmt
+else_at next names in_loop ts = if is_if ts then next names (Line in_loop) ts else next names (Block in_loop) ts
+
+abbrev pub otherwise_of : Reader → List (ℕ × ℕ) → Bool → Kind → List Token → List Token → ReadStmt
+otherwise_of next names in_loop kind.Else rest ts = else_at next names in_loop rest
+otherwise_of next names in_loop k rest ts = Ok (SkipTree, ts)
+
+abbrev pub otherwise_at : Reader → List (ℕ × ℕ) → Bool → List Token → ReadStmt
+otherwise_at next names in_loop [] = Ok (SkipTree, [])
+otherwise_at next names in_loop (t ∷ ts) = otherwise_of next names in_loop t.kind ts (t ∷ ts)
+
+abbrev pub stmt_step : Reader → List (ℕ × ℕ) → Part → List Token → ReadStmt
+stmt_step next names (Block in_loop) ts = after_begin ts >>= λ inside. next names (Rest in_loop false) inside
+stmt_step next names (Rest in_loop left) ts = rest_of next names in_loop left (after_end (after_line_ends ts)) (after_line_ends ts)
+stmt_step next names (Line in_loop) ts = line_at next names in_loop ts
+stmt_step next names (Otherwise in_loop) ts = otherwise_at next names in_loop ts
+
+-- The number bounds how deep blocks are nested and how many statements there are.
+unfoldable pub stmt_at : ℕ → Reader
+stmt_at zero names p ts = Err (fault_at ts wrong.TooLong)
+stmt_at (suc n) names p ts = stmt_step (stmt_at n) names p ts

@@ -1,0 +1,105 @@
+-- Values: operators of five levels between numbers, variables and values in parentheses.
+use Rattle.std.specs.Prelude.{ℕ, zero, suc, ◌+◌, ◌==◌, nat_lt, List, [], ◌∷◌, drop, Option, Some, None, Result, Ok, Err, if◌then◌else◌}
+use Rattle.source_tokens.specs.declared.tokens.Sign.{Sign}
+use Rattle.source_tokens.specs.declared.tokens.Sign.TheVariants as sign
+use Rattle.source_tokens.specs.declared.tokens.Kind.{Kind}
+use Rattle.source_tokens.specs.declared.tokens.Kind.TheVariants as kind
+use Rattle.source_tokens.specs.declared.tokens.Token.{Token}
+use Rattle.source_reader.specs.declared.faults.Fault.{Fault}
+use Rattle.source_reader.specs.declared.faults.Wrong.TheVariants as wrong
+use Rattle.source_reader.specs.Faults.{◌>>=◌, fault_at}
+use Rattle.source_reader.specs.Trees.{ExprTree, ValueTree, Constant, Variable, SlotTree, WidthTree, NumberTree, TruthTree, NotTree}
+use Rattle.source_reader.specs.Names.{variable_named}
+use Rattle.source_reader.specs.Joining.{level_of, test_in, minus, joined}
+
+abbrev pub unexpected : {A : Type 0} → List Token → Result A Fault
+unexpected ts = Err (fault_at ts wrong.Unexpected)
+
+abbrev pub after_open_of : Kind → List Token → List Token → Result (List Token) Fault
+after_open_of kind.Open rest ts = Ok rest
+after_open_of k rest ts = unexpected ts
+
+abbrev pub after_open : List Token → Result (List Token) Fault
+after_open [] = unexpected []
+after_open (t ∷ ts) = after_open_of t.kind ts (t ∷ ts)
+
+abbrev pub after_close_of : Kind → List Token → List Token → Result (List Token) Fault
+after_close_of kind.Close rest ts = Ok rest
+after_close_of k rest ts = unexpected ts
+
+abbrev pub after_close : List Token → Result (List Token) Fault
+after_close [] = unexpected []
+after_close (t ∷ ts) = after_close_of t.kind ts (t ∷ ts)
+
+-- the operator of that level at the front
+abbrev pub sign_of : ℕ → Kind → Option Sign
+sign_of l (kind.Sign s) = if level_of s == l then Some s else None
+sign_of l k = None
+
+abbrev pub sign_at : ℕ → List Token → Option Sign
+sign_at l [] = None
+sign_at l (t ∷ ts) = sign_of l t.kind
+
+-- What is read: a value of operators of that level and tighter ones; more of them behind a value; or one without operators.
+pub data Wanted : Type 0 where
+  Level : ℕ → Wanted
+  More : ℕ → ValueTree → Wanted
+  Single : Wanted
+
+-- a value, and the tokens after it
+abbrev pub Read : Type 0
+Read = Result (ValueTree × List Token) Fault
+
+abbrev pub named : Option ℕ → List Token → List Token → Read
+named None ts rest = Err (fault_at ts wrong.UnknownName)
+named (Some v) ts rest = Ok (NumberTree (Variable v), rest)
+
+abbrev pub more : (Wanted → List Token → Read) → ℕ → ValueTree → Option Sign → List Token → Read
+more next l left None ts = Ok (left, ts)
+more next l left (Some s) ts = do
+  right ← next (Level (l + 1)) (drop 1 ts)
+  both ← joined s left right.0 ts
+  next (More l both) right.1
+
+-- behind a minus sign
+abbrev pub negative : (Wanted → List Token → Read) → List Token → List Token → Read
+negative next ts rest = do
+  v ← next Single rest
+  x ← minus v.0 ts
+  Ok (x, v.1)
+
+abbrev pub bracketed : (Wanted → List Token → Read) → List Token → Read
+bracketed next rest = do
+  v ← next (Level 0) rest
+  after ← after_close v.1
+  Ok (v.0, after)
+
+abbrev pub without_arguments : ExprTree → List Token → Read
+without_arguments e rest = do
+  inside ← after_open rest
+  after ← after_close inside
+  Ok (NumberTree e, after)
+
+abbrev pub single_of : (Wanted → List Token → Read) → List (ℕ × ℕ) → Kind → List Token → List Token → Read
+single_of next names (kind.Number n) ts rest = Ok (NumberTree (Constant n), rest)
+single_of next names (kind.Name x) ts rest = named (variable_named x names) ts rest
+single_of next names (kind.Sign sign.Minus) ts rest = negative next ts rest
+single_of next names kind.Not ts rest = next Single rest >>= λ v. Ok (TruthTree (NotTree (test_in v.0)), v.1)
+single_of next names kind.Open ts rest = bracketed next rest
+single_of next names kind.Slot ts rest = without_arguments SlotTree rest
+single_of next names kind.Width ts rest = without_arguments WidthTree rest
+single_of next names k ts rest = unexpected ts
+
+abbrev pub single : (Wanted → List Token → Read) → List (ℕ × ℕ) → List Token → Read
+single next names [] = unexpected []
+single next names (t ∷ ts) = single_of next names t.kind (t ∷ ts) ts
+
+abbrev pub step : (Wanted → List Token → Read) → List (ℕ × ℕ) → Wanted → List Token → Read
+step next names (Level l) ts = if nat_lt l 5 then (next (Level (l + 1)) ts >>= λ first. next (More l first.0) first.1) else next Single ts
+step next names (More l left) ts = more next l left (sign_at l ts) ts
+step next names Single ts = single next names ts
+
+-- The number bounds how deep values are nested and how many operators there are.
+unfoldable pub value_at : ℕ → List (ℕ × ℕ) → Wanted → List Token → Read
+value_at zero names w ts = Err (fault_at ts wrong.TooLong)
+value_at (suc n) names w ts = step (value_at n names) names w ts

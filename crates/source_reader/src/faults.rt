@@ -1,0 +1,75 @@
+// Why a source is not read.
+ghost use Rattle.std.specs.Prelude.{◌≡◌, Err, length};
+ghost use Rattle.source_reader.specs.declared.faults.ReadError.TheVariants.{Memory};
+ghost use Rattle.source_reader.specs.Faults.{fault_at};
+
+use source_tokens::Token;
+use std::alloc::{AllocError, AllocFailed};
+
+/// What is wrong with a source.
+#[derive(Clone, Copy, Debug, PartialEq, Eq)]
+pub enum Wrong {
+    /// Another token was wanted.
+    Unexpected,
+    /// No variable of this name is there.
+    UnknownName,
+    /// A variable of this name is there already.
+    KnownName,
+    /// More variables than a function may have.
+    TooManyNames,
+    /// A comparison, where a number is wanted.
+    Comparison,
+    /// Too many operators and parentheses, or too many statements.
+    TooLong,
+    /// A statement that is never reached.
+    NeverReached,
+    /// `break` or `continue`, with no loop around it.
+    NoLoop,
+    /// A function of this name is there already, or it is `main` and not the first one.
+    KnownFunction,
+    /// More functions than a job may have.
+    TooManyFunctions,
+    /// There is no function.
+    NoFunction,
+}
+
+/// The first fault of a source: what is wrong, and how many tokens are left there.
+#[derive(Clone, Copy, Debug, PartialEq, Eq)]
+pub struct Fault {
+    pub left: usize,
+    pub wrong: Wrong,
+}
+
+/// Why nothing is read.
+#[derive(Clone, Copy, Debug, PartialEq, Eq)]
+pub enum ReadError {
+    /// An allocation failed.
+    Memory,
+    Fault(Fault),
+}
+
+impl From<AllocError> for ReadError {
+    ghost from_gives = { λ _ e. e ≡ Memory };
+
+    fn from(_error: AllocError) -> ReadError {
+        ReadError::Memory
+    }
+}
+
+impl<T: Drop> From<AllocFailed<T>> for ReadError {
+    ghost from_gives = { λ _ e. e ≡ Memory };
+
+    fn from(_error: AllocFailed<T>) -> ReadError {
+        ReadError::Memory
+    }
+}
+
+/// The fault at the first of these tokens.
+pub(crate) fn fault_at(tokens: &[Token], wrong: Wrong) -> ReadError
+    ensures { result ≡ ReadError.Fault (fault_at tokens.now wrong) }
+{
+    ReadError::Fault(Fault {
+        left: tokens.len(),
+        wrong,
+    })
+}

@@ -1,0 +1,302 @@
+// Functions.
+ghost use Rattle.std.specs.Prelude.{◌≡◌, ◌++◌, ◌∷◌, [], Ok, map};
+ghost use Rattle.source_reader.specs.Faults.{Gives};
+ghost use Rattle.source_reader.specs.Trees.{stmt_tree_of, function_tree_of};
+ghost use Rattle.source_reader.specs.Functions.{larger, number_after, variables_of, after_fn, after_comma, is_close, is_this, is_known, function_name, name_at, second_name, parameters_at, body_at, view_named, function_at, item_ended, functions_from};
+
+use crate::faults::{ReadError, Wrong, fault_at};
+use crate::lines::{after_line_ends, is_line_end};
+use crate::names::Names;
+use crate::statements::block_at;
+use crate::values::{after_close, after_first, after_open};
+use source_language::{Function, Stmt};
+use source_tokens::{Kind, Token};
+use std::alloc::Global;
+
+/// How long the body of a function may be.
+pub const BODY_FUEL: u16 = 600;
+
+/// The number of variables, if this is one of them.
+fn number_after(number: u8) -> u8
+    ensures { result ≡ number_after number }
+{
+    if number < 255 { number + 1 } else { 255 }
+}
+
+/// How many variables a statement needs.
+fn variables_of(s: &Stmt) -> u8
+    ensures { result ≡ variables_of (stmt_tree_of s.now) }
+{
+    match s {
+        Stmt::Then(a, b) => larger(variables_of(a), variables_of(b)),
+        Stmt::If(_, a, b) => larger(variables_of(a), variables_of(b)),
+        Stmt::Loop(_, a, b) => larger(variables_of(a), variables_of(b)),
+        Stmt::Repeat(_, a, b) => larger(variables_of(a), variables_of(b)),
+        Stmt::Assign(x, _) => number_after(*x),
+        _ => 0,
+    }
+}
+
+fn larger(a: u8, b: u8) -> u8
+    ensures { result ≡ larger a b }
+{
+    if a < b { b } else { a }
+}
+
+fn after_fn(tokens: &[Token]) -> Result<&[Token], ReadError>
+    ensures { Gives (λ ts. ts.now) result (after_fn tokens.now) }
+{
+    match tokens.split_first() {
+        Some((first, rest)) => match first.kind {
+            Kind::Fn => Ok(rest),
+            _ => Err(fault_at(tokens, Wrong::Unexpected)),
+        },
+        None => Err(fault_at(tokens, Wrong::Unexpected)),
+    }
+}
+
+fn after_comma(tokens: &[Token]) -> Result<&[Token], ReadError>
+    ensures { Gives (λ ts. ts.now) result (after_comma tokens.now) }
+{
+    match tokens.split_first() {
+        Some((first, rest)) => match first.kind {
+            Kind::Comma => Ok(rest),
+            _ => Err(fault_at(tokens, Wrong::Unexpected)),
+        },
+        None => Err(fault_at(tokens, Wrong::Unexpected)),
+    }
+}
+
+fn is_close(tokens: &[Token]) -> bool
+    ensures { result ≡ is_close tokens.now }
+{
+    match tokens.split_first() {
+        Some((first, _)) => match first.kind {
+            Kind::Close => true,
+            _ => false,
+        },
+        None => false,
+    }
+}
+
+/// The name of a function, at the front: none if it is `main`.
+fn function_name(known: &[Option<usize>], tokens: &[Token]) -> Result<Option<usize>, ReadError>
+    ensures { Gives (λ n. n) result (function_name known.now tokens.now) }
+{
+    match tokens.split_first() {
+        Some((first, _)) => match first.kind {
+            Kind::Main => {
+                if known.is_empty() {
+                    Ok(None)
+                } else {
+                    Err(fault_at(tokens, Wrong::KnownFunction))
+                }
+            }
+            Kind::Name(name) => {
+                if is_known(name, known) {
+                    Err(fault_at(tokens, Wrong::KnownFunction))
+                } else {
+                    Ok(Some(name))
+                }
+            }
+            _ => Err(fault_at(tokens, Wrong::Unexpected)),
+        },
+        None => Err(fault_at(tokens, Wrong::Unexpected)),
+    }
+}
+
+fn is_known(name: usize, known: &[Option<usize>]) -> bool
+    ensures { result ≡ is_known name known.now }
+{
+    match known.split_first() {
+        Some((first, others)) => is_this(name, *first) || is_known(name, others),
+        None => false,
+    }
+}
+
+fn is_this(name: usize, known: Option<usize>) -> bool
+    ensures { result ≡ is_this name known }
+{
+    match known {
+        Some(other) => other == name,
+        None => false,
+    }
+}
+
+/// A name at the front.
+fn name_at(tokens: &[Token]) -> Result<usize, ReadError>
+    ensures { Gives (λ n. n) result (name_at tokens.now) }
+{
+    match tokens.split_first() {
+        Some((first, _)) => match first.kind {
+            Kind::Name(name) => Ok(name),
+            _ => Err(fault_at(tokens, Wrong::Unexpected)),
+        },
+        None => Err(fault_at(tokens, Wrong::Unexpected)),
+    }
+}
+
+/// The names of the parameters.
+#[derive(Clone, Copy)]
+pub(crate) struct Parameters {
+    first: Option<usize>,
+    second: Option<usize>,
+}
+
+/// The name of the second parameter, which is not that of the first one.
+fn second_name(first: usize, tokens: &[Token]) -> Result<usize, ReadError>
+    ensures { Gives (λ n. n) result (second_name first tokens.now) }
+{
+    let name = name_at(tokens)?;
+    if name == first {
+        Err(fault_at(tokens, Wrong::KnownName))
+    } else {
+        Ok(name)
+    }
+}
+
+/// The parameters, behind `(`, and what follows `)`.
+fn parameters_at(tokens: &[Token]) -> Result<(Parameters, &[Token]), ReadError>
+    ensures { Gives (λ x. (x.0, x.1.now)) result (parameters_at tokens.now) }
+{
+    if is_close(tokens) {
+        let none = Parameters {
+            first: None,
+            second: None,
+        };
+        return Ok((none, after_first(tokens)));
+    }
+    let first = name_at(tokens)?;
+    let rest = after_first(tokens);
+    if is_close(rest) {
+        let one = Parameters {
+            first: Some(first),
+            second: None,
+        };
+        return Ok((one, after_first(rest)));
+    }
+    let rest = after_comma(rest)?;
+    let second = second_name(first, rest)?;
+    let after = after_close(after_first(rest))?;
+    let two = Parameters {
+        first: Some(first),
+        second: Some(second),
+    };
+    Ok((two, after))
+}
+
+/// The body of a function with these parameters.
+fn body_at<'a>(
+    alloc: Global,
+    parameters: Parameters,
+    tokens: &'a [Token],
+) -> Result<(Stmt, &'a [Token]), ReadError>
+    ensures { Gives (λ x. (stmt_tree_of x.0, x.1.now)) result
+        (body_at parameters tokens.entry.now) }
+{
+    match parameters.first {
+        None => block_at(alloc, &Names::Empty, false, BODY_FUEL, tokens),
+        Some(first) => match parameters.second {
+            None => {
+                let names = Names::Name(first, 0, &Names::Empty);
+                block_at(alloc, &names, false, BODY_FUEL, tokens)
+            }
+            Some(second) => {
+                let one = Names::Name(first, 0, &Names::Empty);
+                let names = Names::Name(second, 1, &one);
+                block_at(alloc, &names, false, BODY_FUEL, tokens)
+            }
+        },
+    }
+}
+
+/// A function, its name, and what follows it.
+#[derive(Drop)]
+pub(crate) struct Named<'a> {
+    pub(crate) name: Option<usize>,
+    pub(crate) function: Function,
+    pub(crate) rest: &'a [Token],
+}
+
+/// A function, of which the first token is `fn`.
+fn function_at<'a>(
+    alloc: Global,
+    known: &[Option<usize>],
+    tokens: &'a [Token],
+) -> Result<Named<'a>, ReadError>
+    ensures { Gives view_named result (function_at known.now tokens.entry.now) }
+{
+    let named = after_fn(tokens)?;
+    let name = function_name(known, named)?;
+    let inside = after_open(after_first(named))?;
+    let (parameters, rest) = parameters_at(inside)?;
+    let (body, rest) = body_at(alloc, parameters, rest)?;
+    let variables = larger(2, variables_of(&body));
+    Ok(Named {
+        name,
+        function: Function { variables, body },
+        rest,
+    })
+}
+
+/// The same tokens, if a function may end before them.
+fn item_ended(tokens: &[Token]) -> Result<&[Token], ReadError>
+    ensures { Gives (λ ts. ts.now) result (item_ended tokens.now) }
+{
+    match tokens.split_first() {
+        Some((first, _)) => {
+            if is_line_end(first.kind) {
+                Ok(tokens)
+            } else {
+                Err(fault_at(tokens, Wrong::Unexpected))
+            }
+        }
+        None => Ok(tokens),
+    }
+}
+
+/// The functions, so many more at most, behind those that were read before.
+#[tactic(auto, using(crate::proofs::FunctionSteps::function_steps))]
+pub(crate) fn functions_from(
+    alloc: Global,
+    left: u8,
+    known: Vec<Option<usize>>,
+    before: Vec<Function>,
+    tokens: &[Token],
+) -> Result<Vec<Function>, ReadError>
+    ensures { Gives (λ v. map function_tree_of v.items) result
+        (functions_from left known.items (map function_tree_of before.items) tokens.now) }
+{
+    let lines = after_line_ends(tokens);
+    let Some(_) = lines.split_first() else {
+        return Ok(before);
+    };
+    if left == 0 {
+        return Err(fault_at(lines, Wrong::TooManyFunctions));
+    }
+    let named = function_at(alloc, known.as_slice(), lines)?;
+    let rest = item_ended(named.rest)?;
+    let known = with_name(known, named.name)?;
+    let before = with_function(before, named.function)?;
+    functions_from(alloc, left - 1, known, before, rest)
+}
+
+fn with_name(
+    known: Vec<Option<usize>>,
+    name: Option<usize>,
+) -> Result<Vec<Option<usize>>, ReadError>
+    ensures { Gives (λ v. v.items) result (Ok (known.items ++ name ∷ [])) }
+{
+    let mut known = known;
+    known.push(name)?;
+    Ok(known)
+}
+
+fn with_function(before: Vec<Function>, function: Function) -> Result<Vec<Function>, ReadError>
+    ensures { Gives (λ v. map function_tree_of v.items) result
+        (Ok (map function_tree_of before.items ++ function_tree_of function ∷ [])) }
+{
+    let mut before = before;
+    before.push(function)?;
+    Ok(before)
+}

@@ -1,0 +1,129 @@
+// Whole sources.
+ghost use Rattle.std.specs.Prelude.{◌≡◌, IfOk, map, drop};
+ghost use Rattle.source_tokens.specs.Tokens.{tokens_of};
+ghost use Rattle.source_reader.specs.Faults.{Gives};
+ghost use Rattle.source_reader.specs.Trees.{function_tree_of};
+ghost use Rattle.source_reader.specs.Places.{beginning, place_left, place_of};
+ghost use Rattle.source_reader.specs.Source.{read_tokens, some_functions, GivesSource, is_fn, nth_fn, function_place};
+
+use crate::faults::{Fault, ReadError, Wrong, fault_at};
+use crate::functions::functions_from;
+use crate::places::{Place, place_of};
+use source_language::Function;
+use source_tokens::{Kind, Token, tokens_in};
+use std::alloc::{AllocError, Global};
+
+/// The first fault of a source, and its place.
+#[derive(Clone, Copy, Debug, PartialEq, Eq)]
+pub struct SourceFault {
+    pub place: Place,
+    pub wrong: Wrong,
+}
+
+/// Why a source is not read.
+#[derive(Clone, Copy, Debug, PartialEq, Eq)]
+pub enum SourceError {
+    /// An allocation failed.
+    Memory,
+    Fault(SourceFault),
+}
+
+/// Where the first token begins, or where the text ends.
+fn beginning(tokens: &[Token], text: &[u8]) -> usize
+    ensures { result ≡ beginning tokens.now text.now }
+{
+    match tokens.split_first() {
+        Some((first, _)) => first.at,
+        None => text.len(),
+    }
+}
+
+/// The tokens behind so many.
+fn behind(tokens: &[Token], count: usize) -> &[Token]
+    ensures { result.now ≡ drop count tokens.now }
+{
+    if count < tokens.len() {
+        tokens.split_at(count).1
+    } else {
+        tokens.split_at(tokens.len()).1
+    }
+}
+
+/// The place where so many tokens are left.
+fn place_left(tokens: &[Token], text: &[u8], left: usize) -> Place
+    ensures { result ≡ place_left tokens.now text.now left }
+{
+    let gone = tokens.len().saturating_sub(left);
+    place_of(text, beginning(behind(tokens, gone), text))
+}
+
+fn is_fn(kind: Kind) -> bool
+    ensures { result ≡ is_fn kind }
+{
+    match kind {
+        Kind::Fn => true,
+        _ => false,
+    }
+}
+
+/// Where the function of that number begins, or else the end.
+fn nth_fn(tokens: &[Token], number: usize, end: usize) -> usize
+    ensures { result ≡ nth_fn tokens.now number end }
+{
+    match tokens.split_first() {
+        Some((first, rest)) => {
+            if !is_fn(first.kind) {
+                nth_fn(rest, number, end)
+            } else if number == 0 {
+                first.at
+            } else {
+                nth_fn(rest, number - 1, end)
+            }
+        }
+        None => end,
+    }
+}
+
+/// The place where the function of that number begins, from 0.
+pub fn function_place(alloc: Global, text: &[u8], number: usize) -> Result<Place, AllocError>
+    ensures { IfOk result (λ place. place ≡ function_place text.now number) }
+{
+    let tokens = tokens_in(alloc, text)?;
+    Ok(place_of(text, nth_fn(tokens.as_slice(), number, text.len())))
+}
+
+/// There has to be a function.
+fn some_functions(functions: Vec<Function>) -> Result<Vec<Function>, ReadError>
+    ensures { Gives (λ v. map function_tree_of v.items) result
+        (some_functions (map function_tree_of functions.items)) }
+{
+    if functions.is_empty() {
+        Err(fault_at(&[], Wrong::NoFunction))
+    } else {
+        Ok(functions)
+    }
+}
+
+fn read_tokens(alloc: Global, tokens: &[Token]) -> Result<Vec<Function>, ReadError>
+    ensures { Gives (λ v. map function_tree_of v.items) result (read_tokens tokens.now) }
+{
+    let functions = functions_from(alloc, 16, Vec::new(alloc), Vec::new(alloc), tokens)?;
+    some_functions(functions)
+}
+
+/// The functions of a source, in its order. The first fault has its place.
+pub fn read_source(alloc: Global, text: &[u8]) -> Result<Vec<Function>, SourceError>
+    ensures { GivesSource text.now result }
+{
+    let Ok(tokens) = tokens_in(alloc, text) else {
+        return Err(SourceError::Memory);
+    };
+    match read_tokens(alloc, tokens.as_slice()) {
+        Ok(functions) => Ok(functions),
+        Err(ReadError::Memory) => Err(SourceError::Memory),
+        Err(ReadError::Fault(fault)) => Err(SourceError::Fault(SourceFault {
+            place: place_left(tokens.as_slice(), text, fault.left),
+            wrong: fault.wrong,
+        })),
+    }
+}

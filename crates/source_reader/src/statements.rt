@@ -1,0 +1,175 @@
+// Statements and blocks.
+ghost use Rattle.std.specs.Prelude.{◌≡◌, false};
+ghost use Rattle.source_reader.specs.Faults.{Gives};
+ghost use Rattle.source_reader.specs.Trees.{stmt_tree_of};
+ghost use Rattle.source_reader.specs.Names.{names_of};
+ghost use Rattle.source_reader.specs.Statements.{is_if, if_in_loop, stmt_at, Block, Rest, Line, Otherwise};
+
+use crate::faults::{ReadError, Wrong, fault_at};
+use crate::lines::{after_begin, after_end, after_line_ends, ended, let_name};
+use crate::names::{Names, new_number};
+use crate::simple::{assigned_at, condition_at, let_at, return_at};
+use crate::trees::{choice, leaves, looped, then};
+use source_language::Stmt;
+use source_tokens::{Kind, Token};
+use std::alloc::Global;
+
+fn is_if(tokens: &[Token]) -> bool
+    ensures { result ≡ is_if tokens.now }
+{
+    match tokens.split_first() {
+        Some((first, _)) => match first.kind {
+            Kind::If => true,
+            _ => false,
+        },
+        None => false,
+    }
+}
+
+/// A statement that is only in loops.
+fn if_in_loop<'a>(
+    in_loop: bool,
+    s: Stmt,
+    rest: &'a [Token],
+    tokens: &[Token],
+) -> Result<(Stmt, &'a [Token]), ReadError>
+    ensures { Gives (λ x. (stmt_tree_of x.0, x.1.now)) result
+        (if_in_loop in_loop (stmt_tree_of s) rest.entry.now tokens.now) }
+{
+    if in_loop {
+        Ok((s, rest))
+    } else {
+        Err(fault_at(tokens, Wrong::NoLoop))
+    }
+}
+
+/// `{ .. }`.
+#[tactic(auto, using(crate::proofs::StmtSteps::stmt_steps))]
+#[cycle(statements)]
+pub(crate) fn block_at<'a>(
+    alloc: Global,
+    names: &Names,
+    in_loop: bool,
+    fuel: u16,
+    tokens: &'a [Token],
+) -> Result<(Stmt, &'a [Token]), ReadError>
+    ensures { Gives (λ x. (stmt_tree_of x.0, x.1.now)) result
+        (stmt_at fuel (names_of names.now) (Block in_loop) tokens.entry.now) }
+{
+    if fuel == 0 {
+        return Err(fault_at(tokens, Wrong::TooLong));
+    }
+    let inside = after_begin(tokens)?;
+    rest_at(alloc, names, in_loop, false, fuel - 1, inside)
+}
+
+/// The statements up to the end of a block. If they are never reached, there are none.
+#[tactic(auto, using(crate::proofs::StmtSteps::stmt_steps))]
+#[cycle(statements)]
+fn rest_at<'a>(
+    alloc: Global,
+    names: &Names,
+    in_loop: bool,
+    left: bool,
+    fuel: u16,
+    tokens: &'a [Token],
+) -> Result<(Stmt, &'a [Token]), ReadError>
+    ensures { Gives (λ x. (stmt_tree_of x.0, x.1.now)) result
+        (stmt_at fuel (names_of names.now) (Rest in_loop left) tokens.entry.now) }
+{
+    if fuel == 0 {
+        return Err(fault_at(tokens, Wrong::TooLong));
+    }
+    let lines = after_line_ends(tokens);
+    if let Some(after) = after_end(lines) {
+        return Ok((Stmt::Skip, after));
+    }
+    if left {
+        return Err(fault_at(lines, Wrong::NeverReached));
+    }
+    let (first, rest) = line_at(alloc, names, in_loop, fuel - 1, lines)?;
+    let rest = ended(rest)?;
+    let left = leaves(&first);
+    match let_name(lines) {
+        None => {
+            let (others, after) = rest_at(alloc, names, in_loop, left, fuel - 1, rest)?;
+            Ok((then(alloc, first, others)?, after))
+        }
+        Some(name) => {
+            let inner = Names::Name(name, new_number(names, lines)?, names);
+            let (others, after) = rest_at(alloc, &inner, in_loop, left, fuel - 1, rest)?;
+            Ok((then(alloc, first, others)?, after))
+        }
+    }
+}
+
+/// A statement.
+#[tactic(auto, using(crate::proofs::StmtSteps::stmt_steps))]
+#[cycle(statements)]
+fn line_at<'a>(
+    alloc: Global,
+    names: &Names,
+    in_loop: bool,
+    fuel: u16,
+    tokens: &'a [Token],
+) -> Result<(Stmt, &'a [Token]), ReadError>
+    ensures { Gives (λ x. (stmt_tree_of x.0, x.1.now)) result
+        (stmt_at fuel (names_of names.now) (Line in_loop) tokens.entry.now) }
+{
+    if fuel == 0 {
+        return Err(fault_at(tokens, Wrong::TooLong));
+    }
+    let Some((first, rest)) = tokens.split_first() else {
+        return Err(fault_at(tokens, Wrong::Unexpected));
+    };
+    match first.kind {
+        Kind::Let => let_at(alloc, names, rest),
+        Kind::Name(name) => assigned_at(alloc, names, name, tokens, rest),
+        Kind::Return => return_at(alloc, names, rest),
+        Kind::Break => if_in_loop(in_loop, Stmt::Break(0), rest, tokens),
+        Kind::Continue => if_in_loop(in_loop, Stmt::Continue(0), rest, tokens),
+        Kind::While => {
+            let (condition, after) = condition_at(alloc, names, rest)?;
+            let (body, after) = block_at(alloc, names, true, fuel - 1, after)?;
+            Ok((looped(alloc, condition, body)?, after))
+        }
+        Kind::If => {
+            let (condition, after) = condition_at(alloc, names, rest)?;
+            let (then, after) = block_at(alloc, names, in_loop, fuel - 1, after)?;
+            let (other, after) = otherwise_at(alloc, names, in_loop, fuel - 1, after)?;
+            Ok((choice(alloc, condition, then, other)?, after))
+        }
+        _ => Err(fault_at(tokens, Wrong::Unexpected)),
+    }
+}
+
+/// What may follow the block of an `if`.
+#[tactic(auto, using(crate::proofs::StmtSteps::stmt_steps))]
+#[cycle(statements)]
+fn otherwise_at<'a>(
+    alloc: Global,
+    names: &Names,
+    in_loop: bool,
+    fuel: u16,
+    tokens: &'a [Token],
+) -> Result<(Stmt, &'a [Token]), ReadError>
+    ensures { Gives (λ x. (stmt_tree_of x.0, x.1.now)) result
+        (stmt_at fuel (names_of names.now) (Otherwise in_loop) tokens.entry.now) }
+{
+    if fuel == 0 {
+        return Err(fault_at(tokens, Wrong::TooLong));
+    }
+    let Some((first, rest)) = tokens.split_first() else {
+        return Ok((Stmt::Skip, tokens));
+    };
+    match first.kind {
+        Kind::Else => {
+            if is_if(rest) {
+                line_at(alloc, names, in_loop, fuel - 1, rest)
+            } else {
+                block_at(alloc, names, in_loop, fuel - 1, rest)
+            }
+        }
+        _ => Ok((Stmt::Skip, tokens)),
+    }
+}

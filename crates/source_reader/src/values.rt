@@ -1,0 +1,186 @@
+// Values: operators of five levels between numbers, variables and values in parentheses.
+ghost use Rattle.std.specs.Prelude.{◌≡◌, drop};
+ghost use Rattle.source_reader.specs.Faults.{Gives};
+ghost use Rattle.source_reader.specs.Trees.{tree_of, value_tree_of};
+ghost use Rattle.source_reader.specs.Names.{names_of, variable_named};
+ghost use Rattle.source_reader.specs.Values.{after_open, after_close, sign_at, named, without_arguments, value_at, Level, More, Single};
+
+use crate::faults::{ReadError, Wrong, fault_at};
+use crate::joining::{Value, joined, level_of, minus, opposite};
+use crate::names::{Names, variable_named};
+use source_language::Expr;
+use source_tokens::{Kind, Sign, Token};
+use std::alloc::Global;
+
+/// The level above the tightest operators.
+const LEVELS: u8 = 5;
+
+/// What follows `(`.
+pub(crate) fn after_open(tokens: &[Token]) -> Result<&[Token], ReadError>
+    ensures { Gives (λ ts. ts.now) result (after_open tokens.now) }
+{
+    match tokens.split_first() {
+        Some((first, rest)) => match first.kind {
+            Kind::Open => Ok(rest),
+            _ => Err(fault_at(tokens, Wrong::Unexpected)),
+        },
+        None => Err(fault_at(tokens, Wrong::Unexpected)),
+    }
+}
+
+/// What follows `)`.
+pub(crate) fn after_close(tokens: &[Token]) -> Result<&[Token], ReadError>
+    ensures { Gives (λ ts. ts.now) result (after_close tokens.now) }
+{
+    match tokens.split_first() {
+        Some((first, rest)) => match first.kind {
+            Kind::Close => Ok(rest),
+            _ => Err(fault_at(tokens, Wrong::Unexpected)),
+        },
+        None => Err(fault_at(tokens, Wrong::Unexpected)),
+    }
+}
+
+/// The tokens behind the first one.
+pub(crate) fn after_first(tokens: &[Token]) -> &[Token]
+    ensures { result.now ≡ drop 1 tokens.now }
+{
+    match tokens.split_first() {
+        Some((_, rest)) => rest,
+        None => tokens,
+    }
+}
+
+/// The operator of that level at the front.
+fn sign_at(level: u8, tokens: &[Token]) -> Option<Sign>
+    ensures { result ≡ sign_at level tokens.now }
+{
+    match tokens.split_first() {
+        Some((first, _)) => match first.kind {
+            Kind::Sign(sign) => {
+                if level_of(sign) == level {
+                    Some(sign)
+                } else {
+                    None
+                }
+            }
+            _ => None,
+        },
+        None => None,
+    }
+}
+
+/// The variable of that name, which is the first of the tokens.
+fn named<'a>(
+    name: usize,
+    names: &Names,
+    tokens: &[Token],
+    rest: &'a [Token],
+) -> Result<(Value, &'a [Token]), ReadError>
+    ensures { Gives (λ x. (value_tree_of x.0, x.1.now)) result
+        (named (variable_named name (names_of names.now)) tokens.now rest.entry.now) }
+{
+    match variable_named(name, names) {
+        Some(number) => Ok((Value::Number(Expr::Variable(number)), rest)),
+        None => Err(fault_at(tokens, Wrong::UnknownName)),
+    }
+}
+
+/// A value that takes no arguments, before `()`.
+fn without_arguments(e: Expr, rest: &[Token]) -> Result<(Value, &[Token]), ReadError>
+    ensures { Gives (λ x. (value_tree_of x.0, x.1.now)) result
+        (without_arguments (tree_of e) rest.now) }
+{
+    let inside = after_open(rest)?;
+    let after = after_close(inside)?;
+    Ok((Value::Number(e), after))
+}
+
+/// A value of operators of that level and of tighter ones, and the tokens after it.
+#[tactic(auto, using(crate::proofs::ValueSteps::value_steps))]
+#[cycle(values)]
+pub(crate) fn value_at<'a>(
+    alloc: Global,
+    names: &Names,
+    fuel: u16,
+    level: u8,
+    tokens: &'a [Token],
+) -> Result<(Value, &'a [Token]), ReadError>
+    ensures { Gives (λ x. (value_tree_of x.0, x.1.now)) result
+        (value_at fuel (names_of names.now) (Level level) tokens.entry.now) }
+{
+    if fuel == 0 {
+        return Err(fault_at(tokens, Wrong::TooLong));
+    }
+    if level >= LEVELS {
+        return single_at(alloc, names, fuel - 1, tokens);
+    }
+    let (first, rest) = value_at(alloc, names, fuel - 1, level + 1, tokens)?;
+    more_at(alloc, names, fuel - 1, level, first, rest)
+}
+
+/// More operators of that level behind a value.
+#[tactic(auto, using(crate::proofs::ValueSteps::value_steps))]
+#[cycle(values)]
+fn more_at<'a>(
+    alloc: Global,
+    names: &Names,
+    fuel: u16,
+    level: u8,
+    left: Value,
+    tokens: &'a [Token],
+) -> Result<(Value, &'a [Token]), ReadError>
+    ensures { Gives (λ x. (value_tree_of x.0, x.1.now)) result
+        (value_at fuel (names_of names.now) (More level (value_tree_of left)) tokens.entry.now) }
+{
+    if fuel == 0 {
+        return Err(fault_at(tokens, Wrong::TooLong));
+    }
+    match sign_at(level, tokens) {
+        None => Ok((left, tokens)),
+        Some(sign) => {
+            let (right, rest) = value_at(alloc, names, fuel - 1, level + 1, after_first(tokens))?;
+            let both = joined(alloc, sign, left, right, tokens)?;
+            more_at(alloc, names, fuel - 1, level, both, rest)
+        }
+    }
+}
+
+/// A value without operators, or with one before it.
+#[tactic(auto, using(crate::proofs::ValueSteps::value_steps))]
+#[cycle(values)]
+fn single_at<'a>(
+    alloc: Global,
+    names: &Names,
+    fuel: u16,
+    tokens: &'a [Token],
+) -> Result<(Value, &'a [Token]), ReadError>
+    ensures { Gives (λ x. (value_tree_of x.0, x.1.now)) result
+        (value_at fuel (names_of names.now) Single tokens.entry.now) }
+{
+    if fuel == 0 {
+        return Err(fault_at(tokens, Wrong::TooLong));
+    }
+    let Some((first, rest)) = tokens.split_first() else {
+        return Err(fault_at(tokens, Wrong::Unexpected));
+    };
+    match first.kind {
+        Kind::Number(n) => Ok((Value::Number(Expr::Number(n)), rest)),
+        Kind::Name(name) => named(name, names, tokens, rest),
+        Kind::Slot => without_arguments(Expr::Slot, rest),
+        Kind::Width => without_arguments(Expr::Width, rest),
+        Kind::Sign(Sign::Minus) => {
+            let (value, after) = single_at(alloc, names, fuel - 1, rest)?;
+            Ok((minus(alloc, value, tokens)?, after))
+        }
+        Kind::Not => {
+            let (value, after) = single_at(alloc, names, fuel - 1, rest)?;
+            Ok((opposite(alloc, value)?, after))
+        }
+        Kind::Open => {
+            let (value, inside) = value_at(alloc, names, fuel - 1, 0, rest)?;
+            Ok((value, after_close(inside)?))
+        }
+        _ => Err(fault_at(tokens, Wrong::Unexpected)),
+    }
+}

@@ -1,0 +1,158 @@
+-- Words and signs of the language.
+use Rattle.std.specs.Prelude.{ℕ, Bool, true, false, ◌||◌, List, [], ◌∷◌, Option, Some, None, if◌then◌else◌, codes}
+use Rattle.std.specs.Str.{bytes_eq}
+use Rattle.source_language.specs.declared.syntax.Operator.{Operator}
+use Rattle.source_language.specs.declared.syntax.Operator.TheVariants as op
+use Rattle.source_tokens.specs.declared.tokens.Sign.{Sign}
+use Rattle.source_tokens.specs.declared.tokens.Sign.TheVariants as sign
+use Rattle.source_tokens.specs.declared.tokens.Kind.{Kind}
+use Rattle.source_tokens.specs.declared.tokens.Kind.TheVariants as kind
+
+abbrev pub first_of : Option Kind → Option Kind → Option Kind
+first_of (Some k) o = Some k
+first_of None o = o
+
+-- `fn`, `main` or `let`
+abbrev pub opening_word : List ℕ → Option Kind
+opening_word lexeme =
+    if bytes_eq lexeme (codes "fn") then Some kind.Fn
+    else if bytes_eq lexeme (codes "main") then Some kind.Main
+    else if bytes_eq lexeme (codes "let") then Some kind.Let
+    else None
+
+-- `if`, `else` or `while`
+abbrev pub choice_word : List ℕ → Option Kind
+choice_word lexeme =
+    if bytes_eq lexeme (codes "if") then Some kind.If
+    else if bytes_eq lexeme (codes "else") then Some kind.Else
+    else if bytes_eq lexeme (codes "while") then Some kind.While
+    else None
+
+-- `break`, `continue` or `return`
+abbrev pub leaving_word : List ℕ → Option Kind
+leaving_word lexeme =
+    if bytes_eq lexeme (codes "break") then Some kind.Break
+    else if bytes_eq lexeme (codes "continue") then Some kind.Continue
+    else if bytes_eq lexeme (codes "return") then Some kind.Return
+    else None
+
+-- `slot`, `width` or `call`
+abbrev pub asking_word : List ℕ → Option Kind
+asking_word lexeme =
+    if bytes_eq lexeme (codes "slot") then Some kind.Slot
+    else if bytes_eq lexeme (codes "width") then Some kind.Width
+    else if bytes_eq lexeme (codes "call") then Some kind.Call
+    else None
+
+-- a word that is taken
+abbrev pub word_named : List ℕ → Option Kind
+word_named lexeme = first_of (opening_word lexeme) (first_of (choice_word lexeme) (first_of (leaving_word lexeme) (asking_word lexeme)))
+
+-- a sign that is no operator
+abbrev pub mark_named : List ℕ → Option Kind
+mark_named lexeme =
+    if bytes_eq lexeme (10 ∷ []) then Some kind.LineEnd
+    else if bytes_eq lexeme (codes ";") then Some kind.LineEnd
+    else if bytes_eq lexeme (codes "(") then Some kind.Open
+    else if bytes_eq lexeme (codes ")") then Some kind.Close
+    else if bytes_eq lexeme (codes "{") then Some kind.Begin
+    else if bytes_eq lexeme (codes "}") then Some kind.End
+    else if bytes_eq lexeme (codes ",") then Some kind.Comma
+    else if bytes_eq lexeme (codes "=") then Some kind.Set
+    else if bytes_eq lexeme (codes "!") then Some kind.Not
+    else None
+
+-- an operator
+abbrev pub sign_named : List ℕ → Option Sign
+sign_named lexeme =
+    if bytes_eq lexeme (codes "||") then Some sign.Or
+    else if bytes_eq lexeme (codes "&&") then Some sign.And
+    else if bytes_eq lexeme (codes "==") then Some sign.Equal
+    else if bytes_eq lexeme (codes "!=") then Some sign.Unequal
+    else if bytes_eq lexeme (codes "<") then Some sign.Below
+    else if bytes_eq lexeme (codes "<=") then Some sign.AtMost
+    else if bytes_eq lexeme (codes ">") then Some sign.Above
+    else if bytes_eq lexeme (codes ">=") then Some sign.AtLeast
+    else if bytes_eq lexeme (codes "+") then Some sign.Plus
+    else if bytes_eq lexeme (codes "-") then Some sign.Minus
+    else if bytes_eq lexeme (codes "*") then Some sign.Times
+    else if bytes_eq lexeme (codes "/") then Some sign.Over
+    else if bytes_eq lexeme (codes "%") then Some sign.Remainder
+    else None
+
+-- an operator with `=`
+abbrev pub update_named : List ℕ → Option Operator
+update_named lexeme =
+    if bytes_eq lexeme (codes "+=") then Some op.Plus
+    else if bytes_eq lexeme (codes "-=") then Some op.Minus
+    else if bytes_eq lexeme (codes "*=") then Some op.Times
+    else if bytes_eq lexeme (codes "/=") then Some op.Over
+    else if bytes_eq lexeme (codes "%=") then Some op.Remainder
+    else None
+
+-- a word of counting loops
+abbrev pub is_counting_word : List ℕ → Bool
+is_counting_word lexeme =
+    if bytes_eq lexeme (codes "for") then true
+    else if bytes_eq lexeme (codes "in") then true
+    else false
+
+-- a word of tasks
+abbrev pub is_task_word : List ℕ → Bool
+is_task_word lexeme =
+    if bytes_eq lexeme (codes "group") then true
+    else if bytes_eq lexeme (codes "spawn") then true
+    else if bytes_eq lexeme (codes "post") then true
+    else false
+
+-- a word of waiting
+abbrev pub is_waiting_word : List ℕ → Bool
+is_waiting_word lexeme =
+    if bytes_eq lexeme (codes "wait") then true
+    else if bytes_eq lexeme (codes "sync") then true
+    else if bytes_eq lexeme (codes "cancel") then true
+    else if bytes_eq lexeme (codes "cancelled") then true
+    else false
+
+-- a word of items
+abbrev pub is_item_word : List ℕ → Bool
+is_item_word lexeme =
+    if bytes_eq lexeme (codes "inline") then true
+    else if bytes_eq lexeme (codes "const") then true
+    else if bytes_eq lexeme (codes "param") then true
+    else if bytes_eq lexeme (codes "cell") then true
+    else false
+
+-- a word of parallel sums
+abbrev pub is_gathering_word : List ℕ → Bool
+is_gathering_word lexeme =
+    if bytes_eq lexeme (codes "psum") then true
+    else if bytes_eq lexeme (codes "pmin") then true
+    else if bytes_eq lexeme (codes "pmax") then true
+    else false
+
+-- a word inside parallel sums, or of regions
+abbrev pub is_giving_word : List ℕ → Bool
+is_giving_word lexeme =
+    if bytes_eq lexeme (codes "grain") then true
+    else if bytes_eq lexeme (codes "give") then true
+    else if bytes_eq lexeme (codes "isolate") then true
+    else false
+
+-- a word of the language that is not taken
+abbrev pub is_other_word : List ℕ → Bool
+is_other_word lexeme = ((((is_counting_word lexeme || is_task_word lexeme) || is_waiting_word lexeme) || is_item_word lexeme) || is_gathering_word lexeme) || is_giving_word lexeme
+
+abbrev pub update_kind : Option Operator → List ℕ → Option Kind
+update_kind (Some o) lexeme = Some (kind.Update o)
+update_kind None lexeme = if is_other_word lexeme then Some kind.Other else None
+
+abbrev pub sign_kind_of : Option Sign → List ℕ → Option Kind
+sign_kind_of (Some s) lexeme = Some (kind.Sign s)
+sign_kind_of None lexeme = update_kind (update_named lexeme) lexeme
+
+abbrev pub sign_kind : List ℕ → Option Kind
+sign_kind lexeme = sign_kind_of (sign_named lexeme) lexeme
+
+abbrev pub kind_named : List ℕ → Option Kind
+kind_named lexeme = first_of (word_named lexeme) (first_of (mark_named lexeme) (sign_kind lexeme))

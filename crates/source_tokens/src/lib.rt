@@ -1,0 +1,12 @@
+//! The tokens of a source of the job language.
+#![tactic(auto)]
+
+mod bytes;
+mod lexemes;
+mod numbers;
+mod scanning;
+mod tokens;
+mod words;
+
+pub use scanning::tokens_in;
+pub use tokens::{Kind, Sign, Token};

@@ -1,0 +1,68 @@
+// Tokens.
+use source_language::Operator;
+
+/// An operator between two values.
+#[derive(Clone, Copy, Debug, PartialEq, Eq)]
+pub enum Sign {
+    Or,
+    And,
+    Equal,
+    Unequal,
+    Below,
+    AtMost,
+    Above,
+    AtLeast,
+    Plus,
+    Minus,
+    Times,
+    Over,
+    Remainder,
+}
+
+/// What a token is.
+#[derive(Clone, Copy, Debug, PartialEq, Eq)]
+pub enum Kind {
+    Number(i64),
+    /// A name, by the first lexeme that has it.
+    Name(usize),
+    Sign(Sign),
+    /// `+=` and the like.
+    Update(Operator),
+    /// `=`
+    Set,
+    /// `!`
+    Not,
+    /// `(`
+    Open,
+    /// `)`
+    Close,
+    /// `{`
+    Begin,
+    /// `}`
+    End,
+    Comma,
+    /// The end of a line, or `;`.
+    LineEnd,
+    Fn,
+    /// The name of the function that the root runs.
+    Main,
+    Let,
+    If,
+    Else,
+    While,
+    Break,
+    Continue,
+    Return,
+    Slot,
+    Width,
+    Call,
+    /// A word or sign of the language that is not taken.
+    Other,
+}
+
+/// A token, and the place in the text where it begins.
+#[derive(Clone, Copy, Debug)]
+pub struct Token {
+    pub kind: Kind,
+    pub at: usize,
+}

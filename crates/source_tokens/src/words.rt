@@ -1,0 +1,230 @@
+// Words and signs of the language.
+ghost use Rattle.std.specs.Prelude.{◌≡◌};
+ghost use Rattle.std.specs.Str.{bytes_eq};
+ghost use Rattle.source_tokens.specs.Words.{word_named, opening_word, choice_word, leaving_word, asking_word, mark_named, sign_named, update_named, is_other_word, is_counting_word, is_task_word, is_waiting_word, is_item_word, is_gathering_word, is_giving_word, sign_kind, kind_named};
+
+use crate::tokens::{Kind, Sign};
+use source_language::Operator;
+
+/// The kind of a word or sign of the language.
+pub(crate) fn kind_named(lexeme: &[u8]) -> Option<Kind>
+    ensures { result ≡ kind_named lexeme.now }
+{
+    match word_named(lexeme) {
+        Some(kind) => Some(kind),
+        None => match mark_named(lexeme) {
+            Some(kind) => Some(kind),
+            None => sign_kind(lexeme),
+        },
+    }
+}
+
+/// The kind of an operator, or of a word that is not taken.
+fn sign_kind(lexeme: &[u8]) -> Option<Kind>
+    ensures { result ≡ sign_kind lexeme.now }
+{
+    match sign_named(lexeme) {
+        Some(sign) => Some(Kind::Sign(sign)),
+        None => match update_named(lexeme) {
+            Some(op) => Some(Kind::Update(op)),
+            None => {
+                if is_other_word(lexeme) {
+                    Some(Kind::Other)
+                } else {
+                    None
+                }
+            }
+        },
+    }
+}
+
+/// Whether a lexeme is that word.
+fn is(lexeme: &[u8], word: &[u8]) -> bool
+    ensures { result ≡ bytes_eq lexeme.now word.now }
+{
+    lexeme == word
+}
+
+/// The kind of a word that is taken.
+fn word_named(lexeme: &[u8]) -> Option<Kind>
+    ensures { result ≡ word_named lexeme.now }
+{
+    match opening_word(lexeme) {
+        Some(kind) => Some(kind),
+        None => match choice_word(lexeme) {
+            Some(kind) => Some(kind),
+            None => match leaving_word(lexeme) {
+                Some(kind) => Some(kind),
+                None => asking_word(lexeme),
+            },
+        },
+    }
+}
+
+/// `fn`, `main` or `let`.
+fn opening_word(lexeme: &[u8]) -> Option<Kind>
+    ensures { result ≡ opening_word lexeme.now }
+{
+    if is(lexeme, b"fn") {
+        Some(Kind::Fn)
+    } else if is(lexeme, b"main") {
+        Some(Kind::Main)
+    } else if is(lexeme, b"let") {
+        Some(Kind::Let)
+    } else {
+        None
+    }
+}
+
+/// `if`, `else` or `while`.
+fn choice_word(lexeme: &[u8]) -> Option<Kind>
+    ensures { result ≡ choice_word lexeme.now }
+{
+    if is(lexeme, b"if") {
+        Some(Kind::If)
+    } else if is(lexeme, b"else") {
+        Some(Kind::Else)
+    } else if is(lexeme, b"while") {
+        Some(Kind::While)
+    } else {
+        None
+    }
+}
+
+/// `break`, `continue` or `return`.
+fn leaving_word(lexeme: &[u8]) -> Option<Kind>
+    ensures { result ≡ leaving_word lexeme.now }
+{
+    if is(lexeme, b"break") {
+        Some(Kind::Break)
+    } else if is(lexeme, b"continue") {
+        Some(Kind::Continue)
+    } else if is(lexeme, b"return") {
+        Some(Kind::Return)
+    } else {
+        None
+    }
+}
+
+/// `slot`, `width` or `call`.
+fn asking_word(lexeme: &[u8]) -> Option<Kind>
+    ensures { result ≡ asking_word lexeme.now }
+{
+    if is(lexeme, b"slot") {
+        Some(Kind::Slot)
+    } else if is(lexeme, b"width") {
+        Some(Kind::Width)
+    } else if is(lexeme, b"call") {
+        Some(Kind::Call)
+    } else {
+        None
+    }
+}
+
+/// A sign that is no operator.
+fn mark_named(lexeme: &[u8]) -> Option<Kind>
+    ensures { result ≡ mark_named lexeme.now }
+{
+    match lexeme {
+        b"\n" => Some(Kind::LineEnd),
+        b";" => Some(Kind::LineEnd),
+        b"(" => Some(Kind::Open),
+        b")" => Some(Kind::Close),
+        b"{" => Some(Kind::Begin),
+        b"}" => Some(Kind::End),
+        b"," => Some(Kind::Comma),
+        b"=" => Some(Kind::Set),
+        b"!" => Some(Kind::Not),
+        _ => None,
+    }
+}
+
+/// An operator.
+fn sign_named(lexeme: &[u8]) -> Option<Sign>
+    ensures { result ≡ sign_named lexeme.now }
+{
+    match lexeme {
+        b"||" => Some(Sign::Or),
+        b"&&" => Some(Sign::And),
+        b"==" => Some(Sign::Equal),
+        b"!=" => Some(Sign::Unequal),
+        b"<" => Some(Sign::Below),
+        b"<=" => Some(Sign::AtMost),
+        b">" => Some(Sign::Above),
+        b">=" => Some(Sign::AtLeast),
+        b"+" => Some(Sign::Plus),
+        b"-" => Some(Sign::Minus),
+        b"*" => Some(Sign::Times),
+        b"/" => Some(Sign::Over),
+        b"%" => Some(Sign::Remainder),
+        _ => None,
+    }
+}
+
+/// An operator with `=`.
+fn update_named(lexeme: &[u8]) -> Option<Operator>
+    ensures { result ≡ update_named lexeme.now }
+{
+    match lexeme {
+        b"+=" => Some(Operator::Plus),
+        b"-=" => Some(Operator::Minus),
+        b"*=" => Some(Operator::Times),
+        b"/=" => Some(Operator::Over),
+        b"%=" => Some(Operator::Remainder),
+        _ => None,
+    }
+}
+
+/// Whether it is a word of the language that is not taken.
+fn is_other_word(lexeme: &[u8]) -> bool
+    ensures { result ≡ is_other_word lexeme.now }
+{
+    is_counting_word(lexeme)
+        || is_task_word(lexeme)
+        || is_waiting_word(lexeme)
+        || is_item_word(lexeme)
+        || is_gathering_word(lexeme)
+        || is_giving_word(lexeme)
+}
+
+/// A word of counting loops.
+fn is_counting_word(lexeme: &[u8]) -> bool
+    ensures { result ≡ is_counting_word lexeme.now }
+{
+    is(lexeme, b"for") || is(lexeme, b"in")
+}
+
+/// A word of tasks.
+fn is_task_word(lexeme: &[u8]) -> bool
+    ensures { result ≡ is_task_word lexeme.now }
+{
+    is(lexeme, b"group") || is(lexeme, b"spawn") || is(lexeme, b"post")
+}
+
+/// A word of waiting.
+fn is_waiting_word(lexeme: &[u8]) -> bool
+    ensures { result ≡ is_waiting_word lexeme.now }
+{
+    is(lexeme, b"wait") || is(lexeme, b"sync") || is(lexeme, b"cancel") || is(lexeme, b"cancelled")
+}
+
+/// A word of items.
+fn is_item_word(lexeme: &[u8]) -> bool
+    ensures { result ≡ is_item_word lexeme.now }
+{
+    is(lexeme, b"inline") || is(lexeme, b"const") || is(lexeme, b"param") || is(lexeme, b"cell")
+}
+
+/// A word of parallel sums.
+fn is_gathering_word(lexeme: &[u8]) -> bool
+    ensures { result ≡ is_gathering_word lexeme.now }
+{
+    is(lexeme, b"psum") || is(lexeme, b"pmin") || is(lexeme, b"pmax")
+}
+
+/// A word inside parallel sums, or of regions.
+fn is_giving_word(lexeme: &[u8]) -> bool
+    ensures { result ≡ is_giving_word lexeme.now }
+{
+    is(lexeme, b"grain") || is(lexeme, b"give") || is(lexeme, b"isolate")
+}

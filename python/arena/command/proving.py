@@ -1,0 +1,34 @@
+"""The proved compiler, arena-compile, where it is there: the program that ARENA_COMPILE names, or the one on the PATH."""
+import os
+import shutil
+import subprocess
+from collections.abc import Sequence
+from dataclasses import dataclass
+
+
+@dataclass(frozen=True)
+class Proved:
+    """What arena-compile said of a source: the line of its job, or why there is none."""
+
+    program: str
+    line: str | None
+    fault: str
+
+    def told(self, path: str) -> str:
+        """Which compiler made the job of a file, in words."""
+        if self.line is not None:
+            return f"{path}: compiled by {self.program}"
+        return f"{path}: compiled in Python, since {self.program} says {self.fault}"
+
+
+def proved(text: str, args: Sequence[int]) -> Proved | None:
+    """What the proved compiler makes of a source; None if it is not there."""
+    program = os.environ.get("ARENA_COMPILE") or shutil.which("arena-compile")
+    if not program:
+        return None
+    try:
+        done = subprocess.run([program, *map(str, args)], input=text.encode(), capture_output=True)
+    except OSError as fault:
+        return Proved(program, None, str(fault.strerror))
+    said = done.stderr.decode(errors="replace").strip() or f"status {done.returncode}"
+    return Proved(program, done.stdout.decode().strip(), "") if done.returncode == 0 else Proved(program, None, said)
