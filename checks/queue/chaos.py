@@ -99,13 +99,12 @@ class Chaos:
 
     def run(self, seconds: float, kinds: dict[str, int] = KINDS, until_changed: bool = False) -> None:
         """Does harm of these kinds for so many seconds, each once at first and then as drawn, or until an outcome is changed, and
-        then lets everything end."""
+        then lets everything end. On a slow machine it takes longer, until each kind was done."""
         for it in (*self.hosts, *self.dispatchers, *self.submitters):
             it.start()
         until(lambda: self.place.rows("SELECT 1 FROM outcome LIMIT 1"), "the first outcome")
-        end = time.monotonic() + seconds
-        next_at, first = 0.0, self.draws.sample([*kinds], len(kinds))
-        while time.monotonic() < end and not (until_changed and self._is_changed()):
+        end, next_at, first = time.monotonic() + seconds, 0.0, self.draws.sample([*kinds], len(kinds))
+        while time.monotonic() < end + (PATIENCE if first else 0) and not (until_changed and self._is_changed()):
             self._bring_back(time.monotonic())
             if time.monotonic() >= next_at:
                 next_at = time.monotonic() + self.draws.uniform(0.2, 1.5)
