@@ -1,9 +1,11 @@
 """`make install` and `make uninstall`, into a root of the check's own."""
 import json
 import pathlib
+import subprocess
+import sys
 
 from contents import expected
-from room import Room, need_built, run
+from room import TOP, Room, need_built, run
 from served import serves
 
 PREFIX = "usr/local"
@@ -57,6 +59,15 @@ def host_runs_from_the_tree(room: Room) -> None:
     _runs(room, "arena-host")
 
 
+def version_is_one(room: Room) -> None:
+    """Each program tells the version of the package, and takes no other word beside the one that asks for it."""
+    wanted = subprocess.run([sys.executable, "-m", "arena", "--version"], cwd=TOP / "python", capture_output=True, text=True, check=True)
+    for program in room.programs.iterdir():
+        assert run(program, "--version") == wanted.stdout.replace("arena", program.name), program
+        refused = subprocess.run([program, "--version", "--version"], capture_output=True, text=True, stdin=subprocess.DEVNULL)
+        assert (refused.returncode, refused.stdout, refused.stderr) == (2, "", f"{program.name}: words\n"), refused
+
+
 def what_others_wrote_stays(room: Room) -> None:
     """A changed configuration stays at an installation over it and at the end, and so does a file beside ours."""
     root = room.at("root")
@@ -95,5 +106,5 @@ def nothing_built_is_said(room: Room) -> None:
     assert not room.at("root").exists()
 
 
-CHECKS = (is_installed_and_uninstalled, server_runs_from_the_tree, host_runs_from_the_tree, what_others_wrote_stays,
+CHECKS = (is_installed_and_uninstalled, version_is_one, server_runs_from_the_tree, host_runs_from_the_tree, what_others_wrote_stays,
           files_of_an_older_installation_go, nothing_built_is_said)

@@ -2,6 +2,7 @@
 #![tactic(auto)]
 
 use arena_compile::{CompileError, args_in, job_line};
+use program_version::{asks_version, print_version};
 use std::env::Env;
 use std::io::{ErrorKind, Read};
 use std::process::ExitCode;
@@ -31,7 +32,11 @@ fn main(rt: HostRuntime) -> ExitCode {
 
 fn run<R: Env + Input + Print + AllocGlobal>(rt: &R) -> Result<(), Stop> {
     let words = words_of(rt)?;
-    let args = args_of(rt, words.as_slice())?;
+    let texts = texts_of(rt, words.as_slice())?;
+    if asks_version(texts.as_slice()) {
+        return print_version(rt, "arena-compile").map_err(|_fault| Stop::Device);
+    }
+    let args = args_in(texts.as_slice()).ok_or(Stop::Words)?;
     let text = source_of(rt)?;
     match job_line(rt.alloc(), args, text.as_slice()) {
         Ok(line) => written(rt, line.as_str()),
@@ -67,15 +72,15 @@ fn words_in<R: Env + AllocGlobal>(rt: &R) -> io::Result<Vec<String>> {
     Ok(words)
 }
 
-/// The arguments that the words are.
-fn args_of<R: AllocGlobal>(rt: &R, words: &[String]) -> Result<[i64; 2], Stop> {
+/// The words as texts.
+fn texts_of<'a, R: AllocGlobal>(rt: &R, words: &'a [String]) -> Result<Vec<&'a str>, Stop> {
     let mut texts = Vec::new(rt.alloc());
     for word in words {
         if texts.push(word.as_str()).is_err() {
             return Err(Stop::Device);
         }
     }
-    args_in(texts.as_slice()).ok_or(Stop::Words)
+    Ok(texts)
 }
 
 /// The source on standard input.

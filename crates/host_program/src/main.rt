@@ -25,6 +25,7 @@ use crate::folders::Folder;
 use crate::hosting::host_tenants;
 use crate::system::System;
 use host_terms::{Outlet, write_printed, write_reported};
+use program_version::{asks_version, print_version};
 use program_words::{HostWords, read_host_words};
 use server_io::ServerEnd;
 use std::alloc::{AllocError, Global};
@@ -75,7 +76,7 @@ fn unheard<R: Eprint>(rt: &R, end: ServerEnd) -> ExitCode {
 }
 
 /// Hosts the tenants that the words name, and tells how that ended.
-fn run<R: System + Env>(rt: &R, outlet: &Arc<Outlet>) -> ServerEnd {
+fn run<R: System + Env + Print>(rt: &R, outlet: &Arc<Outlet>) -> ServerEnd {
     match words_of(rt) {
         Ok(words) => end_of(rt, words.as_slice(), outlet),
         Err(fault) => match fault.kind() {
@@ -105,12 +106,20 @@ fn words_of<R: Env + AllocGlobal>(rt: &R) -> io::Result<Vec<String>> {
 }
 
 /// How the host ends that is called with these words.
-fn end_of<R: System>(rt: &R, words: &[String], outlet: &Arc<Outlet>) -> ServerEnd {
+fn end_of<R: System + Print>(rt: &R, words: &[String], outlet: &Arc<Outlet>) -> ServerEnd {
     let mut texts = Vec::new(rt.alloc());
     for word in words {
         if texts.push(word.as_str()).is_err() {
             return ServerEnd::Memory;
         }
+    }
+    if let [_name, words @ ..] = texts.as_slice()
+        && asks_version(words)
+    {
+        return match print_version(rt, "arena-host") {
+            Ok(()) => ServerEnd::Done,
+            Err(_) => ServerEnd::Device,
+        };
     }
     let words = match read_host_words(rt.alloc(), texts.as_slice()) {
         Ok(words) => words,

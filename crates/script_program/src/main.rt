@@ -2,6 +2,7 @@
 #![tactic(auto)]
 
 use arena_script::{ScriptEnd, script};
+use program_version::{asks_version, print_version};
 use std::env::Env;
 use std::io::ErrorKind;
 use std::process::ExitCode;
@@ -38,6 +39,12 @@ fn answered<R: Input + Print + AllocGlobal>(rt: &R, words: &[String]) -> ScriptE
         if texts.push(word.as_str()).is_err() {
             return ScriptEnd::Memory;
         }
+    }
+    if asks_version(texts.as_slice()) {
+        return match print_version(rt, "arena-script") {
+            Ok(()) => ScriptEnd::Done,
+            Err(_) => ScriptEnd::Device,
+        };
     }
     script(
         rt.alloc(),

@@ -8,6 +8,7 @@ ghost use Rattle.server_program.specs.Ends.{AreDoorsOf, AreOwnEnds, EndsAs, IsOw
 use dump_files::{can_dump, dump_history};
 use dump_lines::DumpFault;
 use job_language::TenantConfig;
+use program_version::{asks_version, print_version};
 use program_words::{ServerWords, WordsFault, read_server_words};
 use server_house::{House, Opened, Returned};
 use server_io::{Access, Endpoint, MAX_CONFIG, ServerEnd, config_of};
@@ -68,6 +69,11 @@ where
             return Err(ServerEnd::Memory);
         }
     }
+    if let [_name, words @ ..] = texts.as_slice()
+        && asks_version(words)
+    {
+        return told(print_version(rt, "arena-server"));
+    }
     let words = match read_server_words(rt.alloc(), texts.as_slice()) {
         Ok(words) => words,
         Err(WordsFault::Words) => return Err(ServerEnd::Words),
@@ -78,6 +84,14 @@ where
         return Err(ServerEnd::Words);
     }
     serve_tenants(rt, words)
+}
+
+/// How a server ends that only told what it is.
+fn told(printed: io::Result<()>) -> Result<ServerEnd, ServerEnd> {
+    match printed {
+        Ok(()) => Ok(ServerEnd::Done),
+        Err(_) => Err(ServerEnd::Device),
+    }
 }
 
 /// Opens the tenants of the configuration, serves them, and closes them.
