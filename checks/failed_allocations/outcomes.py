@@ -17,6 +17,10 @@ class Program(Protocol):
 
     name: str
     effects: Sequence[str]
+    every: int
+    """Of how many allocations one fails, unless all are wanted."""
+    lanes: int
+    """How many runs go on at a time."""
 
     def run(self, room: dict[str, str]) -> Outcome:
         """Runs it to its end, for half a minute at most, in an environment by which an allocation fails."""

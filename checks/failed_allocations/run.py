@@ -1,23 +1,28 @@
 #!/usr/bin/env python3
-"""Fails each allocation in turn of `failed_allocations`, of `arena-script`, by each of its words, and of `arena-server`
-with three sessions.
+"""Fails each allocation in turn of `failed_allocations`, of `arena-script`, by each of its words, and of `arena-server` with three
+sessions; and of `arena-host` with two terms and the start after it, of which one in twenty is drawn unless all are wanted.
 
-With one allocation failed, `failed_allocations` makes the call that failed again and prints the same. A script ends
-for lack of memory after a first part of its answers, or refuses one line and answers the others as if that were not
-there. The server does not start, or refuses one line, which is answered when it is sent again, or has one of the other
-effects of `sessions.py`. Each effect must come up.
+With one allocation failed, `failed_allocations` makes the call that failed again and prints the same. A script ends for lack of memory
+after a first part of its answers, or refuses one line and answers the others as if that were not there. The server does not start,
+or refuses one line, which is answered when it is sent again, or has one of the other effects of `sessions.py`; the host has those of
+`hosting.py`, and the next start has all that it acknowledged. Where all allocations fail in turn, each effect must come up.
 
-usage: checks/failed_allocations/run.py, after `rt ci`, or `rt run` in crates/failed_allocations, crates/script_program
-and crates/server_program. It needs `cc` on the path.
+usage: checks/failed_allocations/run.py [--all] [NAME ..], after `rt ci`, or `rt run` in crates/failed_allocations, crates/script_program,
+crates/server_program and crates/host_program: of all programs, or of those with these names. It needs `cc` on the path.
 """
+import argparse
 import collections
+import itertools
 import os
 import pathlib
+import random
 import subprocess
 import sys
 import tempfile
+from concurrent.futures import ThreadPoolExecutor
 
 from calls import Calls
+from hosting import Host
 from outcomes import Program
 from scripts import scripts
 from sessions import Server
@@ -26,30 +31,39 @@ from sessions import Server
 WHOLE_RUNS, WRONG_RUNS = 3, 10
 
 
-def sweep(program: Program, failing: pathlib.Path) -> tuple[int, list[str]]:
-    """Fails each allocation of a program in turn. Returns how many failed, and a line for each fault that was found."""
-    effects, wrong, number, whole = collections.Counter(), [], 0, 0
-    while whole < WHOLE_RUNS and len(wrong) < WRONG_RUNS:
-        number += 1
-        room = {**os.environ, "LD_PRELOAD": str(failing), "FAIL": str(number)}
-        outcome = program.run(room)
-        whole = 0 if outcome.has_failed else whole + 1
-        effects[outcome.effect] += outcome.has_failed
-        if outcome.effect is None or not outcome.has_failed and outcome.effect != "nothing":
-            wrong.append(f"{program.name}, where allocation {number} was to fail: {outcome.seen}")
-    missing = [f"{program.name}, whichever allocation failed, never: {it}" for it in program.effects if not effects[it]]
+def sweep(program: Program, failing: pathlib.Path, every: int) -> tuple[int, list[str]]:
+    """Fails each allocation of a program in turn, or of so many one, from a drawn one on. Returns how many failed, and a line for
+    each fault that was found. Runs that wait most of their time go on side by side."""
+    effects, wrong, whole = collections.Counter(), [], 0
+    numbers = itertools.count(random.randint(1, every), every)
+    with ThreadPoolExecutor(program.lanes) as pool:
+        while whole < WHOLE_RUNS and len(wrong) < WRONG_RUNS:
+            batch = list(itertools.islice(numbers, program.lanes))
+            rooms = [{**os.environ, "LD_PRELOAD": str(failing), "FAIL": str(number)} for number in batch]
+            for number, outcome in zip(batch, pool.map(program.run, rooms), strict=True):
+                whole = 0 if outcome.has_failed else whole + 1
+                effects[outcome.effect] += outcome.has_failed
+                if outcome.effect is None or not outcome.has_failed and outcome.effect != "nothing":
+                    wrong.append(f"{program.name}, where allocation {number} was to fail: {outcome.seen}")
+    missing = [f"{program.name}, whichever allocation failed, never: {it}" for it in program.effects if not effects[it] and every == 1]
     return effects.total(), wrong or missing
 
 
 def main() -> None:
-    """Sweeps each program, and says what was otherwise."""
+    """Sweeps the programs, and says what was otherwise."""
+    parser = argparse.ArgumentParser()
+    parser.add_argument("--all", action="store_true")
+    parser.add_argument("names", nargs="*")
+    words = parser.parse_args()
     count, wrong = 0, []
     with tempfile.TemporaryDirectory() as folder:
         failing = pathlib.Path(folder) / "fail.so"
         source = pathlib.Path(__file__).with_name("fail.c")
         subprocess.run(["cc", "-shared", "-fPIC", "-O2", "-o", failing, source], check=True)
-        for program in [Calls(), *scripts(), Server()]:
-            failed, others = sweep(program, failing)
+        for program in [Calls(), *scripts(), Server(), Host()]:
+            if words.names and program.name not in words.names:
+                continue
+            failed, others = sweep(program, failing, 1 if words.all else program.every)
             print(f"{program.name}: {failed} allocations failed", flush=True)
             count, wrong = count + failed, wrong + others
     print(*wrong, sep="\n", end="\n" if wrong else "")

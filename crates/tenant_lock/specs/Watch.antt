@@ -12,8 +12,8 @@ use Rattle.tenant_lock.specs.declared.news.News.{News}
 
 -- After a call that made an entry, or none, those may go on who have something to do, at slots and for jobs. Nobody is asked to stop.
 pub record KeepsWatch (before after : HeldData) (is_entry : Bool) (news : News) : Type 0 where
-  pub slots : AreTold after.cell (must_stop after) before.noted (marks news.slots) after.noted
-  pub jobs : AreWaitersTold after.cell (must_stop after) is_entry before.awaited news.has_outcome after.awaited
+  pub slots : AreTold after.cell (must_stop after) before.noted (marks news.at_slots.slots) after.noted
+  pub jobs : AreWaitersTold after.cell (must_stop after) is_entry before.awaited news.for_jobs.are_told after.awaited
   pub stopped : after.is_stopped ≡ before.is_stopped
 
 -- What a move of the slot of a pass leaves: the pass comes back unless it went home, the cell was right and still is, nothing

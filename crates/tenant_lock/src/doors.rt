@@ -22,7 +22,7 @@ use crate::faults::CloseFault;
 use crate::held::{Held, Turned};
 use crate::news::{Done, News};
 use crate::stop_flag::StopFlag;
-use crate::waits::{Slots, Waits};
+use crate::waits::Waits;
 use job_language::{Entry, MAX_SLOTS, Reply, Request, Status, TenantConfig};
 use job_step::{Segment, View};
 use market_config::Call;
@@ -350,14 +350,15 @@ impl TenantDoor {
     /// Wakes all that wait, each to look whether to go on.
     pub fn wake<R: Wait>(&self, rt: &R) {
         // Who looked at its flag before that was raised waits by now, since it looks under the lock.
-        let _held = self.lock(rt);
-        self.wake_all();
+        let held = self.lock(rt);
+        self.wake_all(&held);
     }
 
     /// Tells all that wait to stop, from now on.
     pub fn stop<R: Wait>(&self, rt: &R) {
-        self.lock(rt).stop();
-        self.wake_all();
+        let mut held = self.lock(rt);
+        held.stop();
+        self.wake_all(&held);
     }
 
     /// Takes the lock. What lies under it is known by its type alone, so whether it is this tenant's cell is looked at
@@ -407,26 +408,14 @@ impl TenantDoor {
         ensures { result ≡ done.answer }
     {
         let Done { answer, news } = done;
-        let News { slots, has_outcome } = news;
-        if let Some(slots) = slots {
-            self.wake_at(slots);
-        }
-        if has_outcome {
-            self.outcomes.notify_all();
-        }
+        let News { at_slots, for_jobs } = news;
+        at_slots.wake(&self.at_slots);
+        for_jobs.wake(&self.outcomes);
         answer
     }
 
-    /// Wakes who waits at these slots.
-    fn wake_at(&self, slots: Slots) {
-        for (slot, at_slot) in (0..MAX_SLOTS).zip(self.at_slots.iter()) {
-            if slots.has(slot) {
-                at_slot.notify_all();
-            }
-        }
-    }
-
-    fn wake_all(&self) {
+    /// Wakes all that wait. Who has the lock can do it alone.
+    fn wake_all(&self, _held: &MutexGuard<'_, Held>) {
         for at_slot in self.at_slots.iter() {
             at_slot.notify_all();
         }

@@ -8,14 +8,49 @@ ghost use Rattle.tenant_record.specs.Cell.{IsRight};
 
 use crate::awaited::{Jobs, tell_waiters};
 use crate::waits::{Slots, Waiting};
+use job_language::MAX_SLOTS;
+use std::sync::Condvar;
 use tenant_record::TenantCell;
 
-/// Who may go on after a call. It can't be dropped: the door takes it apart, and wakes them.
+/// Who may go on after a call. Neither part can be dropped: each ends where those are woken whom it names.
 pub(crate) struct News {
-    /// Those who sleep at these slots, if there are any.
-    pub(crate) slots: Option<Slots>,
-    /// Whether those too who wait for jobs.
-    pub(crate) has_outcome: bool,
+    pub(crate) at_slots: AtSlots,
+    pub(crate) for_jobs: ForJobs,
+}
+
+/// Those who sleep at these slots, if there are any.
+pub(crate) struct AtSlots {
+    slots: Option<Slots>,
+}
+
+/// Whether those go on who wait for jobs.
+pub(crate) struct ForJobs {
+    are_told: bool,
+}
+
+impl AtSlots {
+    /// Wakes who sleeps at the slots, each of which has one of these.
+    pub(crate) fn wake(self, at_slots: &[Condvar; MAX_SLOTS as usize]) {
+        let AtSlots { slots } = self;
+        let Some(slots) = slots else {
+            return;
+        };
+        for (slot, at_slot) in (0..MAX_SLOTS).zip(at_slots.iter()) {
+            if slots.has(slot) {
+                at_slot.notify_all();
+            }
+        }
+    }
+}
+
+impl ForJobs {
+    /// Wakes who waits for jobs there.
+    pub(crate) fn wake(self, outcomes: &Condvar) {
+        let ForJobs { are_told } = self;
+        if are_told {
+            outcomes.notify_all();
+        }
+    }
 }
 
 /// What a call did, and who may go on after it.
@@ -38,32 +73,36 @@ impl<T> Done<T> {
         ensures answer { result.answer ≡ answer }
         ensures right { IsRight cell.now }
         ensures slots { let is_over = has_to_stop is_stopped cell.now in
-            AreNamed cell.now is_over waiting.old.noted result.news.slots waiting.new.noted }
+            AreNamed cell.now is_over waiting.old.noted result.news.at_slots.slots waiting.new.noted }
         ensures jobs { let is_over = has_to_stop is_stopped cell.now in
             AreWaitersTold cell.now is_over has_entered
-            awaited.old result.news.has_outcome awaited.new }
+            awaited.old result.news.for_jobs.are_told awaited.new }
     {
         // Proof hint: the cell is right.
         let _ = cell.history();
         let is_over = is_over(cell, is_stopped);
-        let news = News {
-            slots: waiting.tell(cell, is_over),
-            has_outcome: tell_waiters(awaited, cell, is_over, has_entered),
-        };
-        Done { answer, news }
+        let slots = waiting.tell(cell, is_over);
+        let are_told = tell_waiters(awaited, cell, is_over, has_entered);
+        Done {
+            answer,
+            news: News {
+                at_slots: AtSlots { slots },
+                for_jobs: ForJobs { are_told },
+            },
+        }
     }
 
     /// A call that did nothing: nobody may go on who could not before.
     pub(crate) fn nothing(answer: T) -> Done<T>
         ensures answer { result.answer ≡ answer }
-        ensures slots { marks result.news.slots ≡ replicate MAX_SLOTS false }
-        ensures jobs { result.news.has_outcome ≡ false }
+        ensures slots { marks result.news.at_slots.slots ≡ replicate MAX_SLOTS false }
+        ensures jobs { result.news.for_jobs.are_told ≡ false }
     {
         Done {
             answer,
             news: News {
-                slots: None,
-                has_outcome: false,
+                at_slots: AtSlots { slots: None },
+                for_jobs: ForJobs { are_told: false },
             },
         }
     }
