@@ -93,8 +93,9 @@ test-python: ## runs the tests of the Python package that need no built program,
 bench: ## measures everything beside its twin, and writes the table of benches/README.md
 	@benches/bench.py
 
-pictures: ## draws the pictures of the README and of docs/TRACE.md again
+pictures: ## draws the pictures of the README, of docs/ARCHITECTURE.md and of docs/TRACE.md again
 	docs/pictures/make.py
+	docs/pictures/house.py
 
 check: ## proves each crate again where it has changed
 	rt all check

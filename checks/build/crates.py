@@ -1,5 +1,31 @@
-"""The crates of crates.txt, and what each stands on."""
+"""The crates of crates.txt, in their groups, and what each stands on."""
+import dataclasses
 import pathlib
+import re
+
+HEADING = re.compile(r"# == (?P<name>\w+): (?P<what>[^\[]+?)(?: \[on (?P<below>[\w ]+)\])?$")
+
+
+@dataclasses.dataclass
+class Group:
+    """A group of crates, what it is, and the groups that its crates may stand on."""
+
+    name: str
+    what: str
+    below: list[str]
+    crates: dict[str, list[str]] = dataclasses.field(default_factory=dict)
+
+
+def read_groups(text: str) -> list[Group]:
+    """Returns the groups of crates.txt, each with its crates and what these stand on."""
+    groups: list[Group] = []
+    for line in text.splitlines():
+        if heading := HEADING.match(line):
+            groups.append(Group(heading["name"], heading["what"], (heading["below"] or "").split()))
+        elif line and not line.startswith("#"):
+            crate, on = line.split(":")
+            groups[-1].crates[crate.split()[0]] = on.split()
+    return groups
 
 
 def read_crates() -> dict[str, list[str]]:

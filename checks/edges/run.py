@@ -1,41 +1,22 @@
 #!/usr/bin/env python3
 """Holds the crates to the groups of crates.txt: a crate stands on crates of its own group and of the groups that its
 heading names, each of which comes before. A group that is named and not needed is refused too, and so is a crate that
-another one names in crates.txt and in none of its sources, definitions and proofs. The README's table and docs/PROOFS.md
+another one names in crates.txt and in none of its sources, definitions and proofs. The table of docs/ARCHITECTURE.md and docs/PROOFS.md
 must have the groups in the same order, and the table each crate in its group.
 
 usage: checks/edges/run.py, at the top of the repository. It exits with a status other than 0 if something differs.
 """
-import dataclasses
 import pathlib
 import re
 import sys
 from collections.abc import Iterator
 
-HEADING = re.compile(r"# == (?P<name>\w+): (?P<what>[^\[]+?)(?: \[on (?P<below>[\w ]+)\])?$")
+sys.path.append(str(pathlib.Path(__file__).resolve().parents[1] / "build"))
+
+from crates import Group, read_groups
+
 COMMENT = {".rt": re.compile(r"//.*"), ".antt": re.compile(r"--.*")}
 TABLE_HEADING = re.compile(r"\| \*\*(\w+)\*\*")
-
-
-@dataclasses.dataclass
-class Group:
-    """A group of crates, and the groups that its crates may stand on."""
-
-    name: str
-    below: list[str]
-    crates: dict[str, list[str]] = dataclasses.field(default_factory=dict)
-
-
-def read_groups(text: str) -> list[Group]:
-    """The groups of crates.txt, each with its crates and what these stand on."""
-    groups = []
-    for line in text.splitlines():
-        if heading := HEADING.match(line):
-            groups.append(Group(heading["name"], (heading["below"] or "").split()))
-        elif line and not line.startswith("#"):
-            crate, on = line.split(":")
-            groups[-1].crates[crate.split()[0]] = on.split()
-    return groups
 
 
 def wrong_edges(groups: list[Group]) -> Iterator[str]:
@@ -73,7 +54,7 @@ def unused(groups: list[Group]) -> Iterator[str]:
 
 
 def table_of(page: str) -> dict[str, list[str]]:
-    """The groups of the README's table, each with the crates of its rows."""
+    """The groups of the table of docs/ARCHITECTURE.md, each with the crates of its rows."""
     groups = {}
     for line in page.splitlines():
         if heading := TABLE_HEADING.match(line):
@@ -94,14 +75,14 @@ def main() -> None:
     """Compares, and says what is wrong."""
     groups = read_groups(pathlib.Path("crates.txt").read_text())
     wrong = [*wrong_edges(groups), *unused(groups)]
-    table = table_of(pathlib.Path("README.md").read_text())
+    table = table_of(pathlib.Path("docs/ARCHITECTURE.md").read_text())
     for group in groups:
         if sorted(table.get(group.name, [])) != sorted(group.crates):
-            wrong.append(f"README.md: {group.name} has other crates than in crates.txt")
+            wrong.append(f"docs/ARCHITECTURE.md: {group.name} has other crates than in crates.txt")
     sections = re.findall(r"^## The (\w+)$", pathlib.Path("docs/PROOFS.md").read_text(), re.M)
     names = [group.name for group in groups]
     if list(table) != names:
-        wrong.append(f"README.md: the groups are {list(table)}")
+        wrong.append(f"docs/ARCHITECTURE.md: the groups are {list(table)}")
     if sections != [name for name in names if name != "tests"]:
         wrong.append(f"docs/PROOFS.md: the groups are {sections}")
     print(*wrong, sep="\n", end="\n" if wrong else "")

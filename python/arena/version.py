@@ -1,2 +1,2 @@
 """The version of the package and of the command."""
-VERSION = "1.0.0"
+VERSION = "0.9.0"

@@ -7,7 +7,7 @@ ghost use Rattle.program_version.specs.Words.{is_version_word};
 use std::io;
 
 /// The version of all that is released together: the programs, the Python package and the Debian package.
-pub const VERSION: &str = "1.0.0";
+pub const VERSION: &str = "0.9.0";
 
 /// Whether the words that follow a program's name are `--version` alone.
 pub fn asks_version(words: &[&str]) -> bool
