@@ -1,7 +1,7 @@
 # The commands of this repository; `make help` lists them. `rt` is the command of the Rattle kit.
 
 .DEFAULT_GOAL := help
-.PHONY: help run build serve serve-unproved host host-unproved stop install uninstall deb dist pictures test test-python bench check examples clean
+.PHONY: help run build serve serve-unproved host host-unproved stop install uninstall deb dist pictures test try test-python bench check examples clean
 
 EXAMPLE ?= first_job
 
@@ -62,30 +62,12 @@ deb: ## builds a Debian package of what stands in out/ (docs/OPERATIONS.md, Inst
 dist: ## packs the proved programs with the gate's last line and their checksums
 	@packaging/dist.py --programs "$(PROGRAMS)"
 
-test: ## passes everything: examples, each proof, edit, test and program, the wrong bodies of calls, stored runs, scripts, a second evaluator, ranges, the server, the host, failed allocations, drawn steps, drawn sources by two compilers, the Python package, the queue, counts of instructions, the pages, the crates' groups, installations, HAProxy before servers
-	@mkdir -p out && date +%s > out/test-began
-	checks/examples/run.sh
-	checks/gate/run.py
-	checks/edits/run.py
-	checks/stored_runs/run.sh
-	checks/scripts/run.py
-	checks/evaluator/run.py
-	checks/ranges/run.py
-	checks/server/run.py
-	checks/host/run.py
-	checks/failed_allocations/run.py
-	checks/fuzz/run.py
-	checks/compile/run.py
-	checks/python/run.py
-	checks/queue/run.py
-	checks/cost/run.py --built .
-	checks/build/recorded.py
-	checks/pages/run.py
-	checks/edges/run.py
-	checks/install/run.py
-	checks/haproxy/run.py
-	@echo "make test took $$((($$(date +%s) - $$(cat out/test-began)) / 60)) minutes on $$(nproc) processors"
-	@tail -n 1 out/gate.md
+test: ## passes the gate: each proof, wrong body, test and program, and all checks (checks/README.md); an hour or two
+	@mkdir -p out
+	@checks/run.py
+
+try: ## passes what needs no proof, by programs that are built without: some eight minutes
+	@checks/run.py --try
 
 test-python: ## runs the tests of the Python package that need no built program, within seconds
 	@cd python && python3 -m unittest
