@@ -3,9 +3,11 @@
 these into out/.
 
 usage: checks/build/run.py, at the top of the repository. It prints a line before and after each crate,
-with the minutes since the start; a crate that has not changed since its last proof takes seconds.
+with the minutes since the start; a crate that has not changed since its last proof takes seconds. A program that `rt ci` or
+`rt run` proved and built, and of which no file has changed since, is taken as it is.
 """
 import os
+import pathlib
 import shutil
 import subprocess
 import sys
@@ -38,11 +40,20 @@ def prove(name: str, command: list[str]) -> None:
     say(f"{name} proved{f', {functions} functions' if functions else ''}")
 
 
+def is_built(crates: dict[str, list[str]], name: str) -> bool:
+    """Whether a program was proved and built after the last change of what it is made of."""
+    made = pathlib.Path("crates", name, "out", name)
+    parts = (pathlib.Path("crates", crate, part) for crate in (*below(crates, name), name) for part in ("src", "specs", "proofs"))
+    files = [file for part in parts for file in part.rglob("*") if file.is_file()]
+    return made.exists() and all(file.stat().st_mtime <= made.stat().st_mtime for file in files)
+
+
 def main() -> None:
     """Proves all, and leaves the programs in out/."""
     os.makedirs("out", exist_ok=True)
     crates = read_crates()
-    order = list(dict.fromkeys(name for program in PROGRAMS for name in [*below(crates, program), program]))
+    missing = [program for program in PROGRAMS if not is_built(crates, program)]
+    order = list(dict.fromkeys(name for program in missing for name in [*below(crates, program), program]))
     say(f"proving {len(order)} crates; from scratch this takes a quarter of an hour or more")
     for name in order:
         prove(name, ["rt", "run" if name in PROGRAMS else "lib"])

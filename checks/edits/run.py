@@ -68,13 +68,25 @@ def refused_as_they_are(crates: dict[str, list[str]], name: str, bodies: list[Wr
     return [f"{name}: REFUSED AS IT IS: {function}: {said.verdict(function) or said.first_lines()}" for function in wrong]
 
 
-def try_crate(judge: Judge, crates: dict[str, list[str]], name: str, bodies: list[WrongBody]) -> list[str]:
-    """Tries a crate's wrong bodies, says how that went, and returns what is wrong."""
-    start = time.monotonic()
+def judged(judge: Judge, crates: dict[str, list[str]], name: str, bodies: list[WrongBody]) -> list[str] | None:
+    """Returns what is wrong with a crate's wrong bodies; None if a check took longer than it may."""
     try:
         with tempfile.TemporaryDirectory(prefix=f"kept-{name}-") as kept:
-            faults = judge(crates, name, bodies, kept)
-    except (PageError, subprocess.TimeoutExpired) as error:
+            return judge(crates, name, bodies, kept)
+    except subprocess.TimeoutExpired:
+        return None
+
+
+def try_crate(judge: Judge, crates: dict[str, list[str]], name: str, bodies: list[WrongBody]) -> list[str]:
+    """Tries a crate's wrong bodies, once more if other work held that up, says how it went, and returns what is wrong."""
+    start = time.monotonic()
+    try:
+        faults = judged(judge, crates, name, bodies)
+        if faults is None:
+            faults = judged(judge, crates, name, bodies)
+        if faults is None:
+            faults = [f"{name}: NOT TRIED: held up twice"]
+    except PageError as error:
         faults = [f"{name}: BAD EDIT: {error}"]
     print(f"{name}: {len(bodies)} planted, {time.monotonic() - start:.0f} s", *faults, sep="\n", flush=True)
     return faults
