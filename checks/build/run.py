@@ -54,7 +54,8 @@ def main() -> None:
     crates = read_crates()
     missing = [program for program in PROGRAMS if not is_built(crates, program)]
     order = list(dict.fromkeys(name for program in missing for name in [*below(crates, program), program]))
-    say(f"proving {len(order)} crates; from scratch this takes a quarter of an hour or more")
+    if order:
+        say(f"proving {len(order)} crates; from scratch this takes a quarter of an hour or more")
     for name in order:
         prove(name, ["rt", "run" if name in PROGRAMS else "lib"])
     for name, program in PROGRAMS.items():
