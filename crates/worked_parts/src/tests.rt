@@ -1,0 +1,3 @@
+// Tests by what they call.
+mod leaves;
+mod texts;

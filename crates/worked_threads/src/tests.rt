@@ -1,0 +1,3 @@
+// Tests by what they call.
+mod threads;
+mod turns;
