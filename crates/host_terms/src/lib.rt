@@ -7,6 +7,7 @@ mod desks;
 mod endings;
 mod hosts;
 mod journals;
+mod numbering;
 mod outcomes;
 mod outlet;
 mod places;
