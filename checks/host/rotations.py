@@ -205,11 +205,12 @@ def what_it_shows() -> None:
                 "--finish", 7)
     connections = asks_both(host)
     status = by_deadline(lambda: shown(host, lambda acme, beta: acme["asks"] == 4 and beta["asks"] == 3))
-    assert set(status) == {"time", "began", "connections", "connected", "served", "rotate_at", "keep", "finish", "durable", "memory",
-                           "workers", "terms", "closed"}
+    assert set(status) == {"time", "began", "connections", "connected", "served", "cut", "hello_seconds", "idle_seconds", "rotate_at",
+                           "keep", "finish", "durable", "memory", "workers", "terms", "closed"}
     assert (status["connections"], status["rotate_at"], status["keep"], status["finish"]) == (3, 50, 5, 7)
     assert status["durable"] == "write"
     assert (status["connected"], status["served"]) == (2, 2)
+    assert (status["cut"], status["hello_seconds"], status["idle_seconds"]) == ({"hello": 0, "idle": 0}, 60, 0)
     assert abs(status["time"] - time.time()) < 5 and status["memory"] > 1 << 20 and status["closed"] == []
     acme, beta = status["terms"]
     assert acme.pop("began") >= status["began"] and beta.pop("began") >= status["began"]

@@ -46,6 +46,7 @@ impl<'h, R: Wait + Clock> HostDoors<'h, R> {
     /// The session has ended. Another one may begin.
     pub(crate) fn leave(&mut self) {
         self.tenancy = None;
+        self.desk.unbind();
         if let Some(booking) = self.desk.take_booking(self.rt) {
             booking.give_back(self.rt);
         }
@@ -229,9 +230,11 @@ impl<'h, R: Wait + Clock> Doors for HostDoors<'h, R> {
 
     fn bind(&mut self, tenant: usize) {
         self.tenancy = self.host.tenancy(self.rt, tenant);
+        self.desk.bind();
     }
 
     fn ask(&mut self, request: Request) -> Answered {
+        self.desk.begin_asking();
         let reply = match &self.tenancy {
             None => Reply::Refused(Error::NoTenant),
             Some(tenancy) => match request {
@@ -243,6 +246,7 @@ impl<'h, R: Wait + Clock> Doors for HostDoors<'h, R> {
                 other => self.ask_serving(tenancy, other),
             },
         };
+        self.desk.end_asking();
         // A slot that a job is placed on was attended.
         Answered {
             reply,
@@ -256,7 +260,9 @@ impl<'h, R: Wait + Clock> Doors for HostDoors<'h, R> {
         };
         match self.find_owner(tenancy, job, &Request::Collect(job)) {
             Found::Live(booking) => {
+                self.desk.begin_asking();
                 let stops = booking.wait_for(self.rt, job, self.desk.is_gone());
+                self.desk.end_asking();
                 self.desk.keep_booking(self.rt, booking);
                 stops
             }
