@@ -140,7 +140,7 @@ def counters_never_go_back():
             for labels, value in it.samples.items() if it.kind == "counter" else ():
                 assert value >= seen.get((name, labels), 0), (name, labels, value)
                 seen[name, labels] = value
-    assert len(seen) == 5, seen
+    assert len(seen) == 7, seen
 
 
 @contextlib.contextmanager
