@@ -104,7 +104,8 @@ impl<'h, R: Wait + Clock> HostDoors<'h, R> {
         }
     }
 
-    /// A place in the term that serves. One whose history has its share begins no job if another one can be opened.
+    /// A place in the term that serves. One whose history is used so far that its jobs may need the rest begins no job, if
+    /// another one can be opened.
     fn book_for(&self, tenancy: &Tenancy, request: &Request) -> Option<Booking> {
         let booking = self.book_serving(tenancy)?;
         if !brings_job(request) || !self.host.is_used(self.rt, booking.term()) {
