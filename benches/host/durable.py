@@ -1,5 +1,6 @@
 #!/usr/bin/env python3
-"""Measures what each `--durable` of arena-host costs beside `off`, in turn, by the same clients.
+"""Measures what each `--durable` of arena-host costs beside `off`, in turn, by the same clients, and how many requests it keeps
+with `reply` beside what Redis keeps with `appendfsync always`, where redis-server is installed.
 
 usage: benches/host/durable.py [SECONDS [ROUNDS [HOST]]], at the top of the repository. Each measure takes SECONDS, two if none
 are said, and there are ROUNDS of each, five if none are said. It needs `cc`, and out/arena-host of `make build` if no program
@@ -8,10 +9,12 @@ is said.
 import json
 import os
 import pathlib
+import shutil
 import statistics
 import subprocess
 import sys
 import tempfile
+import time
 
 CLIENTS = pathlib.Path(__file__).resolve().parents[1] / "server" / "clients.c"
 SECONDS = float(sys.argv[1]) if len(sys.argv) > 1 else 2.0
@@ -46,6 +49,30 @@ def rate(clients: str, durable: str, connections: int, line: str) -> float:
     return float(out.split()[1])
 
 
+def redis_rate(clients: str, connections: int) -> float:
+    """How many turns a second clients take at Redis, each of which adds 1 to a number and waits until that is on the disk."""
+    with tempfile.TemporaryDirectory(dir=os.environ.get("TMPDIR", "/var/tmp")) as folder:
+        socket = os.path.join(folder, "socket")
+        command = ["redis-server", "--port", "0", "--unixsocket", socket, "--dir", folder, "--save", "", "--appendonly", "yes",
+                   "--appendfsync", "always"]
+        with subprocess.Popen(command, stdout=subprocess.DEVNULL) as redis:
+            while not os.path.exists(socket):
+                assert redis.poll() is None
+                time.sleep(0.01)
+            words = [clients, socket, str(connections), str(SECONDS), "PING", "INCR number"]
+            out = subprocess.run(words, check=True, capture_output=True, text=True).stdout
+            redis.terminate()
+            redis.wait(timeout=60)
+    return float(out.split()[1])
+
+
+def beside_redis(clients: str, connections: int, line: str) -> None:
+    """A row of the second table: the medians, and the median of each round's ratio."""
+    rounds = [(rate(clients, "reply", connections, line), redis_rate(clients, connections)) for _ in range(ROUNDS)]
+    own, redis = (statistics.median(it) for it in zip(*rounds, strict=True))
+    print(f"| {connections} | {own:,.0f} | {redis:,.0f} | {statistics.median(mine / its for mine, its in rounds):.2f} |", flush=True)
+
+
 def compared(clients: str, name: str, connections: int, line: str) -> None:
     """A row of the table: the medians, and the medians of each round's ratios to `off`."""
     rounds = [{durable: rate(clients, durable, connections, line) for durable in WORDS} for _ in range(ROUNDS)]
@@ -64,6 +91,10 @@ def main() -> None:
             compared(clients, "`arena`", connections, '{"op":"arena"}')
         compared(clients, "a small job, executed", 1, executes([[["ret", 0]]], 7))
         compared(clients, "fib(6), executed", 1, executes(FIB, 6))
+        if shutil.which("redis-server"):
+            print("\n| Connections | `arena`, `--durable reply` | `INCR`, Redis, `appendfsync always` | Ratio |\n|---|---|---|---|")
+            for connections in (1, 64):
+                beside_redis(clients, connections, '{"op":"arena"}')
 
 
 main()

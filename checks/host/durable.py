@@ -195,6 +195,19 @@ def a_journal_that_cannot_be_read() -> None:
     assert path.read_text() == "no journal\n"
 
 
+def a_journal_without_a_whole_line() -> None:
+    """A journal without a whole line, as a kill between making the file and its first line leaves it, goes in silence: nothing was
+    acknowledged by it."""
+    host = Host([tenant("acme")])
+    assert host.stop() == 0
+    paths = [pathlib.Path(host.path("journals", f"acme.{number:06}.0.jsonl")) for number in (7, 8)]
+    for path, text in zip(paths, ("", '{"tenant":{"na'), strict=True):
+        path.write_text(text)
+    host = Host([tenant("acme")], after=host)
+    assert host.told("fault") == [] and not any(path.exists() for path in paths)
+    assert host.stop() == 0
+
+
 def a_stop_leaves_long_jobs_to_the_next_start() -> None:
     """Jobs that have no outcome when an ordered stop waits no longer are left to the next start, which finishes them."""
     tenants = [tenant("noisy", steps=1_000_000, slots=2), tenant("quiet", steps=100_000, slots=2)]
@@ -292,5 +305,5 @@ def replies_wait_for_the_journal() -> None:
 
 
 CHECKS = [jobs_outlive_a_kill, a_kill_without_journals_loses_jobs, kills_at_drawn_moments, torn_journals,
-          a_journal_that_cannot_be_read, a_stop_leaves_long_jobs_to_the_next_start, a_full_disk_loses_nothing,
+          a_journal_that_cannot_be_read, a_journal_without_a_whole_line, a_stop_leaves_long_jobs_to_the_next_start, a_full_disk_loses_nothing,
           replies_wait_for_the_journal]

@@ -5,7 +5,7 @@ import time
 from collections.abc import Callable
 
 from hosts import Host, Load, ask, dumps, fib, hang_up, results, rotate, tenant
-from servers import PATIENCE, Bound, by_deadline
+from servers import PATIENCE, SEVEN, Bound, by_deadline
 from sharing import JOBS, SPINNING
 
 DIVIDES = {"args": [0, 0], "fuel": 10, "procs": [[["set", 2, 1], ["div", 2, 2, 3], ["ret", 2]]]}
@@ -39,7 +39,7 @@ def three_by_history() -> None:
 
 def a_noisy_tenant_disturbs_no_other() -> None:
     """A tenant that fills its history all the time has one term after another. The connection, the cells, the numbers and
-    the jobs of a quiet one live through it. The noisy one's own jobs end too, but for those at work when a history ends."""
+    the jobs of a quiet one live through it. The noisy one's own jobs end too, all of them."""
     host = Host([tenant("noisy", steps=2000), tenant("quiet", slots=2)], "--connections", 8, workers=2)
     quiet = host.connect("quiet")
     assert ask(quiet, {"op": "execute", "job": COUNTS})["status"] == "complete"
@@ -50,7 +50,7 @@ def a_noisy_tenant_disturbs_no_other() -> None:
         time.sleep(0.1)
     by_deadline(lambda: len(host.told("opened", tenant="noisy")) >= 10)
     replies = load.end()
-    assert set(replies) <= {"right", "full"} and replies["right"] > replies["full"], replies
+    assert set(replies) == {"right"}, replies
     assert ask(quiet, {"op": "cells", "key": 0}) == cells
     assert ask(quiet, {"op": "poll", "job": 2}) == {"job": 2, "status": "complete", "value": 8}
     assert len(host.told("opened", tenant="quiet")) == 1
@@ -84,6 +84,24 @@ def connections_outlive_terms() -> None:
     hang_up(client, other)
     assert host.stop() == 0
     assert results(host, "acme", 3) == [{"job": 3001, "status": "complete", "value": 8}]
+
+
+def questions_take_nothing_from_jobs() -> None:
+    """A job waits for the only worker in a term that was left. However often it is asked for, its history keeps room for it."""
+    host = Host([tenant("noisy", steps=400_000, slots=1, reserved=0), tenant("acme", steps=100)], workers=1)
+    noisy, acme = host.connect("noisy"), host.connect()
+    noisy.client.sendall((json.dumps({"op": "submit", "job": SPINNING}) + "\n").encode() * JOBS)
+    assert [json.loads(noisy.replies.readline()) for _ in range(JOBS)] == [{"job": n + 1} for n in range(JOBS)]
+    assert ask(acme, {"op": "submit", "job": SEVEN}) == {"job": 1}
+    rotate(host, 1)
+    replies = [ask(acme, {"op": "poll", "job": 1}) for _ in range(300)]
+    complete = {"job": 1, "status": "complete", "value": 7}
+    assert all(it in ({"job": 1, "status": "running"}, complete) for it in replies), replies[-1]
+    assert [ask(acme, {"op": "collect", "job": 1}) for _ in range(300)] == [complete] * 300
+    assert ask(acme, {"op": "poll", "job": 2}) == {"code": 6, "error": "unknown_job"}
+    hang_up(noisy, acme)
+    assert host.stop() == 0
+    assert host.told("closed", tenant="acme", term=0, lost=0)
 
 
 def a_full_history_is_left_for_the_next_one() -> None:
@@ -187,11 +205,12 @@ def what_it_shows() -> None:
                 "--finish", 7)
     connections = asks_both(host)
     status = by_deadline(lambda: shown(host, lambda acme, beta: acme["asks"] == 4 and beta["asks"] == 3))
-    assert set(status) == {"time", "began", "connections", "connected", "served", "rotate_at", "keep", "finish", "durable", "memory",
-                           "workers", "terms", "closed"}
+    assert set(status) == {"time", "began", "connections", "connected", "served", "cut", "hello_seconds", "idle_seconds", "rotate_at",
+                           "keep", "finish", "durable", "memory", "workers", "terms", "closed"}
     assert (status["connections"], status["rotate_at"], status["keep"], status["finish"]) == (3, 50, 5, 7)
     assert status["durable"] == "write"
     assert (status["connected"], status["served"]) == (2, 2)
+    assert (status["cut"], status["hello_seconds"], status["idle_seconds"]) == ({"hello": 0, "idle": 0}, 60, 0)
     assert abs(status["time"] - time.time()) < 5 and status["memory"] > 1 << 20 and status["closed"] == []
     acme, beta = status["terms"]
     assert acme.pop("began") >= status["began"] and beta.pop("began") >= status["began"]
@@ -245,5 +264,5 @@ def what_it_shows_of_a_worker_at_work() -> None:
 
 
 CHECKS = [three_by_history, a_noisy_tenant_disturbs_no_other, connections_outlive_terms,
-          a_full_history_is_left_for_the_next_one, one_by_file, a_configuration_that_cannot_be_read,
+          questions_take_nothing_from_jobs, a_full_history_is_left_for_the_next_one, one_by_file, a_configuration_that_cannot_be_read,
           what_a_tenant_is_given_changes, the_newest_dumps_are_kept, what_it_shows, what_it_shows_of_a_worker_at_work]

@@ -28,7 +28,7 @@ from arena.host.report import duration, sections_of, size, to_text
 
 # What `arena status` prints of the example of docs/HOST.md.
 SHOWN = """host: 1 tenant served, up 2 min 3 s, 77.5 MiB of memory
-3 connections now of 64 at most, 47 so far
+3 connections now of 64 at most, 47 so far, 2 ended without a hello and 1 idle ones
 rotates at 50 %, keeps 8 dumps of a tenant, finishes within 10 s, durable: write
 workers: 1 with a tenant, 1 waiting for a call
 

@@ -44,6 +44,9 @@ SAMPLES = {
     "arena_connections_limit": {"": 64},
     "arena_connections": {"": 3},
     "arena_connections_served_total": {"": 47},
+    "arena_connections_cut_total": {"why=hello": 2, "why=idle": 1},
+    "arena_hello_limit_seconds": {"": 60},
+    "arena_idle_limit_seconds": {"": 0},
     "arena_rotate_at_ratio": {"": 0.5},
     "arena_finish_seconds": {"": 10},
     "arena_dumps_limit": {"": 8},
@@ -137,7 +140,7 @@ def counters_never_go_back():
             for labels, value in it.samples.items() if it.kind == "counter" else ():
                 assert value >= seen.get((name, labels), 0), (name, labels, value)
                 seen[name, labels] = value
-    assert len(seen) == 5, seen
+    assert len(seen) == 7, seen
 
 
 @contextlib.contextmanager

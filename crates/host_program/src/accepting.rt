@@ -2,8 +2,8 @@
 
 use crate::clocks::millis;
 use crate::site::Site;
-use host_status::Fault;
-use host_terms::Reception;
+use host_status::{Event, Fault};
+use host_terms::{Cuts, Patience, Reception};
 use server_io::Endpoint;
 use std::alloc::Global;
 use std::sync::Wait;
@@ -17,6 +17,9 @@ const PAUSE: u64 = 20;
 /// How long between two reports that a connection was not accepted, in milliseconds.
 const BETWEEN_REPORTS: u64 = 1000;
 
+/// How often connections are looked for that do nothing, in milliseconds.
+const BETWEEN_LOOKS: u64 = 100;
+
 /// Accepts connections until the host stops, and lets sessions stop waiting whose clients have gone, until nobody is left.
 pub(crate) fn accept_all<R: Wait + Clock>(
     rt: &R,
@@ -27,7 +30,10 @@ pub(crate) fn accept_all<R: Wait + Clock>(
 ) {
     let mut reception = reception;
     let mut has_left = false;
-    let mut reported = 0;
+    let mut done = Done {
+        reported: 0,
+        looked: 0,
+    };
     for _turn in rt.forever() {
         match reception.attend(rt) {
             Ok(has_gone) => {
@@ -48,15 +54,55 @@ pub(crate) fn accept_all<R: Wait + Clock>(
             continue;
         }
         let now = millis(rt);
-        match reception.admit(rt, alloc, endpoint) {
+        if now.saturating_sub(done.looked) >= BETWEEN_LOOKS {
+            done.looked = now;
+            cut(rt, alloc, site, &reception, now);
+        }
+        match reception.admit(rt, alloc, endpoint, now) {
             Ok(admitted) => {
                 site.progress.served.fetch_add(admitted, Ordering::SeqCst);
             }
-            Err(_) if now.saturating_sub(reported) >= BETWEEN_REPORTS => {
-                reported = now;
-                site.say_fault(rt, alloc, Fault::Accept, None, None);
-            }
-            Err(_) => {}
+            Err(_) => done.report(rt, alloc, site, now),
         }
+    }
+}
+
+/// When the thread did what it does from time to time, in milliseconds of the monotonic clock.
+#[derive(Clone, Copy)]
+struct Done {
+    /// Reported that a connection was not accepted.
+    reported: u64,
+    /// Looked for connections that do nothing.
+    looked: u64,
+}
+
+impl Done {
+    /// Reports that a connection was not accepted, once a second at most.
+    fn report<R: Wait + Clock>(&mut self, rt: &R, alloc: Global, site: Site<'_>, now: u64) {
+        if now.saturating_sub(self.reported) >= BETWEEN_REPORTS {
+            self.reported = now;
+            site.say_fault(rt, alloc, Fault::Accept, None, None);
+        }
+    }
+}
+
+/// Ends the connections that have done nothing for too long by that time, and reports how many.
+fn cut<R: Wait + Clock>(
+    rt: &R,
+    alloc: Global,
+    site: Site<'_>,
+    reception: &Reception<'_>,
+    now: u64,
+) {
+    let words = site.words;
+    let patience = Patience {
+        hello: u64::from(words.hello_seconds).saturating_mul(1000),
+        idle: u64::from(words.idle_seconds).saturating_mul(1000),
+    };
+    let Cuts { hello, idle } = reception.cut(rt, now, patience);
+    if hello > 0 || idle > 0 {
+        site.progress.cut_hello.fetch_add(hello, Ordering::SeqCst);
+        site.progress.cut_idle.fetch_add(idle, Ordering::SeqCst);
+        site.say(rt, alloc, Event::Cut { hello, idle });
     }
 }

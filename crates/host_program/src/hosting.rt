@@ -52,7 +52,7 @@ pub(crate) fn host_tenants<'h, R: System>(
     };
     let config = read_config(rt, alloc, words.config)?;
     let mut shelves = folder.prepare(rt, words.keep)?;
-    let host = Host::new(alloc);
+    let host = Host::new(alloc, words.rotate_at);
     let desks = new_desks(alloc, connections)?;
     let places = new_places(alloc, config.workers())?;
     let progress = Progress::new();

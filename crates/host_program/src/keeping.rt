@@ -17,7 +17,7 @@ use std::fs;
 use std::fs::{File, Files};
 use std::sync::{Arc, Wait};
 use std::time::Clock;
-use term_life::{MOST_JOBS, Why, is_used};
+use term_life::{MOST_JOBS, Why};
 
 /// How many terms of a tenant may be there at once, whether they serve, finish, or wait to be written. Each has its history
 /// in memory.
@@ -209,7 +209,7 @@ impl Keeper {
             if term.is_broken() {
                 tenancy.wish(rt, Why::Journal);
             }
-            if is_term_used(rt, term, site.words.rotate_at) {
+            if term.is_used(rt, site.words.rotate_at) {
                 tenancy.wish(rt, Why::History);
             }
         }
@@ -228,6 +228,7 @@ impl Keeper {
         if tenancy.count(rt) >= MOST_TERMS {
             let is_new = !tended.is_held;
             tended.is_held = true;
+            tenancy.hold(rt);
             if is_new {
                 say_waiting(rt, alloc, site, tenancy, why);
             }
@@ -562,18 +563,6 @@ fn keep_outcomes<R: Wait>(
         room: last.job.saturating_sub(base),
     };
     tenancy.keep_outcomes(rt, span, outcomes)
-}
-
-/// Whether a term's history has that many per cent of its steps.
-fn is_term_used<R: Wait>(rt: &R, term: &HostTerm, percent: u32) -> bool {
-    match term.door() {
-        Some(door) => is_used(
-            door.counts(rt).entries,
-            term.tenant().tenant().steps,
-            percent,
-        ),
-        None => false,
-    }
 }
 
 /// Says that the next term of a tenant has to wait.

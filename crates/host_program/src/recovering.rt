@@ -64,38 +64,66 @@ fn recover<R: Files<File = File> + Wait + Clock>(
         journal.path.as_str()
     };
     let Some(finished) = finished_of(rt, alloc, source)? else {
-        // It has no whole first line: the host was killed before the term served, or this is no journal.
-        site.say_fault(rt, alloc, Fault::Journal, Some(name), Some(term));
-        return Ok(());
+        return pass_over(rt, alloc, site, journal);
     };
     if finished.is_torn_wrong {
         site.say_fault(rt, alloc, Fault::Journal, Some(name), Some(term));
     }
-    let outcomes = outcomes_of(alloc, &finished.replay, journal.base)?;
     if !is_dumped {
-        let history = finished.replay.history();
-        let written = dump_history(rt, alloc, dump.as_str(), &finished.config, history);
-        if let Err(fault) = written {
-            return Err(dump_end(fault));
-        }
+        put_history(rt, alloc, dump.as_str(), &finished)?;
     }
+    let outcomes = outcomes_of(alloc, &finished.replay, journal.base)?;
     put_outcomes(rt, alloc, site, journal, outcomes.as_slice())?;
     site.folder
         .shelve(rt, alloc, shelves, name, term, site.words.keep)?;
     // If it can't be removed, it is done again at the next start.
     let _ = fs::remove_file(rt, journal.path.as_str());
+    say_recovered(rt, alloc, site, journal, outcomes.as_slice(), began);
+    Ok(())
+}
+
+/// Reports a file that has the name of a journal and names no tenant, which stays. One without a whole line is removed: the
+/// host was killed before its term served, and nothing was acknowledged by it. `Device` if it can't be read.
+fn pass_over<R: Files<File = File> + Wait + Clock>(
+    rt: &R,
+    alloc: Global,
+    site: Site<'_>,
+    journal: &LeftJournal,
+) -> Result<(), ServerEnd> {
+    let path = journal.path.as_str();
+    let Ok(bytes) = bytes_of(rt, alloc, path) else {
+        return Err(ServerEnd::Device);
+    };
+    if bytes.contains(&b'\n') {
+        let name = journal.name.as_str();
+        site.say_fault(rt, alloc, Fault::Journal, Some(name), Some(journal.term));
+    } else {
+        // If it can't be removed, it is passed over at the next start.
+        let _ = fs::remove_file(rt, path);
+    }
+    Ok(())
+}
+
+/// Reports a term that is finished, which began at that time of the monotonic clock.
+fn say_recovered<R: Wait + Clock>(
+    rt: &R,
+    alloc: Global,
+    site: Site<'_>,
+    journal: &LeftJournal,
+    outcomes: &[Outcome],
+    began: u64,
+) {
     site.say(
         rt,
         alloc,
         Event::Recovered {
-            tenant: name,
-            term,
+            tenant: journal.name.as_str(),
+            term: journal.term,
             jobs: outcomes.len(),
-            lost: lost_among(outcomes.as_slice()),
+            lost: lost_among(outcomes),
             ms: millis(rt).saturating_sub(began),
         },
     );
-    Ok(())
 }
 
 /// The tenant that has done what a part says, and whose jobs are finished. None if the part names no tenant.
@@ -170,6 +198,20 @@ fn lost_among(outcomes: &[Outcome]) -> usize {
         .iter()
         .filter(|outcome| outcome.status == Status::Running)
         .count()
+}
+
+/// Writes the history of a term that is finished.
+fn put_history<R: Files<File = File>>(
+    rt: &R,
+    alloc: Global,
+    path: &str,
+    finished: &Finished,
+) -> Result<(), ServerEnd> {
+    let history = finished.replay.history();
+    match dump_history(rt, alloc, path, &finished.config, history) {
+        Ok(_kept) => Ok(()),
+        Err(fault) => Err(dump_end(fault)),
+    }
 }
 
 fn put_outcomes<R: Files<File = File>>(

@@ -2,7 +2,7 @@
 
 use crate::clocks::seconds;
 use crate::site::Site;
-use host_status::{ClosedTerm, HostStatus, Jobs, Rows, TermStatus, Worker, status_line};
+use host_status::{ClosedTerm, CutSoFar, HostStatus, Jobs, Rows, TermStatus, Worker, status_line};
 use host_terms::{HostTerm, Place, Tenancy};
 use job_language::TenantName;
 use program_words::HostWords;
@@ -36,6 +36,12 @@ pub(crate) fn show<R: Files<File = File> + Wait + Clock + AllocGlobal>(
         connections: words.connections,
         connected: site.connected(rt),
         served: site.progress.served.load(Ordering::SeqCst),
+        cut: CutSoFar {
+            hello: site.progress.cut_hello.load(Ordering::SeqCst),
+            idle: site.progress.cut_idle.load(Ordering::SeqCst),
+        },
+        hello_seconds: words.hello_seconds,
+        idle_seconds: words.idle_seconds,
         rotate_at: words.rotate_at,
         keep: words.keep,
         finish: words.finish,

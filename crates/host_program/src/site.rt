@@ -18,6 +18,9 @@ pub(crate) struct Progress {
     pub(crate) is_over: AtomicBool,
     /// How many connections there were.
     pub(crate) served: AtomicU64,
+    /// How many of them were ended since they said no hello in time, and since they asked nothing.
+    pub(crate) cut_hello: AtomicU64,
+    pub(crate) cut_idle: AtomicU64,
 }
 
 impl Progress {
@@ -26,6 +29,8 @@ impl Progress {
             is_stopping: AtomicBool::new(false),
             is_over: AtomicBool::new(false),
             served: AtomicU64::new(0),
+            cut_hello: AtomicU64::new(0),
+            cut_idle: AtomicU64::new(0),
         }
     }
 }

@@ -83,6 +83,12 @@ pub enum Event<'e> {
         #[serde(skip_serializing_if = "Option::is_none")]
         term: Option<u64>,
     },
+    /// The host has ended that many connections for doing nothing: `hello` had said no hello in time, and `idle` had asked
+    /// nothing.
+    Cut {
+        hello: u64,
+        idle: u64,
+    },
     /// The host is to stop.
     Stop,
     /// That many lines before this one were not written, since nobody read what the host wrote.

@@ -5,4 +5,4 @@ mod events;
 mod status;
 
 pub use events::{Event, Fault};
-pub use status::{ClosedTerm, HostStatus, Jobs, Rows, TermStatus, Worker, status_line};
+pub use status::{ClosedTerm, CutSoFar, HostStatus, Jobs, Rows, TermStatus, Worker, status_line};

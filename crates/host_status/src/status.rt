@@ -33,6 +33,15 @@ pub struct Rows {
     pub waiting: usize,
 }
 
+/// How many connections the host has ended so far, by what they had not done in time.
+#[derive(Clone, Copy, Debug, PartialEq, Eq, Serialize)]
+pub struct CutSoFar {
+    /// They had said no hello.
+    pub hello: u64,
+    /// They had asked nothing.
+    pub idle: u64,
+}
+
 /// A term that is not closed. Times are in seconds since 1970.
 #[derive(Drop, Serialize)]
 pub struct TermStatus {
@@ -103,6 +112,12 @@ pub struct HostStatus<'s> {
     pub connected: usize,
     /// How many there were so far.
     pub served: u64,
+    /// How many were ended for doing nothing.
+    pub cut: CutSoFar,
+    /// How many seconds a connection has until its hello is answered; 0 for any time.
+    pub hello_seconds: u32,
+    /// How many seconds it may ask nothing after that; 0 for any time.
+    pub idle_seconds: u32,
     /// At how many per cent of its steps a history ends a term.
     pub rotate_at: u32,
     /// How many dumps of each tenant are kept.

@@ -1,6 +1,7 @@
 // The places of a host's sessions, each of which serves one client after another.
 
 use crate::hosts::Host;
+use crate::patience::{Overdue, Patience, Seen};
 use crate::sessions::HostDoors;
 use crate::terms::Booking;
 use mio::Waker;
@@ -9,6 +10,7 @@ use session_core::serve;
 use std::alloc::Global;
 use std::net::Shutdown;
 use std::os::unix::net::UnixStream;
+use std::sync::atomic::{AtomicBool, AtomicU64, Ordering};
 use std::sync::{Arc, Condvar, Mutex, Wait};
 use std::time::Clock;
 use tenant_lock::StopFlag;
@@ -19,6 +21,9 @@ struct Guest {
     /// The number of its connection.
     number: usize,
     stream: Arc<UnixStream>,
+    seen: Seen,
+    /// Whether the host has ended its connection.
+    is_cut: bool,
 }
 
 /// Who is at a desk.
@@ -40,6 +45,11 @@ pub struct Desk {
     changed: Condvar,
     /// The session's place in the term that it asked last, while it asks nothing.
     booking: Mutex<Option<Booking>>,
+    /// Whether the session is bound to a tenant, and whether it is within a request.
+    is_bound: AtomicBool,
+    is_asking: AtomicBool,
+    /// How many requests were answered at the desk, or have waited.
+    asked: AtomicU64,
 }
 
 impl Desk {
@@ -54,6 +64,9 @@ impl Desk {
             }),
             changed: Condvar::new(),
             booking: Mutex::new(None),
+            is_bound: AtomicBool::new(false),
+            is_asking: AtomicBool::new(false),
+            asked: AtomicU64::new(0),
         }
     }
 
@@ -62,16 +75,22 @@ impl Desk {
         self.seating.lock(rt).guest.is_none()
     }
 
-    /// Seats a client, by the number of its connection.
+    /// Seats a client who comes at that time, by the number of its connection.
     pub(crate) fn seat<R: Wait>(
         &self,
         rt: &R,
         number: usize,
+        now: u64,
         stream: Arc<UnixStream>,
         incoming: Arc<UnixStream>,
     ) {
         let mut seating = self.seating.lock(rt);
-        seating.guest = Some(Guest { number, stream });
+        seating.guest = Some(Guest {
+            number,
+            stream,
+            seen: Seen::new(now, self.asked.load(Ordering::SeqCst)),
+            is_cut: false,
+        });
         seating.incoming = Some(incoming);
         self.changed.notify_one();
     }
@@ -86,6 +105,46 @@ impl Desk {
             }
             _ => false,
         }
+    }
+
+    /// Ends the guest's connection, if it has done nothing for too long by that time, and says why.
+    pub(crate) fn cut<R: Wait>(&self, rt: &R, now: u64, patience: Patience) -> Option<Overdue> {
+        let mut seating = self.seating.lock(rt);
+        let guest = seating.guest.as_mut()?;
+        // These before the count, which rises before either of them says that a request has ended.
+        let is_asking = self.is_asking.load(Ordering::SeqCst);
+        let is_bound = self.is_bound.load(Ordering::SeqCst);
+        guest.seen.look(now, self.asked.load(Ordering::SeqCst));
+        if guest.is_cut || is_asking {
+            return None;
+        }
+        let overdue = guest.seen.overdue(now, is_bound, patience)?;
+        guest.is_cut = true;
+        // The client may have gone before.
+        let _ = guest.stream.shutdown(Shutdown::Both);
+        Some(overdue)
+    }
+
+    /// The session is bound to a tenant.
+    pub(crate) fn bind(&self) {
+        self.asked.fetch_add(1, Ordering::SeqCst);
+        self.is_bound.store(true, Ordering::SeqCst);
+    }
+
+    /// The session is bound to no tenant any more.
+    pub(crate) fn unbind(&self) {
+        self.is_bound.store(false, Ordering::SeqCst);
+    }
+
+    /// The session begins a request, or goes on waiting for its reply.
+    pub(crate) fn begin_asking(&self) {
+        self.is_asking.store(true, Ordering::SeqCst);
+    }
+
+    /// The session was answered.
+    pub(crate) fn end_asking(&self) {
+        self.asked.fetch_add(1, Ordering::SeqCst);
+        self.is_asking.store(false, Ordering::SeqCst);
     }
 
     /// Shuts the guest's stream, or one direction of it.

@@ -20,16 +20,25 @@ pub struct Host {
     tenants: Mutex<Vec<Arc<Tenancy>>>,
     roster: Mutex<Roster>,
     board: Board,
+    /// At how many per cent of its steps a history takes no new jobs at the latest.
+    latest: u32,
 }
 
 impl Host {
-    /// A host without a tenant.
-    pub fn new(alloc: Global) -> Host {
+    /// A host without a tenant, whose histories end a term at that many per cent of their steps. A term takes no new jobs
+    /// once its history has half of the rest as well, if the next one can be opened.
+    pub fn new(alloc: Global, rotate_at: u32) -> Host {
         Host {
             tenants: Mutex::new(Vec::new(alloc)),
             roster: Mutex::new(Roster::new(alloc)),
             board: Board::new(),
+            latest: rotate_at.saturating_add(100) / 2,
         }
+    }
+
+    /// Whether a term is to take no new jobs, if the next one can be opened.
+    pub(crate) fn is_used<R: Wait>(&self, rt: &R, term: &HostTerm) -> bool {
+        term.is_used(rt, self.latest)
     }
 
     pub(crate) fn board(&self) -> &Board {

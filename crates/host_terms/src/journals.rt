@@ -4,31 +4,55 @@ use job_language::{Entry, TenantConfig};
 use part_writer::{LivePart, PartFault};
 use std::alloc::Global;
 use std::fs::File;
-use std::sync::atomic::{AtomicBool, Ordering};
-use std::sync::{Mutex, Wait};
+use std::sync::atomic::{AtomicBool, AtomicUsize, Ordering};
+use std::sync::{Condvar, Mutex, MutexGuard, Wait};
+use std::thread;
 use tenant_lock::TenantDoor;
 
-/// How many entries are copied and written at a time at most.
+/// How many entries are copied at a time at most, while nobody else can ask the tenant.
 const SLICE: usize = 64;
 
-/// What is kept under the lock.
+/// How many slices are written by one call of the system at most.
+const SLICES: usize = 64;
+
+/// How often a session that has entries to write lets other threads go first while another one writes, before it sleeps.
+const LOOKS: u32 = 100;
+
+/// How often a session that is about to bring the file to the disk lets other threads go first, which may have more to
+/// write.
+const GRACES: u32 = 4;
+
+/// What is kept under the lock of whoever writes.
 #[derive(Drop)]
 struct Written {
     part: LivePart<File>,
     /// How many entries it has.
     count: usize,
     /// Room for the next ones.
-    slice: Vec<Entry>,
+    next: Vec<Entry>,
+}
+
+/// How far the file is on the disk.
+#[derive(Clone, Copy)]
+struct Synced {
+    /// How many entries are there.
+    count: usize,
+    /// Whether a session brings more there.
+    is_syncing: bool,
 }
 
 /// A term's journal.
 #[derive(Drop)]
 pub struct Journal {
+    /// One session at a time writes for all.
     written: Mutex<Written>,
-    /// The same file, which one session brings to the disk while another one writes.
+    /// How many entries the file has: who needs no more of them writes nothing.
+    count: AtomicUsize,
+    /// The same file, which one session brings to the disk for all while others write.
     file: File,
-    /// How many entries are on the disk.
-    synced: Mutex<usize>,
+    synced: Mutex<Synced>,
+    /// A session has brought the file to the disk, or failed.
+    changed: Condvar,
     /// Whether a reply waits until what it tells is on the disk, and not only written.
     is_synced: bool,
     /// Whether the file failed: nothing is asked of it any more.
@@ -56,9 +80,10 @@ pub(crate) fn bring_to_journal<R: Wait>(
     door: Option<&TenantDoor>,
 ) -> Option<Kept> {
     if let (Some(journal), Some(door)) = (journal, door) {
-        let count = journal.write(rt, alloc, door)?;
+        let wanted = door.counts(rt).entries;
+        journal.write(rt, alloc, door, wanted)?;
         if journal.is_synced {
-            journal.sync_to(rt, count)?;
+            journal.sync(rt, wanted)?;
         }
     }
     Some(Kept { _made_here: () })
@@ -76,15 +101,20 @@ impl Journal {
         let Ok(handle) = file.try_clone() else {
             return Err(PartFault::Failed);
         };
-        let slice = Vec::with_capacity(alloc, SLICE)?;
+        let next = Vec::with_capacity(alloc, SLICE)?;
         Ok(Journal {
             written: Mutex::new(Written {
                 part: LivePart::begin(alloc, file, tenant)?,
                 count: 0,
-                slice,
+                next,
             }),
+            count: AtomicUsize::new(0),
             file: handle,
-            synced: Mutex::new(0),
+            synced: Mutex::new(Synced {
+                count: 0,
+                is_syncing: false,
+            }),
+            changed: Condvar::new(),
             is_synced,
             is_broken: AtomicBool::new(false),
         })
@@ -95,43 +125,84 @@ impl Journal {
         self.is_broken.load(Ordering::SeqCst)
     }
 
-    /// Writes what the tenant's history has and the file has not, and gives how many entries the file has then. None if
-    /// that fails.
-    fn write<R: Wait>(&self, rt: &R, alloc: Global, door: &TenantDoor) -> Option<usize> {
-        let mut written = self.written.lock(rt);
-        let mut all = None;
-        for _slice in rt.forever() {
+    /// Whether the file has so many entries.
+    fn has(&self, wanted: usize) -> bool {
+        self.count.load(Ordering::SeqCst) >= wanted
+    }
+
+    /// Writes what the tenant's history has and the file has not, until the file has so many entries. None if that fails.
+    fn write<R: Wait>(
+        &self,
+        rt: &R,
+        alloc: Global,
+        door: &TenantDoor,
+        wanted: usize,
+    ) -> Option<()> {
+        let Some(mut written) = self.turn_to_write(rt, wanted) else {
+            return if self.is_broken() { None } else { Some(()) };
+        };
+        for _call in rt.forever() {
             if self.is_broken() {
                 return None;
             }
-            let there = match written.add_slice(rt, alloc, door) {
-                Ok(there) => there,
-                Err(fault) => {
-                    self.note(fault);
-                    return None;
-                }
-            };
-            let most = *all.get_or_insert(there);
-            if written.count >= most {
-                return Some(written.count);
+            if self.has(wanted) {
+                return Some(());
             }
+            if let Err(fault) = written.write_more(rt, alloc, door) {
+                self.note(fault);
+                return None;
+            }
+            self.count.store(written.count, Ordering::SeqCst);
         }
         None
     }
 
-    /// Brings the file to the disk, if it was not since it had so many entries. None if that fails.
-    fn sync_to<R: Wait>(&self, rt: &R, count: usize) -> Option<()> {
-        let mut synced = self.synced.lock(rt);
-        if *synced >= count {
+    /// Takes the turn to write, unless the file has so many entries before, or fails.
+    fn turn_to_write<R: Wait>(&self, rt: &R, wanted: usize) -> Option<MutexGuard<'_, Written>> {
+        for _look in 0..LOOKS {
+            if self.is_broken() || self.has(wanted) {
+                return None;
+            }
+            if let Some(turn) = self.written.try_lock() {
+                return Some(turn);
+            }
+            thread::yield_now();
+        }
+        Some(self.written.lock(rt))
+    }
+
+    /// Brings the file to the disk, unless so many entries are there. None if that fails.
+    fn sync<R: Wait>(&self, rt: &R, wanted: usize) -> Option<()> {
+        if !self.has_turn_to_sync(rt, wanted) {
             return Some(());
         }
-        let there = self.written.lock(rt).count;
-        if self.is_broken() || self.file.sync_data().is_err() {
-            self.note(PartFault::Failed);
-            return None;
+        for _grace in 0..GRACES {
+            thread::yield_now();
         }
-        *synced = there;
-        Some(())
+        let there = self.count.load(Ordering::SeqCst);
+        let is_there = !self.is_broken() && self.file.sync_data().is_ok();
+        if !is_there {
+            self.note(PartFault::Failed);
+        }
+        let mut synced = self.synced.lock(rt);
+        synced.is_syncing = false;
+        if is_there {
+            synced.count = there;
+        }
+        self.changed.notify_all();
+        if is_there { Some(()) } else { None }
+    }
+
+    /// Waits until so many entries are on the disk, or it is the caller's turn to bring them there, and says whether it is.
+    fn has_turn_to_sync<R: Wait>(&self, rt: &R, wanted: usize) -> bool {
+        let mut synced = self.changed.wait_while(rt, self.synced.lock(rt), |synced| {
+            synced.is_syncing && synced.count < wanted
+        });
+        let has_turn = synced.count < wanted;
+        if has_turn {
+            synced.is_syncing = true;
+        }
+        has_turn
     }
 
     /// Writes what the history has and the file has not, and brings the file to the disk if that is wanted or replies wait
@@ -143,10 +214,11 @@ impl Journal {
         door: &TenantDoor,
         syncs: bool,
     ) -> bool {
-        match self.write(rt, alloc, door) {
-            Some(count) => !(syncs || self.is_synced) || self.sync_to(rt, count).is_some(),
-            None => false,
+        let wanted = door.counts(rt).entries;
+        if self.write(rt, alloc, door, wanted).is_none() {
+            return false;
         }
+        !(syncs || self.is_synced) || self.sync(rt, wanted).is_some()
     }
 
     /// Without memory it is tried again; a file that failed once may have lost what it was given.
@@ -158,19 +230,32 @@ impl Journal {
 }
 
 impl Written {
-    /// Adds a slice of the tenant's history, and gives how many entries that has.
-    fn add_slice<R: Wait>(
+    /// Writes what the tenant's history has and the file has not, by one call of the system: all of it, unless it is very
+    /// much.
+    fn write_more<R: Wait>(
         &mut self,
         rt: &R,
         alloc: Global,
         door: &TenantDoor,
-    ) -> Result<usize, PartFault> {
-        self.slice.clear();
-        let there = door.copy_entries(rt, self.count, SLICE, &mut self.slice)?;
-        if !self.slice.is_empty() {
-            self.part.add(alloc, self.slice.as_slice())?;
-            self.count = self.count.saturating_add(self.slice.len());
+    ) -> Result<(), PartFault> {
+        self.copy_more(rt, door)?;
+        if !self.next.is_empty() {
+            self.part.add(alloc, self.next.as_slice())?;
+            self.count = self.count.saturating_add(self.next.len());
         }
-        Ok(there)
+        Ok(())
+    }
+
+    /// Copies what the tenant's history has and the file has not, a slice at a time.
+    fn copy_more<R: Wait>(&mut self, rt: &R, door: &TenantDoor) -> Result<(), PartFault> {
+        self.next.clear();
+        for _slice in 0..SLICES {
+            let from = self.count.saturating_add(self.next.len());
+            let there = door.copy_entries(rt, from, SLICE, &mut self.next)?;
+            if self.count.saturating_add(self.next.len()) >= there {
+                return Ok(());
+            }
+        }
+        Ok(())
     }
 }

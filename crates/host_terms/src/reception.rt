@@ -1,6 +1,7 @@
 // The thread that accepts a host's connections, and looks after them.
 
 use crate::desks::Desk;
+use crate::patience::{Overdue, Patience};
 use server_io::{Endpoint, Watch};
 use std::alloc::Global;
 use std::io;
@@ -11,6 +12,15 @@ use std::time::Duration;
 
 /// How long a wait takes at most, in milliseconds.
 const TICK: u64 = 20;
+
+/// How many connections the host has ended, by what they have not done in time.
+#[derive(Clone, Copy, Debug, PartialEq, Eq)]
+pub struct Cuts {
+    /// They said no hello.
+    pub hello: u64,
+    /// They asked nothing.
+    pub idle: u64,
+}
 
 /// What the thread that accepts has.
 #[derive(Drop)]
@@ -31,12 +41,14 @@ impl<'h> Reception<'h> {
         }
     }
 
-    /// Accepts connections as long as some wait and desks are free: how many. An error if one could not be accepted.
+    /// Accepts connections as long as some wait and desks are free, at that time of the monotonic clock, in milliseconds:
+    /// how many. An error if one could not be accepted.
     pub fn admit<R: Wait>(
         &mut self,
         rt: &R,
         alloc: Global,
         endpoint: &Endpoint<'_>,
+        now: u64,
     ) -> io::Result<u64> {
         let mut admitted = 0u64;
         for desk in self.desks {
@@ -44,7 +56,7 @@ impl<'h> Reception<'h> {
                 let Some(stream) = endpoint.accept()? else {
                     return Ok(admitted);
                 };
-                self.seat(rt, alloc, desk, stream)?;
+                self.seat(rt, alloc, desk, stream, now)?;
                 admitted = admitted.saturating_add(1);
             }
         }
@@ -58,13 +70,28 @@ impl<'h> Reception<'h> {
         alloc: Global,
         desk: &Desk,
         stream: UnixStream,
+        now: u64,
     ) -> io::Result<()> {
         let stream = Arc::new(alloc, stream)?;
         let incoming = Arc::try_clone(&stream)?;
         self.watch.add(stream.as_raw_fd(), self.next)?;
-        desk.seat(rt, self.next, stream, incoming);
+        desk.seat(rt, self.next, now, stream, incoming);
         self.next = self.next.wrapping_add(1);
         Ok(())
+    }
+
+    /// Ends the connections that have done nothing for too long by that time of the monotonic clock, in milliseconds: how
+    /// many.
+    pub fn cut<R: Wait>(&self, rt: &R, now: u64, patience: Patience) -> Cuts {
+        let mut cuts = Cuts { hello: 0, idle: 0 };
+        for desk in self.desks {
+            match desk.cut(rt, now, patience) {
+                Some(Overdue::Hello) => cuts.hello = cuts.hello.saturating_add(1),
+                Some(Overdue::Idle) => cuts.idle = cuts.idle.saturating_add(1),
+                None => {}
+            }
+        }
+        cuts
     }
 
     /// Accepts no more connections.

@@ -3,12 +3,12 @@ ghost use Rattle.std.specs.Prelude.{◌≡◌, ◌≢◌};
 
 use crate::desks::Desk;
 use crate::hosts::Host;
-use crate::journals::Kept;
+use crate::numbering::{acknowledged, at_once, brings_job, renumbered};
 use crate::tenancies::{Found, Tenancy};
 use crate::terms::Booking;
 use job_language::{Error, Moved, Reply, Request, TenantName};
 use job_step::{Segment, View};
-use nested_wait::{Attended, Door};
+use nested_wait::Door;
 use server_house::Told;
 use session_core::{Answered, Doors};
 use std::alloc::Global;
@@ -46,6 +46,7 @@ impl<'h, R: Wait + Clock> HostDoors<'h, R> {
     /// The session has ended. Another one may begin.
     pub(crate) fn leave(&mut self) {
         self.tenancy = None;
+        self.desk.unbind();
         if let Some(booking) = self.desk.take_booking(self.rt) {
             booking.give_back(self.rt);
         }
@@ -58,7 +59,7 @@ impl<'h, R: Wait + Clock> HostDoors<'h, R> {
         let stop = self.desk.is_gone();
         let mut request = request;
         for _try in 0..TRIES {
-            let Some(booking) = self.book_serving(tenancy) else {
+            let Some(booking) = self.book_for(tenancy, &request) else {
                 if tenancy.wait_for_next(self.rt, None, stop) {
                     continue;
                 }
@@ -103,6 +104,19 @@ impl<'h, R: Wait + Clock> HostDoors<'h, R> {
         }
     }
 
+    /// A place in the term that serves. One whose history is used so far that its jobs may need the rest begins no job, if
+    /// another one can be opened.
+    fn book_for(&self, tenancy: &Tenancy, request: &Request) -> Option<Booking> {
+        let booking = self.book_serving(tenancy)?;
+        if !brings_job(request) || !self.host.is_used(self.rt, booking.term()) {
+            return Some(booking);
+        }
+        let number = booking.term().span().number;
+        self.desk.keep_booking(self.rt, booking);
+        tenancy.wait_if_one_comes(self.rt, number, self.desk.is_gone());
+        self.book_serving(tenancy)
+    }
+
     /// A place in the term that serves.
     fn book_serving(&self, tenancy: &Tenancy) -> Option<Booking> {
         if let Some(booking) = self.desk.take_booking(self.rt) {
@@ -131,18 +145,28 @@ impl<'h, R: Wait + Clock> HostDoors<'h, R> {
             Found::Live(booking) => {
                 let base = booking.term().span().base;
                 let inner = renumbered(request, job.saturating_sub(base));
-                let (booking, told) = booking.ask(
-                    self.rt,
-                    self.host.board(),
-                    self.desk.is_gone(),
-                    inner,
-                );
+                let (booking, told) = self.ask_there(booking, inner);
                 let reply = self.outside(&booking, told);
                 self.desk.keep_booking(self.rt, booking);
                 reply
             }
             Found::Answered(reply) => reply,
         }
+    }
+
+    /// Asks a term about a job, by its number there. One that was left is only looked at if that is enough: its history is
+    /// for the jobs that it has.
+    fn ask_there(&self, booking: Booking, request: Request) -> (Booking, Told) {
+        if booking.term().is_left() {
+            if let Some(reply) = booking.term().look_up(self.rt, &request) {
+                let told = Told {
+                    reply,
+                    attended: None,
+                };
+                return (booking, told);
+            }
+        }
+        booking.ask(self.rt, self.host.board(), self.desk.is_gone(), request)
     }
 
     /// Retires all jobs of the tenant, if no row of any term is open.
@@ -157,45 +181,6 @@ impl<'h, R: Wait + Clock> HostDoors<'h, R> {
             tenancy.retire_before(self.rt);
         }
         reply
-    }
-}
-
-/// A reply that nobody has to wait for.
-fn at_once(reply: Reply) -> Reply
-    ensures { result ≢ Reply.Pending }
-{
-    match reply {
-        // No request but a collect is pending.
-        Reply::Pending => Reply::Refused(Error::NoMemory),
-        other => other,
-    }
-}
-
-/// What a session is told outside of a term whose jobs are numbered there after `base`, and which has kept it.
-fn acknowledged(told: Told, base: u64, kept: Kept) -> Reply {
-    kept.end();
-    if told.attended == Some(Attended::Full) {
-        return Reply::Refused(Error::HistoryFull);
-    }
-    match told.reply {
-        Reply::Made(job) => Reply::Made(base.saturating_add(job)),
-        Reply::Placed(job, slot) => Reply::Placed(base.saturating_add(job), slot),
-        Reply::Job(job, status) => Reply::Job(base.saturating_add(job), status),
-        Reply::Cancelled(job, is_first) => Reply::Cancelled(base.saturating_add(job), is_first),
-        Reply::Released(job) => Reply::Released(base.saturating_add(job)),
-        other => other,
-    }
-}
-
-/// The same request about the job of another number.
-fn renumbered(request: Request, job: u64) -> Request {
-    match request {
-        Request::Poll(_) => Request::Poll(job),
-        Request::Collect(_) => Request::Collect(job),
-        Request::Take(_) => Request::Take(job),
-        Request::Cancel(_) => Request::Cancel(job),
-        Request::Release(_) => Request::Release(job),
-        other => other,
     }
 }
 
@@ -246,9 +231,11 @@ impl<'h, R: Wait + Clock> Doors for HostDoors<'h, R> {
 
     fn bind(&mut self, tenant: usize) {
         self.tenancy = self.host.tenancy(self.rt, tenant);
+        self.desk.bind();
     }
 
     fn ask(&mut self, request: Request) -> Answered {
+        self.desk.begin_asking();
         let reply = match &self.tenancy {
             None => Reply::Refused(Error::NoTenant),
             Some(tenancy) => match request {
@@ -260,6 +247,7 @@ impl<'h, R: Wait + Clock> Doors for HostDoors<'h, R> {
                 other => self.ask_serving(tenancy, other),
             },
         };
+        self.desk.end_asking();
         // A slot that a job is placed on was attended.
         Answered {
             reply,
@@ -273,7 +261,9 @@ impl<'h, R: Wait + Clock> Doors for HostDoors<'h, R> {
         };
         match self.find_owner(tenancy, job, &Request::Collect(job)) {
             Found::Live(booking) => {
+                self.desk.begin_asking();
                 let stops = booking.wait_for(self.rt, job, self.desk.is_gone());
+                self.desk.end_asking();
                 self.desk.keep_booking(self.rt, booking);
                 stops
             }

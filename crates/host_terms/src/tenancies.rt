@@ -2,6 +2,8 @@
 ghost use Rattle.std.specs.Prelude.{◌≤◌};
 ghost use Rattle.term_life.specs.declared.terms.TheConstants.{MOST_JOBS};
 
+mod waits;
+
 use crate::desks::Desk;
 use crate::endings::Ending;
 use crate::outcomes::{Outcome, Outcomes};
@@ -10,16 +12,8 @@ use crate::terms::{Booking, HostTerm, Span};
 use job_language::{Error, Reply, Request, TenantName};
 use server_io::ServerEnd;
 use std::alloc::{AllocError, Global};
-use std::sync::{Arc, Condvar, CondvarTimeouts, Mutex, Wait};
-use std::time::{Clock, Duration};
-use tenant_lock::StopFlag;
+use std::sync::{Arc, Condvar, Mutex, Wait};
 use term_life::{Term, Terms, Why};
-
-/// How long a session waits for the next term at most before it looks again, in milliseconds.
-const LOOK: u64 = 100;
-
-/// How often it looks: for 5 seconds.
-const LOOKS: u32 = 50;
 
 /// What is kept under the lock.
 #[derive(Drop)]
@@ -35,6 +29,10 @@ struct Lives {
     wish: Option<Why>,
     /// Whether no term can be opened now.
     is_refused: bool,
+    /// Whether the next term waits until an older one is closed.
+    is_held: bool,
+    /// Whether the host stops, and no term is opened any more.
+    is_stopped: bool,
 }
 
 impl Lives {
@@ -83,6 +81,8 @@ impl Tenancy {
                 retired: 0,
                 wish: None,
                 is_refused: false,
+                is_held: false,
+                is_stopped: false,
             }),
             changed: Condvar::new(),
         }
@@ -139,6 +139,11 @@ impl Tenancy {
         self.refuse_waits(rt);
     }
 
+    /// The next term waits until an older one is closed.
+    pub fn hold<R: Wait>(&self, rt: &R) {
+        self.lives.lock(rt).is_held = true;
+    }
+
     /// No term can be opened now: nobody waits for one any longer.
     pub fn refuse_waits<R: Wait>(&self, rt: &R) {
         self.lives.lock(rt).is_refused = true;
@@ -185,6 +190,7 @@ impl Tenancy {
         lives.live.push_reserved(term);
         lives.wish = None;
         lives.is_refused = false;
+        lives.is_held = false;
         self.changed.notify_all();
         Ok(())
     }
@@ -193,6 +199,7 @@ impl Tenancy {
     pub fn leave<R: Wait>(&self, rt: &R, why: Why) {
         let mut lives = self.lives.lock(rt);
         lives.terms.leave(why);
+        lives.is_stopped |= why == Why::Stop;
         if let Some(last) = lives.live.last() {
             last.leave();
         }
@@ -294,35 +301,6 @@ impl Tenancy {
             Some(None) => Found::Answered(Reply::Refused(Error::NoMemory)),
             None => Found::Answered(lives.outcomes.answer(job, request)),
         }
-    }
-
-    /// Waits until a term serves that is not the one of that number, for some seconds at most, and says whether one does.
-    /// It does not if none can be opened, or the flag is raised.
-    pub(crate) fn wait_for_next<R: Wait + Clock>(
-        &self,
-        rt: &R,
-        number: Option<u64>,
-        stop: &StopFlag,
-    ) -> bool {
-        let mut lives = self.lives.lock(rt);
-        lives.is_refused = false;
-        for _look in 0..LOOKS {
-            match lives.serving() {
-                Some(term) if Some(term.span().number) != number => return true,
-                _ => {}
-            }
-            if lives.is_refused || stop.is_raised() {
-                return false;
-            }
-            if lives.wish.is_none() {
-                lives.wish = Some(Why::History);
-            }
-            let (again, _timeout) = self
-                .changed
-                .wait_timeout(rt, lives, Duration::from_millis(LOOK));
-            lives = again;
-        }
-        false
     }
 
     /// Whether a row is open in a term that was left.

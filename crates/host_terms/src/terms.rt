@@ -1,18 +1,22 @@
 // A term of a tenant: a house of this tenant alone, and the places of all threads in it.
 ghost use Rattle.std.specs.Prelude.{◌≤◌};
 
+mod bookings;
+
 use crate::board::{Board, Calls, TermSignal};
 use crate::journals::{Journal, Kept, bring_to_journal};
 use crate::outcomes::Outcome;
 use crate::places::{Place, TermGate};
-use job_language::{Config, Level, Request, TenantConfig};
-use server_house::{ClientSeats, House, Lodging, OwnClient, OwnPost, Told};
+pub(crate) use bookings::Booking;
+use job_language::{Config, Error, Level, Reply, Request, Status, TenantConfig};
+use server_house::{ClientSeats, House, Lodging, OwnClient, OwnPost};
 use server_io::ServerEnd;
 use std::alloc::{AllocError, Global};
 use std::sync::atomic::{AtomicBool, Ordering};
 use std::sync::{Arc, Mutex, Wait};
-use tenant_lock::{CloseFault, Closed, StopFlag, TenantDoor};
+use tenant_lock::{CloseFault, Closed, TenantDoor};
 use tenant_model::MAX_JOBS;
+use term_life::is_used;
 use worker_main::Visiting;
 
 /// Which term it is, and the numbers of its jobs.
@@ -199,6 +203,28 @@ impl HostTerm {
             || door.counts(rt).entries >= tenant.steps
     }
 
+    /// Whether its history has that many per cent of its steps.
+    pub fn is_used<R: Wait>(&self, rt: &R, percent: u32) -> bool {
+        match self.door() {
+            Some(door) => is_used(door.counts(rt).entries, self.tenant.tenant().steps, percent),
+            None => false,
+        }
+    }
+
+    /// The reply to a request about a job, by its number here, that a look is enough for: its history has no entry of it.
+    pub(crate) fn look_up<R: Wait>(&self, rt: &R, request: &Request) -> Option<Reply> {
+        let (job, waits) = match request {
+            Request::Poll(job) => (*job, false),
+            Request::Collect(job) => (*job, true),
+            _ => return None,
+        };
+        match self.door()?.status(rt, job) {
+            None => Some(Reply::Refused(Error::UnknownJob)),
+            Some(Status::Running) if waits => None,
+            Some(status) => Some(Reply::Job(job, status)),
+        }
+    }
+
     /// Wakes all that wait in it, each to look whether to go on.
     pub(crate) fn wake<R: Wait>(&self, rt: &R) {
         self.house.wake(rt);
@@ -260,55 +286,5 @@ impl HostTerm {
         }
         let house = Arc::try_unwrap(house).ok()?;
         seats.close(alloc, house).ok()?.pop()
-    }
-}
-
-/// A session's place in a term.
-#[derive(Drop)]
-pub(crate) struct Booking {
-    term: Arc<HostTerm>,
-    client: OwnClient,
-}
-
-impl Booking {
-    /// A place in a term. None if all are taken, or too many handles on the term are out.
-    pub(crate) fn of<R: Wait>(rt: &R, term: &Arc<HostTerm>) -> Option<Booking> {
-        let term = Arc::try_clone(term).ok()?;
-        let client = term.clients.lock(rt).pop()?;
-        Some(Booking { term, client })
-    }
-
-    pub(crate) fn term(&self) -> &HostTerm {
-        &self.term
-    }
-
-    /// Asks the term's tenant, and attends the slot that a job is placed on.
-    pub(crate) fn ask<R: Wait>(
-        self,
-        rt: &R,
-        board: &Board,
-        stop: &StopFlag,
-        request: Request,
-    ) -> (Booking, Told) {
-        let Booking { term, client } = self;
-        let signal = TermSignal {
-            board,
-            calls: &term.calls,
-        };
-        let (client, told) = client.ask(rt, &signal, stop, request);
-        (Booking { term, client }, told)
-    }
-
-    /// Waits while a job, by its number outside, has no outcome, and says whether to stop.
-    pub(crate) fn wait_for<R: Wait>(&self, rt: &R, job: u64, stop: &StopFlag) -> bool {
-        let job = job.saturating_sub(self.term.span.base);
-        self.client.wait_for(rt, job, stop)
-    }
-
-    /// Gives the place back to its term.
-    pub(crate) fn give_back<R: Wait>(self, rt: &R) {
-        let Booking { term, client } = self;
-        // There is room for it: it was there before.
-        let _kept = term.clients.lock(rt).push(client);
     }
 }

@@ -17,9 +17,13 @@ abbrev pub serving_app : App
 serving_app = with_rule (with_rule (with_rule (with_rule needed_app
     (option_rule (codes "connections"))) (option_rule (codes "rotate-at"))) (option_rule (codes "keep"))) (option_rule (codes "finish"))
 
+-- the same with how long connections may do nothing
+abbrev pub limiting_app : App
+limiting_app = with_rule (with_rule serving_app (option_rule (codes "hello-seconds"))) (option_rule (codes "idle-seconds"))
+
 -- the host's command
 abbrev pub host_app : App
-host_app = with_rule (with_rule (with_rule serving_app (option_rule (codes "durable"))) (option_rule (codes "mode"))) (option_rule (codes "group"))
+host_app = with_rule (with_rule (with_rule limiting_app (option_rule (codes "durable"))) (option_rule (codes "mode"))) (option_rule (codes "group"))
 
 abbrev pub IsHostCommand : Command → Type 0
 IsHostCommand c = app_of c ≡ host_app
@@ -44,6 +48,10 @@ keep_range = decimal 1 999999
 abbrev pub finish_range : Range
 finish_range = decimal 0 86400
 
+-- of hellos and of idleness
+abbrev pub seconds_range : Range
+seconds_range = decimal 0 86400
+
 abbrev pub mode_range : Range
 mode_range = record { radix = 8; least = 0; most = 511 }
 
@@ -63,6 +71,8 @@ pub record AreRead (options : List Row) (w : HostWords) : Type 0 where
   pub rotate_at : IsGiven rotate_range 50 (first_of (codes "rotate-at") options) w.rotate_at
   pub keep : IsGiven keep_range 8 (first_of (codes "keep") options) w.keep
   pub finish : IsGiven finish_range 10 (first_of (codes "finish") options) w.finish
+  pub hello_seconds : IsGiven seconds_range 60 (first_of (codes "hello-seconds") options) w.hello_seconds
+  pub idle_seconds : IsGiven seconds_range 0 (first_of (codes "idle-seconds") options) w.idle_seconds
   pub durable : IsGivenDurable (first_of (codes "durable") options) w.durable
   pub mode : IsGiven mode_range 384 (first_of (codes "mode") options) w.mode
   pub group : IsGivenOption group_range (first_of (codes "group") options) w.group
@@ -74,6 +84,8 @@ LackValues options = (first_of (codes "config") options ≡ None) ⊎ (first_of 
     ⊎ IsMisgiven rotate_range (first_of (codes "rotate-at") options)
     ⊎ IsMisgiven keep_range (first_of (codes "keep") options)
     ⊎ IsMisgiven finish_range (first_of (codes "finish") options)
+    ⊎ IsMisgiven seconds_range (first_of (codes "hello-seconds") options)
+    ⊎ IsMisgiven seconds_range (first_of (codes "idle-seconds") options)
     ⊎ IsMisgivenDurable (first_of (codes "durable") options)
     ⊎ IsMisgiven mode_range (first_of (codes "mode") options)
     ⊎ IsMisgiven group_range (first_of (codes "group") options)

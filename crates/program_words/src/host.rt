@@ -2,7 +2,7 @@
 ghost use Rattle.std.specs.Prelude.{◌≡◌, ◌≤◌, IfOk, MatchOption, map, option_map, Err, false};
 ghost use Rattle.clap.specs.Words.{found_of, rows_of, app_of, takes};
 ghost use Rattle.program_words.specs.Numbers.{IsMisgiven};
-ghost use Rattle.program_words.specs.HostOptions.{host_app, needed_app, serving_app, options_in, group_range, AreRead, AreRefused, LackValues, IsGivenOption, IsHostCommand};
+ghost use Rattle.program_words.specs.HostOptions.{host_app, needed_app, serving_app, limiting_app, options_in, group_range, AreRead, AreRefused, LackValues, IsGivenOption, IsHostCommand};
 ghost use Rattle.program_words.specs.declared.faults.WordsFault.{WordsFault};
 
 use crate::durable::{Durable, durable_in};
@@ -27,6 +27,10 @@ pub struct HostWords<'a> {
     pub keep: u32,
     /// How many seconds jobs have to end once the host is to stop, up to 86,400.
     pub finish: u32,
+    /// How many seconds a connection has until its hello is answered, up to 86,400; 0 for any time.
+    pub hello_seconds: u32,
+    /// How many seconds a connection may ask nothing after that, up to 86,400; 0 for any time.
+    pub idle_seconds: u32,
     /// How far what a client was told outlives the host.
     pub durable: Durable,
     /// The mode of the socket, up to 0o777.
@@ -36,8 +40,8 @@ pub struct HostWords<'a> {
 }
 
 /// Reads the words of a command line, the program's name first: `arena-host --config F --run D [--connections N]
-/// [--rotate-at P] [--keep K] [--finish S] [--durable off|write|second|reply] [--mode M] [--group G]`, in any order,
-/// also as `--config=F`. M is in octal digits, all other numbers are in decimal ones.
+/// [--rotate-at P] [--keep K] [--finish S] [--hello-seconds S] [--idle-seconds S] [--durable off|write|second|reply]
+/// [--mode M] [--group G]`, in any order, also as `--config=F`. M is in octal digits, all other numbers are in decimal ones.
 pub fn read_host_words<'a>(alloc: Global, words: &'a [&'a str]) -> Result<HostWords<'a>, WordsFault>
     ensures read { IfOk result
         (λ read. AreRead (options_in (map (λ word. word.now) words.entry.now)) read) }
@@ -59,6 +63,8 @@ fn values_of<'a>(matches: &ArgMatches<'a>) -> Option<HostWords<'a>>
     let rotate_at = Range::decimal(1, 100).given_or(value_of(matches, "rotate-at"), 50)?;
     let keep = Range::decimal(1, 999_999).given_or(value_of(matches, "keep"), 8)?;
     let finish = Range::decimal(0, 86_400).given_or(value_of(matches, "finish"), 10)?;
+    let hello_seconds = Range::decimal(0, 86_400).given_or(value_of(matches, "hello-seconds"), 60)?;
+    let idle_seconds = Range::decimal(0, 86_400).given_or(value_of(matches, "idle-seconds"), 0)?;
     let durable = durable_in(value_of(matches, "durable"))?;
     let mode = octal().given_or(value_of(matches, "mode"), 0o600)?;
     let group = group_in(value_of(matches, "group"))?;
@@ -69,6 +75,8 @@ fn values_of<'a>(matches: &ArgMatches<'a>) -> Option<HostWords<'a>>
         rotate_at,
         keep,
         finish,
+        hello_seconds,
+        idle_seconds,
         durable,
         mode,
         group,
@@ -103,7 +111,7 @@ fn group_in(value: Option<&str>) -> Option<Option<u32>>
 fn command<'a>(alloc: Global) -> Result<Command<'a>, AllocError>
     ensures { IfOk result (λ command. IsHostCommand command) }
 {
-    serving(alloc, needed(alloc)?)?
+    limiting(alloc)?
         .arg(option(alloc, "durable"))?
         .arg(option(alloc, "mode"))?
         .arg(option(alloc, "group"))
@@ -128,4 +136,13 @@ fn serving<'a>(alloc: Global, needed: Command<'a>) -> Result<Command<'a>, AllocE
         .arg(option(alloc, "rotate-at"))?
         .arg(option(alloc, "keep"))?
         .arg(option(alloc, "finish"))
+}
+
+/// The same with how long connections may do nothing.
+fn limiting<'a>(alloc: Global) -> Result<Command<'a>, AllocError>
+    ensures { IfOk result (λ command. app_of command ≡ limiting_app) }
+{
+    serving(alloc, needed(alloc)?)?
+        .arg(option(alloc, "hello-seconds"))?
+        .arg(option(alloc, "idle-seconds"))
 }

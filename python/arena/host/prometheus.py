@@ -89,6 +89,11 @@ def _host(it: HostStatus) -> Iterator[Family]:
     yield gauge("arena_connections_limit", "How many connections are served at a time.", it.connections)
     yield gauge("arena_connections", "Sessions that serve a client now.", it.connected)
     yield Family("arena_connections_served_total", Kind.COUNTER, "Connections so far.", [Sample(it.served)])
+    yield Family("arena_connections_cut_total", Kind.COUNTER, "Connections that the host ended since they did nothing.",
+                 [Sample(it.cut.hello, {"why": "hello"}), Sample(it.cut.idle, {"why": "idle"})])
+    yield gauge("arena_hello_limit_seconds", "How long a connection has until its hello is answered; 0 for any time.",
+                it.hello_seconds)
+    yield gauge("arena_idle_limit_seconds", "How long a connection may ask nothing; 0 for any time.", it.idle_seconds)
     yield gauge("arena_rotate_at_ratio", "How full a history may be before the host rotates, from 0 to 1.",
                 it.rotate_at / 100)
     yield gauge("arena_finish_seconds", "How long jobs have to end once the host is to stop.", it.finish)

@@ -43,7 +43,8 @@ def _host(status: HostStatus, watch: Watch | None) -> Section:
     where = f"{counted(serving, 'tenant')} served" if serving else "no tenant is served (it starts or stops)"
     memory = f", {size(status.memory)} of memory" if status.memory is not None else ""
     waiting = sum(it.tenant is None for it in status.workers)
-    notes = [f"{counted(status.connected, 'connection')} now of {status.connections} at most, {status.served:,} so far",
+    notes = [f"{counted(status.connected, 'connection')} now of {status.connections} at most, {status.served:,} so far, "
+             f"{status.cut.hello:,} ended without a hello and {status.cut.idle:,} idle ones",
              f"rotates at {status.rotate_at} %, keeps {counted(status.keep, 'dump')} of a tenant, finishes within "
              f"{duration(status.finish)}, durable: {status.durable.value}"]
     if status.workers:

@@ -129,9 +129,18 @@ class ClosedTerm:
 
 
 @dataclass(frozen=True, slots=True)
+class Cut:
+    """How many connections a host has ended so far: those that said no hello in time, and those that asked nothing."""
+
+    hello: int
+    idle: int
+
+
+@dataclass(frozen=True, slots=True)
 class HostStatus:
     """What a host said of itself. `time` and `began` are in seconds since 1970, `memory` in bytes or None, `rotate_at` in per
-    cent, `finish` in seconds; `connections` is the most at a time, `connected` how many there are now, `served` all so far.
+    cent, `finish` in seconds, and so are `hello_seconds` and `idle_seconds`, where 0 stands for any time; `connections` is
+    the most at a time, `connected` how many there are now, `served` all so far.
     The terms of one tenant stand together, the oldest first, and of those that are closed the newest is last."""
 
     time: int
@@ -139,6 +148,9 @@ class HostStatus:
     connections: int
     connected: int
     served: int
+    cut: Cut
+    hello_seconds: int
+    idle_seconds: int
     rotate_at: int
     keep: int
     finish: int
@@ -301,13 +313,17 @@ def parse_status(data: bytes, file: str = "status.json") -> Parsed:
 def _host(part: _Part) -> HostStatus:
     status = HostStatus(
         part.number("time"), part.number("began"), part.number("connections"), part.number("connected"), part.number("served"),
-        part.number("rotate_at"), part.number("keep"), part.number("finish"), part.one_of("durable", Durable),
+        _cut(part.part("cut")), part.number("hello_seconds"), part.number("idle_seconds"), part.number("rotate_at"), part.number("keep"), part.number("finish"), part.one_of("durable", Durable),
         part.or_none("memory", part.number),
         tuple(map(_worker, part.parts("workers"))), tuple(map(_term, part.parts("terms"))),
         tuple(map(_closed, part.parts("closed"))))
     known: list[Term | ClosedTerm] = [*status.terms, *status.closed]
     part.distinct("terms", "term", [f"{it.tenant}.{it.number:06}" for it in known])
     return status
+
+
+def _cut(part: _Part) -> Cut:
+    return Cut(part.number("hello"), part.number("idle"))
 
 
 def _worker(part: _Part) -> WorkerStatus:

@@ -1,0 +1,85 @@
+// Sessions that wait for a tenant's next term.
+
+use super::{Lives, Tenancy};
+use std::sync::{CondvarTimeouts, MutexGuard, Wait};
+use std::time::{Clock, Duration};
+use tenant_lock::StopFlag;
+use term_life::Why;
+
+/// How long a session waits for the next term at most before it looks again, in milliseconds.
+const LOOK: u64 = 100;
+
+/// How often it looks while the next term waits until an older one is closed: for 5 seconds.
+const LOOKS: u32 = 50;
+
+impl Lives {
+    /// Whether a term serves that is not the one of that number.
+    fn has_other(&self, number: Option<u64>) -> bool {
+        match self.serving() {
+            Some(term) => Some(term.span().number) != number,
+            None => false,
+        }
+    }
+
+    /// Whether no term is opened now.
+    fn has_none_coming(&self) -> bool {
+        self.is_refused || self.is_stopped
+    }
+}
+
+impl Tenancy {
+    /// Waits until a term serves that is not the one of that number, and says whether one does. It does not if none can be
+    /// opened, the flag is raised, or older terms are not closed within some seconds.
+    pub(crate) fn wait_for_next<R: Wait + Clock>(
+        &self,
+        rt: &R,
+        number: Option<u64>,
+        stop: &StopFlag,
+    ) -> bool {
+        let mut lives = self.lives.lock(rt);
+        lives.is_refused = false;
+        let mut held = 0u32;
+        for _look in rt.forever() {
+            if lives.has_other(number) {
+                return true;
+            }
+            if lives.has_none_coming() || stop.is_raised() || held >= LOOKS {
+                return false;
+            }
+            held = held.saturating_add(u32::from(lives.is_held));
+            lives = self.after_a_look(rt, lives);
+        }
+        false
+    }
+
+    /// Waits until a term serves that is not the one of that number, unless none can be opened now, older ones are to be
+    /// closed before, or the flag is raised.
+    pub(crate) fn wait_if_one_comes<R: Wait + Clock>(&self, rt: &R, number: u64, stop: &StopFlag) {
+        let mut lives = self.lives.lock(rt);
+        for _look in rt.forever() {
+            if lives.has_other(Some(number)) || lives.has_none_coming() || lives.is_held {
+                return;
+            }
+            if stop.is_raised() {
+                return;
+            }
+            lives = self.after_a_look(rt, lives);
+        }
+    }
+
+    /// Asks for the next term, and waits until something has changed, for a moment at most.
+    fn after_a_look<'l, R: Wait + Clock>(
+        &'l self,
+        rt: &R,
+        lives: MutexGuard<'l, Lives>,
+    ) -> MutexGuard<'l, Lives> {
+        let mut lives = lives;
+        if lives.wish.is_none() {
+            lives.wish = Some(Why::History);
+        }
+        let (lives, _timeout) = self
+            .changed
+            .wait_timeout(rt, lives, Duration::from_millis(LOOK));
+        lives
+    }
+}

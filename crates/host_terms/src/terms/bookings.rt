@@ -1,0 +1,58 @@
+// The places of sessions in a term.
+
+use super::HostTerm;
+use crate::board::{Board, TermSignal};
+use job_language::Request;
+use server_house::{OwnClient, Told};
+use std::sync::{Arc, Wait};
+use tenant_lock::StopFlag;
+
+/// A session's place in a term.
+#[derive(Drop)]
+pub(crate) struct Booking {
+    term: Arc<HostTerm>,
+    client: OwnClient,
+}
+
+impl Booking {
+    /// A place in a term. None if all are taken, or too many handles on the term are out.
+    pub(crate) fn of<R: Wait>(rt: &R, term: &Arc<HostTerm>) -> Option<Booking> {
+        let term = Arc::try_clone(term).ok()?;
+        let client = term.clients.lock(rt).pop()?;
+        Some(Booking { term, client })
+    }
+
+    pub(crate) fn term(&self) -> &HostTerm {
+        &self.term
+    }
+
+    /// Asks the term's tenant, and attends the slot that a job is placed on.
+    pub(crate) fn ask<R: Wait>(
+        self,
+        rt: &R,
+        board: &Board,
+        stop: &StopFlag,
+        request: Request,
+    ) -> (Booking, Told) {
+        let Booking { term, client } = self;
+        let signal = TermSignal {
+            board,
+            calls: &term.calls,
+        };
+        let (client, told) = client.ask(rt, &signal, stop, request);
+        (Booking { term, client }, told)
+    }
+
+    /// Waits while a job, by its number outside, has no outcome, and says whether to stop.
+    pub(crate) fn wait_for<R: Wait>(&self, rt: &R, job: u64, stop: &StopFlag) -> bool {
+        let job = job.saturating_sub(self.term.span.base);
+        self.client.wait_for(rt, job, stop)
+    }
+
+    /// Gives the place back to its term.
+    pub(crate) fn give_back<R: Wait>(self, rt: &R) {
+        let Booking { term, client } = self;
+        // There is room for it: it was there before.
+        let _kept = term.clients.lock(rt).push(client);
+    }
+}
