@@ -1,7 +1,8 @@
 #!/usr/bin/env python3
 """Compares arena-compile with the compiler in Python, and both with the interpreter of checks/python, which was written from
-docs/LANGUAGE.md alone, on drawn sources: what both make is rehearsed on drawn schedules. Sources with faults must be refused
-at the first one. The last line says how many.
+docs/LANGUAGE.md alone, on drawn sources: what both make is rehearsed on drawn schedules, and what `arena-compile --serial`
+prints must be the line of the interpreter's value. Sources with faults must be refused at the first one. The last line says
+how many.
 
 usage: checks/compile/run.py [SEED [PROGRAMS]], at the top of the repository; the seed is 1, and 400 programs are drawn, if none
 is said. It runs what `rt ci` or `rt run` left in crates/compile_program, or else builds arena-compile without proofs.
@@ -28,14 +29,32 @@ LIMITS = {"this function needs more than 8 registers": "registers", "this functi
           "needs more than 8 registers": "registers", "a procedure has at most": "instructions"}
 """What is said of a function that can't be compiled, by either, and what it has too many of."""
 
+REPLIES = (
+    ("fn main(n) { return n * n }\n", ("--serial", 12), 0, ('{"job":1,"status":"complete","value":144}\n', "")),
+    ("fn main(a, b) { return a - b }\n", ("--serial", 1, 3), 0, ('{"job":1,"status":"complete","value":-2}\n', "")),
+    ("fn main() { while 1 { } }\n", ("--serial",), 0, ('{"fault":2,"job":1,"status":"fault"}\n', "")),
+    ("fn main() { return slot() }\n", ("--serial",), 1, ("", "1:1")),
+    ("fn main(n) { return m }\n", ("--serial", 12), 1, ("", "1:21")),
+    ("fn main(n) { return n }\n", ("--serial", 1, 2, 3), 2, ("", "arena-compile")),
+    ("fn main(n) { return n }\n", (12, "--serial"), 2, ("", "arena-compile")),
+)
+"""Sources, the words for arena-compile, its status, its output, and standard error up to a colon and a space."""
+
 FEWEST = {"complete": 0.4, "fault": 0.01}
 """Which share of the programs is at least so."""
 
 
-def compiled(program: str, source: str, arguments: tuple[int, ...] = ()) -> tuple[int, str, str]:
-    """What arena-compile says of a source: its status, its output, and standard error."""
-    done = subprocess.run([program, *map(str, arguments)], input=source, capture_output=True, text=True, timeout=60)
+def compiled(program: str, source: str, *words: object) -> tuple[int, str, str]:
+    """What arena-compile says of a source, with these words: its status, its output, and standard error."""
+    done = subprocess.run([program, *map(str, words)], input=source, capture_output=True, text=True, timeout=60)
     return done.returncode, done.stdout, done.stderr
+
+
+def reply_of(value: int | None) -> str:
+    """The line that a tenant replies when its first job is complete with a value, or has fault 1."""
+    if value is None:
+        return '{"fault":1,"job":1,"status":"fault"}\n'
+    return f'{{"job":1,"status":"complete","value":{value}}}\n'
 
 
 def ended(job: object, draws: random.Random) -> object:
@@ -64,7 +83,7 @@ def difference(program: str, source: str, arguments: tuple[int, int], draws: ran
     except TooLong:
         seen["too long"] += 1
         return ""
-    status, output, said = compiled(program, source, arguments)
+    status, output, said = compiled(program, source, *arguments)
     limit = next((kind for words, kind in LIMITS.items() if status == 1 and said == f"{source.count('#') + 1}:1: {words}\n"), "")
     if limit:
         seen[limit] += 1
@@ -74,6 +93,9 @@ def difference(program: str, source: str, arguments: tuple[int, int], draws: ran
     seen["fault" if wanted is None else "complete"] += 1
     if found != wanted or python not in (wanted, *LIMITS.values()):
         return f"{found}, in Python {python}, and not {wanted}, of arguments {arguments}:\n{source}"
+    replied = compiled(program, source, "--serial", *arguments)
+    if replied != (0, reply_of(wanted), ""):
+        return f"{replied} for --serial, and not {reply_of(wanted)}, of arguments {arguments}:\n{source}"
     return ""
 
 
@@ -83,6 +105,13 @@ def refused_difference(program: str, source: str, place: str) -> str:
     if (status, output, said.split(": ")[0]) != (1, "", place):
         return f"status {status}, {said or output}, and not at {place}:\n{source}"
     return ""
+
+
+def wrong_replies(program: str) -> list[str]:
+    """What is wrong with the replies to some sources, with their words."""
+    said = ((source, words, status, output, compiled(program, source, *words)) for source, words, status, output in REPLIES)
+    return [f"{found} for {words}, and not {(status, output)}:\n{source}" for source, words, status, output, found in said
+            if (*found[:2], found[2].split(": ")[0]) != (status, *output)]
 
 
 def main(seed: int = 1, programs: int = 400) -> list[str]:
@@ -96,6 +125,7 @@ def main(seed: int = 1, programs: int = 400) -> list[str]:
         said = difference(program, source, arguments, draws, seen)
         found += [said] if said else []
     found += [said for source, place in REFUSED if (said := refused_difference(program, source, place))]
+    found += wrong_replies(program)
     for it in found[:3]:
         print(it)
     rare = [it for it, share in FEWEST.items() if seen[it] < share * programs]

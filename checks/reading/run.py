@@ -23,6 +23,8 @@ PROMISES = [
     ("functions that are compiled", ["job_compiler::compile_function", "job_compiler::compile_in", "job_compiler::compile_program"]),
     ("functions whose registers are chosen", ["register_choice::compile_function", "register_choice::compile_in", "register_choice::compile_program", "register_choice::is_coloured"]),
     ("values of functions", ["source_serial::value", "source_serial::source_values", "source_serial::jobs_have_source_values"]),
+    ("values of sources", ["source_value::texts_have_values", "source_value::texts_have_one_value", "source_value::value_of_source", "source_value::reply_of_source", "source_value::reply_line_of_source"]),
+    ("the line of a source's job", ["arena_compile::job_line"]),
     ("lines in", ["request_reader::LineReader", "request_reader::read_request"]),
     ("lines out", ["reply_writer::reply_line", "reply_writer::answer_line"]),
     ("the program's scripts", ["arena_script::script"]),
@@ -50,7 +52,8 @@ PROMISES = [
     ("a session of a server", ["server_house::serve_client"]),
     ("a worker of a server", ["server_house::serve_calls"]),
 ]
-# A definition begins in the first column with one of these words, or with the name alone.
+# A definition begins in the first column with one of these words, or with the name alone. An equation of an operator may
+# begin with a pattern between parentheses.
 HEAD = re.compile(r"^((?:(?:abbrev|unfoldable|pub|private|record|data) )*)([^\s:(]+)")
 USE = re.compile(r"use Rattle\.(\w+)\.specs\.([\w.]+?)(?:\.\{([^}]*)\}|\s+as\s+(\w+)|(?=;|\s*$))", re.M)
 WORD = re.compile(r"[\w']+")
@@ -68,8 +71,8 @@ class Module:
         for line in text.splitlines():
             if not line.strip() or line.lstrip().startswith("--") or re.match(r"(use|pub mod|mod) ", line):
                 continue
-            if not line[0].isspace():
-                words, name = HEAD.match(line).groups()
+            if head := HEAD.match(line):
+                words, name = head.groups()
                 if words or name in self.definitions:
                     lines = self.definitions.setdefault(name, [])
             if lines is not None:

@@ -1,19 +1,33 @@
--- What the job of a source is.
-use Rattle.std.specs.Prelude.{◌≡◌, ℕ, ℤ, List, map}
+-- What the job of a source is, and why there is none.
+use Rattle.std.specs.Prelude.{◌≡◌, ℕ, ℤ, List, map, IsSomeAnd, slice_get}
 use Rattle.serde_json.specs.Written.{compact_text}
+use Rattle.job_language.specs.declared.instructions.Instr.{Instr}
 use Rattle.job_language.specs.declared.jobs.Job.{Job}
 use Rattle.job_language.specs.declared.jobs.TheConstants.{MAX_FUEL}
+use Rattle.job_language.specs.Program.{IsValidProc}
 use Rattle.job_json.specs.JobData.{job_data}
 use Rattle.source_language.specs.declared.syntax.Function.{Function}
+use Rattle.job_compiler.specs.declared.errors.Refusal.{Refusal}
+use Rattle.job_compiler.specs.Code.{function_code}
 use Rattle.job_compiler.specs.Programs.{IsCompiledProgram}
+use Rattle.job_compiler.specs.Refusals.{HasCode, IsRefused}
+use Rattle.source_reader.specs.declared.places.Place.{Place}
 use Rattle.source_reader.specs.Trees.{function_tree_of}
-use Rattle.source_reader.specs.Source.{Says}
+use Rattle.source_reader.specs.Source.{Says, HasFault, function_place}
+use Rattle.arena_compile.specs.declared.errors.CompileFault.{CompileFault}
+use Rattle.arena_compile.specs.declared.errors.CompileFault.TheVariants.{Source, TooLong, Registers}
+use Rattle.arena_compile.specs.declared.errors.CompileError.{CompileError}
+use Rattle.arena_compile.specs.declared.errors.CompileError.TheVariants.{Memory, Fault}
 
--- The text says functions of which the job's program is compiled.
-pub record IsJobOf (args : List ℤ) (text : List ℕ) (job : Job) : Type 0 where
+-- The text says functions of which the program is compiled.
+pub record IsProgramOf (text : List ℕ) (program : List (List Instr)) : Type 0 where
   pub functions : List Function
   pub said : Says text (map function_tree_of functions)
-  pub compiled : IsCompiledProgram functions job.program
+  pub compiled : IsCompiledProgram functions program
+
+-- The job's program is one of the text, and the job has these arguments and all the fuel that it may have.
+pub record IsJobOf (args : List ℤ) (text : List ℕ) (job : Job) : Type 0 where
+  pub program : IsProgramOf text job.program
   pub given : job.args ≡ args
   pub fuel : job.fuel ≡ MAX_FUEL
 
@@ -22,3 +36,21 @@ pub record IsLineOf (args : List ℤ) (text line : List ℕ) : Type 0 where
   pub job : Job
   pub made : IsJobOf args text job
   pub written : line ≡ compact_text (job_data job)
+
+-- The text says functions, and this is so of the one that begins at the place.
+pub record HasFunctionAt (text : List ℕ) (place : Place) (P : Function → Type 0) : Type 0 where
+  pub functions : List Function
+  pub said : Says text (map function_tree_of functions)
+  pub number : ℕ
+  pub begins : place ≡ function_place text number
+  pub has : IsSomeAnd (slice_get functions number) P
+
+abbrev pub IsFaultOf : List ℕ → CompileFault → Type 0
+IsFaultOf text (Source fault) = HasFault text fault
+IsFaultOf text (TooLong place) = HasFunctionAt text place (λ f. (r : Refusal) × IsRefused f r)
+IsFaultOf text (Registers place) = HasFunctionAt text place (λ f. HasCode f × (¬ IsValidProc (function_code f)))
+
+-- why a text makes no job
+abbrev pub IsErrorOf : List ℕ → CompileError → Type 0
+IsErrorOf text Memory = Unit {0}
+IsErrorOf text (Fault fault) = IsFaultOf text fault

@@ -1,4 +1,8 @@
 // Why a source makes no job, in words.
+ghost use Rattle.std.specs.Prelude.{ℕ, List};
+ghost use Rattle.register_choice.specs.Refusals.{IsWithoutChoice};
+ghost use Rattle.arena_compile.specs.Jobs.{HasFunctionAt, IsFaultOf};
+
 use register_choice::ChoiceRefusal;
 use source_reader::{Place, SourceFault, Wrong};
 
@@ -58,7 +62,10 @@ fn words_of(wrong: Wrong) -> &'static str {
 }
 
 /// The fault of a function that begins there.
-pub(crate) fn fault_of(refusal: ChoiceRefusal, place: Place) -> CompileFault {
+pub(crate) fn fault_of(refusal: ChoiceRefusal, place: Place) -> CompileFault
+    ensures { (text : List ℕ) → HasFunctionAt text place (λ f. IsWithoutChoice f refusal)
+        → IsFaultOf text result }
+{
     match refusal {
         ChoiceRefusal::Refused(_) => CompileFault::TooLong(place),
         ChoiceRefusal::Crowded(_) => CompileFault::Registers(place),

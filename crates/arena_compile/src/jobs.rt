@@ -1,9 +1,11 @@
 // The job of a source.
-ghost use Rattle.std.specs.Prelude.{◌≡◌, IfOk, map};
+ghost use Rattle.std.specs.Prelude.{◌≡◌, List, IfOk, IfErr, map};
+ghost use Rattle.source_language.specs.declared.syntax.Function.{Function};
+ghost use Rattle.register_choice.specs.Programs.{IsNoProgram};
 ghost use Rattle.source_reader.specs.Source.{Says};
 ghost use Rattle.source_reader.specs.Trees.{function_tree_of};
 ghost use Rattle.job_compiler.specs.Programs.{IsCompiledProgram};
-ghost use Rattle.arena_compile.specs.Jobs.{IsJobOf};
+ghost use Rattle.arena_compile.specs.Jobs.{IsJobOf, IsErrorOf};
 
 use crate::errors::{CompileError, CompileFault, fault_of};
 use job_language::{Fuel, Job, MAX_FUEL, Program};
@@ -14,7 +16,8 @@ use std::alloc::Global;
 
 /// The job of a source with these arguments, and with all the fuel that a job may have.
 pub fn job_of(alloc: Global, args: [i64; 2], text: &[u8]) -> Result<Job, CompileError>
-    ensures { IfOk result (IsJobOf args text.now) }
+    ensures made { IfOk result (IsJobOf args text.now) }
+    ensures refused { IfErr result (IsErrorOf text.now) }
 {
     match read_source(alloc, text) {
         Ok(functions) => job_with(alloc, args, text, functions.as_slice()),
@@ -31,7 +34,8 @@ fn job_with(
     functions: &[Function],
 ) -> Result<Job, CompileError>
     requires { Says text.now (map function_tree_of functions.now) }
-    ensures { IfOk result (IsJobOf args text.now) }
+    ensures made { IfOk result (IsJobOf args text.now) }
+    ensures refused { IfErr result (IsErrorOf text.now) }
 {
     let program = program_of(alloc, functions, text)?;
     let fuel = most_fuel();
@@ -51,7 +55,9 @@ fn most_fuel() -> Fuel
 
 /// The program of functions. A refusal has the place of its function.
 fn program_of(alloc: Global, functions: &[Function], text: &[u8]) -> Result<Program, CompileError>
-    ensures { IfOk result (IsCompiledProgram functions.now) }
+    requires { Says text.now (map function_tree_of functions.now) }
+    ensures compiled { IfOk result (IsCompiledProgram functions.now) }
+    ensures refused { IfErr result (IsErrorOf text.now) }
 {
     match compile_program(alloc, functions) {
         Ok(program) => Ok(program),
@@ -59,7 +65,11 @@ fn program_of(alloc: Global, functions: &[Function], text: &[u8]) -> Result<Prog
     }
 }
 
-fn error_of(alloc: Global, error: ChoiceProgramError, text: &[u8]) -> CompileError {
+/// Why functions that a text says make no program, with the place of the one that is refused.
+fn error_of(alloc: Global, error: ChoiceProgramError, text: &[u8]) -> CompileError
+    ensures { (functions : List Function) → Says text.now (map function_tree_of functions)
+        → IsNoProgram functions error → IsErrorOf text.now result }
+{
     match error {
         ChoiceProgramError::Refused(number, refusal) => {
             match function_place(alloc, text, number) {

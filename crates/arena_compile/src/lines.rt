@@ -1,8 +1,8 @@
 // The line of a job.
-ghost use Rattle.std.specs.Prelude.{◌≡◌, IfOk, string_bytes};
+ghost use Rattle.std.specs.Prelude.{◌≡◌, IfOk, IfErr, string_bytes};
 ghost use Rattle.serde_json.specs.Written.{compact_text};
 ghost use Rattle.job_json.specs.JobData.{job_data};
-ghost use Rattle.arena_compile.specs.Jobs.{IsLineOf};
+ghost use Rattle.arena_compile.specs.Jobs.{IsLineOf, IsErrorOf};
 
 use crate::errors::CompileError;
 use crate::jobs::job_of;
@@ -21,7 +21,8 @@ fn text_of(alloc: Global, job: &Job) -> Result<String, AllocError>
 
 /// The line of the job of a source, without its newline.
 pub fn job_line(alloc: Global, args: [i64; 2], text: &[u8]) -> Result<String, CompileError>
-    ensures { IfOk result (λ line. IsLineOf args text.now (string_bytes line)) }
+    ensures made { IfOk result (λ line. IsLineOf args text.now (string_bytes line)) }
+    ensures refused { IfErr result (IsErrorOf text.now) }
 {
     let job = job_of(alloc, args, text)?;
     match text_of(alloc, &job) {

@@ -1,10 +1,13 @@
-//! `arena-compile`: reads a source on standard input, and writes the line of its job.
+//! `arena-compile`: reads a source on standard input, and writes the line of its job, or the line with
+//! which a tenant replies when it has executed that job.
 #![tactic(auto)]
 
-use arena_compile::{CompileError, args_in, job_line};
+use arena_compile::{CompileError, CompileFault, args_in, job_line};
+use job_language::{Fuel, MAX_FUEL};
 use program_version::{asks_version, print_version};
+use source_value::{SourceError, lone_tenant, reply_line_of_source};
 use std::env::Env;
-use std::io::{ErrorKind, Read};
+use std::io::{ErrorKind, Read, Write};
 use std::process::ExitCode;
 use std::{env, io};
 
@@ -18,9 +21,13 @@ enum Stop {
     Words,
     /// An allocation, the input or the output failed.
     Device,
+    /// An allocation failed.
+    Memory,
     /// The source is too long.
     Length,
-    Compile(CompileError),
+    /// The source has no serial value.
+    NotSerial,
+    Fault(CompileFault),
 }
 
 fn main(rt: HostRuntime) -> ExitCode {
@@ -36,19 +43,42 @@ fn run<R: Env + Input + Print + AllocGlobal>(rt: &R) -> Result<(), Stop> {
     if asks_version(texts.as_slice()) {
         return print_version(rt, "arena-compile").map_err(|_fault| Stop::Device);
     }
-    let args = args_in(texts.as_slice()).ok_or(Stop::Words)?;
-    let text = source_of(rt)?;
-    match job_line(rt.alloc(), args, text.as_slice()) {
-        Ok(line) => written(rt, line.as_str()),
-        Err(error) => Err(Stop::Compile(error)),
+    match texts.as_slice().split_first() {
+        Some((first, rest)) if *first == "--serial" => print_reply(rt, rest),
+        _ => print_job(rt, texts.as_slice()),
     }
 }
 
-/// Writes the line of a job.
-fn written<R: Print>(rt: &R, line: &str) -> Result<(), Stop> {
-    match rt.println(line) {
-        Ok(()) => Ok(()),
-        Err(_) => Err(Stop::Device),
+/// Prints the job of the source on standard input, with the arguments that the words are.
+fn print_job<R: Input + Print + AllocGlobal>(rt: &R, words: &[&str]) -> Result<(), Stop> {
+    let args = args_in(words).ok_or(Stop::Words)?;
+    let text = source_of(rt)?;
+    match job_line(rt.alloc(), args, text.as_slice()) {
+        Ok(line) => rt.println(line.as_str()).map_err(|_fault| Stop::Device),
+        Err(CompileError::Memory) => Err(Stop::Memory),
+        Err(CompileError::Fault(fault)) => Err(Stop::Fault(fault)),
+    }
+}
+
+/// Prints what a tenant of one slot replies when it has executed that job with all fuel.
+fn print_reply<R: Input + Print + AllocGlobal>(rt: &R, words: &[&str]) -> Result<(), Stop> {
+    let [first, second] = args_in(words).ok_or(Stop::Words)?;
+    let text = source_of(rt)?;
+    let fuel = Fuel::new(MAX_FUEL).unwrap();
+    match reply_line_of_source(
+        rt.alloc(),
+        lone_tenant(),
+        first,
+        second,
+        fuel,
+        text.as_slice(),
+    ) {
+        Ok(line) => io::writer(rt)
+            .write_all(line.line())
+            .map_err(|_fault| Stop::Device),
+        Err(SourceError::Memory) => Err(Stop::Memory),
+        Err(SourceError::NotSerial) => Err(Stop::NotSerial),
+        Err(SourceError::Fault(fault)) => Err(Stop::Fault(fault)),
     }
 }
 
@@ -98,29 +128,35 @@ fn source_of<R: Input + AllocGlobal>(rt: &R) -> Result<Vec<u8>, Stop> {
     }
 }
 
+impl Stop {
+    /// The status that the program ends with.
+    fn status(&self) -> u8 {
+        match self {
+            Stop::Length | Stop::NotSerial | Stop::Fault(_) => 1,
+            Stop::Words => 2,
+            Stop::Device | Stop::Memory => 3,
+        }
+    }
+}
+
+/// Says on standard error why there is no line.
+fn say<R: Eprint>(rt: &R, stop: &Stop) -> io::Result<()> {
+    match stop {
+        Stop::Words => rt.eprintln("arena-compile: words"),
+        Stop::Device => rt.eprintln("arena-compile: device"),
+        Stop::Memory => rt.eprintln("arena-compile: memory"),
+        Stop::Length => rt.eprintln("1:1: the source has more than 65536 bytes"),
+        Stop::NotSerial => rt.eprintln("1:1: the value may depend on the slot or the width"),
+        Stop::Fault(fault) => {
+            let place = fault.place();
+            eprintln!(rt; "{}:{}: {}", place.line, place.column, fault.words())
+        }
+    }
+}
+
 /// Tells why there is no line. The status tells it even if standard error takes nothing.
 fn told<R: Eprint>(rt: &R, stop: Stop) -> ExitCode {
-    match stop {
-        Stop::Words => {
-            let _ = rt.eprintln("arena-compile: words");
-            ExitCode::from(2)
-        }
-        Stop::Device => {
-            let _ = rt.eprintln("arena-compile: device");
-            ExitCode::from(3)
-        }
-        Stop::Length => {
-            let _ = rt.eprintln("1:1: the source has more than 65536 bytes");
-            ExitCode::from(1)
-        }
-        Stop::Compile(CompileError::Memory) => {
-            let _ = rt.eprintln("arena-compile: memory");
-            ExitCode::from(3)
-        }
-        Stop::Compile(CompileError::Fault(fault)) => {
-            let place = fault.place();
-            let _ = eprintln!(rt; "{}:{}: {}", place.line, place.column, fault.words());
-            ExitCode::from(1)
-        }
+    match say(rt, &stop) {
+        Ok(()) | Err(_) => ExitCode::from(stop.status()),
     }
 }

@@ -51,7 +51,7 @@ module _ (fs : List Function) where
   act_extends F G h t Divides v e = e
   act_extends F G h t (Does o) v e = does_extends F G h t o v e
 
-  longer : (n j : ℕ) (t : SourceTask) (v : ℤ) → source_given n fs t ≡ Some v → source_given (n + j) fs t ≡ Some v
+  pub longer : (n j : ℕ) (t : SourceTask) (v : ℤ) → source_given n fs t ≡ Some v → source_given (n + j) fs t ≡ Some v
   longer zero j t v e = absurd (none-some v e)
   longer (suc n) j t v e =
       let z : suc n + j ≡ suc (n + j) = omega arith in

@@ -1,5 +1,9 @@
 use Rattle.std.proofs.Common.{refl}
 use Rattle.arena_compile.proofs.jobs.job_with.Goals as goal
 
-pub returns : goal.returns
-returns c = record { functions = c.args.functions.now; said = c.requires; compiled = c.in_ok-program.ensures; given = refl; fuel = c.most_fuel-fuel.ensures }
+pub returns-clause-made : goal.returns-clause-made
+returns-clause-made c = record {
+  program = record { functions = c.args.functions.now; said = c.requires; compiled = c.in_ok-program.ensures.compiled };
+  given = refl;
+  fuel = c.most_fuel-fuel.ensures;
+}

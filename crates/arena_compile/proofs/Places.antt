@@ -1,0 +1,19 @@
+-- What is so of the function that begins at a place.
+use Rattle.std.proofs.Common.{ℕ, List, Option, Some, None}
+use Rattle.std.specs.Prelude.{IsSomeAnd, slice_get}
+use Rattle.source_language.specs.declared.syntax.Function.{Function}
+use Rattle.source_reader.specs.declared.places.Place.{Place}
+use Rattle.arena_compile.specs.Jobs.{HasFunctionAt}
+
+if_some : (P Q : Function → Type 0) → ((f : Function) → P f → Q f) → (o : Option Function) → IsSomeAnd o P → IsSomeAnd o Q
+if_some P Q h None has = has
+if_some P Q h (Some f) has = h f has
+
+pub has_too : (text : List ℕ) (place : Place) (P Q : Function → Type 0) → ((f : Function) → P f → Q f) → HasFunctionAt text place P → HasFunctionAt text place Q
+has_too text place P Q h at = record {
+  functions = at.functions;
+  said = at.said;
+  number = at.number;
+  begins = at.begins;
+  has = if_some P Q h (slice_get at.functions at.number) at.has;
+}

@@ -1,0 +1,5 @@
+pub mod Telling
+pub mod Advances
+pub mod Arguments
+pub mod Replied
+pub mod Trees

@@ -1,0 +1,3 @@
+pub mod TextValues
+pub mod Replies
+pub mod Refusals
