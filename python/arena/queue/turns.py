@@ -122,7 +122,7 @@ class Turns(Store):
     def _claim(self, dispatcher: int, tenant: str, limit: int) -> list[Claim]:
         """Takes ready jobs of a tenant, the first ones."""
         rows = self.base.claim(dispatcher, tenant, limit)
-        return [Claim(*it[:-1]) for it in sorted(rows, key=lambda it: (-it[-1], it[0]))]
+        return [Claim._make(it[:-1]) for it in sorted(rows, key=lambda it: (-it[-1], it[0]))]
 
     def _take_away(self, dispatcher: int) -> None:
         """Takes a lease away, and gives its jobs back."""

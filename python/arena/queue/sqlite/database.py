@@ -56,6 +56,7 @@ class Sqlite(Base):
                 self._base.create_function("arena_now", 0, now)
                 for setting in SETTINGS:
                     self._base.execute(f"PRAGMA {setting}")
+                self._base.execute(statements.ENDINGS)
                 self._migrate(make)
             except sqlite3.DatabaseError as fault:
                 if type(fault) is not sqlite3.DatabaseError:
@@ -142,14 +143,11 @@ class Sqlite(Base):
 
     def settle(self, dispatcher: int, endings: Sequence[Ending]) -> list[int]:
         """See `Base`."""
-        at = now()
-        rows = [(it.state.value, it.value, it.fault, it.error, at, it.job, dispatcher, it.attempt) for it in endings]
-        self.change("SAVEPOINT settle")
-        if self.change_many(statements.SETTLE, rows) == len(rows):
-            self.change("RELEASE settle")
-            return []
-        self.change("ROLLBACK TO settle")
-        return [it.job for it, row in zip(endings, rows, strict=True) if not self.change(statements.SETTLE, *row)]
+        self.change_many("INSERT INTO ending VALUES (?, ?, ?, ?, ?, ?)",
+                         [(it.job, it.attempt, it.state.value, it.value, it.fault, it.error) for it in endings])
+        done = {it for it, in self.rows(statements.SETTLE, now(), dispatcher)}
+        self.change("DELETE FROM ending")
+        return [it.job for it in endings if it.job not in done]
 
     def promote(self) -> None:
         """See `Base`."""
@@ -161,7 +159,7 @@ class Sqlite(Base):
 
     def claim(self, dispatcher: int, tenant: str, limit: int) -> list[Row]:
         """See `Base`."""
-        return self.rows(statements.CLAIM, dispatcher, tenant, limit)
+        return self.rows(statements.CLAIM, dispatcher, now(), tenant, limit)
 
     def hold_job(self, job: int) -> None:
         """See `Base`."""
