@@ -56,7 +56,8 @@ class Sqlite(Base):
                 self._base.create_function("arena_now", 0, now)
                 for setting in SETTINGS:
                     self._base.execute(f"PRAGMA {setting}")
-                self._base.execute(statements.ENDINGS)
+                for stage in statements.STAGES:
+                    self._base.execute(stage)
                 self._migrate(make)
             except sqlite3.DatabaseError as fault:
                 if type(fault) is not sqlite3.DatabaseError:
@@ -127,7 +128,9 @@ class Sqlite(Base):
     def insert(self, rows: Sequence[Row]) -> set[int]:
         """See `Base`."""
         at = now()
-        made = self.change_many(statements.INSERT, [self._completed(row, at) for row in rows])
+        self.change_many(statements.BRING_JOB, [self._completed(row, at) for row in rows])
+        made = self.change(statements.INSERT)
+        self.change("DELETE FROM new_job")
         numbers = {row[0] for row in rows}
         return numbers if made == len(rows) else {it for it, in self.rows("SELECT id FROM job WHERE id >= ?", min(numbers))}
 
@@ -143,7 +146,7 @@ class Sqlite(Base):
 
     def settle(self, dispatcher: int, endings: Sequence[Ending]) -> list[int]:
         """See `Base`."""
-        self.change_many("INSERT INTO ending VALUES (?, ?, ?, ?, ?, ?)",
+        self.change_many(statements.BRING_ENDING,
                          [(it.job, it.attempt, it.state.value, it.value, it.fault, it.error) for it in endings])
         done = {it for it, in self.rows(statements.SETTLE, now(), dispatcher)}
         self.change("DELETE FROM ending")
