@@ -36,6 +36,10 @@ PLANTED_SECONDS = 60.0
 """How long dispatchers are frozen at most until what a missing fence leads to is there."""
 
 
+LONGEST = 1200.0
+"""How many seconds a part may take beside those in which processes are killed, on a machine that is busy."""
+
+
 @contextlib.contextmanager
 def chaos(seed: int, postgres: bool) -> Iterator[Chaos]:
     """The processes, with a queue in a file or in PostgreSQL."""
@@ -73,7 +77,7 @@ def each_acknowledged_job_has_its_outcome_in_postgresql(seconds: float, seed: in
         print("psycopg2 or PostgreSQL is not installed (apt install postgresql python3-psycopg2): the queue was not tried there")
         return
     words = [python, str(pathlib.Path(__file__).resolve()), "--postgres", "--seed", str(seed), "--seconds", str(seconds)]
-    assert subprocess.run(words, timeout=600).returncode == 0
+    assert subprocess.run(words, timeout=seconds + LONGEST).returncode == 0
 
 
 def a_missing_fence_is_found(seed: int) -> None:
@@ -81,7 +85,7 @@ def a_missing_fence_is_found(seed: int) -> None:
     with tempfile.TemporaryDirectory() as folder:
         words = [sys.executable, str(pathlib.Path(__file__).resolve()), "--without-fence", "--seed", str(seed), "--seconds",
                  str(PLANTED_SECONDS)]
-        done = subprocess.run(words, capture_output=True, text=True, timeout=600,
+        done = subprocess.run(words, capture_output=True, text=True, timeout=PLANTED_SECONDS + LONGEST,
                               env={**os.environ, "ARENA_PYTHON": without_fence(pathlib.Path(folder))})
     said = done.stdout.splitlines()[-1] if done.stdout else ""
     print(f"without the fence: {said}")
