@@ -32,7 +32,7 @@ from tests.postgres_server import programs, served
 RATE = 6.0
 """How many batches of 7 jobs, on the average, each submitter submits in a second."""
 
-PLANTED_SECONDS = 60.0
+PLANTED_SECONDS = 300.0
 """How long dispatchers are frozen at most until what a missing fence leads to is there."""
 
 

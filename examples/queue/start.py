@@ -30,7 +30,7 @@ sys.path.insert(0, str(PACKAGE))
 
 from arena.queue import State, Store  # noqa: E402
 
-PATIENCE = 120.0
+PATIENCE = 300.0
 """How many seconds a part may take to begin, on a machine that is busy."""
 
 LOOK = 0.1

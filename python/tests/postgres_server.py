@@ -10,7 +10,7 @@ import time
 from collections.abc import Iterator
 from contextlib import contextmanager
 
-PATIENCE = 60.0
+PATIENCE = 300.0
 
 USERS = ("postgres", "nobody")
 """Who runs the server, if the check is run by root: the server refuses to be."""
