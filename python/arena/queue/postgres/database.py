@@ -130,7 +130,8 @@ class Postgres(Base):
 
     def promote(self) -> None:
         """See `Base`."""
-        self._later.append(self._call(statements.PROMOTE))
+        call = self._call(statements.PROMOTE)  # first: what is to travel with it may be sent by this
+        self._later.append(call)
 
     def hurry(self, longest: int) -> None:
         """See `Base`."""
