@@ -28,7 +28,7 @@ PACKAGE = TOP / "python"
 PROVED, UNPROVED = TOP / "out" / "arena-host", TOP / "out" / "unproved" / "arena-host"
 sys.path.insert(0, str(PACKAGE))
 
-from arena.queue import State, Store  # noqa: E402
+from arena.queue import QueueError, State, Store  # noqa: E402
 
 PATIENCE = 300.0
 """How many seconds a part may take to begin, on a machine that is busy."""
@@ -116,8 +116,9 @@ class Queue:
 
     @contextlib.contextmanager
     def held(self) -> Iterator[None]:
-        """Holds the folder, so that nobody starts a second one there. Raises NotBegun."""
-        self.run.mkdir(parents=True, exist_ok=True)
+        """Holds the folder, which is its owner's alone if it is made here, so that nobody starts a second one there. Raises NotBegun."""
+        self.folder.mkdir(mode=0o700, parents=True, exist_ok=True)
+        self.run.mkdir(exist_ok=True)
         with open(self.folder / "lock", "w") as lock:
             try:
                 fcntl.flock(lock, fcntl.LOCK_EX | fcntl.LOCK_NB)
@@ -133,9 +134,10 @@ class Queue:
         # Nothing but the queue stands before the host, so the host needs no journals (docs/HOST.md).
         self._part("host", sys.executable, "-m", "arena", "host", "--program", self.host, self.run, "--config", self.config,
                    "--durable", "off").start(lambda _: is_served(self.run / "socket"))
-        how = ("built without proofs: for a first look, as it is a hundred times slower than the proved one (make build)"
-               if UNPROVED.parent in self.host.parents else "as it was built")
-        print(f"host        {self.host}, {how}", flush=True)
+        how = ""
+        if UNPROVED.parent in self.host.parents:
+            how = ", built without proofs: for a first look, as it is a hundred times slower than the proved one (make build)"
+        print(f"host        {self.host}{how}", flush=True)
         self._part("dispatcher", sys.executable, "-m", "arena", "queue", "run", self.run, "-q", self.file).start(
             lambda said: "is taken" in said)
         print("dispatcher  runs the queue's jobs on the host", flush=True)
@@ -199,16 +201,17 @@ def told(queue: Queue, page: str | None) -> str:
     lines = ["", "In another terminal:", "",
              f"    cd {shlex.quote(str(TOP))}",
              f"    export PYTHONPATH=$PWD/python ARENA_QUEUE={shlex.quote(str(queue.file))} ARENA_TENANT={tenant}",
-             "    JOB=$(python3 -m arena queue submit examples/jobs/fib.job --args 10); echo $JOB     # keeps a job; its number",
-             "    python3 -m arena queue wait $JOB                                                    # its value, once it has one",
+             "    JOB=$(python3 -m arena queue submit examples/jobs/fib.job --args 10)",
+             "    python3 -m arena queue wait $JOB",
              "    python3 -m arena queue list"]
     if page is not None:
-        lines += ["    TOKEN=$(python3 -m arena queue token); echo $TOKEN      # a browser that opens the page wants it as the password, with any name",
+        lines += ["    TOKEN=$(python3 -m arena queue token); echo $TOKEN",
                   '    curl -H "Authorization: Bearer $TOKEN" -d \'{"source": "fn main(a, b) { return a * b }", "args": [6, 7]}\' '
                   f"{page}/v1/jobs",
-                  f'    curl -H "Authorization: Bearer $TOKEN" "{page}/v1/jobs/NUMBER?wait=10"']
-    return "\n".join([*lines, "", f"docs/QUEUE.md has the rest; what the parts print is in {queue.folder}/*.log. Ctrl-C ends everything in "
-                                  "order; jobs are kept."])
+                  f'    curl -H "Authorization: Bearer $TOKEN" "{page}/v1/jobs/NUMBER?wait=10"',
+                  "", "A browser that opens the page asks for a name, which may be any, and a password, which is the token."]
+    return "\n".join([*lines, "", f"What the parts print is in {queue.folder}/*.log, and docs/QUEUE.md has the rest.",
+                      "Ctrl-C ends everything in order; jobs are kept."])
 
 
 def main() -> int:
@@ -226,7 +229,7 @@ def main() -> int:
     try:
         with queue.held():
             queue.serve(lambda: bool(asked))
-    except NotBegun as fault:
+    except (NotBegun, QueueError, OSError) as fault:
         print(fault, file=sys.stderr, flush=True)
         return 1
     return 0
