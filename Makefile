@@ -1,7 +1,7 @@
 # The commands of this repository; `make help` lists them. `rt` is the command of the Rattle kit.
 
 .DEFAULT_GOAL := help
-.PHONY: help run build serve serve-unproved host host-unproved stop install uninstall deb dist pictures test try test-python bench check examples clean
+.PHONY: help run build serve serve-unproved host host-unproved queue stop install uninstall deb dist pictures test try test-python bench check examples clean
 
 EXAMPLE ?= first_job
 
@@ -39,6 +39,12 @@ host: build ## hosts the same tenants for any number of connections, in the fold
 host-unproved: ## the same within a few minutes, by a host that is built without proofs
 	@checks/build/unproved.py arena-host
 	@$(MAKE) --no-print-directory -o build host HOST=out/unproved/arena-host
+
+QUEUE ?= /tmp/arena-queue
+LISTEN ?= 127.0.0.1:9780
+
+queue: ## a durable queue, a host and the page over HTTP, in the folder QUEUE (/tmp/arena-queue), at LISTEN; without proofs if no host is built; Ctrl-C stops all
+	@examples/queue/start.py $(QUEUE) --config $(CONFIG) --listen $(LISTEN) $(if $(wildcard $(HOST)),--host $(HOST))
 
 stop: ## stops the server of `make serve` in order, and waits until it has ended, ten minutes at most
 	@examples/server/stop.py $(SOCKET)

@@ -2,7 +2,7 @@
 """A client that keeps K jobs in flight for some seconds, each submitted, waited for and read, and prints how many a second ended,
 the median time of one in milliseconds, and the client's processor time for one in microseconds.
 
-usage: clients.py queue FILE-OR-URL SYNCHRONOUS K SECONDS, clients.py celery K SECONDS, or clients.py beanstalk PORT K SECONDS
+usage: clients.py queue FILE-OR-URL SYNCHRONOUS K SECONDS, clients.py celery K SECONDS, or clients.py beanstalk|gearman PORT K SECONDS
 """
 import collections
 import json
@@ -58,6 +58,9 @@ def main() -> None:
             took = by_queue(words[0], words[1], int(most), float(seconds))
         case "celery":
             took = by_celery(int(most), float(seconds))
+        case "gearman":
+            from gearman import by_gearman
+            took = by_gearman(int(words[0]), int(most), float(seconds))
         case _:
             from beanstalk import by_beanstalk
             took = by_beanstalk(int(words[0]), int(most), float(seconds))

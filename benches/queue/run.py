@@ -1,7 +1,7 @@
 #!/usr/bin/env python3
 """Measures small jobs through the queue, in a file or in PostgreSQL, each submission and outcome flushed or not, beside Celery on Redis,
-which writes its file each second or with each command, and beanstalkd, which flushes each, where these are installed. All cases are
-run in turn, several rounds; the last lines are a table of medians and of ratios.
+which writes its file each second or with each command, beanstalkd, which flushes each, and gearmand on SQLite, where these are installed.
+All cases are run in turn, several rounds; the last lines are a table of medians and of ratios.
 
 usage: benches/queue/run.py [--seconds S] [--rounds R] [--quick-host], at the top of the repository, with a built host
 
@@ -110,14 +110,33 @@ def beanstalk_cases(at: Place) -> Iterator[Case]:
     if program is None:
         return
     (at.folder / "log").mkdir()
-    with socket.socket() as it:
-        it.bind(("127.0.0.1", 0))
-        port = it.getsockname()[1]
+    port = free_port()
     at.process("beanstalkd", program, "-l", "127.0.0.1", "-p", port, "-b", at.folder / "log", "-f0").start()
     until(lambda: is_open(port), "beanstalkd")
     for number in range(4):
         at.process(f"beanstalk{number}", sys.executable, HERE / "beanstalk.py", port).start()
     yield Case("beanstalkd, with each write", ("beanstalk", str(port)))
+
+
+def gearman_cases(at: Place) -> Iterator[Case]:
+    """gearmand with its queue in a file of SQLite, and four workers."""
+    program = shutil.which("gearmand")
+    if program is None:
+        return
+    port = free_port()
+    at.process("gearmand", program, "-L", "127.0.0.1", "-p", port, "-q", "libsqlite3", "--libsqlite3-db", at.folder / "gearman.sqlite",
+               "--log-file", at.folder / "gearman.log").start()
+    until(lambda: is_open(port), "gearmand")
+    for number in range(4):
+        at.process(f"gearman{number}", sys.executable, HERE / "gearman.py", port).start()
+    yield Case("gearmand on SQLite", ("gearman", str(port)))
+
+
+def free_port() -> int:
+    """A port at which nobody listens."""
+    with socket.socket() as it:
+        it.bind(("127.0.0.1", 0))
+        return int(it.getsockname()[1])
 
 
 def is_open(port: int) -> bool:
@@ -180,7 +199,8 @@ def main() -> None:
         at = opened.enter_context(place())
         python = places.python_with("psycopg2")
         server = opened.enter_context(served()) if python is not None and programs() is not None else None
-        cases = [*queue_cases(at, words.quick_host, server, python), *(celery_cases(at) if has_celery() else ()), *beanstalk_cases(at)]
+        cases = [*queue_cases(at, words.quick_host, server, python), *(celery_cases(at) if has_celery() else ()), *beanstalk_cases(at),
+                 *gearman_cases(at)]
         found: dict[tuple[str, int], list[dict[str, float]]] = {(it.name, most): [] for it in cases for most in WINDOWS}
         for it in cases:
             measured(it, 8, 1.0)  # to warm up

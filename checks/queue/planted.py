@@ -6,8 +6,8 @@ import shutil
 import places
 
 EDITS = {
-    "sqlite/statements.py": ("WHERE id = ? AND state = 'running' AND dispatcher = ? AND attempt = ?\"\"\"",
-                             "WHERE id = ? AND ? > 0 AND ? > 0\"\"\""),
+    "sqlite/statements.py": ("WHERE job.id = new.id AND job.state = 'running' AND job.dispatcher = ? AND job.attempt = new.attempt",
+                             "WHERE job.id = new.id AND ? > 0"),
     "postgres/statements.py": ("WHERE job.id = new.id AND job.state = 'running' AND job.dispatcher = ? AND job.attempt = new.attempt RETURNING",
                                "WHERE job.id = new.id AND ? > 0 RETURNING"),
     "turns.py": ("raise LeaseLost(\"its lease had run out, and another dispatcher has taken it away\")",

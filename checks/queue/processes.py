@@ -18,7 +18,7 @@ from jobs import ROWS, SLOTS
 
 from arena.queue.base import faults_of, is_url
 
-PATIENCE = 120.0
+PATIENCE = 300.0
 """How many seconds something may take that is to come by itself."""
 
 HERE = pathlib.Path(__file__).parent
@@ -137,7 +137,7 @@ class Place:
 def connect(queue: str) -> Any:
     """A connection to the database of a queue, without the package."""
     if not is_url(queue):
-        return sqlite3.connect(queue, timeout=30)
+        return sqlite3.connect(queue, timeout=PATIENCE)
     import psycopg2
     base = psycopg2.connect(queue)
     base.autocommit = True

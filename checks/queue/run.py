@@ -20,8 +20,11 @@ from collections.abc import Callable, Iterator, Sequence
 from concurrent.futures import ThreadPoolExecutor
 from functools import partial
 
+import first
 import places
 import plain
+import power
+import proxy
 import web
 from chaos import IN_A_FILE, IN_POSTGRES, Chaos, Found
 from planted import without_fence
@@ -31,8 +34,12 @@ from tests.postgres_server import programs, served
 RATE = 6.0
 """How many batches of 7 jobs, on the average, each submitter submits in a second."""
 
-PLANTED_SECONDS = 60.0
+PLANTED_SECONDS = 300.0
 """How long dispatchers are frozen at most until what a missing fence leads to is there."""
+
+
+LONGEST = 1200.0
+"""How many seconds a part may take beside those in which processes are killed, on a machine that is busy."""
 
 
 @contextlib.contextmanager
@@ -72,7 +79,7 @@ def each_acknowledged_job_has_its_outcome_in_postgresql(seconds: float, seed: in
         print("psycopg2 or PostgreSQL is not installed (apt install postgresql python3-psycopg2): the queue was not tried there")
         return
     words = [python, str(pathlib.Path(__file__).resolve()), "--postgres", "--seed", str(seed), "--seconds", str(seconds)]
-    assert subprocess.run(words, timeout=600).returncode == 0
+    assert subprocess.run(words, timeout=seconds + LONGEST).returncode == 0
 
 
 def a_missing_fence_is_found(seed: int) -> None:
@@ -80,7 +87,7 @@ def a_missing_fence_is_found(seed: int) -> None:
     with tempfile.TemporaryDirectory() as folder:
         words = [sys.executable, str(pathlib.Path(__file__).resolve()), "--without-fence", "--seed", str(seed), "--seconds",
                  str(PLANTED_SECONDS)]
-        done = subprocess.run(words, capture_output=True, text=True, timeout=600,
+        done = subprocess.run(words, capture_output=True, text=True, timeout=PLANTED_SECONDS + LONGEST,
                               env={**os.environ, "ARENA_PYTHON": without_fence(pathlib.Path(folder))})
     said = done.stdout.splitlines()[-1] if done.stdout else ""
     print(f"without the fence: {said}")
@@ -109,7 +116,7 @@ def main() -> None:
         return
     harmed = partial(each_acknowledged_job_has_its_outcome, words.seconds, words.seed)
     in_postgresql = partial(each_acknowledged_job_has_its_outcome_in_postgresql, words.seconds, words.seed)
-    lanes = [[*plain.CHECKS, *web.CHECKS], [partial(a_missing_fence_is_found, words.seed)], [harmed], [in_postgresql]]
+    lanes = [[*first.CHECKS, *plain.CHECKS, *web.CHECKS, *proxy.CHECKS], [partial(a_missing_fence_is_found, words.seed), *power.CHECKS], [harmed], [in_postgresql]]
     with ThreadPoolExecutor(len(lanes)) as pool:
         done = sum(pool.map(run_all, lanes))
     print(f"{done} checks of the queue passed, by {places.host_program().relative_to(places.TOP)} (seed {words.seed})")

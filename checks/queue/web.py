@@ -10,6 +10,7 @@ import signal
 import subprocess
 import sys
 import tempfile
+import time
 import urllib.parse
 from collections.abc import Iterator
 from contextlib import contextmanager
@@ -56,9 +57,10 @@ class Web:
         return json.loads(text)
 
     def job(self, number: int) -> dict[str, object]:
-        """A job that has ended."""
-        value = self.value("GET", f"/v1/jobs/{number}?wait=60")
-        assert isinstance(value, dict) and "ended_at" in value, value
+        """A job, once it has ended."""
+        deadline = time.monotonic() + PATIENCE
+        while "ended_at" not in (value := self.value("GET", f"/v1/jobs/{number}?wait=60")):
+            assert time.monotonic() < deadline, value
         return value
 
 
@@ -181,7 +183,7 @@ def the_end(web: Web) -> None:
     until(lambda: len(children_of(web.server.pid)) == 2, "what it starts")
     children = children_of(web.server.pid)
     web.server.kill()
-    until(lambda: not any(os.path.exists(f"/proc/{it}") for it in children), "the end of what it started", 20)
+    until(lambda: not any(os.path.exists(f"/proc/{it}") for it in children), "the end of what it started")
 
 
 def the_service_is_looked_at() -> None:

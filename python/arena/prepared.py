@@ -18,6 +18,7 @@ class Prepared:
 
     def __init__(self, procs: Sequence[object]) -> None:
         self.text = json.dumps(procs, separators=(",", ":"), sort_keys=True)
+        self._tails: dict[str, bytes] = {}
         self._submit, self._execute = requests.submit(_EMPTY), requests.execute(_EMPTY)
 
     @classmethod
@@ -30,8 +31,9 @@ class Prepared:
     def line(self, op: str, args: tuple[int, int] = (0, 0), fuel: int = 1_000_000) -> bytes:
         """The line that asks to `submit` or `execute` the job, with its newline: the same bytes as those of a request that
         is made of the whole job."""
-        first, second = args
-        return f'{{"job":{{"args":[{first:d},{second:d}],"fuel":{fuel:d},"procs":{self.text}}},"op":"{op}"}}\n'.encode()
+        if (tail := self._tails.get(op)) is None:
+            tail = self._tails[op] = f'{self.text}}},"op":"{op}"}}\n'.encode()
+        return b'{"job":{"args":[%d,%d],"fuel":%d,"procs":%b' % (*args, fuel, tail)
 
     def submit(self, args: tuple[int, int] = (0, 0), fuel: int = 1_000_000) -> Request[int]:
         """The request that submits the job."""

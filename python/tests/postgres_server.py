@@ -10,7 +10,7 @@ import time
 from collections.abc import Iterator
 from contextlib import contextmanager
 
-PATIENCE = 60.0
+PATIENCE = 300.0
 
 USERS = ("postgres", "nobody")
 """Who runs the server, if the check is run by root: the server refuses to be."""
@@ -56,17 +56,24 @@ class Server:
         self._run("psql", "-q", "-h", self.folder, "-U", "arena", "-d", "queue", "-c", sql)
 
     def start(self) -> None:
-        """Starts it, and waits until it answers."""
-        settings = [word for name, value in SETTINGS.items() for word in ("-c", f"{name}={value}")]
-        with open(self.log, "ab") as out:
-            self._running = subprocess.Popen([str(self._bin / "postgres"), "-D", self.folder / "data", "-k", self.folder, *settings],
-                                             user=self.user, stdout=out, stderr=out, cwd=self.folder, start_new_session=True,
-                                             env={"PATH": "/usr/bin:/bin", "LC_ALL": "C.UTF-8"})
+        """Starts it, and waits until it answers. One that was killed may have left processes that have not noticed it yet, while which
+        it refuses to start; then it is started again."""
         ready = [str(self._bin / "pg_isready"), "-q", "-h", str(self.folder), "-d", "postgres", "-U", "arena"]
         deadline = time.monotonic() + PATIENCE
-        while subprocess.run(ready).returncode:
-            assert time.monotonic() < deadline, self.log.read_text()
+        self._running = None
+        while self._running is None or subprocess.run(ready).returncode:
+            assert time.monotonic() < deadline, self.log.read_text()[-2000:]
+            if self._running is None or self._running.poll() is not None:
+                self._running = self._begun()
             time.sleep(0.05)
+
+    def _begun(self) -> "subprocess.Popen[bytes]":
+        """Its process."""
+        settings = [word for name, value in SETTINGS.items() for word in ("-c", f"{name}={value}")]
+        with open(self.log, "ab") as out:
+            return subprocess.Popen([str(self._bin / "postgres"), "-D", self.folder / "data", "-k", self.folder, *settings],
+                                    user=self.user, stdout=out, stderr=out, cwd=self.folder, start_new_session=True,
+                                    env={"PATH": "/usr/bin:/bin", "LC_ALL": "C.UTF-8"})
 
     def kill(self) -> None:
         """Ends it at once, with all that it has started."""
@@ -94,7 +101,7 @@ def _is_user(name: str) -> bool:
 @contextmanager
 def served() -> Iterator[Server]:
     """A server that goes with its folder."""
-    with tempfile.TemporaryDirectory(prefix="queue-postgres-", dir="/tmp") as folder:
+    with tempfile.TemporaryDirectory(prefix="queue-postgres-", dir="/tmp", ignore_cleanup_errors=True) as folder:
         made = Server(pathlib.Path(folder))
         try:
             yield made

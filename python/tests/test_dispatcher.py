@@ -14,6 +14,7 @@ from unittest import mock
 
 from arena.pool.task import Settings as HostSettings
 from arena.queue import Job, NewJob, Program, State, Store
+from arena.queue.sqlite import statements
 from arena.queue.sqlite.database import Sqlite
 from arena.queue.dispatcher import Dispatcher, Settings
 from arena.queue.turns import Turns
@@ -281,14 +282,14 @@ class Dispatchers(WithDispatcher):
         self.assertEqual((faults, {it.attempts for it in self.queue.listed()}), ([], {2}))
 
     def test_a_file_that_can_not_be_written_for_a_while(self) -> None:
-        faults, real = [sqlite3.OperationalError("database or disk is full")] * 3, Sqlite.change_many
+        faults, real = [sqlite3.OperationalError("database or disk is full")] * 3, Sqlite.rows
 
-        def change_many(base: Sqlite, sql: str, values: Sequence[tuple[object, ...]]) -> int:
+        def rows(base: Sqlite, sql: str, *values: object) -> list[tuple[object, ...]]:
             """Fails at first where outcomes are recorded."""
-            if sql.startswith("UPDATE") and faults:
+            if sql == statements.SETTLE and faults:
                 raise faults.pop()
-            return real(base, sql, values)
-        with mock.patch.object(Sqlite, "change_many", change_many):
+            return real(base, sql, *values)
+        with mock.patch.object(Sqlite, "rows", rows):
             self.run_dispatcher()
             self.assertEqual(self.values(self.submit(*range(20))), [n * n for n in range(20)])
         self.assertEqual((faults, {it.attempts for it in self.queue.listed()}), ([], {1}))

@@ -67,7 +67,7 @@ class Outcomes(WithHost):
 
     def test_connections_are_renewed(self) -> None:
         self.assertEqual(len(self.values(self.pool(renew_jobs=20), range(200))), 200)
-        self.assertGreater(self.host.met["connections"], 5)
+        self.assertGreater(self.host.met["connections"], 4)  # a look, and no connection takes more than a window of 64
 
     def test_a_fault_of_the_job_is_its_outcome(self) -> None:
         divides: list[list[list[object]]] = [[["div", 2, 0, 1], ["ret", 2]]]
@@ -157,7 +157,7 @@ class Lanes(unittest.TestCase):
         self.addCleanup(self.lane.close)
         self.tasks = [Task(n, Prepared(SQUARE).line("submit", (n, 0), 100)) for n in range(3)]
         for it in self.tasks:
-            self.lane.feed(it)
+            self.lane.feed([it])
         self.lane.flush()
 
     def test_what_came_before_the_end_is_taken(self) -> None:

@@ -128,9 +128,10 @@ class Desk(Generic[Tag]):
             self._free(tasks)
             self.results += [NotRun(it, "the host can't be reached") for it in tasks]
             return
-        for task in tasks:
-            lane = min(lanes, key=lambda it: it.load) if len(lanes) > 1 else lanes[0]
-            lane.feed(task)
+        parts = [tasks] if len(lanes) == 1 else [[it] for it in tasks]
+        for some in parts:
+            lane = min(lanes, key=lambda it: it.load)
+            lane.feed(some)
             self._dirty.add(lane)
 
     def _open(self, more: int, clock: float) -> list[Lane[Tag]]:
@@ -205,7 +206,8 @@ class Desk(Generic[Tag]):
 
     def _take(self, lane: Lane[Tag], answer: Answer[Tag], clock: float) -> None:
         if answer.task is not None and answer.said is not None:
-            self._free((answer.task,))
+            if answer.task is self._runs_alone:
+                self._runs_alone = None
             self.results.append(self._result(lane, answer.op, answer.task, answer.said, clock))
         elif answer.op is Op.HELLO:
             self._bound(lane, answer.said, clock)

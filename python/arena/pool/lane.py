@@ -3,6 +3,7 @@ import collections
 import enum
 import re
 import time
+from collections.abc import Sequence
 from dataclasses import dataclass
 from typing import Any, Generic
 
@@ -68,8 +69,8 @@ class Lane(Generic[Tag]):
         self._to_send: list[bytes] = []
         self._made: collections.deque[Asked[Tag]] = collections.deque()
         self._collecting = 0
-        self._to_cancel: set[Task[Tag]] = set()
-        self._ask(Asked(Op.HELLO), requests.hello(tenant).line)
+        self._to_cancel: set[Task[Tag] | None] = set()
+        self._ask([Asked(Op.HELLO)], [requests.hello(tenant).line])
 
     def fileno(self) -> int:
         """What to wait for."""
@@ -90,25 +91,26 @@ class Lane(Generic[Tag]):
         """Whether there is something that the socket had no room for."""
         return self._wire.has_unsent
 
-    def feed(self, task: Task[Tag]) -> None:
-        """Asks for a job. `flush` sends it."""
-        self.fed += 1
-        self._ask(Asked(Op.SUBMIT, task), task.line)
+    def feed(self, tasks: Sequence[Task[Tag]]) -> None:
+        """Asks for jobs. `flush` sends that."""
+        self.fed += len(tasks)
+        self._ask([Asked(Op.SUBMIT, it) for it in tasks], [it.line for it in tasks])
 
     def retire(self) -> None:
         """Asks the host to forget the tenant's jobs. `flush` sends it."""
-        self._ask(Asked(Op.RETIRE), requests.retire().line)
+        self._ask([Asked(Op.RETIRE)], [requests.retire().line])
 
     def cancel(self, task: Task[Tag]) -> None:
         """Cancels a job that it was fed, unless its collect is sent already: on another connection its number might be that
         of another job."""
         self._to_cancel.add(task)
 
-    def _ask(self, asked: Asked[Tag], line: bytes) -> None:
+    def _ask(self, asked: Sequence[Asked[Tag]], lines: Sequence[bytes]) -> None:
+        """Notes requests, a line for each, which `flush` sends."""
         if not self._asked:
             self.heard = time.monotonic()
-        self._asked.append(asked)
-        self._to_send.append(line)
+        self._asked += asked
+        self._to_send += lines
 
     def flush(self) -> None:
         """Sends what there is room for. Raises ConnectionLost."""
@@ -163,27 +165,31 @@ class Lane(Generic[Tag]):
         """What is to be told of a reply, if anything."""
         is_refused = isinstance(said, Refused)
         match asked.op:
+            case Op.COLLECT:
+                self._collecting -= 1
+                self._to_cancel.discard(asked.task)
+                return Answer(asked.op, asked.task, said)
             case Op.SUBMIT if not is_refused:
                 asked.number = said
                 self._made.append(asked)
                 return None
-            case Op.COLLECT:
-                self._collecting -= 1
-                if asked.task is not None:
-                    self._to_cancel.discard(asked.task)
-                return Answer(asked.op, asked.task, said)
             case Op.CANCEL:
                 return None
         return Answer(asked.op, asked.task, said if is_refused else None)
 
     def _collect(self) -> None:
-        while self._made and self._collecting < COLLECTS:
-            asked = self._made.popleft()
-            if asked.task in self._to_cancel:
-                self._ask(Asked(Op.CANCEL, asked.task, asked.number), requests.cancel(asked.number).line)
-            asked.op = Op.COLLECT
-            self._ask(asked, b'{"job":%d,"op":"collect","release":true}\n' % asked.number)
+        """Asks for the outcomes of jobs whose numbers have come."""
+        asked: list[Asked[Tag]] = []
+        lines: list[bytes] = []
+        for it in [self._made.popleft() for _ in range(min(len(self._made), COLLECTS - self._collecting))]:
+            if it.task in self._to_cancel:
+                asked.append(Asked(Op.CANCEL, it.task, it.number))
+                lines.append(requests.cancel(it.number).line)
+            it.op = Op.COLLECT
+            asked.append(it)
+            lines.append(b'{"job":%d,"op":"collect","release":true}\n' % it.number)
             self._collecting += 1
+        self._ask(asked, lines)
 
     def close(self) -> None:
         """Ends the connection."""

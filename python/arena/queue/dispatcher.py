@@ -184,33 +184,32 @@ class Dispatcher:
             post.attend(clock)
             for result in post.results():
                 self._take(result, clock)
-        wants = self._wants(clock)
-        if self._is_due(clock, wants):
-            self._turn(queue, clock, wants)
+        must = bool(self._notes) or clock >= self._beaten + self.settings.lease / 3
+        if must or self._looks_at() <= clock:
+            wants = self._wants(clock)
+            if must or wants:
+                self._turn(queue, clock, wants)
         if clock >= self._purged + self.settings.purge:
             self._purge(queue, clock)
 
     def _timeout(self, clock: float) -> float:
-        if self._notes:
-            return 0.0
-        has_room = bool(self._wants(clock))
-        if self._looks and has_room:
+        looks_at = self._looks_at()
+        if self._notes or looks_at <= clock and self._wants(clock):
             return 0.0
         times = [self._beaten + self.settings.lease / 3]
-        if has_room:
-            times.append(self._looked + self.settings.look)
-            if self._next_at is not None:
-                times.append(self._next_at)
+        if looks_at > clock:
+            times.append(looks_at)
         times += [it for it in (post.next_at(clock) for post in self._posts) if it is not None]
         if self._stops_at is not None:
             times.append(self._stops_at)
         return max(0.0, min(times) - clock)
 
-    def _is_due(self, clock: float, wants: Wants) -> bool:
-        if self._notes or clock >= self._beaten + self.settings.lease / 3:
-            return True
-        is_next = self._next_at is not None and clock >= self._next_at
-        return (self._looks or is_next or clock >= self._looked + self.settings.look) and bool(wants)
+    def _looks_at(self) -> float:
+        """When to look for jobs at the latest, if there is room for some."""
+        if self._looks:
+            return 0.0
+        later = self._looked + self.settings.look
+        return later if self._next_at is None else min(later, self._next_at)
 
     def _turn(self, queue: Turns, clock: float, wants: Wants) -> None:
         """A transaction with what has come, and what comes of it."""
@@ -267,11 +266,11 @@ class Dispatcher:
         """How many jobs of each tenant there is room for, and of how many others."""
         if self._stops_at is not None:
             return Wants()
-        each: Counter[str] = Counter()
+        each: dict[str, int] = {}
         others = 0
         for post in self._posts:
             for tenant in post.desks:
-                each[tenant] += post.room(tenant, clock)
+                each[tenant] = each.get(tenant, 0) + post.room(tenant, clock)
             others += post.new_desks if post.host.is_ready(clock) else 0
         return Wants(each, self.settings.hosts.window if others else 0, others)
 

@@ -34,15 +34,19 @@ class Figures:
 
     def add(self, tenant: str, what: What, times: Iterable[int]) -> None:
         """Counts jobs of a tenant by their times, in microseconds."""
+        buckets: dict[int, list[int]] = {}
         for micros in times:
-            at = tenant, what, bisect_left(BOUNDS, micros)
-            jobs, sum = self._sums.get(at, (0, 0))
-            self._sums[at] = jobs + 1, sum + micros
+            buckets.setdefault(bisect_left(BOUNDS, micros), []).append(micros)
+        for bucket, some in buckets.items():
+            self._add(tenant, what, bucket, len(some), sum(some))
 
     def add_many(self, tenant: str, what: What, jobs: int) -> None:
         """Counts so many jobs that have no times."""
-        before, sum = self._sums.get((tenant, what, 0), (0, 0))
-        self._sums[tenant, what, 0] = before + jobs, sum
+        self._add(tenant, what, 0, jobs, 0)
+
+    def _add(self, tenant: str, what: What, bucket: int, jobs: int, micros: int) -> None:
+        before, sum_before = self._sums.get((tenant, what, bucket), (0, 0))
+        self._sums[tenant, what, bucket] = before + jobs, sum_before + micros
 
     def rows(self) -> list[tuple[str, str, int, int, int]]:
         """What is to be kept: tenant, what, bucket, jobs, microseconds."""

@@ -109,20 +109,26 @@ class Turns(Store):
                 self.base.wake("ended")
 
     def _claim_all(self, dispatcher: int, wants: Wants, turn: Turn) -> None:
-        self.base.promote()
-        others = wants.tenants
+        if (next_in := self._next_in()) is not None and next_in <= 0:
+            self.base.promote()
+            next_in = self._next_in()
+        turn.next_in, others = next_in, wants.tenants
         for tenant, in self.base.rows(READY):
             limit = wants.each.get(tenant, wants.others if others > 0 else 0)
             others -= tenant not in wants.each
             if limit > 0:
                 turn.claims[tenant] = self._claim(dispatcher, tenant, limit)
                 turn.has_more |= len(turn.claims[tenant]) == limit
-        turn.next_in, = self.base.rows("SELECT min(run_at) - arena_now() FROM job WHERE state = 'scheduled'")[0]
+
+    def _next_in(self) -> int | None:
+        """In how many microseconds the next scheduled job is due; None if there is none."""
+        next_in: int | None = self.base.rows("SELECT min(run_at) - arena_now() FROM job WHERE state = 'scheduled'")[0][0]
+        return next_in
 
     def _claim(self, dispatcher: int, tenant: str, limit: int) -> list[Claim]:
         """Takes ready jobs of a tenant, the first ones."""
         rows = self.base.claim(dispatcher, tenant, limit)
-        return [Claim(*it[:-1]) for it in sorted(rows, key=lambda it: (-it[-1], it[0]))]
+        return [Claim._make(it[:-1]) for it in sorted(rows, key=lambda it: (-it[-1], it[0]))]
 
     def _take_away(self, dispatcher: int) -> None:
         """Takes a lease away, and gives its jobs back."""

@@ -5,7 +5,7 @@ import logging
 import math
 import signal
 import socket
-from collections.abc import Awaitable, Callable
+from collections.abc import Callable
 from typing import Any
 
 from aiohttp import web
@@ -19,6 +19,7 @@ from arena.queue.http.openapi import document
 from arena.queue.http.page import HEADERS, page
 from arena.queue.http.processes import serve_in
 from arena.queue.http.rates import Rates
+from arena.queue.http.routes import Paths, handler_of, let_go_on
 from arena.queue.http.view import Numbers, View
 from arena.queue.model import Grant, Job, NewJob, QueueError, State, UnknownQueueJob
 from arena.queue.store import Store
@@ -38,12 +39,15 @@ password to whatever any page has it ask for."""
 
 JSON = "application/json; charset=utf-8"
 
-Handler = Callable[[web.Request], Awaitable[web.StreamResponse]]
+
+def as_json(body: bytes, status: int = 200, **headers: str) -> web.Response:
+    """An answer whose body is JSON."""
+    return web.Response(body=body, status=status, headers={"Content-Type": JSON, **headers})
 
 
 def answer(value: object, status: int = 200, **headers: str) -> web.Response:
     """A value as JSON."""
-    return web.Response(body=compact(value).encode(), status=status, headers={"Content-Type": JSON, **headers})
+    return as_json(compact(value).encode(), status, **headers)
 
 
 def refusal(status: int, text: str, **headers: str) -> web.Response:
@@ -57,34 +61,19 @@ class Service:
     def __init__(self, access: Access, rate: float, size: int = LONGEST_BODY) -> None:
         self.access, self.rate, self.size = access, rate, size
         self._rates = Rates()
+        self.paths: Paths = {
+            "/v1/jobs": {"GET": self.listing, "POST": self.submit}, "/v1/jobs/{job}": {"GET": self.job},
+            "/v1/jobs/{job}/cancel": {"POST": self.cancel}, "/v1/jobs/{job}/retry": {"POST": self.retry},
+            PAGE: {"GET": self.page}, "/v1/stats": {"GET": self.stats}, "/metrics": {"GET": self.metrics},
+            "/openapi.json": {"GET": self.openapi}, "/healthz": {"GET": self.health}}
 
-    def application(self) -> web.Application:
-        """The application of aiohttp."""
-        async def guarded(request: web.Request, handler: Handler) -> web.StreamResponse:
-            """The same as a function, which aiohttp marks."""
-            return await self.guarded(request, handler)
-
-        made = web.Application(middlewares=[web.middleware(guarded)], client_max_size=LONGEST_BODY)
-        made.add_routes([
-            web.post("/v1/jobs", self.submit), web.get("/v1/jobs", self.listing), web.get(r"/v1/jobs/{job}", self.job),
-            web.post(r"/v1/jobs/{job}/cancel", self.cancel), web.post(r"/v1/jobs/{job}/retry", self.retry),
-            web.get(PAGE, self.page), web.get("/v1/stats", self.stats), web.get("/metrics", self.metrics), web.get("/openapi.json", self.openapi),
-            web.get("/healthz", self.health)])
-        made.on_startup.append(self._began)
-        made.on_cleanup.append(self._ended)
-        return made
-
-    async def _began(self, _: web.Application) -> None:
-        self.access.begin()
-
-    async def _ended(self, _: web.Application) -> None:
-        await self.access.end()
-
-    async def guarded(self, request: web.Request, handler: Handler) -> web.StreamResponse:
-        """Finds the tenant, and answers what goes wrong."""
+    async def answered(self, request: web.BaseRequest) -> web.StreamResponse:
+        """The answer to a request, also to one that goes wrong."""
         try:
             if request.path not in OPEN and (refused := await self._refused(request)) is not None:
                 return refused
+            handler = handler_of(self.paths, request)
+            await let_go_on(request)
             return await handler(request)
         except web.HTTPException as fault:
             return refusal(fault.status, fault.reason, **({"Allow": fault.headers["Allow"]} if "Allow" in fault.headers else {}))
@@ -98,7 +87,7 @@ class Service:
             LOG.warning("the queue's file can't be used: %s", fault)
             return refusal(503, "the queue's file can't be used now; ask again", **{"Retry-After": "1"})
 
-    async def _refused(self, request: web.Request) -> web.Response | None:
+    async def _refused(self, request: web.BaseRequest) -> web.Response | None:
         """Why a request is not answered: its token is none, or has made too many. Its tenant is noted otherwise."""
         token = _token(request.headers.get("Authorization", ""), request.path == PAGE)
         grant = None if token is None else await self.access.grant(token)
@@ -110,13 +99,13 @@ class Service:
         request["tenant"], request["grant"] = grant.tenant, grant
         return None
 
-    async def _body(self, request: web.Request) -> bytes:
+    async def _body(self, request: web.BaseRequest) -> bytes:
         """The body of a request. Raises HTTPRequestEntityTooLarge for one that is longer than its token may send."""
         grant: Grant = request["grant"]
         most = self.size if grant.bytes is None else grant.bytes
         body, length = bytearray(), request.content_length or 0
         if length <= most:
-            async for some in request.content.iter_any():
+            while some := await request.content.readany():
                 body += some
                 if len(body) > most:
                     break
@@ -126,7 +115,7 @@ class Service:
 
     # Jobs.
 
-    async def submit(self, request: web.Request) -> web.Response:
+    async def submit(self, request: web.BaseRequest) -> web.Response:
         """Keeps jobs."""
         tenant, value = request["tenant"], value_of(await self._body(request))
         hashes = {it["program"] for it in (value if isinstance(value, list) else [value])
@@ -137,15 +126,15 @@ class Service:
             """Reads the jobs, which may take a while."""
             return new_jobs(value, tenant, kept.get)
         made = await self.access.submit(await asyncio.to_thread(read) if isinstance(value, list) else read())
-        found = [{"job": it.job, "made": it.made} for it in made]
-        return answer(found if isinstance(value, list) else found[0], 201)
+        texts = [b'{"job":%d,"made":%b}' % (it.job, b"true" if it.made else b"false") for it in made]
+        return as_json(b"[%b]" % b",".join(texts) if isinstance(value, list) else texts[0], 201)
 
-    async def job(self, request: web.Request) -> web.Response:
+    async def job(self, request: web.BaseRequest) -> web.Response:
         """A job."""
         job = await self.access.job(_number(request), request["tenant"], _seconds(request.query.get("wait", "0")))
         return answer(job.to_value())
 
-    async def listing(self, request: web.Request) -> web.Response:
+    async def listing(self, request: web.BaseRequest) -> web.Response:
         """Jobs."""
         tenant, query = request["tenant"], request.query
         state, before = query.get("state"), _whole(query, "before", GREATEST)
@@ -158,13 +147,13 @@ class Service:
             return store.listed(tenant, None if state is None else State(state), before, 50 if limit is None else limit)
         return answer([it.to_value() for it in await self.access.ask(found)])
 
-    async def cancel(self, request: web.Request) -> web.Response:
+    async def cancel(self, request: web.BaseRequest) -> web.Response:
         """Cancels a job."""
         number, tenant = _number(request), request["tenant"]
         state = await self.access.ask(lambda store: store.cancel(number, tenant))
         return answer({"job": number, "state": state.value})
 
-    async def retry(self, request: web.Request) -> web.Response:
+    async def retry(self, request: web.BaseRequest) -> web.Response:
         """Runs a job again."""
         number, tenant = _number(request), request["tenant"]
         state = await self.access.ask(lambda store: store.retry(number, tenant))
@@ -172,19 +161,19 @@ class Service:
 
     # Figures.
 
-    async def stats(self, request: web.Request) -> web.Response:
+    async def stats(self, request: web.BaseRequest) -> web.Response:
         """How many jobs of the tenant there are."""
         tenant = request["tenant"]
         counts = await self.access.ask(lambda store: store.counts_of(tenant))
         return answer({"tenant": tenant, "jobs": {state.value: count for state, count in counts.items()}})
 
-    async def metrics(self, request: web.Request) -> web.Response:
+    async def metrics(self, request: web.BaseRequest) -> web.Response:
         """The tenant's numbers for Prometheus."""
         tenant = request["tenant"]
         numbers = await self.access.ask(lambda store: Numbers.of(store, tenant))
         return web.Response(text=exposed(numbers), headers={"Content-Type": TYPE})
 
-    async def page(self, request: web.Request) -> web.Response:
+    async def page(self, request: web.BaseRequest) -> web.Response:
         """The tenant's page."""
         tenant = request["tenant"]
         view = await self.access.ask(lambda store: View.of(store, tenant))
@@ -195,11 +184,11 @@ class Service:
         text = page(view, await asyncio.to_thread(places))
         return web.Response(text=text, content_type="text/html", charset="utf-8", headers=HEADERS)
 
-    async def openapi(self, _: web.Request) -> web.Response:
+    async def openapi(self, _: web.BaseRequest) -> web.Response:
         """The description."""
         return answer(document())
 
-    async def health(self, _: web.Request) -> web.Response:
+    async def health(self, _: web.BaseRequest) -> web.Response:
         """Whether the queue's file can be used."""
         await self.access.ask(lambda store: store.base.first("SELECT 1"))
         return answer({"ok": True})
@@ -218,8 +207,8 @@ def _token(header: str, is_page: bool) -> str | None:
     return text.strip() if text.isascii() else None
 
 
-def _number(request: web.Request) -> int:
-    text = request.match_info["job"]
+def _number(request: web.BaseRequest) -> int:
+    text = request["job"]
     if not (text.isascii() and text.isdigit() and len(text) < 20):
         raise UnknownQueueJob(text)
     return whole(int(text), "job", 0, GREATEST)
@@ -248,8 +237,10 @@ async def served(where: str, address: Address | socket.socket, rate: float, bega
                  size: int = LONGEST_BODY) -> None:
     """Serves a queue, at an address or a socket that listens, until `ended` is set; `began` is told the port. Raises OSError,
     QueueError."""
-    runner = web.AppRunner(Service(Access(where), rate, size).application(), access_log=None)
+    access = Access(where)
+    runner = web.ServerRunner(web.Server(Service(access, rate, size).answered, access_log=None))
     await runner.setup()
+    access.begin()
     try:
         site: web.BaseSite = (web.SockSite(runner, address, shutdown_timeout=5) if isinstance(address, socket.socket)
                               else web.TCPSite(runner, address.host, address.port, shutdown_timeout=5))
@@ -258,6 +249,7 @@ async def served(where: str, address: Address | socket.socket, rate: float, bega
         await ended.wait()
     finally:
         await runner.cleanup()
+        await access.end()
 
 
 def serve(where: str, address: Address, rate: float, size: int, processes: int, began: Callable[[int], object]) -> bool:

@@ -2,6 +2,7 @@
 import contextlib
 import time
 from collections.abc import Iterator, Sequence
+from typing import Any
 
 import psycopg2
 
@@ -12,7 +13,7 @@ from arena.queue.postgres.schema import STEPS
 from arena.queue.postgres.wake import Listener
 from arena.queue.wake import Waker
 
-CONNECTING = {"application_name": "arena queue", "connect_timeout": 10, "keepalives_idle": 10, "keepalives_interval": 5,
+CONNECTING: dict[str, Any] = {"application_name": "arena queue", "connect_timeout": 10, "keepalives_idle": 10, "keepalives_interval": 5,
               "keepalives_count": 3, "tcp_user_timeout": 30_000}
 
 MOST_VALUES = 20
@@ -129,7 +130,8 @@ class Postgres(Base):
 
     def promote(self) -> None:
         """See `Base`."""
-        self._later.append(self._call(statements.PROMOTE))
+        call = self._call(statements.PROMOTE)  # first: what is to travel with it may be sent by this
+        self._later.append(call)
 
     def hurry(self, longest: int) -> None:
         """See `Base`."""

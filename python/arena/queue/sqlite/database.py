@@ -56,6 +56,8 @@ class Sqlite(Base):
                 self._base.create_function("arena_now", 0, now)
                 for setting in SETTINGS:
                     self._base.execute(f"PRAGMA {setting}")
+                for stage in statements.STAGES:
+                    self._base.execute(stage)
                 self._migrate(make)
             except sqlite3.DatabaseError as fault:
                 if type(fault) is not sqlite3.DatabaseError:
@@ -126,7 +128,9 @@ class Sqlite(Base):
     def insert(self, rows: Sequence[Row]) -> set[int]:
         """See `Base`."""
         at = now()
-        made = self.change_many(statements.INSERT, [self._completed(row, at) for row in rows])
+        self.change_many(statements.BRING_JOB, [self._completed(row, at) for row in rows])
+        made = self.change(statements.INSERT)
+        self.change("DELETE FROM new_job")
         numbers = {row[0] for row in rows}
         return numbers if made == len(rows) else {it for it, in self.rows("SELECT id FROM job WHERE id >= ?", min(numbers))}
 
@@ -142,14 +146,11 @@ class Sqlite(Base):
 
     def settle(self, dispatcher: int, endings: Sequence[Ending]) -> list[int]:
         """See `Base`."""
-        at = now()
-        rows = [(it.state.value, it.value, it.fault, it.error, at, it.job, dispatcher, it.attempt) for it in endings]
-        self.change("SAVEPOINT settle")
-        if self.change_many(statements.SETTLE, rows) == len(rows):
-            self.change("RELEASE settle")
-            return []
-        self.change("ROLLBACK TO settle")
-        return [it.job for it, row in zip(endings, rows, strict=True) if not self.change(statements.SETTLE, *row)]
+        self.change_many(statements.BRING_ENDING,
+                         [(it.job, it.attempt, it.state.value, it.value, it.fault, it.error) for it in endings])
+        done = {it for it, in self.rows(statements.SETTLE, now(), dispatcher)}
+        self.change("DELETE FROM ending")
+        return [it.job for it in endings if it.job not in done]
 
     def promote(self) -> None:
         """See `Base`."""
@@ -161,7 +162,7 @@ class Sqlite(Base):
 
     def claim(self, dispatcher: int, tenant: str, limit: int) -> list[Row]:
         """See `Base`."""
-        return self.rows(statements.CLAIM, dispatcher, tenant, limit)
+        return self.rows(statements.CLAIM, dispatcher, now(), tenant, limit)
 
     def hold_job(self, job: int) -> None:
         """See `Base`."""

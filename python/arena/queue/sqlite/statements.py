@@ -1,17 +1,31 @@
 """What SQLite is asked in a way of its own."""
 
-INSERT = """INSERT INTO job (id, tenant, key, program, x, y, fuel, priority, run_at, most_failures, reuse, value, error, state, made_at,
-    ended_at) VALUES (?, ?, ?, ?, ?, ?, ?, ?, ?, ?, ?, ?, ?, ?, ?, ?) ON CONFLICT DO NOTHING"""
+_GIVEN = "tenant, key, program, x, y, fuel, priority, run_at, most_failures, reuse, value, error, state, made_at, ended_at"
+"""What a new job has beside its number."""
 
-SETTLE = """UPDATE job SET state = ?, value = ?, fault = ?, error = ?, ended_at = ?, dispatcher = NULL
-    WHERE id = ? AND state = 'running' AND dispatcher = ? AND attempt = ?"""
-"""Records the outcome of an attempt, if it is still the one under way: so the first outcome stands."""
+STAGES = (f"CREATE TEMP TABLE new_job (id INTEGER PRIMARY KEY, {_GIVEN})",
+          """CREATE TEMP TABLE ending (id INTEGER PRIMARY KEY ON CONFLICT IGNORE, attempt INTEGER NOT NULL, state TEXT NOT NULL,
+              value INTEGER, fault INTEGER, error TEXT)""")
+"""Tables of the connection's own, in memory: what a transaction brings is put there, and one statement takes all of it. That takes half
+the time of a statement for each job, which opens every index anew."""
+
+BRING_JOB = f"INSERT INTO new_job VALUES ({', '.join('?' * (len(_GIVEN.split(',')) + 1))})"
+
+BRING_ENDING = "INSERT INTO ending VALUES (?, ?, ?, ?, ?, ?)"
+
+INSERT = f"INSERT INTO job (id, {_GIVEN}) SELECT id, {_GIVEN} FROM new_job WHERE true ORDER BY id ON CONFLICT DO NOTHING"
+"""Of two jobs with one key the first is inserted."""
+
+SETTLE = """UPDATE job SET state = new.state, value = new.value, fault = new.fault, error = new.error, ended_at = ?, dispatcher = NULL
+    FROM ending AS new WHERE job.id = new.id AND job.state = 'running' AND job.dispatcher = ? AND job.attempt = new.attempt
+    RETURNING id"""
+"""Records outcomes of attempts that are still under way: so the first outcome stands."""
 
 PROMOTE = "UPDATE job SET state = 'ready' WHERE state = 'scheduled' AND run_at <= arena_now()"
 
 HURRY = """UPDATE job SET state = 'ready', run_at = arena_now() WHERE state = 'scheduled' AND attempt > 0 AND run_at > arena_now() + ?"""
 
-CLAIM = """UPDATE job SET state = 'running', dispatcher = ?, attempt = attempt + 1, started_at = arena_now()
+CLAIM = """UPDATE job SET state = 'running', dispatcher = ?, attempt = attempt + 1, started_at = ?
     WHERE id IN (SELECT id FROM job WHERE state = 'ready' AND tenant = ? ORDER BY priority DESC, id LIMIT ?)
     RETURNING id, attempt, program, x, y, fuel, failures, alone, tenant, started_at - run_at, priority"""
 
