@@ -1,10 +1,11 @@
 """Terms of a tenant that follow one another."""
 import json
 import os
+import subprocess
 import time
 from collections.abc import Callable
 
-from hosts import Host, Load, ask, dumps, fib, hang_up, results, rotate, tenant
+from hosts import PROGRAM, Host, Load, ask, dumps, fib, hang_up, results, rotate, tenant
 from servers import PATIENCE, SEVEN, Bound, by_deadline
 from sharing import JOBS, SPINNING
 
@@ -205,8 +206,10 @@ def what_it_shows() -> None:
                 "--finish", 7)
     connections = asks_both(host)
     status = by_deadline(lambda: shown(host, lambda acme, beta: acme["asks"] == 4 and beta["asks"] == 3))
-    assert set(status) == {"time", "began", "connections", "connected", "served", "cut", "hello_seconds", "idle_seconds", "rotate_at",
-                           "keep", "finish", "durable", "memory", "workers", "terms", "closed"}
+    assert set(status) == {"version", "time", "began", "connections", "connected", "served", "cut", "hello_seconds", "idle_seconds",
+                           "rotate_at", "keep", "finish", "durable", "memory", "workers", "terms", "closed"}
+    told = subprocess.run([PROGRAM, "--version"], capture_output=True, text=True, check=True).stdout
+    assert told == f"arena-host {status['version']}\n", told
     assert (status["connections"], status["rotate_at"], status["keep"], status["finish"]) == (3, 50, 5, 7)
     assert status["durable"] == "write"
     assert (status["connected"], status["served"]) == (2, 2)

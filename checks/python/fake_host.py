@@ -70,7 +70,7 @@ class Folder:
     def status(self, *terms: dict, closed: Iterable[dict] = (), workers: Iterable[dict] = (), began: int = 1,
                served: int = 0, at: float | None = None) -> dict:
         """A status of now, or of a time in seconds since 1970, that has these terms."""
-        return {"time": int(time.time() if at is None else at), "began": began, "connections": 64, "connected": 0,
+        return {"version": "0.9.0", "time": int(time.time() if at is None else at), "began": began, "connections": 64, "connected": 0,
                 "served": served, "cut": {"hello": 0, "idle": 0}, "hello_seconds": 60, "idle_seconds": 0, "rotate_at": 50,
                 "keep": 8, "finish": 10, "durable": "write", "memory": None, "workers": [*workers],
                 "terms": [*terms], "closed": [*closed]}

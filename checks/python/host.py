@@ -105,7 +105,7 @@ def nonsense_is_told(it, folder):
     surrogate = whole.replace('"acme"', '"\\ud800"')
     for text, said in (("", "empty"), (" \n", "empty"), (whole[:-1], "no JSON"), ("null", "the whole is an object"),
                        ("[" * 5000, "no JSON"), ("NaN", "no JSON"), (surrogate, "no JSON"), ("\xff", "no JSON"),
-                       ("{}", "time is a whole number from 0 on, not missing; this is not a status of arena-host"),
+                       ("{}", "version is a text, not missing; this is not a status of arena-host"),
                        (whole.replace("50,", "5e1,", 1), "rotate_at is a whole number from 0 on, not 50.0"),
                        (json.dumps(two), r'terms has term "acme\.000121" twice'),
                        (" " * (16 * 1024 * 1024) + whole, "more than 16,777,216 bytes")):
@@ -154,7 +154,7 @@ def every_member_is_looked_at():
         assert refused(changed(path, lambda it, key: it.__setitem__(key, 1.5)), path), path
         if inside[key] is not True:
             assert refused(changed(path, lambda it, key: it.__setitem__(key, True)), path), path
-        if isinstance(inside[key], str) and key != "tenant":
+        if isinstance(inside[key], str) and key not in ("tenant", "version"):
             assert refused(changed(path, lambda it, key: it.__setitem__(key, "dance")), path), path
     assert refused(changed("terms[0].steps", lambda it, key: it.__setitem__(key, 0)), "terms[0].steps")
     more = changed("time", lambda it, key: it.__setitem__("more", [None]))

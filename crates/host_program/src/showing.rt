@@ -5,6 +5,7 @@ use crate::site::Site;
 use host_status::{ClosedTerm, CutSoFar, HostStatus, Jobs, Rows, TermStatus, Worker, status_line};
 use host_terms::{HostTerm, Place, Tenancy};
 use job_language::TenantName;
+use program_version::VERSION;
 use program_words::HostWords;
 use std::alloc::{AllocError, Global};
 use std::fs::{File, Files, OpenFile, OpenOptions, Permissions};
@@ -31,6 +32,7 @@ pub(crate) fn show<R: Files<File = File> + Wait + Clock + AllocGlobal>(
     let terms = terms(rt, alloc, site)?;
     let words = site.words;
     let status = HostStatus {
+        version: VERSION,
         time: seconds(rt),
         began,
         connections: words.connections,

@@ -102,6 +102,8 @@ pub struct ClosedTerm {
 /// What a host does. Times are in seconds since 1970.
 #[derive(Drop, Serialize)]
 pub struct HostStatus<'s> {
+    /// The version of the program.
+    pub version: &'s str,
     /// When it was made.
     pub time: u64,
     /// When the host began.

@@ -143,6 +143,7 @@ class HostStatus:
     the most at a time, `connected` how many there are now, `served` all so far.
     The terms of one tenant stand together, the oldest first, and of those that are closed the newest is last."""
 
+    version: str
     time: int
     began: int
     connections: int
@@ -312,8 +313,9 @@ def parse_status(data: bytes, file: str = "status.json") -> Parsed:
 
 def _host(part: _Part) -> HostStatus:
     status = HostStatus(
-        part.number("time"), part.number("began"), part.number("connections"), part.number("connected"), part.number("served"),
-        _cut(part.part("cut")), part.number("hello_seconds"), part.number("idle_seconds"), part.number("rotate_at"), part.number("keep"), part.number("finish"), part.one_of("durable", Durable),
+        part.text("version"), part.number("time"), part.number("began"), part.number("connections"), part.number("connected"),
+        part.number("served"), _cut(part.part("cut")), part.number("hello_seconds"), part.number("idle_seconds"),
+        part.number("rotate_at"), part.number("keep"), part.number("finish"), part.one_of("durable", Durable),
         part.or_none("memory", part.number),
         tuple(map(_worker, part.parts("workers"))), tuple(map(_term, part.parts("terms"))),
         tuple(map(_closed, part.parts("closed"))))
