@@ -1,11 +1,9 @@
 //! Jobs as customers write them, whose steps and values were worked out by hand, and what the crates of tests share.
 #![tactic(auto)]
 
-mod asserting;
 mod jobs;
 mod tenants;
 
-pub use asserting::assert_same;
 pub use jobs::{
     CANCEL_THEN_WAIT, CHAIN, CLASSIC, FIB, FIRST, HALF, ISOLATED, JobText, LEAST_BY_MINUS_ONE,
     NESTED, NINE, NOT_VALID, PLAIN, POSTED, SLOT, SPIN, STOLEN, UNUSED, UNWAITED, WRAP,

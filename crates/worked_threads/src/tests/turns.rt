@@ -1,5 +1,6 @@
 // How a thread's door moves its slot: if nobody else is out, and beside another one.
 
+use crate::tests::assert_same;
 use job_language::{Moved, Reply, Request};
 use job_step::{Segment, View, segment_of};
 use nested_wait::{Attended, Door, attend};
@@ -10,7 +11,7 @@ use std::sync::Wait;
 use std::test::Fail;
 use tenant_lock::{StopFlag, TenantDoor};
 use tenant_record::Seat;
-use worked_jobs::{FIB_OF_SIX, assert_same, job_of, tenant};
+use worked_jobs::{FIB_OF_SIX, job_of, tenant};
 use worker_main::DueDoor;
 
 /// A thread's door, and how often it was moved by a commit and by an advance.

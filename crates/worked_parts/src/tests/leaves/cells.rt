@@ -1,6 +1,6 @@
 // The cells of two keys on some slots.
+use crate::tests::assert_same;
 use thread_cells::Cells;
-use worked_jobs::assert_same;
 
 /// How many cells key 7 has, their sum, what slot 15 reads, and how many there are after that.
 fn read_first(cells: &mut Cells) -> (usize, i64, i64, usize) {

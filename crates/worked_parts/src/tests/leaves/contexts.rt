@@ -3,10 +3,10 @@
 ghost use Rattle.std.specs.Prelude.{◌≡◌, ◌+◌, ◌*◌, ◌≤◌, IfOk, None, replicate};
 ghost use Rattle.cancel_context.specs.declared.contexts.TheConstants.{BASE_CONTEXTS, CONTEXTS_PER_ROW, MAX_ROWS};
 
+use crate::tests::assert_same;
 use cancel_context::{BASE_CONTEXTS, CONTEXTS_PER_ROW, Contexts};
 use std::alloc::{AllocError, Global};
 use std::test::Fail;
-use worked_jobs::assert_same;
 
 /// No contexts, with room for those of some rows. If an allocation failed they are made once more.
 fn no_contexts(alloc: Global, rows: usize) -> Result<Contexts, AllocError>

@@ -2,8 +2,8 @@
 ghost use Rattle.std.specs.Prelude.{◌≡◌};
 ghost use Rattle.task_group.specs.Groups.{no_members};
 
+use crate::tests::assert_same;
 use task_group::{GROUPS, Groups};
-use worked_jobs::assert_same;
 
 /// How many rows of each group are pending, and whether it has a member.
 type Seen = [(u32, bool); GROUPS];

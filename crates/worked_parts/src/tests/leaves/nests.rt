@@ -1,12 +1,12 @@
 // Worked examples: rows and regions above one another, and memory that is refused.
 ghost use Rattle.std.specs.Prelude.{◌≡◌, ◌<◌, [], IfOk, length, replicate};
 
+use crate::tests::assert_same;
 use job_step::Frame;
 use nest_stack::{Nested, Nests};
 use region_tag::RowId;
 use std::alloc::{AllocError, Global};
 use std::test::Fail;
-use worked_jobs::assert_same;
 
 /// Stacks for two slots. If an allocation failed they are made once more.
 fn two_slots(alloc: Global) -> Result<Nests, AllocError>

@@ -2,10 +2,10 @@
 ghost use Rattle.std.specs.Prelude.{◌≡◌, IfOk, [], None, length, replicate, ℕ};
 ghost use Rattle.place_lists.specs.Lists.{list_in};
 
+use crate::tests::assert_same;
 use place_lists::{Filing, Lists};
 use std::alloc::{AllocError, Global};
 use std::test::Fail;
-use worked_jobs::assert_same;
 
 /// Two lists over five places. If an allocation failed they are made once more.
 fn two_lists(alloc: Global) -> Result<Lists, AllocError>

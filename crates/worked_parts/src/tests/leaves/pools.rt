@@ -2,12 +2,12 @@
 ghost use Rattle.std.specs.Prelude.{◌≡◌, None, IfOk, replicate};
 ghost use Rattle.ready_pool.specs.Ready.{empty};
 
+use crate::tests::assert_same;
 use job_language::Isolation;
 use ready_pool::Pool;
 use region_tag::{Regions, RowId};
 use std::alloc::{AllocError, Global};
 use std::test::Fail;
-use worked_jobs::assert_same;
 
 const OUTER: RowId = RowId {
     number: 1,

@@ -1,10 +1,10 @@
 // Worked examples: rows outside and inside of nested regions, and memory that is refused.
 ghost use Rattle.std.specs.Prelude.{◌≡◌, IfOk, replicate, None};
 
+use crate::tests::assert_same;
 use region_tag::{Regions, RowId};
 use std::alloc::{AllocError, Global};
 use std::test::Fail;
-use worked_jobs::assert_same;
 
 const ROOT: RowId = RowId {
     number: 1,

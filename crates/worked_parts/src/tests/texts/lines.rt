@@ -1,10 +1,10 @@
 // Lines of bytes, however they come.
 use super::readers::{Few, told};
+use crate::tests::assert_same;
 use request_reader::{LineRead, LineReader, is_blank};
 use std::alloc::{AllocError, Global};
 use std::io::{ErrorKind, Read};
 use std::test::Fail;
-use worked_jobs::assert_same;
 
 /// The last text of the table. A reader that gives a byte at a call is called 29 times for it.
 const LAST: (&str, &str) = ("abcdefghijkl\nx\nabcdefghi\n\ny\n", "#(x)#()(y)$");

@@ -1,9 +1,9 @@
 // The places of the faults of jobs that are refused.
+use crate::tests::assert_same;
 use job_json::{Place, Refused, read_job};
 use serde_json::Value;
 use std::alloc::Global;
 use std::test::Fail;
-use worked_jobs::assert_same;
 
 /// The text of a job with this fuel and these procedures, and arguments 0 and 0.
 fn job_text(alloc: Global, fuel: u64, procs: &str) -> Result<String, Fail> {

@@ -1,9 +1,9 @@
 // Lines of the greatest length.
+use crate::tests::assert_same;
 use job_language::{Error, Request};
 use request_reader::{Asked, read_request, value_in};
 use std::alloc::Global;
 use std::test::Fail;
-use worked_jobs::assert_same;
 
 /// A request with spaces before its end, so that it has that length.
 fn padded(alloc: Global, length: usize) -> Result<Vec<u8>, Fail> {

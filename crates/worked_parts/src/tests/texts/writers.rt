@@ -1,9 +1,9 @@
 // Writers over memory that take few bytes at a call, and then none.
+use crate::tests::assert_same;
 use reply_writer::{WriteFault, write_all_of};
 use std::alloc::Global;
 use std::io;
 use std::io::{ErrorKind, Write};
-use worked_jobs::assert_same;
 
 /// What a writer does at a call once it takes no more.
 #[derive(Clone, Copy)]

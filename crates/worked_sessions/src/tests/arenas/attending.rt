@@ -1,6 +1,7 @@
 // A job that is executed, and attended until its slot is free.
 ghost use Rattle.std.specs.Prelude.{◌≤◌};
 
+use crate::tests::assert_same;
 use arena_core::Arena;
 use job_language::{Came, Error, JobFault, Moved, Reply, Request, Status};
 use job_step::{View, segment_of};
@@ -8,7 +9,7 @@ use nested_wait::Attended;
 use session_law::attend_slot;
 use std::alloc::Global;
 use std::test::Fail;
-use worked_jobs::{FIB_OF_SIX, assert_same, job_of, tenant};
+use worked_jobs::{FIB_OF_SIX, job_of, tenant};
 
 /// Waits inside a region for a task.
 const ISOLATED: &str =

@@ -1,12 +1,13 @@
 // A door in memory whose answers are given by a table.
 ghost use Rattle.std.specs.Prelude.{◌≤◌};
 
+use crate::tests::assert_same;
 use job_language::{Moved, Program};
 use job_step::{Frame, Segment, Stop, Top, View};
 use nested_wait::{Attended, Door, MAX_HEIGHT, attend};
 use std::alloc::Global;
 use std::test::Fail;
-use worked_jobs::{assert_same, job_of};
+use worked_jobs::job_of;
 
 /// What is seen of the slot.
 #[derive(Clone, Copy)]

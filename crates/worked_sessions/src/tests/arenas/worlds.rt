@@ -1,9 +1,10 @@
 // A world that takes many steps by one call.
+use crate::tests::assert_same;
 use arena_core::Arena;
 use job_language::Config;
 use std::alloc::Global;
 use std::test::Fail;
-use worked_jobs::{assert_same, tenant};
+use worked_jobs::tenant;
 use world_core::{Raw, World};
 use world_model::Outcome;
 

@@ -1,10 +1,10 @@
 // Readers and writers that fail.
+use crate::tests::assert_same;
 use arena_script::{ScriptEnd, script};
 use std::alloc::Global;
 use std::io;
 use std::io::{ErrorKind, Read, Write};
 use std::test::Fail;
-use worked_jobs::assert_same;
 
 /// A tenant of one slot, which is a worker's.
 const TENANT: &str =

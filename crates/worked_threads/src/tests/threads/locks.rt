@@ -1,6 +1,7 @@
 // A tenant behind its door, from a submitted job to the history.
 ghost use Rattle.std.specs.Prelude.{◌≡◌, IfSome};
 
+use crate::tests::assert_same;
 use job_language::{
     Came, Fuel, Group, Instr, Isolation, Job, Level, Moved, Proc, Program, Register, Reply,
     Request, Status, Tenant, TenantConfig, TenantName,
@@ -15,7 +16,6 @@ use std::thread;
 use std::thread::Threads;
 use tenant_lock::{CloseFault, Closed, StopFlag, TenantDoor};
 use tenant_record::{Advanced, Arrived, AskOutcome, Pass, Seat, TenantCell};
-use worked_jobs::assert_same;
 
 /// The call of the only slot for workers.
 pub(super) const CALL: Call = Call { tenant: 0, slot: 1 };

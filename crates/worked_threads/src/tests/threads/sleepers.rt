@@ -1,6 +1,7 @@
 // Who is woken at the slots of a tenant, by counts of wakes.
 
 use super::locks::{advance, arrive, ask, give_home, pause, poll, tenant, waiting};
+use crate::tests::assert_same;
 use job_language::{Moved, Request};
 use market_config::Call;
 use std::alloc::Global;
@@ -10,7 +11,6 @@ use std::thread;
 use std::thread::{Threads, yield_now};
 use tenant_lock::{TenantDoor, Waits};
 use tenant_record::{Pass, Seat};
-use worked_jobs::assert_same;
 
 /// How many entries are made that leave a sleeper's slot idle.
 const ENTRIES: u32 = 100;

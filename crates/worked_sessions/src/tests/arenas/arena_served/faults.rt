@@ -1,12 +1,12 @@
 // Sessions whose reader is interrupted at every call, or whose writer has too little room.
 use super::{BOUND, HELLO, RETURNS, both, served, served_from};
+use crate::tests::assert_same;
 use session_core::SessionEnd;
 use session_law::{ArenaDoors, serve_arenas};
 use std::alloc::Global;
 use std::io;
 use std::io::{ErrorKind, Read};
 use std::test::Fail;
-use worked_jobs::assert_same;
 
 /// A reader that gives one byte at a call, and is interrupted at each call once they end.
 #[derive(Drop)]

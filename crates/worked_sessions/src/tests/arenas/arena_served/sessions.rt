@@ -1,9 +1,9 @@
 // Worked examples of sessions over arenas.
 use super::{HELLO, RETURNS, both, served};
+use crate::tests::assert_same;
 use session_core::SessionEnd;
 use std::alloc::Global;
 use std::test::Fail;
-use worked_jobs::assert_same;
 
 /// The sixth Fibonacci number, a task for each smaller one.
 const FIB: &str =

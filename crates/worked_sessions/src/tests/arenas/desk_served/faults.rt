@@ -1,10 +1,10 @@
 // Sessions whose reader or writer fails.
 use super::desks::Desk;
 use super::devices::{Few, Full, Slow};
+use crate::tests::assert_same;
 use session_core::{SessionEnd, serve};
 use std::alloc::Global;
 use std::test::Fail;
-use worked_jobs::assert_same;
 
 const LINES: &str = "{\"op\":\n\n{\"op\":\"arena\"}\n";
 

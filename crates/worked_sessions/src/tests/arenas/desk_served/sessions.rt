@@ -1,11 +1,11 @@
 // Worked examples of sessions.
 use super::super::expect_text;
 use super::desks::Desk;
+use crate::tests::assert_same;
 use job_language::{Error, JobFault, Key, Level, Moved, Reply, Status};
 use session_core::{SessionEnd, serve};
 use std::alloc::Global;
 use std::test::Fail;
-use worked_jobs::assert_same;
 
 const HELLO: &str = "{\"op\":\"hello\",\"tenant\":\"acme\"}\n";
 

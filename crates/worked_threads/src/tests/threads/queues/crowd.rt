@@ -3,6 +3,7 @@ ghost use Rattle.std.specs.Prelude.{◌≡◌, ◌<◌, ℕ, length, slice_index
 ghost use Rattle.call_queues.specs.Queues.{PassSeen, fresh};
 
 use super::push;
+use crate::tests::assert_same;
 use call_queues::{CallQueues, QueuePass};
 use job_language::Level;
 use market_config::{Call, MarketConfig, MarketTenant};
@@ -12,7 +13,6 @@ use std::sync::Wait;
 use std::test::*;
 use std::thread;
 use std::thread::Threads;
-use worked_jobs::assert_same;
 
 /// How many calls each thread pushes.
 const ROUNDS: u32 = 250_000;

@@ -3,13 +3,13 @@ ghost use Rattle.std.specs.Prelude.{◌≡◌, ◌<◌, ℕ, length, slice_index
 ghost use Rattle.call_queues.specs.Queues.{PassSeen, fresh};
 
 use super::push;
+use crate::tests::assert_same;
 use call_queues::{CallQueues, QueuePass};
 use job_language::Level;
 use market_config::{Call, MarketConfig, MarketTenant};
 use std::alloc::{AllocError, Global};
 use std::sync::Wait;
 use std::test::*;
-use worked_jobs::assert_same;
 
 const ACME: Call = Call { tenant: 0, slot: 1 };
 

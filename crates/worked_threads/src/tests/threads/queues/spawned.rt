@@ -3,6 +3,7 @@ ghost use Rattle.std.specs.Prelude.{◌≡◌, ◌<◌, length, IfOk};
 ghost use Rattle.std.specs.Arc.{arc_value};
 
 use super::push;
+use crate::tests::assert_same;
 use call_queues::{CallQueues, QueuePass};
 use job_language::Level;
 use market_config::{Call, MarketConfig, MarketTenant};
@@ -12,7 +13,6 @@ use std::sync::{Arc, Wait};
 use std::test::*;
 use std::thread;
 use std::thread::{Promise, Threads};
-use worked_jobs::assert_same;
 
 const FIRST: Call = Call { tenant: 0, slot: 1 };
 

@@ -1,6 +1,7 @@
 // Two tenants and one worker: in which order their rows are run.
 ghost use Rattle.std.specs.Prelude.{◌≡◌, ◌<◌, if◌then◌else◌, IfOk, length};
 
+use crate::tests::assert_same;
 use crate::tests::threads::queues::push;
 use call_queues::{CallQueues, QueuePass};
 use job_language::{Came, Level, Moved};
@@ -9,7 +10,6 @@ use market_config::{Call, MarketConfig, MarketTenant};
 use std::alloc::{AllocError, Global};
 use std::sync::Wait;
 use std::test::*;
-use worked_jobs::assert_same;
 use worker_main::{Bell, CallDoors, DueDoor, NoGate, Visiting, worker};
 
 /// One of the two tenants.

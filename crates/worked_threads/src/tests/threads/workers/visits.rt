@@ -2,6 +2,7 @@
 ghost use Rattle.std.specs.Prelude.{◌≡◌, length};
 
 use super::tours::{Row, Tour, one_tenant, returns_its_slot};
+use crate::tests::assert_same;
 use crate::tests::threads::queues::push;
 use call_queues::{CallQueues, QueuePass};
 use job_language::{Came, Moved, Program};
@@ -12,7 +13,6 @@ use std::alloc::Global;
 use std::cell::Cell;
 use std::sync::Wait;
 use std::test::*;
-use worked_jobs::assert_same;
 use worker_main::{Bell, Gate, NoGate, Ringer, Signal, SlotDoor, Visiting, worker};
 
 const FIRST: Call = Call { tenant: 0, slot: 5 };
