@@ -13,7 +13,7 @@ use tenant_lock::TenantDoor;
 const SLICE: usize = 64;
 
 /// How many slices are written by one call of the system at most.
-const SLICES: usize = 64;
+const SLICES: usize = 8;
 
 /// How often a session that has entries to write lets other threads go first while another one writes, before it sleeps.
 const LOOKS: u32 = 100;
