@@ -67,10 +67,10 @@ class Known:
         with Store(queue, "off") as it:
             if (said := it.base.rows("PRAGMA integrity_check")) != [("ok",)]:
                 return [f"the file: {said}"]
-            rows = {number: (key, state, value, x) for number, key, state, value, x in it.base.rows("SELECT id, key, state, value, x FROM job")}
+            rows = {number: more for number, *more in it.base.rows("SELECT id, key, state, value, x FROM job")}
         lost = [f"job {number}" for number, key in self.keys.items() if number not in rows or rows[number][0] != key]
-        return lost + [f"the outcome of job {number}" for number in self.ended
-                       if number in rows and rows[number][1:3] != ("complete", rows[number][3] ** 2)]
+        return lost + [f"the outcome of job {number}" for number in self.ended & rows.keys()
+                       if rows[number][1:3] != ["complete", rows[number][3] ** 2]]
 
 
 def losses(synchronous: str) -> tuple[list[str], int]:

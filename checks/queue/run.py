@@ -116,7 +116,8 @@ def main() -> None:
         return
     harmed = partial(each_acknowledged_job_has_its_outcome, words.seconds, words.seed)
     in_postgresql = partial(each_acknowledged_job_has_its_outcome_in_postgresql, words.seconds, words.seed)
-    lanes = [[*first.CHECKS, *plain.CHECKS, *web.CHECKS, *proxy.CHECKS], [partial(a_missing_fence_is_found, words.seed), *power.CHECKS], [harmed], [in_postgresql]]
+    by_hand = [*first.CHECKS, *plain.CHECKS, *web.CHECKS, *proxy.CHECKS]
+    lanes = [by_hand, [partial(a_missing_fence_is_found, words.seed), *power.CHECKS], [harmed], [in_postgresql]]
     with ThreadPoolExecutor(len(lanes)) as pool:
         done = sum(pool.map(run_all, lanes))
     print(f"{done} checks of the queue passed, by {places.host_program().relative_to(places.TOP)} (seed {words.seed})")

@@ -5,6 +5,7 @@ import logging
 import math
 import signal
 import socket
+import sys
 from collections.abc import Callable
 from typing import Any
 
@@ -38,6 +39,9 @@ PAGE = "/"
 password to whatever any page has it ask for."""
 
 JSON = "application/json; charset=utf-8"
+
+SWITCH = 0.001
+"""For how many seconds the thread of the queue's database waits at most, each time that it goes on, while the loop is busy."""
 
 
 def as_json(body: bytes, status: int = 200, **headers: str) -> web.Response:
@@ -261,6 +265,7 @@ def serve(where: str, address: Address, rate: float, size: int, processes: int, 
 
         def one(parent: int) -> None:
             """What each process does."""
+            sys.setswitchinterval(SWITCH)
             asyncio.run(_until_signal(where, listening, rate / processes, size, parent))
         return serve_in(processes, one)
 
