@@ -267,5 +267,6 @@ def what_it_shows_of_a_worker_at_work() -> None:
 
 
 CHECKS = [three_by_history, a_noisy_tenant_disturbs_no_other, connections_outlive_terms,
-          questions_take_nothing_from_jobs, a_full_history_is_left_for_the_next_one, one_by_file, a_configuration_that_cannot_be_read,
+          questions_take_nothing_from_jobs, a_full_history_is_left_for_the_next_one, one_by_file,
+          a_configuration_that_cannot_be_read,
           what_a_tenant_is_given_changes, the_newest_dumps_are_kept, what_it_shows, what_it_shows_of_a_worker_at_work]
