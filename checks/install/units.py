@@ -64,7 +64,7 @@ def each_start_of_the_host_bounds_its_memory(_: Room) -> None:
     places = [TOP / "Makefile", TOP / "packaging/arena-host.service",
               *(it for it in (TOP / "examples").rglob("*") if it.suffix in (".yaml", ".hcl"))]
     starts = [it for it in places if re.search(r"(arena-host|\$\(HOST\) \$\(RUN\)) --config|/usr/bin/arena\b.*\bhost\b", it.read_text(), re.S)]
-    assert len(starts) == 4, starts
+    assert len(starts) == 6, starts
     for it in starts:
         assert re.search(r"MALLOC_MMAP_THRESHOLD_\W+(value: )?\W?16384\b", it.read_text()), it
 
