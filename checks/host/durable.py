@@ -18,6 +18,8 @@ UNKNOWN = {"code": 6, "error": "unknown_job"}
 # Fibonacci numbers, by their places.
 FIBONACCI = [0, 1, 1, 2, 3, 5, 8, 13, 21, 34]
 SEED = 20_261_129
+STOPS = 8
+"""How often a stop is tried, in which jobs may have ended: a busy machine may be slow while they are made, and fast then."""
 
 
 def submits(n: int) -> dict:
@@ -211,11 +213,15 @@ def a_journal_without_a_whole_line() -> None:
 def a_stop_leaves_long_jobs_to_the_next_start() -> None:
     """Jobs that have no outcome when an ordered stop waits no longer are left to the next start, which finishes them."""
     tenants = [tenant("noisy", steps=1_000_000, slots=2), tenant("quiet", steps=100_000, slots=2)]
-    host = Host(tenants, "--finish", 0, workers=1)
-    made = submits_many(host)
-    assert host.stop() == 0
-    [closed] = host.told("closed", tenant="noisy", term=0)
-    assert closed["lost"] == 0 and closed["left"] > 0, closed
+    for _ in range(STOPS):
+        host = Host(tenants, "--finish", 0, workers=1)
+        made = submits_many(host)
+        assert host.stop() == 0
+        [closed] = host.told("closed", tenant="noisy", term=0)
+        assert closed["lost"] == 0, closed
+        if closed["left"]:
+            break
+    assert closed["left"], "each time all jobs had ended before the stop"
     host = Host(tenants, after=host)
     assert len(host.told("recovered", tenant="noisy", term=0)) == 1
     client = host.connect("noisy")
