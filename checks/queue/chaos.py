@@ -18,7 +18,10 @@ from arena.queue.base import is_url
 from arena.queue.model import SECOND
 from arena.queue.policy import LONGEST_DELAY
 
-LEASE = 2.0
+LEASE, LONG_LEASE = 2.0, 60.0
+"""That of dispatchers while harm is done, and afterwards: on a machine that is so busy that each process stands still for seconds, short
+ones would be lost again and again."""
+
 HOSTS, SUBMITTERS = 2, 2
 DISPATCHERS = ((0,), (1,), (0, 1))
 """Which hosts each dispatcher may have: the last one is there for both."""
@@ -116,10 +119,23 @@ class Chaos:
         (self.place.folder / "stop").touch()
         for it in self.submitters:
             assert it.wait() == 0, it.printed()
+        self._calm_down()
         until(self._is_done, "the last outcome", PATIENCE + LONGEST_DELAY / SECOND, lambda: f"{self._left()} {self._printed()}")
+        self._end_dispatchers()
+
+    def _end_dispatchers(self) -> None:
+        """Ends them in order."""
         for it in self.dispatchers:
             it.signal(signal.SIGTERM)
+        for it in self.dispatchers:
             assert it.wait() == 0, it.printed()
+
+    def _calm_down(self) -> None:
+        """Puts dispatchers with long leases in the place of the others."""
+        self._end_dispatchers()
+        self.dispatchers = [self.place.dispatcher(len(DISPATCHERS) + number, *its, lease=LONG_LEASE) for number, its in enumerate(DISPATCHERS)]
+        for it in self.dispatchers:
+            it.start()
 
     def _is_done(self) -> bool:
         return not self.place.rows("SELECT 1 FROM job WHERE ended_at IS NULL LIMIT 1")

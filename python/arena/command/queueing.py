@@ -346,7 +346,10 @@ def serve(call: Call) -> int:
         sys.stdout.flush()
     if not 1 <= call.words.processes <= MOST_PROCESSES:
         raise WordsFault(f"--processes {call.words.processes}: 1 to {MOST_PROCESSES} are possible")
-    is_stopped = serve_http(where_of(call), address, call.words.rate, call.words.bytes, call.words.processes, began)
+    try:
+        is_stopped = serve_http(where_of(call), address, call.words.rate, call.words.bytes, call.words.processes, began)
+    except OSError as fault:
+        raise WordsFault(f"--listen {call.words.listen}: {fault.strerror or fault}") from None
     if not is_stopped:
         call.output.complain("arena: a process of the service ended by itself, and with it the others")
     return Status.DONE if is_stopped else Status.QUEUE
