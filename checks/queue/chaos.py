@@ -133,7 +133,8 @@ class Chaos:
     def _calm_down(self) -> None:
         """Puts dispatchers with long leases in the place of the others."""
         self._end_dispatchers()
-        self.dispatchers = [self.place.dispatcher(len(DISPATCHERS) + number, *its, lease=LONG_LEASE) for number, its in enumerate(DISPATCHERS)]
+        self.dispatchers = [self.place.dispatcher(number, *its, lease=LONG_LEASE)
+                            for number, its in enumerate(DISPATCHERS, len(DISPATCHERS))]
         for it in self.dispatchers:
             it.start()
 
