@@ -1,6 +1,6 @@
 #!/usr/bin/env python3
 """Fails each allocation in turn of `failed_allocations`, of `arena-script`, by each of its words, and of `arena-server` with three
-sessions; and of `arena-host` with two terms and the start after it, of which one in twenty is drawn unless all are wanted.
+sessions; and of `arena-host` with two terms and the start after it, of which one in three is tried, from a drawn one on, unless all are wanted.
 
 With one allocation failed, `failed_allocations` makes the call that failed again and prints the same. A script ends for lack of memory
 after a first part of its answers, or refuses one line and answers the others as if that were not there. The server does not start,

@@ -124,11 +124,11 @@ class Chaos:
         self._end_dispatchers()
 
     def _end_dispatchers(self) -> None:
-        """Ends them in order."""
+        """Ends them in order; one that has only just begun may not know the signal yet."""
         for it in self.dispatchers:
             it.signal(signal.SIGTERM)
         for it in self.dispatchers:
-            assert it.wait() == 0, it.printed()
+            assert it.wait() in (0, -signal.SIGTERM), it.printed()
 
     def _calm_down(self) -> None:
         """Puts dispatchers with long leases in the place of the others."""
