@@ -133,7 +133,7 @@ class Client:
 class Host:
     """The host as a program whose allocations fail."""
 
-    name, effects, every, lanes = "arena-host", EFFECTS, 3, 4
+    name, effects, is_by_hand, lanes = "arena-host", EFFECTS, True, 8
 
     def run(self, room: dict[str, str]) -> Outcome:
         """Runs it with its clients, through a rotation to an ordered stop, and starts it again."""

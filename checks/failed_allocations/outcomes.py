@@ -17,8 +17,8 @@ class Program(Protocol):
 
     name: str
     effects: Sequence[str]
-    every: int
-    """Of how many allocations one fails, unless all are wanted."""
+    is_by_hand: bool
+    """Whether it is tried only if it is named."""
     lanes: int
     """How many runs go on at a time."""
 

@@ -1,21 +1,21 @@
 #!/usr/bin/env python3
 """Fails each allocation in turn of `failed_allocations`, of `arena-script`, by each of its words, and of `arena-server` with three
-sessions; and of `arena-host` with two terms and the start after it, of which one in three is tried, from a drawn one on, unless all are wanted.
+sessions; and, by hand, of `arena-host` with two terms and the start after it.
 
 With one allocation failed, `failed_allocations` makes the call that failed again and prints the same. A script ends for lack of memory
 after a first part of its answers, or refuses one line and answers the others as if that were not there. The server does not start,
 or refuses one line, which is answered when it is sent again, or has one of the other effects of `sessions.py`; the host has those of
-`hosting.py`, and the next start has all that it acknowledged. Where all allocations fail in turn, each effect must come up.
+`hosting.py`, and the next start has all that it acknowledged. Each effect must come up.
 
-usage: checks/failed_allocations/run.py [--all] [NAME ..], after `rt ci`, or `rt run` in crates/failed_allocations, crates/script_program,
-crates/server_program and crates/host_program: of all programs, or of those with these names. It needs `cc` on the path.
+usage: checks/failed_allocations/run.py [NAME ..], after `rt ci`, or `rt run` in crates/failed_allocations, crates/script_program,
+crates/server_program and crates/host_program: of all programs but the host, or of those with these names, `arena-host` among them.
+It needs `cc` on the path.
 """
 import argparse
 import collections
 import itertools
 import os
 import pathlib
-import random
 import subprocess
 import sys
 import tempfile
@@ -31,11 +31,11 @@ from sessions import Server
 WHOLE_RUNS, WRONG_RUNS = 3, 10
 
 
-def sweep(program: Program, failing: pathlib.Path, every: int) -> tuple[int, list[str]]:
-    """Fails each allocation of a program in turn, or of so many one, from a drawn one on. Returns how many failed, and a line for
-    each fault that was found. Runs that wait most of their time go on side by side."""
+def sweep(program: Program, failing: pathlib.Path) -> tuple[int, list[str]]:
+    """Fails each allocation of a program in turn. Returns how many failed, and a line for each fault that was found. Runs that wait
+    most of their time go on side by side."""
     effects, wrong, whole = collections.Counter(), [], 0
-    numbers = itertools.count(random.randint(1, every), every)
+    numbers = itertools.count(1)
     with ThreadPoolExecutor(program.lanes) as pool:
         while whole < WHOLE_RUNS and len(wrong) < WRONG_RUNS:
             batch = list(itertools.islice(numbers, program.lanes))
@@ -45,14 +45,13 @@ def sweep(program: Program, failing: pathlib.Path, every: int) -> tuple[int, lis
                 effects[outcome.effect] += outcome.has_failed
                 if outcome.effect is None or not outcome.has_failed and outcome.effect != "nothing":
                     wrong.append(f"{program.name}, where allocation {number} was to fail: {outcome.seen}")
-    missing = [f"{program.name}, whichever allocation failed, never: {it}" for it in program.effects if not effects[it] and every == 1]
+    missing = [f"{program.name}, whichever allocation failed, never: {it}" for it in program.effects if not effects[it]]
     return effects.total(), wrong or missing
 
 
 def main() -> None:
     """Sweeps the programs, and says what was otherwise."""
     parser = argparse.ArgumentParser()
-    parser.add_argument("--all", action="store_true")
     parser.add_argument("names", nargs="*")
     words = parser.parse_args()
     count, wrong = 0, []
@@ -61,9 +60,9 @@ def main() -> None:
         source = pathlib.Path(__file__).with_name("fail.c")
         subprocess.run(["cc", "-shared", "-fPIC", "-O2", "-o", failing, source], check=True)
         for program in [Calls(), *scripts(), Server(), Host()]:
-            if words.names and program.name not in words.names:
+            if program.name not in words.names if words.names else program.is_by_hand:
                 continue
-            failed, others = sweep(program, failing, 1 if words.all else program.every)
+            failed, others = sweep(program, failing)
             print(f"{program.name}: {failed} allocations failed", flush=True)
             count, wrong = count + failed, wrong + others
     print(*wrong, sep="\n", end="\n" if wrong else "")

@@ -103,7 +103,7 @@ class Script:
     def __init__(self, word: str, lines: Sequence[object], answers: Sequence[object],
                  refusals: Sequence[list[dict]] = ()) -> None:
         self.name, self.words = f"arena-script {word}", [PROGRAM, word]
-        self.every, self.lanes = 1, 1
+        self.is_by_hand, self.lanes = False, 1
         self.text, self.answers = text_of(lines), text_of(answers)
         self.refusals = {text_of(others): f"a refusal of step {others.index(NO_MEMORY) + 1}" for others in refusals}
         counts = [0] if word == "finish" else range(len(answers))  # a finished dump is written at once
