@@ -78,7 +78,7 @@ def run(steps: tuple[Step, ...]) -> int:
     began, expected = time.monotonic(), 0.0
     for number, it in enumerate(steps, 1):
         spent = (time.monotonic() - began) / 60
-        pace = spent / expected if expected > 2 else 1.0
+        pace = max(0.3, spent / expected) if expected > 2 else 1.0  # proofs that were kept take no time; the rest does
         left = sum(other.takes() for other in steps[number - 1:]) * pace
         end = datetime.datetime.now() + datetime.timedelta(minutes=left)
         print(f"== {' '.join(it.words)} ({number} of {len(steps)}): {told(it.takes() * pace)}; {told(left)} left, until {end:%H:%M}", flush=True)
