@@ -1,4 +1,7 @@
+pub mod Canonical
+pub mod CanonicalText
 pub mod ConfigOf
+pub mod InsideCanonical
 pub mod InsideOperation
 pub mod Instruction
 pub mod Job

@@ -1,3 +1,4 @@
+pub mod CanonicalLines
 pub mod Calling
 mod Exactness
 mod LineAnswers

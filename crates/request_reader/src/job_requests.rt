@@ -7,7 +7,7 @@ ghost use Rattle.request_reader.specs.Exact.{ExactOrNoMemory};
 ghost use Rattle.request_reader.specs.Ready.{job_or_refused, ready_of};
 
 use crate::requests::Asked;
-use job_json::{Refused, read_job};
+use job_json::{Refused, read_job, reads_back};
 use job_language::{Error, Job, Request};
 use serde_json::Value;
 use std::alloc::Global;
@@ -23,6 +23,14 @@ pub fn ready(alloc: Global, asked: Asked) -> Result<Request, Error>
         Asked::Plain(request) => Ok(request),
         Asked::Submit(job) => Ok(Request::Submit(job_in(alloc, &job)?)),
         Asked::Execute(job) => Ok(Request::Execute(job_in(alloc, &job)?)),
+        Asked::SubmitJob(job) => {
+            reads_back(&job);
+            Ok(Request::Submit(job))
+        }
+        Asked::ExecuteJob(job) => {
+            reads_back(&job);
+            Ok(Request::Execute(job))
+        }
     }
 }
 

@@ -1,6 +1,7 @@
 //! Reading what a client asks: lines of bytes, and the requests that they spell.
 #![tactic(auto)]
 
+mod canonical;
 mod job_requests;
 mod lines;
 mod newlines;

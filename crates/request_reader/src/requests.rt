@@ -1,5 +1,5 @@
 // What a line asks for.
-ghost use Rattle.std.specs.Prelude.{◌≡◌, IfOk, OnErr, option_map};
+ghost use Rattle.std.specs.Prelude.{◌≡◌, ◌≤◌, length, IfOk, OnErr, option_map};
 ghost use Rattle.std.specs.List.{list_all};
 ghost use Rattle.serde_json.specs.View.{view};
 ghost use Rattle.job_json.specs.Json.{result_map};
@@ -9,8 +9,9 @@ ghost use Rattle.request_reader.specs.Blank.{is_blank_byte};
 ghost use Rattle.request_reader.specs.Exact.{ExactOrNoMemory};
 ghost use Rattle.request_reader.specs.LineAsks.{asked_by, request_of, value_in, IsShortText, IsText};
 
+use crate::canonical::canonical_request;
 use job_json::values::{has_members, take_member};
-use job_language::{Error, Key, Request, TenantName};
+use job_language::{Error, Job, Key, Request, TenantName};
 use serde_json::Value;
 use std::alloc::{AllocError, Global};
 
@@ -28,6 +29,10 @@ pub enum Asked {
     Submit(Value),
     /// The job of an execute, not read yet.
     Execute(Value),
+    /// The job of a submit, read from its canonical text.
+    SubmitJob(Job),
+    /// The job of an execute, read from its canonical text.
+    ExecuteJob(Job),
 }
 
 /// Whether a line has only spaces, tabs and carriage returns, or nothing.
@@ -51,6 +56,17 @@ pub fn read_request(alloc: Global, line: &[u8]) -> Result<Asked, Error>
     if line.len() > MAX_REQUEST {
         return Err(Error::LineTooLong);
     }
+    match canonical_request(alloc, line) {
+        Some(asked) => Ok(asked),
+        None => read_any(alloc, line),
+    }
+}
+
+/// The request that a line spells, in whatever way, by the JSON value that it is.
+fn read_any(alloc: Global, line: &[u8]) -> Result<Asked, Error>
+    requires { length line.now ≤ MAX_REQUEST }
+    ensures { ExactOrNoMemory asked_data (IsShortText line.now) result (asked_by line.now) }
+{
     match value_in(alloc, line)? {
         Some(value) => request_of(value),
         None => Err(Error::BadJson),
