@@ -1,21 +1,22 @@
 -- What the job of a source is, and why there is none.
-use Rattle.std.specs.Prelude.{◌≡◌, ℕ, ℤ, List, map, IsSomeAnd, slice_get}
+use Rattle.std.specs.Prelude.{◌≡◌, ℕ, ℤ, List, map, length, IsSomeAnd, slice_get}
+use Rattle.std.specs.List.{All}
 use Rattle.serde_json.specs.Written.{compact_text}
 use Rattle.job_language.specs.declared.instructions.Instr.{Instr}
 use Rattle.job_language.specs.declared.jobs.Job.{Job}
 use Rattle.job_language.specs.declared.jobs.TheConstants.{MAX_FUEL}
-use Rattle.job_language.specs.Program.{IsValidProc}
+use Rattle.job_language.specs.Program.{Calls, IsValidProc}
 use Rattle.job_json.specs.JobData.{job_data}
 use Rattle.source_language.specs.declared.syntax.Function.{Function}
 use Rattle.job_compiler.specs.declared.errors.Refusal.{Refusal}
 use Rattle.job_compiler.specs.Code.{function_code}
-use Rattle.job_compiler.specs.Programs.{IsCompiledProgram}
+use Rattle.job_compiler.specs.Programs.{HasCount, IsCompiledProgram}
 use Rattle.job_compiler.specs.Refusals.{HasCode, IsRefused}
 use Rattle.source_reader.specs.declared.places.Place.{Place}
 use Rattle.source_reader.specs.Trees.{function_tree_of}
 use Rattle.source_reader.specs.Source.{Says, HasFault, function_place}
 use Rattle.arena_compile.specs.declared.errors.CompileFault.{CompileFault}
-use Rattle.arena_compile.specs.declared.errors.CompileFault.TheVariants.{Source, TooLong, Registers}
+use Rattle.arena_compile.specs.declared.errors.CompileFault.TheVariants.{Source, TooLong, Registers, Count, NoProcedure}
 use Rattle.arena_compile.specs.declared.errors.CompileError.{CompileError}
 use Rattle.arena_compile.specs.declared.errors.CompileError.TheVariants.{Memory, Fault}
 
@@ -45,10 +46,27 @@ pub record HasFunctionAt (text : List ℕ) (place : Place) (P : Function → Typ
   pub begins : place ≡ function_place text number
   pub has : IsSomeAnd (slice_get functions number) P
 
+-- The text says too many functions, or none; the first one begins at the place.
+pub record HasWrongCount (text : List ℕ) (place : Place) : Type 0 where
+  pub functions : List Function
+  pub said : Says text (map function_tree_of functions)
+  pub begins : place ≡ function_place text 0
+  pub count : ¬ HasCount functions
+
+-- The text says functions, and the code of the one that begins at the place names one beyond them.
+pub record NamesNoFunction (text : List ℕ) (place : Place) : Type 0 where
+  pub functions : List Function
+  pub said : Says text (map function_tree_of functions)
+  pub number : ℕ
+  pub begins : place ≡ function_place text number
+  pub has : IsSomeAnd (slice_get functions number) (λ f. HasCode f × (¬ All (Calls (length functions)) (function_code f)))
+
 abbrev pub IsFaultOf : List ℕ → CompileFault → Type 0
 IsFaultOf text (Source fault) = HasFault text fault
 IsFaultOf text (TooLong place) = HasFunctionAt text place (λ f. (r : Refusal) × IsRefused f r)
 IsFaultOf text (Registers place) = HasFunctionAt text place (λ f. HasCode f × (¬ IsValidProc (function_code f)))
+IsFaultOf text (Count place) = HasWrongCount text place
+IsFaultOf text (NoProcedure place) = NamesNoFunction text place
 
 -- why a text makes no job
 abbrev pub IsErrorOf : List ℕ → CompileError → Type 0

@@ -14,6 +14,10 @@ pub enum CompileFault {
     TooLong(Place),
     /// The function that begins there needs more registers than there are.
     Registers(Place),
+    /// The functions, of which the first one begins there, are more than a job may have, or there are none.
+    Count(Place),
+    /// The function that begins there names one that is not there.
+    NoProcedure(Place),
 }
 
 /// Why there is no job.
@@ -31,6 +35,8 @@ impl CompileFault {
             CompileFault::Source(fault) => fault.place,
             CompileFault::TooLong(place) => *place,
             CompileFault::Registers(place) => *place,
+            CompileFault::Count(place) => *place,
+            CompileFault::NoProcedure(place) => *place,
         }
     }
 
@@ -40,6 +46,8 @@ impl CompileFault {
             CompileFault::Source(fault) => words_of(fault.wrong),
             CompileFault::TooLong(_) => "this function is too long for a procedure",
             CompileFault::Registers(_) => "this function needs more than 8 registers",
+            CompileFault::Count(_) => "a job has from 1 to 16 functions",
+            CompileFault::NoProcedure(_) => "this function names one that is not there",
         }
     }
 }

@@ -71,12 +71,20 @@ fn error_of(alloc: Global, error: ChoiceProgramError, text: &[u8]) -> CompileErr
         → IsNoProgram functions error → IsErrorOf text.now result }
 {
     match error {
+        ChoiceProgramError::NoMemory => CompileError::Memory,
+        ChoiceProgramError::Count => match function_place(alloc, text, 0) {
+            Ok(place) => CompileError::Fault(CompileFault::Count(place)),
+            Err(_) => CompileError::Memory,
+        },
         ChoiceProgramError::Refused(number, refusal) => {
             match function_place(alloc, text, number) {
                 Ok(place) => CompileError::Fault(fault_of(refusal, place)),
                 Err(_) => CompileError::Memory,
             }
         }
-        _ => CompileError::Memory,
+        ChoiceProgramError::NoProcedure(number) => match function_place(alloc, text, number) {
+            Ok(place) => CompileError::Fault(CompileFault::NoProcedure(place)),
+            Err(_) => CompileError::Memory,
+        },
     }
 }

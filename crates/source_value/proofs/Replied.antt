@@ -17,7 +17,7 @@ use Rattle.serial_law.specs.SerialValues.{number_made}
 use Rattle.source_serial.proofs.Arguments.{arguments_fit}
 use Rattle.arena_compile.specs.Jobs.{IsProgramOf}
 use Rattle.source_value.specs.TextValues.{HasValue, AreNumbers, KeepsTextValues}
-use Rattle.source_value.specs.Replies.{IsReplyOf, steps_of}
+use Rattle.source_value.specs.Replies.{IsReplyOf, GoesToItsEnd, steps_of}
 
 placed : (c : Tenant) (j : Job) (o : Option ℕ) → number_made (submit_placed (empty c) j o).0 ≡ Some 1
 placed c j None = refl
@@ -31,15 +31,16 @@ first_number c j valid =
     rw (steps, rows) (placed c j (free_slot (empty c)))
 
 pub replied : (c : Tenant) → IsValidTenant c → ((xs : List Step) → KeepsTextValues (empty c) xs) → (text : List ℕ) (j : Job) (x y : ℤ) → FitsSigned w64 x → FitsSigned w64 y
-    → IsProgramOf text j.program → is_serial j.program ≡ true → j.args ≡ x ∷ y ∷ [] → (n : ℕ) (given : Reply) → given ≡ (ask (after (empty c) (steps_of j n)) (Poll 1)).0
-    → IsReplyOf c text (x ∷ y ∷ []) j.fuel given
-replied c valid law text j x y fx fy program serial args n given is = record {
+    → IsProgramOf text j.program → is_serial j.program ≡ true → j.args ≡ x ∷ y ∷ [] → (n : ℕ) (given : Reply) → GoesToItsEnd (after (empty c) (steps_of j 0)) n
+    → given ≡ (ask (after (empty c) (steps_of j n)) (Poll 1)).0 → IsReplyOf c text (x ∷ y ∷ []) j.fuel given
+replied c valid law text j x y fx fy program serial args n given all is = record {
   job = j;
   program = program;
   serial = serial;
   arguments = args;
   fuelled = refl;
   advances = n;
+  all = all;
   replied = is;
   value = λ v complete.
       let moves = replicate n (Advance 0) in

@@ -5,7 +5,7 @@ ghost use Rattle.tenant_model.specs.Asks.{ask};
 ghost use Rattle.tenant_model.specs.Solo.{after};
 ghost use Rattle.tenant_model.specs.State.{empty};
 ghost use Rattle.source_value.specs.Refusals.{IsNotRun};
-ghost use Rattle.source_value.specs.Replies.{IsReplyOf, IsReplyLineOf, steps_of};
+ghost use Rattle.source_value.specs.Replies.{IsReplyOf, IsReplyLineOf, GoesToItsEnd, steps_of};
 
 use crate::errors::SourceError;
 use crate::jobs::serial_job_of;
@@ -66,7 +66,7 @@ pub fn reply_line_of_source(
 
 /// What a new tenant replies of a job that it has executed on slot 0.
 fn reply_to(alloc: Global, config: TenantConfig, job: Job) -> Result<Reply, AllocError>
-    ensures { IfOk result (λ reply. (n : ℕ)
+    ensures { IfOk result (λ reply. (n : ℕ) × GoesToItsEnd (after (empty config) (steps_of job 0)) n
         × (reply ≡ (ask (after (empty config) (steps_of job n)) (Request.Poll 1)).0)) }
 {
     let mut tenant = Solo::new(alloc, config);
@@ -77,7 +77,8 @@ fn reply_to(alloc: Global, config: TenantConfig, job: Job) -> Result<Reply, Allo
 
 /// Advances slot 0 until it can't move, or as often as a history has entries.
 fn advance(tenant: &mut Solo) -> Result<(), AllocError>
-    ensures { OnOk result ((n : ℕ) × (tenant.new ≡ after tenant.old (replicate n (Advance 0)))) }
+    ensures { OnOk result ((n : ℕ) × GoesToItsEnd tenant.old n
+        × (tenant.new ≡ after tenant.old (replicate n (Advance 0)))) }
 {
     for _ in 0..MAX_STEPS {
         let moved = tenant.advance(0)?;

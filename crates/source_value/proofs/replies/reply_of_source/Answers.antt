@@ -11,4 +11,4 @@ returns-in-Ok-clause-reply c =
     let job : Job = record { program = c.in_ok-job.job.program; args = c.in_ok-job.job.args; fuel = c.args.fuel } in
     let args = made.given ∙ stored_arguments c.args.first c.args.second c.ranges.first c.ranges.second in
     replied c.args.config valid (λ xs. c.texts_have_values.ensures c.args.config xs valid.most_slots) c.args.text.now job c.args.first c.args.second c.ranges.first c.ranges.second made.program
-    c.in_ok-job.ensures.serial args c.in-Ok.ensures.0 c.in-Ok.reply c.in-Ok.ensures.1
+    c.in_ok-job.ensures.serial args c.in-Ok.ensures.0 c.in-Ok.reply c.in-Ok.ensures.1 c.in-Ok.ensures.2
