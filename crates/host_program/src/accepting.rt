@@ -10,6 +10,7 @@ use std::sync::Wait;
 use std::sync::atomic::Ordering;
 use std::thread;
 use std::time::{Clock, Duration};
+use tenant_book::Naming;
 
 /// How long to wait if the system can't be asked what happens, in milliseconds.
 const PAUSE: u64 = 20;
@@ -21,12 +22,12 @@ const BETWEEN_REPORTS: u64 = 1000;
 const BETWEEN_LOOKS: u64 = 100;
 
 /// Accepts connections until the host stops, and lets sessions stop waiting whose clients have gone, until nobody is left.
-pub(crate) fn accept_all<R: Wait + Clock>(
+pub(crate) fn accept_all<J: Naming, R: Wait + Clock>(
     rt: &R,
     alloc: Global,
-    site: Site<'_>,
+    site: Site<'_, J>,
     endpoint: &Endpoint<'_>,
-    reception: Reception<'_>,
+    reception: Reception<'_, J>,
 ) {
     let mut reception = reception;
     let mut has_left = false;
@@ -78,7 +79,13 @@ struct Done {
 
 impl Done {
     /// Reports that a connection was not accepted, once a second at most.
-    fn report<R: Wait + Clock>(&mut self, rt: &R, alloc: Global, site: Site<'_>, now: u64) {
+    fn report<J: Naming, R: Wait + Clock>(
+        &mut self,
+        rt: &R,
+        alloc: Global,
+        site: Site<'_, J>,
+        now: u64,
+    ) {
         if now.saturating_sub(self.reported) >= BETWEEN_REPORTS {
             self.reported = now;
             site.say_fault(rt, alloc, Fault::Accept, None, None);
@@ -87,11 +94,11 @@ impl Done {
 }
 
 /// Ends the connections that have done nothing for too long by that time, and reports how many.
-fn cut<R: Wait + Clock>(
+fn cut<J: Naming, R: Wait + Clock>(
     rt: &R,
     alloc: Global,
-    site: Site<'_>,
-    reception: &Reception<'_>,
+    site: Site<'_, J>,
+    reception: &Reception<'_, J>,
     now: u64,
 ) {
     let words = site.words;

@@ -18,6 +18,7 @@ use std::fs;
 use std::fs::{File, Files};
 use std::sync::Wait;
 use std::time::Clock;
+use tenant_book::Naming;
 
 /// How long to wait before files are tried once more, in milliseconds.
 const REST: u64 = 1000;
@@ -92,12 +93,17 @@ impl Filing {
         self.waiting.is_empty() && !writer.is_busy(rt)
     }
 
+    /// Makes room for one more term, beside the one that is being written.
+    pub(crate) fn make_room(&mut self) -> Result<(), AllocError> {
+        self.waiting.reserve(2)
+    }
+
     /// Takes a term whose files are to be written. Without memory for it, it is left to its journal.
-    pub(crate) fn add<R: Wait + Clock>(
+    pub(crate) fn add<J: Naming, R: Wait + Clock>(
         &mut self,
         rt: &R,
         alloc: Global,
-        site: Site<'_>,
+        site: Site<'_, J>,
         left: Left,
     ) {
         if let Err(refused) = self.waiting.push(left) {
@@ -107,7 +113,13 @@ impl Filing {
     }
 
     /// Goes on with the files, without waiting.
-    pub(crate) fn go_on<R>(&mut self, rt: &R, alloc: Global, site: Site<'_>, writer: &Writer)
+    pub(crate) fn go_on<J: Naming, R>(
+        &mut self,
+        rt: &R,
+        alloc: Global,
+        site: Site<'_, J>,
+        writer: &Writer,
+    )
     where
         R: Files<File = File> + Wait + Clock,
     {
@@ -126,7 +138,14 @@ impl Filing {
     }
 
     /// Begins with the files of a term.
-    fn begin<R>(&mut self, rt: &R, alloc: Global, site: Site<'_>, writer: &Writer, left: Left)
+    fn begin<J: Naming, R>(
+        &mut self,
+        rt: &R,
+        alloc: Global,
+        site: Site<'_, J>,
+        writer: &Writer,
+        left: Left,
+    )
     where
         R: Files<File = File> + Wait + Clock,
     {
@@ -151,7 +170,7 @@ impl Filing {
 
     /// Lets a history that was written take its place, and then the outcomes. If that fails, both are tried again for a
     /// while.
-    fn keep<R>(&mut self, rt: &R, alloc: Global, site: Site<'_>, done: Done)
+    fn keep<J: Naming, R>(&mut self, rt: &R, alloc: Global, site: Site<'_, J>, done: Done)
     where
         R: Files<File = File> + Wait + Clock,
     {
@@ -177,11 +196,11 @@ impl Filing {
     }
 
     /// A file could not be written. It is tried again each second, for a while from the first time on.
-    fn fail<R: Wait + Clock>(
+    fn fail<J: Naming, R: Wait + Clock>(
         &mut self,
         rt: &R,
         alloc: Global,
-        site: Site<'_>,
+        site: Site<'_, J>,
         left: Left,
         what: Fault,
     ) {
@@ -209,11 +228,11 @@ impl Filing {
     }
 
     /// A term is done with.
-    fn finish<R: Wait + Clock>(
+    fn finish<J: Naming, R: Wait + Clock>(
         &mut self,
         rt: &R,
         alloc: Global,
-        site: Site<'_>,
+        site: Site<'_, J>,
         left: Left,
         fate: Fate,
     ) {
@@ -293,16 +312,20 @@ impl Filing {
 }
 
 /// The path of a term's dump.
-fn dump_path(alloc: Global, site: Site<'_>, end: &TermEnd) -> Result<String, AllocError> {
+fn dump_path<J: Naming>(
+    alloc: Global,
+    site: Site<'_, J>,
+    end: &TermEnd,
+) -> Result<String, AllocError> {
     let named = end.tenant.tenant().name;
     site.folder.dump(alloc, named.as_str(), end.span.number)
 }
 
 /// Lets a part that was written take its place, or removes it.
-fn keep_part<R>(
+fn keep_part<J: Naming, R>(
     rt: &R,
     alloc: Global,
-    site: Site<'_>,
+    site: Site<'_, J>,
     end: &TermEnd,
     written: Result<Whole<File>, Broken<File>>,
 ) -> Result<(), DumpFault>
@@ -328,10 +351,10 @@ where
 }
 
 /// Writes the outcomes of a term's jobs to their file.
-fn put_outcomes<R>(
+fn put_outcomes<J: Naming, R>(
     rt: &R,
     alloc: Global,
-    site: Site<'_>,
+    site: Site<'_, J>,
     end: &TermEnd,
 ) -> Result<(), std::io::Error>
 where
@@ -350,7 +373,12 @@ where
 }
 
 /// Removes a term's journal, if it has one, once its history and outcomes are in their files.
-fn remove_journal<R: Files<File = File>>(rt: &R, alloc: Global, site: Site<'_>, end: &TermEnd) {
+fn remove_journal<J: Naming, R: Files<File = File>>(
+    rt: &R,
+    alloc: Global,
+    site: Site<'_, J>,
+    end: &TermEnd,
+) {
     let named = end.tenant.tenant().name;
     let (number, base) = (end.span.number, end.span.base);
     if let Ok(path) = site.folder.journal(alloc, named.as_str(), number, base) {
@@ -360,7 +388,7 @@ fn remove_journal<R: Files<File = File>>(rt: &R, alloc: Global, site: Site<'_>, 
 }
 
 /// Prints how a term was closed.
-fn tell_end<R: Wait>(rt: &R, alloc: Global, site: Site<'_>, end: &TermEnd) {
+fn tell_end<J: Naming, R: Wait>(rt: &R, alloc: Global, site: Site<'_, J>, end: &TermEnd) {
     let named = end.tenant.tenant().name;
     let name = named.as_str();
     let term = end.span.number;

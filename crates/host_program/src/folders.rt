@@ -1,6 +1,7 @@
 // The folder in which a host works.
 
 use crate::files::{put_text, text_of};
+use crate::listing::{end_of, is_part, journal_in, listed, parts_of};
 use crate::numbers::{span_in, span_line};
 use crate::results::outcomes_in;
 use crate::shelves::Shelves;
@@ -28,6 +29,7 @@ pub(crate) struct Folder {
     terms: String,
     pub(crate) results: String,
     pub(crate) journals: String,
+    pub(crate) notes: String,
 }
 
 /// The journal of a term, which a host left that was killed or stopped before its jobs had their outcomes.
@@ -64,6 +66,7 @@ impl Folder {
             terms: format!(in alloc; "{run}/terms")?,
             results: format!(in alloc; "{run}/results")?,
             journals: format!(in alloc; "{run}/journals")?,
+            notes: format!(in alloc; "{run}/forgotten")?,
         })
     }
 
@@ -80,6 +83,16 @@ impl Folder {
         term: u64,
     ) -> Result<String, AllocError> {
         format!(in alloc; "{}/{name}.{term:06}.jsonl", self.results.as_str())
+    }
+
+    /// The file in which a tenant notes what it forgets while that term is its newest.
+    pub(crate) fn forgotten(
+        &self,
+        alloc: Global,
+        name: &str,
+        term: u64,
+    ) -> Result<String, AllocError> {
+        format!(in alloc; "{}/{name}.{term:06}.jsonl", self.notes.as_str())
     }
 
     /// The file of a tenant's journal in a term whose jobs are numbered after `base`.
@@ -151,17 +164,21 @@ impl Folder {
         }
     }
 
-    /// The outcomes of a tenant's term, if they are on the disk.
+    /// The outcomes of a tenant's term, if they are on the disk. `Device` if they are there and can't be read, and `Memory` if
+    /// an allocation fails.
     pub(crate) fn outcomes<R: Files<File = File>>(
         &self,
         rt: &R,
         alloc: Global,
         name: &str,
         term: u64,
-    ) -> Option<Vec<Outcome>> {
-        let path = self.result(alloc, name, term).ok()?;
-        let text = text_of(rt, alloc, path.as_str()).ok()?;
-        outcomes_in(alloc, text.as_slice()).ok()
+    ) -> Result<Vec<Outcome>, ServerEnd> {
+        let path = self.result(alloc, name, term)?;
+        match text_of(rt, alloc, path.as_str()) {
+            Ok(text) => Ok(outcomes_in(alloc, text.as_slice())?),
+            Err(fault) if fault.kind() == io::ErrorKind::NotFound => Ok(Vec::new(alloc)),
+            Err(fault) => Err(end_of(&fault)),
+        }
     }
 
     /// Makes the folders, removes what a host left that was killed and the dumps that are too old, and gives the dumps that
@@ -171,7 +188,14 @@ impl Folder {
         rt: &R,
         keep: u32,
     ) -> Result<Shelves, ServerEnd> {
-        for folder in [&self.dumps, &self.terms, &self.results, &self.journals] {
+        let folders = [
+            &self.dumps,
+            &self.terms,
+            &self.results,
+            &self.journals,
+            &self.notes,
+        ];
+        for folder in folders {
             // It may be there; if it can't be made, nothing can be written to it either.
             let _ = DirBuilder::new().mode(0o700).create(rt, folder.as_str());
         }
@@ -249,65 +273,8 @@ impl Folder {
             // They may be gone. It is tried again at the next start if they can't be removed now.
             let _ = fs::remove_file(rt, self.dump(alloc, name, old)?.as_str());
             let _ = fs::remove_file(rt, self.result(alloc, name, old)?.as_str());
+            let _ = fs::remove_file(rt, self.forgotten(alloc, name, old)?.as_str());
         }
         Ok(())
     }
-}
-
-/// How a host ends, for a fault of a file.
-fn end_of(fault: &io::Error) -> ServerEnd {
-    match fault.kind() {
-        io::ErrorKind::OutOfMemory => ServerEnd::Memory,
-        _ => ServerEnd::Device,
-    }
-}
-
-/// The paths of the files in a folder whose names are texts.
-fn listed<R: Files + AllocGlobal + Clone + Drop>(
-    rt: &R,
-    folder: &str,
-) -> Result<Vec<String>, ServerEnd> {
-    match list(rt, folder) {
-        Ok(paths) => Ok(paths),
-        Err(fault) => Err(end_of(&fault)),
-    }
-}
-
-fn list<R: Files + AllocGlobal + Clone + Drop>(rt: &R, folder: &str) -> io::Result<Vec<String>> {
-    let alloc = rt.alloc();
-    let mut paths = Vec::new(alloc);
-    for entry in fs::read_dir(rt, folder)? {
-        match entry {
-            Ok(entry) => paths.push(format!(in alloc; "{folder}/{}", entry.file_name())?)?,
-            // A name that is no text is none of a host's.
-            Err(fault) if fault.kind() == io::ErrorKind::InvalidFilename => {}
-            Err(fault) => return Err(fault),
-        }
-    }
-    Ok(paths)
-}
-
-/// Whether a path is that of a dump that was not written whole.
-fn is_part(path: &str) -> bool {
-    match path.rsplit_once(".jsonl.part") {
-        Some((_, number)) => number.bytes().all(|byte| byte.is_ascii_digit()),
-        None => false,
-    }
-}
-
-/// The name of the tenant and the number of the term of a dump's path.
-fn parts_of(path: &str) -> Option<(&str, u64)> {
-    let (_, file) = path.rsplit_once('/')?;
-    let (name, rest) = file.split_once('.')?;
-    let number = rest.strip_suffix(".jsonl")?;
-    Some((name, number.parse::<u64>().ok()?))
-}
-
-/// The name of the tenant, the number of the term and the base of its jobs' numbers of a journal's path.
-fn journal_in(path: &str) -> Option<(&str, u64, u64)> {
-    let (_, file) = path.rsplit_once('/')?;
-    let (name, rest) = file.split_once('.')?;
-    let (term, base) = rest.strip_suffix(".jsonl")?.split_once('.')?;
-    TenantName::new(name)?;
-    Some((name, term.parse::<u64>().ok()?, base.parse::<u64>().ok()?))
 }

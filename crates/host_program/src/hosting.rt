@@ -1,4 +1,5 @@
 // The life of a host.
+ghost use Rattle.std.specs.Thread.{IsSend};
 ghost use Rattle.std.specs.Prelude.{◌≡◌, IfOk, length};
 
 use crate::accepting::accept_all;
@@ -7,6 +8,7 @@ use crate::configs::read_config;
 use crate::ends::end_of;
 use crate::filing::Filing;
 use crate::folders::Folder;
+use crate::forgetting::remove_old_notes;
 use crate::journaling::keep_journals;
 use crate::keeping::Keeper;
 use crate::recovering::recover_all;
@@ -22,12 +24,14 @@ use server_io::{Access, Endpoint, ServerEnd, Watch};
 use std::alloc::{AllocError, Global};
 use std::fs::{File, Files};
 use std::io::ErrorKind;
+use std::marker::Brand;
 use std::net::Shutdown;
 use std::sync::atomic::Ordering;
 use std::sync::{Arc, Wait};
 use std::thread;
 use std::thread::{Scope, Threads};
 use std::time::{Clock, Duration};
+use tenant_book::{Naming, OpenedRegistry};
 
 /// How long the thread that looks after terms waits between two rounds, in milliseconds.
 const TICK: u64 = 10;
@@ -39,7 +43,8 @@ const SECOND: u64 = 1000;
 const LAST_REPLIES: u64 = 1000;
 
 /// Hosts tenants in a folder until its socket is removed. An error if the host could not begin: there is no configuration, the
-/// socket can't be bound, a term or a thread can't be started, or an allocation failed.
+/// socket can't be bound, a term or a thread can't be started, or an allocation failed. The histories of all terms are those
+/// of one registry.
 pub(crate) fn host_tenants<'h, R: System>(
     rt: &R,
     alloc: Global,
@@ -47,12 +52,26 @@ pub(crate) fn host_tenants<'h, R: System>(
     folder: &'h Folder,
     outlet: Arc<Outlet>,
 ) -> Result<ServerEnd, ServerEnd> {
+    host_named::<Brand, R>(rt, alloc, OpenedRegistry::new(), words, folder, outlet)
+}
+
+/// Hosts tenants as `host_tenants` does, with that registry.
+fn host_named<'h, J: Naming + Send + Sync, R: System>(
+    rt: &R,
+    alloc: Global,
+    opened: OpenedRegistry,
+    words: HostWords<'h>,
+    folder: &'h Folder,
+    outlet: Arc<Outlet>,
+) -> Result<ServerEnd, ServerEnd>
+    requires { opened ≡ J.registry }
+{
     let Ok(connections) = u8::try_from(words.connections) else {
         return Err(ServerEnd::Words);
     };
     let config = read_config(rt, alloc, words.config)?;
     let mut shelves = folder.prepare(rt, words.keep)?;
-    let host = Host::new(alloc, words.rotate_at);
+    let host: Host<J> = Host::new(alloc, opened.named(), words.rotate_at);
     let desks = new_desks(alloc, connections)?;
     let places = new_places(alloc, config.workers())?;
     let progress = Progress::new();
@@ -68,6 +87,7 @@ pub(crate) fn host_tenants<'h, R: System>(
     };
     site.say(rt, alloc, Event::Start);
     recover_all(rt, alloc, site, &mut shelves)?;
+    remove_old_notes(rt, site, &shelves)?;
     let access = Access {
         mode: words.mode,
         group: words.group,
@@ -82,48 +102,58 @@ pub(crate) fn host_tenants<'h, R: System>(
 }
 
 /// Starts the threads of a host, and looks after its terms until it is told to stop and they are closed.
-fn serve<'h, R: System>(
+fn serve<'h, J: Naming + Send + Sync, R: System>(
     rt: &R,
     alloc: Global,
-    site: Site<'h>,
+    site: Site<'h, J>,
     endpoint: &Endpoint<'_>,
-    keeper: Keeper,
+    keeper: Keeper<J>,
 ) -> Result<ServerEnd, ServerEnd> {
     let (watch, waker) = match Watch::new(rt, alloc, endpoint, site.connections) {
         Ok(made) => made,
         Err(fault) if fault.kind() == ErrorKind::OutOfMemory => return Err(ServerEnd::Memory),
         Err(_) => return Err(ServerEnd::Device),
     };
+    // Whoever waits for it must not wait in vain: without memory for it the host does not start.
+    let listening = String::from_str(alloc, "listening")?;
     let writer = Writer::new();
     let (writes, wakes) = (&writer, &waker);
-    thread::scope(thread::scope_env(), rt, move |scope| {
-        let started = start_threads(scope, rt, alloc, site, wakes);
-        let accepting = Reception::new(watch, site.desks);
-        let is_writing = scope
-            .spawn(move || write_histories(rt, alloc, writes))
-            .is_ok();
-        let is_journaling = scope.spawn(move || keep_journals(rt, alloc, site)).is_ok();
-        let is_accepting = scope
-            .spawn(move || accept_all(rt, alloc, site, endpoint, accepting))
-            .is_ok();
-        let end = if started && is_writing && is_journaling && is_accepting {
-            Ok(keep_hosting(rt, alloc, site, endpoint, keeper, writes))
-        } else {
-            Err(ServerEnd::Device)
-        };
-        end_threads(rt, site, writes);
-        end
-    })
+    thread::scope(
+        thread::scope_env(),
+        rt,
+        move |scope|
+            requires { IsSend J.row }
+        {
+            let started = start_threads(scope, rt, alloc, site, wakes);
+            let accepting = Reception::new(watch, site.desks);
+            let is_writing = scope
+                .spawn(move || write_histories(rt, alloc, writes))
+                .is_ok();
+            let is_journaling = scope.spawn(move || keep_journals(rt, alloc, site)).is_ok();
+            let is_accepting = scope
+                .spawn(move || accept_all(rt, alloc, site, endpoint, accepting))
+                .is_ok();
+            let end = if started && is_writing && is_journaling && is_accepting {
+                Ok(keep_hosting(rt, alloc, site, endpoint, keeper, writes, listening))
+            } else {
+                Err(ServerEnd::Device)
+            };
+            end_threads(rt, site, writes);
+            end
+        },
+    )
 }
 
 /// Starts a thread for each desk and each worker. It says whether all were started.
-fn start_threads<'s, 'r: 's, 'h: 's, 'w: 's, E: 's, R: Threads + Wait + Clock + Sync>(
-    scope: &Scope<'s, E>,
-    rt: &'r R,
-    alloc: Global,
-    site: Site<'h>,
-    waker: &'w Waker,
-) -> bool {
+fn start_threads<
+    's,
+    'r: 's,
+    'h: 's,
+    'w: 's,
+    J: Naming + Send + Sync,
+    E: 's,
+    R: Threads + Wait + Clock + Sync,
+>(scope: &Scope<'s, E>, rt: &'r R, alloc: Global, site: Site<'h, J>, waker: &'w Waker) -> bool {
     for desk in site.desks {
         let session = move || attend_desk(rt, alloc, site.host, desk, waker);
         if scope.spawn(session).is_err() {
@@ -140,7 +170,7 @@ fn start_threads<'s, 'r: 's, 'h: 's, 'w: 's, E: 's, R: Threads + Wait + Clock + 
 }
 
 /// Lets all threads end.
-fn end_threads<R: Wait>(rt: &R, site: Site<'_>, writer: &Writer) {
+fn end_threads<J: Naming, R: Wait>(rt: &R, site: Site<'_, J>, writer: &Writer) {
     close_desks(rt, site);
     site.host.stop_workers(rt);
     site.progress.is_stopping.store(true, Ordering::SeqCst);
@@ -148,14 +178,15 @@ fn end_threads<R: Wait>(rt: &R, site: Site<'_>, writer: &Writer) {
     writer.close(rt);
 }
 
-/// Looks after terms until the socket is removed, and then closes them all.
-fn keep_hosting<R: System>(
+/// Prints that line, looks after terms until the socket is removed, and then closes them all.
+fn keep_hosting<J: Naming + Send + Sync, R: System>(
     rt: &R,
     alloc: Global,
-    site: Site<'_>,
+    site: Site<'_, J>,
     endpoint: &Endpoint<'_>,
-    keeper: Keeper,
+    keeper: Keeper<J>,
     writer: &Writer,
+    listening: String,
 ) -> ServerEnd {
     let mut keeper = keeper;
     let mut shower = Shower {
@@ -163,9 +194,7 @@ fn keep_hosting<R: System>(
         shown: 0,
     };
     shower.show_now(rt, alloc, site, &keeper);
-    // Whoever waits for it learns the same from the status.
-    site.outlet
-        .print(rt, String::from_str(alloc, "listening").ok());
+    site.outlet.print(rt, Some(listening));
     for _turn in rt.forever() {
         if !endpoint.is_there(rt) {
             break;
@@ -182,7 +211,13 @@ fn keep_hosting<R: System>(
 }
 
 /// Ends all terms: jobs that are there may get their outcomes, for so many seconds; then nothing waits any longer.
-fn finish<R: System>(rt: &R, alloc: Global, site: Site<'_>, keeper: &mut Keeper, writer: &Writer) {
+fn finish<J: Naming + Send + Sync, R: System>(
+    rt: &R,
+    alloc: Global,
+    site: Site<'_, J>,
+    keeper: &mut Keeper<J>,
+    writer: &Writer,
+) {
     site.progress.is_stopping.store(true, Ordering::SeqCst);
     shut_desks(rt, site, Shutdown::Read);
     keeper.leave_all(rt, site);
@@ -209,7 +244,7 @@ fn finish<R: System>(rt: &R, alloc: Global, site: Site<'_>, keeper: &mut Keeper,
 }
 
 /// Waits until all sessions have ended. Those that have not after a while are cut off.
-fn wait_for_sessions<R: Wait + Clock>(rt: &R, site: Site<'_>) {
+fn wait_for_sessions<J: Naming, R: Wait + Clock>(rt: &R, site: Site<'_, J>) {
     let until = millis(rt).saturating_add(LAST_REPLIES);
     for _turn in rt.forever() {
         if site.connected(rt) == 0 {
@@ -222,13 +257,13 @@ fn wait_for_sessions<R: Wait + Clock>(rt: &R, site: Site<'_>) {
     }
 }
 
-fn shut_desks<R: Wait>(rt: &R, site: Site<'_>, how: Shutdown) {
+fn shut_desks<J: Naming, R: Wait>(rt: &R, site: Site<'_, J>, how: Shutdown) {
     for desk in site.desks {
         desk.shut(rt, how);
     }
 }
 
-fn close_desks<R: Wait>(rt: &R, site: Site<'_>) {
+fn close_desks<J: Naming, R: Wait>(rt: &R, site: Site<'_, J>) {
     for desk in site.desks {
         desk.close(rt);
     }
@@ -245,12 +280,12 @@ struct Shower {
 
 impl Shower {
     /// Writes the status, once a second.
-    fn show<R: Files<File = File> + Wait + Clock + AllocGlobal>(
+    fn show<J: Naming, R: Files<File = File> + Wait + Clock + AllocGlobal>(
         &mut self,
         rt: &R,
         alloc: Global,
-        site: Site<'_>,
-        keeper: &Keeper,
+        site: Site<'_, J>,
+        keeper: &Keeper<J>,
     ) {
         if millis(rt).saturating_sub(self.shown) >= SECOND {
             self.show_now(rt, alloc, site, keeper);
@@ -258,12 +293,12 @@ impl Shower {
     }
 
     /// Writes the status. If that fails, the older one stays.
-    fn show_now<R: Files<File = File> + Wait + Clock + AllocGlobal>(
+    fn show_now<J: Naming, R: Files<File = File> + Wait + Clock + AllocGlobal>(
         &mut self,
         rt: &R,
         alloc: Global,
-        site: Site<'_>,
-        keeper: &Keeper,
+        site: Site<'_, J>,
+        keeper: &Keeper<J>,
     ) {
         self.shown = millis(rt);
         // The next one is written within a second.
@@ -272,7 +307,7 @@ impl Shower {
 }
 
 /// A desk for each connection that is served at a time.
-fn new_desks(alloc: Global, connections: u8) -> Result<Vec<Desk>, AllocError>
+fn new_desks<J: Naming>(alloc: Global, connections: u8) -> Result<Vec<Desk<J>>, AllocError>
     ensures { IfOk result (λ desks. length desks.items ≡ connections) }
 {
     let mut desks = Vec::with_capacity(alloc, usize::from(connections))?;

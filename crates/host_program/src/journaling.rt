@@ -15,6 +15,7 @@ use std::sync::Wait;
 use std::sync::atomic::Ordering;
 use std::thread;
 use std::time::{Clock, Duration};
+use tenant_book::Naming;
 
 /// How often histories are brought to their journals, in milliseconds.
 const SECOND: u64 = 1000;
@@ -24,10 +25,10 @@ const TICK: u64 = 50;
 
 /// The journal of a term that is to begin, if terms have one. `Device` if its file can't be made, and `Memory` if an
 /// allocation fails.
-pub(crate) fn begin_journal<R: Files<File = File>>(
+pub(crate) fn begin_journal<J: Naming, R: Files<File = File>>(
     rt: &R,
     alloc: Global,
-    site: Site<'_>,
+    site: Site<'_, J>,
     span: Span,
     tenant: &TenantConfig,
 ) -> Result<Option<Journal>, ServerEnd> {
@@ -54,7 +55,7 @@ pub(crate) fn begin_journal<R: Files<File = File>>(
 }
 
 /// Brings all histories to their journals each second, and these to the disk if that is wanted, until the host is over.
-pub(crate) fn keep_journals<R: Wait + Clock>(rt: &R, alloc: Global, site: Site<'_>) {
+pub(crate) fn keep_journals<J: Naming, R: Wait + Clock>(rt: &R, alloc: Global, site: Site<'_, J>) {
     let durable = site.words.durable;
     if durable == Durable::Off {
         return;

@@ -5,8 +5,10 @@ use crate::configs::read_config;
 use crate::ends::event_fault;
 use crate::filing::Filing;
 use crate::folders::Begin;
+use crate::forgetting::{begin_notes, read_notes};
 use crate::journaling::begin_journal;
 use crate::site::Site;
+use crate::system::System;
 use crate::writing::{Left, Writer};
 use host_status::{Event, Fault};
 use host_terms::{Ending, HostTerm, Outcome, Span, Tenancy};
@@ -17,6 +19,7 @@ use std::fs;
 use std::fs::{File, Files};
 use std::sync::{Arc, Wait};
 use std::time::Clock;
+use tenant_book::Naming;
 use term_life::{MOST_JOBS, Why};
 
 /// How many terms of a tenant may be there at once, whether they serve, finish, or wait to be written. Each has its history
@@ -44,21 +47,21 @@ struct Tended {
 
 /// A term that is to be closed once no worker is there.
 #[derive(Drop)]
-struct Parting {
+struct Parting<J: Naming> {
     tenant: usize,
-    ending: Ending,
+    ending: Ending<J>,
     /// When its end began, in milliseconds of the monotonic clock.
     since: u64,
 }
 
 /// What the thread keeps.
 #[derive(Drop)]
-pub(crate) struct Keeper {
+pub(crate) struct Keeper<J: Naming> {
     /// How many workers the host has.
     workers: usize,
     /// By the numbers of the tenants.
     tended: Vec<Tended>,
-    parting: Vec<Parting>,
+    parting: Vec<Parting<J>>,
     filing: Filing,
     /// Whether a file that asked for the next term of all tenants is still there though that was begun.
     is_obeyed: bool,
@@ -66,8 +69,8 @@ pub(crate) struct Keeper {
     looked: u64,
 }
 
-impl Keeper {
-    pub(crate) fn new(alloc: Global, workers: usize, filing: Filing) -> Keeper {
+impl<J: Naming> Keeper<J> {
+    pub(crate) fn new(alloc: Global, workers: usize, filing: Filing) -> Keeper<J> {
         Keeper {
             workers,
             tended: Vec::new(alloc),
@@ -84,11 +87,11 @@ impl Keeper {
 
     /// Takes the tenants of a configuration: those that are new are known from now on, and those whose term serves by
     /// another one, or that have none any more, are to leave it.
-    pub(crate) fn adopt<R: Files<File = File> + Wait + Clock>(
+    pub(crate) fn adopt<R: System>(
         &mut self,
         rt: &R,
         alloc: Global,
-        site: Site<'_>,
+        site: Site<'_, J>,
         config: &Config,
     ) -> Result<(), ServerEnd> {
         for tended in self.tended.iter_mut() {
@@ -107,11 +110,11 @@ impl Keeper {
         Ok(())
     }
 
-    fn adopt_tenant<R: Files<File = File> + Wait + Clock>(
+    fn adopt_tenant<R: System>(
         &mut self,
         rt: &R,
         alloc: Global,
-        site: Site<'_>,
+        site: Site<'_, J>,
         tenant: &TenantConfig,
     ) -> Result<(), ServerEnd> {
         let name = tenant.tenant().name;
@@ -135,11 +138,11 @@ impl Keeper {
     }
 
     /// Makes a tenant known whose first term is to be opened.
-    fn add_tenant<R: Files<File = File> + Wait + Clock>(
+    fn add_tenant<R: System>(
         &mut self,
         rt: &R,
         alloc: Global,
-        site: Site<'_>,
+        site: Site<'_, J>,
         tenant: &TenantConfig,
     ) -> Result<(), ServerEnd> {
         let named = tenant.tenant().name;
@@ -149,11 +152,15 @@ impl Keeper {
         let keep = site.words.keep as usize;
         let tenancy = Tenancy::new(alloc, named, number, base.min(MOST_JOBS), keep);
         let tenancy = shared(alloc, tenancy)?;
+        let forgotten = read_notes(rt, alloc, site, name)?;
         for term in shelves.numbers(name) {
-            if let Some(outcomes) = site.folder.outcomes(rt, alloc, name, *term) {
+            if !forgotten.has_retired(*term) {
+                let mut outcomes = site.folder.outcomes(rt, alloc, name, *term)?;
+                forgotten.leave_out_of(&mut outcomes);
                 keep_outcomes(rt, &tenancy, *term, outcomes)?;
             }
         }
+        tenancy.note_in(rt, begin_notes(rt, alloc, site, name, number)?);
         tenancy.wish(rt, Why::Config);
         self.tended.reserve(1)?;
         site.host.add(rt, alloc, tenancy)?;
@@ -171,7 +178,7 @@ impl Keeper {
         &mut self,
         rt: &R,
         alloc: Global,
-        site: Site<'_>,
+        site: Site<'_, J>,
     ) -> Result<(), ServerEnd> {
         for tenant in 0..self.tended.len() {
             self.open(rt, alloc, site, tenant, Why::Config)?;
@@ -181,11 +188,11 @@ impl Keeper {
 
     /// Looks after each tenant once: terms that are used are left, terms that are wished for are opened, and those that are
     /// done are closed.
-    pub(crate) fn tend_all<R: Files<File = File> + Wait + Clock + AllocGlobal>(
+    pub(crate) fn tend_all<R: System>(
         &mut self,
         rt: &R,
         alloc: Global,
-        site: Site<'_>,
+        site: Site<'_, J>,
         writer: &Writer,
     ) {
         for tenant in 0..self.tended.len() {
@@ -196,13 +203,13 @@ impl Keeper {
         self.close_terms(rt, alloc, site, writer, false);
     }
 
-    fn tend<R: Files<File = File> + Wait + Clock + AllocGlobal>(
+    fn tend<R: System>(
         &mut self,
         rt: &R,
         alloc: Global,
-        site: Site<'_>,
+        site: Site<'_, J>,
         tenant: usize,
-        tenancy: &Tenancy,
+        tenancy: &Tenancy<J>,
     ) {
         let serving = tenancy.serving(rt);
         if let Some(term) = &serving {
@@ -212,6 +219,10 @@ impl Keeper {
             if term.is_used(rt, site.words.rotate_at) {
                 tenancy.wish(rt, Why::History);
             }
+        }
+        if tenancy.take_note_failure(rt) {
+            let named = tenancy.name();
+            site.say_fault(rt, alloc, Fault::Results, Some(named.as_str()), None);
         }
         let Some(why) = tenancy.wished(rt) else {
             return;
@@ -240,13 +251,13 @@ impl Keeper {
     }
 
     /// Opens the next term of a tenant, for which the one that serves is left.
-    fn rotate<R: Files<File = File> + Wait + Clock + AllocGlobal>(
+    fn rotate<R: System>(
         &mut self,
         rt: &R,
         alloc: Global,
-        site: Site<'_>,
+        site: Site<'_, J>,
         tenant: usize,
-        tenancy: &Tenancy,
+        tenancy: &Tenancy<J>,
         why: Why,
     ) {
         let named = tenancy.name();
@@ -289,11 +300,11 @@ impl Keeper {
         }
     }
 
-    fn adopt_and_open<R: Files<File = File> + Wait + Clock + AllocGlobal>(
+    fn adopt_and_open<R: System>(
         &mut self,
         rt: &R,
         alloc: Global,
-        site: Site<'_>,
+        site: Site<'_, J>,
         tenant: usize,
         config: &Config,
         why: Why,
@@ -307,7 +318,7 @@ impl Keeper {
         &self,
         rt: &R,
         alloc: Global,
-        site: Site<'_>,
+        site: Site<'_, J>,
         tenant: usize,
         why: Why,
     ) -> Result<(), ServerEnd> {
@@ -320,7 +331,7 @@ impl Keeper {
         &self,
         rt: &R,
         alloc: Global,
-        site: Site<'_>,
+        site: Site<'_, J>,
         tenant: usize,
         config: &Config,
         why: Why,
@@ -348,7 +359,9 @@ impl Keeper {
         }
         let journal = begin_journal(rt, alloc, site, span, &given)?;
         let term = HostTerm::open(
+            rt,
             alloc,
+            site.host.registry(),
             span,
             given,
             seconds(rt),
@@ -356,7 +369,9 @@ impl Keeper {
             site.connections,
             journal,
         )?;
+        let notes = begin_notes(rt, alloc, site, named.as_str(), number)?;
         site.host.begin(rt, alloc, tenant, term, why)?;
+        tenancy.note_in(rt, notes);
         site.say(
             rt,
             alloc,
@@ -376,7 +391,7 @@ impl Keeper {
         &mut self,
         rt: &R,
         alloc: Global,
-        site: Site<'_>,
+        site: Site<'_, J>,
         writer: &Writer,
         is_forced: bool,
     ) {
@@ -393,7 +408,7 @@ impl Keeper {
         &mut self,
         rt: &R,
         alloc: Global,
-        site: Site<'_>,
+        site: Site<'_, J>,
         tenant: usize,
         is_forced: bool,
     ) -> Result<(), AllocError> {
@@ -411,10 +426,12 @@ impl Keeper {
         Ok(())
     }
 
-    /// Closes the first of the terms that were taken out, if no worker is there any more; else it becomes the last.
-    fn close_parted<R: Wait + Clock>(&mut self, rt: &R, alloc: Global, site: Site<'_>) {
+    /// Closes each of the terms that were taken out, if no worker is there any more and there is memory for it; else it
+    /// becomes the last.
+    fn close_parted<R: Wait + Clock>(&mut self, rt: &R, alloc: Global, site: Site<'_, J>) {
         for _parting in 0..self.parting.len() {
-            if self.parting.is_empty() {
+            // Without memory for it among the terms whose files are to be written, it is closed later.
+            if self.parting.is_empty() || self.filing.make_room().is_err() {
                 return;
             }
             let Parting {
@@ -449,12 +466,7 @@ impl Keeper {
     }
 
     /// Looks whether files ask for next terms: `rotate` for one of each tenant, and `rotate.NAME` for one of that tenant.
-    pub(crate) fn look_for_orders<R: Files<File = File> + Wait + Clock + AllocGlobal>(
-        &mut self,
-        rt: &R,
-        alloc: Global,
-        site: Site<'_>,
-    ) {
+    pub(crate) fn look_for_orders<R: System>(&mut self, rt: &R, alloc: Global, site: Site<'_, J>) {
         let now = millis(rt);
         if now.saturating_sub(self.looked) < BETWEEN_LOOKS {
             return;
@@ -474,12 +486,7 @@ impl Keeper {
     }
 
     /// Asks for the next term of each tenant, with the tenants that the configuration has now.
-    fn rotate_all<R: Files<File = File> + Wait + Clock + AllocGlobal>(
-        &mut self,
-        rt: &R,
-        alloc: Global,
-        site: Site<'_>,
-    ) {
+    fn rotate_all<R: System>(&mut self, rt: &R, alloc: Global, site: Site<'_, J>) {
         let adopted = match read_config(rt, alloc, site.words.config) {
             Ok(config) => self.adopt(rt, alloc, site, &config),
             Err(fault) => Err(fault),
@@ -498,7 +505,7 @@ impl Keeper {
         &mut self,
         rt: &R,
         alloc: Global,
-        site: Site<'_>,
+        site: Site<'_, J>,
         tenant: usize,
     ) -> Result<(), AllocError> {
         let Some(tenancy) = site.host.tenancy(rt, tenant) else {
@@ -519,7 +526,7 @@ impl Keeper {
     }
 
     /// Lets all terms take no new jobs, since the host stops.
-    pub(crate) fn leave_all<R: Wait>(&mut self, rt: &R, site: Site<'_>) {
+    pub(crate) fn leave_all<R: Wait>(&mut self, rt: &R, site: Site<'_, J>) {
         for (tenant, tended) in self.tended.iter_mut().enumerate() {
             tended.is_configured = false;
             if let Some(tenancy) = site.host.tenancy(rt, tenant) {
@@ -530,7 +537,7 @@ impl Keeper {
     }
 
     /// Whether each term is closed and its files are written.
-    pub(crate) fn is_over<R: Wait>(&self, rt: &R, site: Site<'_>, writer: &Writer) -> bool {
+    pub(crate) fn is_over<R: Wait>(&self, rt: &R, site: Site<'_, J>, writer: &Writer) -> bool {
         for tenant in 0..self.tended.len() {
             if let Some(tenancy) = site.host.tenancy(rt, tenant) {
                 if tenancy.count(rt) > 0 {
@@ -542,14 +549,14 @@ impl Keeper {
     }
 }
 
-fn shared(alloc: Global, tenancy: Tenancy) -> Result<Arc<Tenancy>, AllocError> {
+fn shared<J: Naming>(alloc: Global, tenancy: Tenancy<J>) -> Result<Arc<Tenancy<J>>, AllocError> {
     Ok(Arc::new(alloc, tenancy)?)
 }
 
 /// Keeps the outcomes of a term that was closed before the host began, by the numbers that they have.
-fn keep_outcomes<R: Wait>(
+fn keep_outcomes<J: Naming, R: Wait>(
     rt: &R,
-    tenancy: &Tenancy,
+    tenancy: &Tenancy<J>,
     term: u64,
     outcomes: Vec<Outcome>,
 ) -> Result<(), AllocError> {
@@ -566,11 +573,11 @@ fn keep_outcomes<R: Wait>(
 }
 
 /// Says that the next term of a tenant has to wait.
-fn say_waiting<R: Wait + Clock>(
+fn say_waiting<J: Naming, R: Wait + Clock>(
     rt: &R,
     alloc: Global,
-    site: Site<'_>,
-    tenancy: &Tenancy,
+    site: Site<'_, J>,
+    tenancy: &Tenancy<J>,
     why: Why,
 ) {
     if let Some(term) = tenancy.serving(rt) {

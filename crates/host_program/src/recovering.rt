@@ -20,6 +20,7 @@ use std::fs;
 use std::fs::{File, Files};
 use std::sync::Wait;
 use std::time::Clock;
+use tenant_book::Naming;
 use tenant_finish::{Recovered, finish_tenant, recover_tenant};
 use tenant_record::Replay;
 
@@ -34,10 +35,10 @@ struct Finished {
 
 /// Finishes each journal that a host left, and writes its history and outcomes. If the host is killed meanwhile, it can be
 /// done again: a journal is removed once both are on the disk, and a history that is there is taken in its place.
-pub(crate) fn recover_all<R: System>(
+pub(crate) fn recover_all<J: Naming + Send + Sync, R: System>(
     rt: &R,
     alloc: Global,
-    site: Site<'_>,
+    site: Site<'_, J>,
     shelves: &mut Shelves,
 ) -> Result<(), ServerEnd> {
     for journal in &site.folder.left_journals(rt)? {
@@ -46,10 +47,10 @@ pub(crate) fn recover_all<R: System>(
     Ok(())
 }
 
-fn recover<R: Files<File = File> + Wait + Clock>(
+fn recover<J: Naming, R: Files<File = File> + Wait + Clock>(
     rt: &R,
     alloc: Global,
-    site: Site<'_>,
+    site: Site<'_, J>,
     shelves: &mut Shelves,
     journal: &LeftJournal,
 ) -> Result<(), ServerEnd> {
@@ -84,10 +85,10 @@ fn recover<R: Files<File = File> + Wait + Clock>(
 
 /// Reports a file that has the name of a journal and names no tenant, which stays. One without a whole line is removed: the
 /// host was killed before its term served, and nothing was acknowledged by it. `Device` if it can't be read.
-fn pass_over<R: Files<File = File> + Wait + Clock>(
+fn pass_over<J: Naming, R: Files<File = File> + Wait + Clock>(
     rt: &R,
     alloc: Global,
-    site: Site<'_>,
+    site: Site<'_, J>,
     journal: &LeftJournal,
 ) -> Result<(), ServerEnd> {
     let path = journal.path.as_str();
@@ -105,10 +106,10 @@ fn pass_over<R: Files<File = File> + Wait + Clock>(
 }
 
 /// Reports a term that is finished, which began at that time of the monotonic clock.
-fn say_recovered<R: Wait + Clock>(
+fn say_recovered<J: Naming, R: Wait + Clock>(
     rt: &R,
     alloc: Global,
-    site: Site<'_>,
+    site: Site<'_, J>,
     journal: &LeftJournal,
     outcomes: &[Outcome],
     began: u64,
@@ -214,10 +215,10 @@ fn put_history<R: Files<File = File>>(
     }
 }
 
-fn put_outcomes<R: Files<File = File>>(
+fn put_outcomes<J: Naming, R: Files<File = File>>(
     rt: &R,
     alloc: Global,
-    site: Site<'_>,
+    site: Site<'_, J>,
     journal: &LeftJournal,
     outcomes: &[Outcome],
 ) -> Result<(), ServerEnd> {

@@ -15,16 +15,17 @@ use std::sync::Wait;
 use std::sync::atomic::Ordering;
 use std::time::Clock;
 use std::{fs, io};
+use tenant_book::Naming;
 use tenant_lock::JobTally;
 
 /// How many bytes a page of memory has.
 const PAGE: u64 = 4096;
 
 /// Writes what the host does to its file, which it replaces whole.
-pub(crate) fn show<R: Files<File = File> + Wait + Clock + AllocGlobal>(
+pub(crate) fn show<J: Naming, R: Files<File = File> + Wait + Clock + AllocGlobal>(
     rt: &R,
     alloc: Global,
-    site: Site<'_>,
+    site: Site<'_, J>,
     began: u64,
     closed: &[ClosedTerm],
 ) -> io::Result<()> {
@@ -63,7 +64,11 @@ pub(crate) fn show<R: Files<File = File> + Wait + Clock + AllocGlobal>(
 }
 
 /// Where the workers are.
-fn workers<R: Wait>(rt: &R, alloc: Global, site: Site<'_>) -> Result<Vec<Worker>, AllocError> {
+fn workers<J: Naming, R: Wait>(
+    rt: &R,
+    alloc: Global,
+    site: Site<'_, J>,
+) -> Result<Vec<Worker>, AllocError> {
     let mut workers = Vec::with_capacity(alloc, site.places.len())?;
     for (worker, place) in site.places.iter().enumerate() {
         let (tenant, slot) = where_is(rt, alloc, site, place)?;
@@ -77,10 +82,10 @@ fn workers<R: Wait>(rt: &R, alloc: Global, site: Site<'_>) -> Result<Vec<Worker>
 }
 
 /// The name of the tenant at whose slot a worker is, and the slot.
-fn where_is<R: Wait>(
+fn where_is<J: Naming, R: Wait>(
     rt: &R,
     alloc: Global,
-    site: Site<'_>,
+    site: Site<'_, J>,
     place: &Place,
 ) -> Result<(Option<String>, Option<u8>), AllocError> {
     let Some((tenant, slot)) = place.seen() else {
@@ -97,7 +102,11 @@ fn text_of(alloc: Global, name: TenantName) -> Result<String, AllocError> {
 }
 
 /// The terms that are not closed.
-fn terms<R: Wait>(rt: &R, alloc: Global, site: Site<'_>) -> Result<Vec<TermStatus>, AllocError> {
+fn terms<J: Naming, R: Wait>(
+    rt: &R,
+    alloc: Global,
+    site: Site<'_, J>,
+) -> Result<Vec<TermStatus>, AllocError> {
     let mut terms = Vec::new(alloc);
     for tenant in 0..site.host.count(rt) {
         if let Some(tenancy) = site.host.tenancy(rt, tenant) {
@@ -107,10 +116,10 @@ fn terms<R: Wait>(rt: &R, alloc: Global, site: Site<'_>) -> Result<Vec<TermStatu
     Ok(terms)
 }
 
-fn add_terms<R: Wait>(
+fn add_terms<J: Naming, R: Wait>(
     rt: &R,
     alloc: Global,
-    tenancy: &Tenancy,
+    tenancy: &Tenancy<J>,
     terms: &mut Vec<TermStatus>,
 ) -> Result<(), AllocError> {
     for term in &tenancy.live(rt, alloc)? {
@@ -121,11 +130,11 @@ fn add_terms<R: Wait>(
     Ok(())
 }
 
-fn term_status<R: Wait>(
+fn term_status<J: Naming, R: Wait>(
     rt: &R,
     alloc: Global,
-    tenancy: &Tenancy,
-    term: &HostTerm,
+    tenancy: &Tenancy<J>,
+    term: &HostTerm<J>,
 ) -> Result<Option<TermStatus>, AllocError> {
     let span = term.span();
     let Some(known) = tenancy.known(rt, span.number) else {
@@ -134,7 +143,8 @@ fn term_status<R: Wait>(
     let Some(door) = term.door() else {
         return Ok(None);
     };
-    let (counts, tally) = (door.counts(rt), door.tally(rt));
+    let mut me = door.front();
+    let (counts, tally) = (door.counts(rt, &mut me), door.tally(rt, &mut me));
     Ok(Some(TermStatus {
         tenant: text_of(alloc, tenancy.name())?,
         term: span.number,

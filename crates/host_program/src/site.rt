@@ -8,6 +8,7 @@ use std::alloc::Global;
 use std::sync::Wait;
 use std::sync::atomic::{AtomicBool, AtomicU64};
 use std::time::Clock;
+use tenant_book::Naming;
 
 /// How far the host is with its end, for the thread that accepts connections.
 #[derive(Drop)]
@@ -36,10 +37,10 @@ impl Progress {
 }
 
 /// What the threads of a host share.
-#[derive(Clone, Copy)]
-pub(crate) struct Site<'h> {
-    pub(crate) host: &'h Host,
-    pub(crate) desks: &'h [Desk],
+#[derive_where(Clone, Copy)]
+pub(crate) struct Site<'h, J: Naming> {
+    pub(crate) host: &'h Host<J>,
+    pub(crate) desks: &'h [Desk<J>],
     pub(crate) places: &'h [Place],
     pub(crate) outlet: &'h Outlet,
     pub(crate) progress: &'h Progress,
@@ -49,7 +50,7 @@ pub(crate) struct Site<'h> {
     pub(crate) connections: u8,
 }
 
-impl<'h> Site<'h> {
+impl<'h, J: Naming> Site<'h, J> {
     /// Reports an event.
     pub(crate) fn say<R: Wait + Clock>(&self, rt: &R, alloc: Global, event: Event<'_>) {
         self.outlet.say(rt, alloc, event);

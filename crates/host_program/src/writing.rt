@@ -54,7 +54,7 @@ impl Work {
 
 /// Where the history of a term is.
 #[derive(Drop)]
-struct Desk {
+struct Tray {
     /// To be written.
     next: Option<Work>,
     /// Written, or found that it can't be.
@@ -68,14 +68,14 @@ struct Desk {
 /// What the two threads share. It has room for one history.
 #[derive(Drop)]
 pub(crate) struct Writer {
-    desk: Mutex<Desk>,
+    desk: Mutex<Tray>,
     changed: Condvar,
 }
 
 impl Writer {
     pub(crate) fn new() -> Writer {
         Writer {
-            desk: Mutex::new(Desk {
+            desk: Mutex::new(Tray {
                 next: None,
                 done: None,
                 is_busy: false,

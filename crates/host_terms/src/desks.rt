@@ -13,6 +13,7 @@ use std::os::unix::net::UnixStream;
 use std::sync::atomic::{AtomicBool, AtomicU64, Ordering};
 use std::sync::{Arc, Condvar, Mutex, Wait};
 use std::time::Clock;
+use tenant_book::Naming;
 use tenant_lock::StopFlag;
 
 /// A client at a desk.
@@ -38,13 +39,13 @@ struct Seating {
 
 /// Where one session after another is served, by one thread.
 #[derive(Drop)]
-pub struct Desk {
+pub struct Desk<J: Naming> {
     /// Raised while the guest has gone: nobody is there who could take a reply.
     is_gone: StopFlag,
     seating: Mutex<Seating>,
     changed: Condvar,
     /// The session's place in the term that it asked last, while it asks nothing.
-    booking: Mutex<Option<Booking>>,
+    booking: Mutex<Option<Booking<J>>>,
     /// Whether the session is bound to a tenant, and whether it is within a request.
     is_bound: AtomicBool,
     is_asking: AtomicBool,
@@ -52,9 +53,9 @@ pub struct Desk {
     asked: AtomicU64,
 }
 
-impl Desk {
+impl<J: Naming> Desk<J> {
     /// A desk at which nobody is.
-    pub fn new() -> Desk {
+    pub fn new() -> Desk<J> {
         Desk {
             is_gone: StopFlag::new(),
             seating: Mutex::new(Seating {
@@ -167,12 +168,12 @@ impl Desk {
     }
 
     /// The session's place in the term that it asked last.
-    pub(crate) fn take_booking<R: Wait>(&self, rt: &R) -> Option<Booking> {
+    pub(crate) fn take_booking<R: Wait>(&self, rt: &R) -> Option<Booking<J>> {
         self.booking.lock(rt).take()
     }
 
     /// Keeps the session's place for its next request, in the place of another one.
-    pub(crate) fn keep_booking<R: Wait>(&self, rt: &R, booking: Booking) {
+    pub(crate) fn keep_booking<R: Wait>(&self, rt: &R, booking: Booking<J>) {
         let before = self.booking.lock(rt).replace(booking);
         if let Some(before) = before {
             before.give_back(rt);
@@ -212,11 +213,11 @@ impl Desk {
 }
 
 /// Serves the guests of a desk until no more come.
-pub fn attend_desk<R: Wait + Clock>(
+pub fn attend_desk<J: Naming, R: Wait + Clock>(
     rt: &R,
     alloc: Global,
-    host: &Host,
-    desk: &Desk,
+    host: &Host<J>,
+    desk: &Desk<J>,
     waker: &Waker,
 ) {
     let mut doors = HostDoors::new(rt, alloc, host, desk);

@@ -3,15 +3,17 @@
 use crate::outcomes::Outcome;
 use crate::terms::{HostTerm, Span};
 use job_language::{Status, TenantConfig};
+use server_house::ClientSeats;
 use std::alloc::Global;
 use std::sync::{Arc, Wait};
+use tenant_book::Naming;
 use tenant_lock::{CloseFault, Closed};
 use term_life::Why;
 
 /// A term that sessions come to no more, and new workers neither.
 #[derive(Drop)]
-pub struct Ending {
-    term: Arc<HostTerm>,
+pub struct Ending<J: Naming> {
+    term: Arc<HostTerm<J>>,
     why: Why,
     outcomes: Vec<Outcome>,
 }
@@ -29,12 +31,19 @@ pub struct TermEnd {
     pub outcomes: Vec<Outcome>,
     /// Whether its journal has all of its history.
     pub is_journaled: bool,
-    /// Its tenant's history, or what is wrong. None if an allocation failed.
+    /// Its tenant's history, or what is wrong. None if somebody was still there.
     pub end: Option<Result<Closed, CloseFault>>,
 }
 
-impl Ending {
-    pub(crate) fn new(term: Arc<HostTerm>, why: Why, outcomes: Vec<Outcome>) -> Ending {
+/// What a term needs to be closed without an allocation.
+#[derive(Drop)]
+struct Readied {
+    room: ClientSeats,
+    is_journaled: bool,
+}
+
+impl<J: Naming> Ending<J> {
+    pub(crate) fn new(term: Arc<HostTerm<J>>, why: Why, outcomes: Vec<Outcome>) -> Ending<J> {
         Ending {
             term,
             why,
@@ -43,22 +52,17 @@ impl Ending {
     }
 
     /// Closes the term, if no worker is there any more, and brings its journal, if it has one, to the disk before. Otherwise
-    /// it comes back.
-    pub fn close<R: Wait>(self, rt: &R, alloc: Global) -> Result<TermEnd, Ending> {
+    /// it comes back, and so it does if an allocation fails: it can be closed later.
+    pub fn close<R: Wait>(self, rt: &R, alloc: Global) -> Result<TermEnd, Ending<J>> {
+        let Some(Readied { room, is_journaled }) = self.readied(rt, alloc) else {
+            return Err(self);
+        };
         let Ending {
             term,
             why,
             outcomes,
         } = self;
-        if !term.is_free_of_workers(rt) {
-            return Err(Ending {
-                term,
-                why,
-                outcomes,
-            });
-        }
         let (span, tenant, began) = (term.span(), *term.tenant(), term.began());
-        let is_journaled = term.catch_up(rt, alloc, true);
         match Arc::try_unwrap(term) {
             Ok(term) => Ok(TermEnd {
                 span,
@@ -67,7 +71,7 @@ impl Ending {
                 why,
                 outcomes,
                 is_journaled,
-                end: term.close(alloc),
+                end: term.close(rt, alloc, room),
             }),
             Err(term) => Err(Ending {
                 term,
@@ -75,6 +79,16 @@ impl Ending {
                 outcomes,
             }),
         }
+    }
+
+    /// What closing the term may fail for, done before. None if a worker is there, or an allocation fails.
+    fn readied<R: Wait>(&self, rt: &R, alloc: Global) -> Option<Readied> {
+        if !self.term.is_free_of_workers(rt) {
+            return None;
+        }
+        let room = self.term.room_for_seats(alloc).ok()?;
+        let is_journaled = self.term.catch_up(rt, alloc, true).ok()?;
+        Some(Readied { room, is_journaled })
     }
 }
 

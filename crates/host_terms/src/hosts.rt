@@ -11,33 +11,42 @@ use job_language::TenantName;
 use server_io::ServerEnd;
 use std::alloc::{AllocError, Global};
 use std::sync::{Arc, Mutex, Wait};
+use tenant_book::{Naming, Registry};
 use term_life::Why;
 
 /// What all threads of a host share: its tenants, and the terms that workers come to.
 #[derive(Drop)]
-pub struct Host {
+pub struct Host<J: Naming> {
     /// By their numbers at the host. A tenant that has no configuration any more stays.
-    tenants: Mutex<Vec<Arc<Tenancy>>>,
-    roster: Mutex<Roster>,
+    tenants: Mutex<Vec<Arc<Tenancy<J>>>>,
+    roster: Mutex<Roster<J>>,
     board: Board,
+    /// The lives of all terms.
+    registry: Registry<J>,
     /// At how many per cent of its steps a history takes no new jobs at the latest.
     latest: u32,
 }
 
-impl Host {
+impl<J: Naming> Host<J> {
     /// A host without a tenant, whose histories end a term at that many per cent of their steps. A term takes no new jobs
     /// once its history has half of the rest as well, if the next one can be opened.
-    pub fn new(alloc: Global, rotate_at: u32) -> Host {
+    pub fn new(alloc: Global, registry: Registry<J>, rotate_at: u32) -> Host<J> {
         Host {
             tenants: Mutex::new(Vec::new(alloc)),
             roster: Mutex::new(Roster::new(alloc)),
             board: Board::new(),
+            registry,
             latest: rotate_at.saturating_add(100) / 2,
         }
     }
 
+    /// The lives of all terms.
+    pub fn registry(&self) -> &Registry<J> {
+        &self.registry
+    }
+
     /// Whether a term is to take no new jobs, if the next one can be opened.
-    pub(crate) fn is_used<R: Wait>(&self, rt: &R, term: &HostTerm) -> bool {
+    pub(crate) fn is_used<R: Wait>(&self, rt: &R, term: &HostTerm<J>) -> bool {
         term.is_used(rt, self.latest)
     }
 
@@ -50,7 +59,7 @@ impl Host {
         &self,
         rt: &R,
         alloc: Global,
-        tenancy: Arc<Tenancy>,
+        tenancy: Arc<Tenancy<J>>,
     ) -> Result<(), AllocError> {
         let mut tenants = self.tenants.lock(rt);
         tenants.reserve(1)?;
@@ -68,7 +77,7 @@ impl Host {
     }
 
     /// The tenant of that number.
-    pub fn tenancy<R: Wait>(&self, rt: &R, tenant: usize) -> Option<Arc<Tenancy>> {
+    pub fn tenancy<R: Wait>(&self, rt: &R, tenant: usize) -> Option<Arc<Tenancy<J>>> {
         let tenants = self.tenants.lock(rt);
         Arc::try_clone(tenants.get(tenant)?).ok()
     }
@@ -84,7 +93,7 @@ impl Host {
         rt: &R,
         alloc: Global,
         tenant: usize,
-        term: HostTerm,
+        term: HostTerm<J>,
         why: Why,
     ) -> Result<(), ServerEnd> {
         let Some(tenancy) = self.tenancy(rt, tenant) else {
@@ -100,9 +109,9 @@ impl Host {
         rt: &R,
         alloc: Global,
         tenant: usize,
-        desks: &[Desk],
+        desks: &[Desk<J>],
         is_forced: bool,
-    ) -> Result<Option<Ending>, AllocError> {
+    ) -> Result<Option<Ending<J>>, AllocError> {
         let Some(tenancy) = self.tenancy(rt, tenant) else {
             return Ok(None);
         };
@@ -165,7 +174,7 @@ impl Host {
     }
 }
 
-fn shared(alloc: Global, term: HostTerm) -> Result<Arc<HostTerm>, AllocError> {
+fn shared<J: Naming>(alloc: Global, term: HostTerm<J>) -> Result<Arc<HostTerm<J>>, AllocError> {
     Ok(Arc::new(alloc, term)?)
 }
 

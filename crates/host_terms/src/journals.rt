@@ -2,11 +2,12 @@
 
 use job_language::{Entry, TenantConfig};
 use part_writer::{LivePart, PartFault};
-use std::alloc::Global;
+use std::alloc::{AllocError, Global};
 use std::fs::File;
 use std::sync::atomic::{AtomicBool, AtomicUsize, Ordering};
 use std::sync::{Condvar, Mutex, MutexGuard, Wait};
 use std::thread;
+use tenant_book::Naming;
 use tenant_lock::TenantDoor;
 
 /// How many entries are copied at a time at most, while nobody else can ask the tenant.
@@ -73,14 +74,14 @@ impl Kept {
 }
 
 /// Brings to its journal, if it has one, what a tenant was asked. None if that fails.
-pub(crate) fn bring_to_journal<R: Wait>(
+pub(crate) fn bring_to_journal<J: Naming, R: Wait>(
     rt: &R,
     alloc: Global,
     journal: Option<&Journal>,
-    door: Option<&TenantDoor>,
+    door: Option<&TenantDoor<J>>,
 ) -> Option<Kept> {
     if let (Some(journal), Some(door)) = (journal, door) {
-        let wanted = door.counts(rt).entries;
+        let wanted = door.counts(rt, &mut door.front()).entries;
         journal.write(rt, alloc, door, wanted)?;
         if journal.is_synced {
             journal.sync(rt, wanted)?;
@@ -131,11 +132,11 @@ impl Journal {
     }
 
     /// Writes what the tenant's history has and the file has not, until the file has so many entries. None if that fails.
-    fn write<R: Wait>(
+    fn write<J: Naming, R: Wait>(
         &self,
         rt: &R,
         alloc: Global,
-        door: &TenantDoor,
+        door: &TenantDoor<J>,
         wanted: usize,
     ) -> Option<()> {
         let Some(mut written) = self.turn_to_write(rt, wanted) else {
@@ -206,19 +207,23 @@ impl Journal {
     }
 
     /// Writes what the history has and the file has not, and brings the file to the disk if that is wanted or replies wait
-    /// for it. It says whether all of the history is there.
-    pub(crate) fn catch_up<R: Wait>(
+    /// for it. It says whether all of the history is there, which it is not if the file failed. If an allocation fails, it
+    /// can be done again.
+    pub(crate) fn catch_up<J: Naming, R: Wait>(
         &self,
         rt: &R,
         alloc: Global,
-        door: &TenantDoor,
+        door: &TenantDoor<J>,
         syncs: bool,
-    ) -> bool {
-        let wanted = door.counts(rt).entries;
-        if self.write(rt, alloc, door, wanted).is_none() {
-            return false;
+    ) -> Result<bool, AllocError> {
+        let wanted = door.counts(rt, &mut door.front()).entries;
+        let is_there = self.write(rt, alloc, door, wanted).is_some()
+            && (!(syncs || self.is_synced) || self.sync(rt, wanted).is_some());
+        if is_there || self.is_broken() {
+            Ok(is_there)
+        } else {
+            Err(AllocError)
         }
-        !(syncs || self.is_synced) || self.sync(rt, wanted).is_some()
     }
 
     /// Without memory it is tried again; a file that failed once may have lost what it was given.
@@ -232,11 +237,11 @@ impl Journal {
 impl Written {
     /// Writes what the tenant's history has and the file has not, by one call of the system: all of it, unless it is very
     /// much.
-    fn write_more<R: Wait>(
+    fn write_more<J: Naming, R: Wait>(
         &mut self,
         rt: &R,
         alloc: Global,
-        door: &TenantDoor,
+        door: &TenantDoor<J>,
     ) -> Result<(), PartFault> {
         self.copy_more(rt, door)?;
         if !self.next.is_empty() {
@@ -247,11 +252,15 @@ impl Written {
     }
 
     /// Copies what the tenant's history has and the file has not, a slice at a time.
-    fn copy_more<R: Wait>(&mut self, rt: &R, door: &TenantDoor) -> Result<(), PartFault> {
+    fn copy_more<J: Naming, R: Wait>(
+        &mut self,
+        rt: &R,
+        door: &TenantDoor<J>,
+    ) -> Result<(), PartFault> {
         self.next.clear();
         for _slice in 0..SLICES {
             let from = self.count.saturating_add(self.next.len());
-            let there = door.copy_entries(rt, from, SLICE, &mut self.next)?;
+            let there = door.copy_entries(rt, &mut door.front(), from, SLICE, &mut self.next)?;
             if self.count.saturating_add(self.next.len()) >= there {
                 return Ok(());
             }

@@ -5,6 +5,7 @@
 mod board;
 mod desks;
 mod endings;
+mod forgetting;
 mod hosts;
 mod journals;
 mod numbering;
@@ -20,6 +21,7 @@ mod terms;
 
 pub use desks::{Desk, attend_desk};
 pub use endings::{Ending, TermEnd};
+pub use forgetting::Notes;
 pub use hosts::Host;
 pub use journals::Journal;
 pub use outcomes::Outcome;

@@ -6,6 +6,36 @@ use job_language::{Error, Reply, Request};
 use nested_wait::Attended;
 use server_house::Told;
 
+/// What a request was answered that the term that serves was asked.
+#[derive(Clone, Copy, Debug, PartialEq, Eq)]
+pub(crate) struct Served {
+    pub(crate) reply: Reply,
+    /// The number of the term that was asked, or 0 if none was.
+    pub(crate) term: u64,
+}
+
+impl Served {
+    /// The term of that number has answered.
+    pub(crate) fn by(term: u64, reply: Reply) -> Served
+        ensures { result.reply ≢ Reply.Pending }
+    {
+        Served {
+            reply: at_once(reply),
+            term,
+        }
+    }
+
+    /// No term could be asked.
+    pub(crate) fn by_none() -> Served
+        ensures { result.reply ≢ Reply.Pending }
+    {
+        Served {
+            reply: Reply::Refused(Error::HistoryFull),
+            term: 0,
+        }
+    }
+}
+
 /// A reply that nobody has to wait for.
 pub(crate) fn at_once(reply: Reply) -> Reply
     ensures { result ≢ Reply.Pending }

@@ -39,6 +39,11 @@ impl Outcomes {
         }
     }
 
+    /// Makes room for the outcomes of one more term.
+    pub(crate) fn make_room(&mut self) -> Result<(), AllocError> {
+        self.ended.reserve(1)
+    }
+
     /// Keeps the outcomes of one more term, and forgets those of the oldest one if they are too many. If an allocation fails,
     /// nothing has changed.
     pub(crate) fn add(&mut self, span: Span, outcomes: Vec<Outcome>) -> Result<(), AllocError> {
@@ -49,9 +54,24 @@ impl Outcomes {
         Ok(())
     }
 
-    /// Forgets them all.
-    pub(crate) fn clear(&mut self) {
-        self.ended.clear();
+    /// Forgets those of all terms before the one of that number.
+    pub(crate) fn clear_before(&mut self, number: u64) {
+        self.ended.retain(|ended| ended.span.number >= number);
+    }
+
+    /// Whether there are none.
+    pub(crate) fn is_empty(&self) -> bool {
+        self.ended.iter().all(|ended| ended.outcomes.is_empty())
+    }
+
+    /// Whether a request is about to release a job, by its number outside, whose outcome is known here.
+    pub(crate) fn is_released_by(&self, job: u64, request: &Request) -> bool {
+        matches!(request, Request::Take(_) | Request::Release(_))
+            && self
+                .ended
+                .iter()
+                .flat_map(|ended| ended.outcomes.iter())
+                .any(|outcome| outcome.job == job && outcome.status != Status::Running)
     }
 
     /// The reply to a request about a job, by its number outside, whose term is closed.

@@ -9,6 +9,7 @@ use std::os::fd::AsRawFd;
 use std::os::unix::net::UnixStream;
 use std::sync::{Arc, Wait};
 use std::time::Duration;
+use tenant_book::Naming;
 
 /// How long a wait takes at most, in milliseconds.
 const TICK: u64 = 20;
@@ -24,16 +25,16 @@ pub struct Cuts {
 
 /// What the thread that accepts has.
 #[derive(Drop)]
-pub struct Reception<'h> {
+pub struct Reception<'h, J: Naming> {
     watch: Watch,
-    desks: &'h [Desk],
+    desks: &'h [Desk<J>],
     /// The number of the next connection.
     next: usize,
 }
 
-impl<'h> Reception<'h> {
+impl<'h, J: Naming> Reception<'h, J> {
     /// What accepts connections that the watch reports, for these desks.
-    pub fn new(watch: Watch, desks: &'h [Desk]) -> Self {
+    pub fn new(watch: Watch, desks: &'h [Desk<J>]) -> Self {
         Reception {
             watch,
             desks,
@@ -68,7 +69,7 @@ impl<'h> Reception<'h> {
         &mut self,
         rt: &R,
         alloc: Global,
-        desk: &Desk,
+        desk: &Desk<J>,
         stream: UnixStream,
         now: u64,
     ) -> io::Result<()> {

@@ -6,25 +6,26 @@ use crate::terms::HostTerm;
 use job_language::Level;
 use std::alloc::{AllocError, Global};
 use std::sync::Arc;
+use tenant_book::Naming;
 use term_life::next_turn;
 
 /// The terms of one tenant that workers come to, the oldest first.
 #[derive(Drop)]
-struct Entry {
-    terms: Vec<Arc<HostTerm>>,
+struct Rota<J: Naming> {
+    terms: Vec<Arc<HostTerm<J>>>,
 }
 
-impl Entry {
+impl<J: Naming> Rota<J> {
     /// The first of its terms in which a call of that level waits.
-    fn first(&self, level: Level) -> Option<&Arc<HostTerm>> {
+    fn first(&self, level: Level) -> Option<&Arc<HostTerm<J>>> {
         self.terms.iter().find(|term| term.has_call_at(level))
     }
 }
 
 /// All terms that workers come to, by their tenants, and which tenant of each level had the last turn.
 #[derive(Drop)]
-pub(crate) struct Roster {
-    entries: Vec<Entry>,
+pub(crate) struct Roster<J: Naming> {
+    entries: Vec<Rota<J>>,
     /// Whether a call of the level that is looked at waits at each tenant.
     waits: Vec<bool>,
     high: usize,
@@ -32,8 +33,8 @@ pub(crate) struct Roster {
     low: usize,
 }
 
-impl Roster {
-    pub(crate) fn new(alloc: Global) -> Roster {
+impl<J: Naming> Roster<J> {
+    pub(crate) fn new(alloc: Global) -> Roster<J> {
         Roster {
             entries: Vec::new(alloc),
             waits: Vec::new(alloc),
@@ -47,14 +48,22 @@ impl Roster {
     pub(crate) fn add_tenant(&mut self, alloc: Global) -> Result<(), AllocError> {
         self.entries.reserve(1)?;
         self.waits.push(false)?;
-        self.entries.push_reserved(Entry {
+        self.entries.push_reserved(Rota {
             terms: Vec::new(alloc),
         });
         Ok(())
     }
 
+    /// Makes room for one more term of the tenant of that number.
+    pub(crate) fn make_room(&mut self, tenant: usize) -> Result<(), AllocError> {
+        match self.entries.get_mut(tenant) {
+            Some(entry) => entry.terms.reserve(1),
+            None => Err(AllocError),
+        }
+    }
+
     /// Adds a term of the tenant of that number.
-    pub(crate) fn add(&mut self, tenant: usize, term: Arc<HostTerm>) -> Result<(), AllocError> {
+    pub(crate) fn add(&mut self, tenant: usize, term: Arc<HostTerm<J>>) -> Result<(), AllocError> {
         match self.entries.get_mut(tenant) {
             Some(entry) => Ok(entry.terms.push(term)?),
             None => Err(AllocError),
@@ -71,7 +80,7 @@ impl Roster {
     /// The term that a worker is to come to next, and the number of its tenant: of the tenants of the highest level at which
     /// a call waits, the one whose turn it is, and its oldest term with such a call, which is claimed. None if no call
     /// waits.
-    pub(crate) fn next(&mut self, board: &Board) -> Option<(usize, Arc<HostTerm>)> {
+    pub(crate) fn next(&mut self, board: &Board) -> Option<(usize, Arc<HostTerm<J>>)> {
         for level in [Level::High, Level::Normal, Level::Low] {
             if board.has_call_at(level) {
                 let next = self.next_at(board, level);
@@ -84,7 +93,7 @@ impl Roster {
     }
 
     /// The same of the tenants of one level.
-    fn next_at(&mut self, board: &Board, level: Level) -> Option<(usize, Arc<HostTerm>)> {
+    fn next_at(&mut self, board: &Board, level: Level) -> Option<(usize, Arc<HostTerm<J>>)> {
         for (waits, entry) in self.waits.iter_mut().zip(&self.entries) {
             *waits = entry.first(level).is_some();
         }

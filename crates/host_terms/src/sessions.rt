@@ -1,9 +1,11 @@
 // A session's ways to the tenants of a host.
 ghost use Rattle.std.specs.Prelude.{◌≡◌, ◌≢◌};
 
+mod forgetting;
+
 use crate::desks::Desk;
 use crate::hosts::Host;
-use crate::numbering::{acknowledged, at_once, brings_job, renumbered};
+use crate::numbering::{Served, acknowledged, at_once, brings_job, renumbered};
 use crate::tenancies::{Found, Tenancy};
 use crate::terms::Booking;
 use job_language::{Error, Moved, Reply, Request, TenantName};
@@ -15,6 +17,7 @@ use std::alloc::Global;
 use std::net::Shutdown;
 use std::sync::{Arc, Wait};
 use std::time::Clock;
+use tenant_book::Naming;
 
 /// How many terms are tried for one request, each of which has a full history.
 const TRIES: u32 = 4;
@@ -22,18 +25,18 @@ const TRIES: u32 = 4;
 /// One session's ways to the tenants of a host. It stays when terms follow one another: each request goes to the term that
 /// serves, or to that of the job that it names. A slot that a job is placed on is attended within the request.
 #[derive(Drop)]
-pub(crate) struct HostDoors<'h, R: Wait + Clock> {
+pub(crate) struct HostDoors<'h, J: Naming, R: Wait + Clock> {
     rt: &'h R,
     alloc: Global,
-    host: &'h Host,
-    desk: &'h Desk,
+    host: &'h Host<J>,
+    desk: &'h Desk<J>,
     /// The tenant that it is bound to.
-    tenancy: Option<Arc<Tenancy>>,
+    tenancy: Option<Arc<Tenancy<J>>>,
 }
 
-impl<'h, R: Wait + Clock> HostDoors<'h, R> {
+impl<'h, J: Naming, R: Wait + Clock> HostDoors<'h, J, R> {
     /// A session that is bound to no tenant yet.
-    pub(crate) fn new(rt: &'h R, alloc: Global, host: &'h Host, desk: &'h Desk) -> Self {
+    pub(crate) fn new(rt: &'h R, alloc: Global, host: &'h Host<J>, desk: &'h Desk<J>) -> Self {
         HostDoors {
             rt,
             alloc,
@@ -53,8 +56,8 @@ impl<'h, R: Wait + Clock> HostDoors<'h, R> {
     }
 
     /// Asks the term that serves, or the next one if its history is full.
-    fn ask_serving(&self, tenancy: &Tenancy, request: Request) -> Reply
-        ensures { result ≢ Reply.Pending }
+    fn ask_serving(&self, tenancy: &Tenancy<J>, request: Request) -> Served
+        ensures { result.reply ≢ Reply.Pending }
     {
         let stop = self.desk.is_gone();
         let mut request = request;
@@ -63,7 +66,7 @@ impl<'h, R: Wait + Clock> HostDoors<'h, R> {
                 if tenancy.wait_for_next(self.rt, None, stop) {
                     continue;
                 }
-                return Reply::Refused(Error::HistoryFull);
+                return Served::by_none();
             };
             let span = booking.term().span();
             if booking.term().is_broken() {
@@ -71,7 +74,7 @@ impl<'h, R: Wait + Clock> HostDoors<'h, R> {
                 if tenancy.wait_for_next(self.rt, Some(span.number), stop) {
                     continue;
                 }
-                return Reply::Refused(Error::HistoryFull);
+                return Served::by_none();
             }
             let spare = request.try_clone().ok();
             let (booking, told) = booking.ask(self.rt, self.host.board(), stop, request);
@@ -79,19 +82,19 @@ impl<'h, R: Wait + Clock> HostDoors<'h, R> {
             let reply = self.outside(&booking, told);
             self.desk.keep_booking(self.rt, booking);
             let Some(again) = spare else {
-                return at_once(reply);
+                return Served::by(span.number, reply);
             };
             if !is_full || !tenancy.wait_for_next(self.rt, Some(span.number), stop) {
-                return at_once(reply);
+                return Served::by(span.number, reply);
             }
             request = again;
         }
-        Reply::Refused(Error::HistoryFull)
+        Served::by_none()
     }
 
     /// What the session is told outside of the term where it was told that, once what the term was asked is kept. If that
     /// can't be, the client is told nothing: its connection ends.
-    fn outside(&self, booking: &Booking, told: Told) -> Reply {
+    fn outside(&self, booking: &Booking<J>, told: Told) -> Reply {
         if told.reply == Reply::Pending {
             return Reply::Pending;
         }
@@ -106,7 +109,7 @@ impl<'h, R: Wait + Clock> HostDoors<'h, R> {
 
     /// A place in the term that serves. One whose history is used so far that its jobs may need the rest begins no job, if
     /// another one can be opened.
-    fn book_for(&self, tenancy: &Tenancy, request: &Request) -> Option<Booking> {
+    fn book_for(&self, tenancy: &Tenancy<J>, request: &Request) -> Option<Booking<J>> {
         let booking = self.book_serving(tenancy)?;
         if !brings_job(request) || !self.host.is_used(self.rt, booking.term()) {
             return Some(booking);
@@ -118,7 +121,7 @@ impl<'h, R: Wait + Clock> HostDoors<'h, R> {
     }
 
     /// A place in the term that serves.
-    fn book_serving(&self, tenancy: &Tenancy) -> Option<Booking> {
+    fn book_serving(&self, tenancy: &Tenancy<J>) -> Option<Booking<J>> {
         if let Some(booking) = self.desk.take_booking(self.rt) {
             if !booking.term().is_left() {
                 return Some(booking);
@@ -129,7 +132,7 @@ impl<'h, R: Wait + Clock> HostDoors<'h, R> {
     }
 
     /// A place in the term of a job, or the reply to a request about it.
-    fn find_owner(&self, tenancy: &Tenancy, job: u64, request: &Request) -> Found {
+    fn find_owner(&self, tenancy: &Tenancy<J>, job: u64, request: &Request) -> Found<J> {
         if let Some(booking) = self.desk.take_booking(self.rt) {
             if booking.term().span().owns(job) && !booking.term().is_left() {
                 return Found::Live(booking);
@@ -140,7 +143,7 @@ impl<'h, R: Wait + Clock> HostDoors<'h, R> {
     }
 
     /// Asks about a job, by its number outside.
-    fn ask_owner(&self, tenancy: &Tenancy, job: u64, request: Request) -> Reply {
+    fn ask_owner(&self, tenancy: &Tenancy<J>, job: u64, request: Request) -> Reply {
         match self.find_owner(tenancy, job, &request) {
             Found::Live(booking) => {
                 let base = booking.term().span().base;
@@ -151,12 +154,13 @@ impl<'h, R: Wait + Clock> HostDoors<'h, R> {
                 reply
             }
             Found::Answered(reply) => reply,
+            Found::Leaving => self.let_go(tenancy, job, &request),
         }
     }
 
     /// Asks a term about a job, by its number there. One that was left is only looked at if that is enough: its history is
     /// for the jobs that it has.
-    fn ask_there(&self, booking: Booking, request: Request) -> (Booking, Told) {
+    fn ask_there(&self, booking: Booking<J>, request: Request) -> (Booking<J>, Told) {
         if booking.term().is_left() {
             if let Some(reply) = booking.term().look_up(self.rt, &request) {
                 let told = Told {
@@ -168,23 +172,9 @@ impl<'h, R: Wait + Clock> HostDoors<'h, R> {
         }
         booking.ask(self.rt, self.host.board(), self.desk.is_gone(), request)
     }
-
-    /// Retires all jobs of the tenant, if no row of any term is open.
-    fn retire(&self, tenancy: &Tenancy) -> Reply
-        ensures { result ≢ Reply.Pending }
-    {
-        if tenancy.is_busy_before(self.rt) {
-            return Reply::Refused(Error::Busy);
-        }
-        let reply = self.ask_serving(tenancy, Request::Retire);
-        if let Reply::Epoch(_) = reply {
-            tenancy.retire_before(self.rt);
-        }
-        reply
-    }
 }
 
-impl<'h, R: Wait + Clock> Door for HostDoors<'h, R> {
+impl<'h, J: Naming, R: Wait + Clock> Door for HostDoors<'h, J, R> {
     ghost views = { λ _ _. Unit {0} };
 
     ghost commits = { λ _ _ _ _. Unit {0} };
@@ -216,7 +206,7 @@ impl<'h, R: Wait + Clock> Door for HostDoors<'h, R> {
     }
 }
 
-impl<'h, R: Wait + Clock> Doors for HostDoors<'h, R> {
+impl<'h, J: Naming, R: Wait + Clock> Doors for HostDoors<'h, J, R> {
     ghost finds = { λ _ _ _. Unit {0} };
 
     ghost binds = { λ _ _ _. Unit {0} };
@@ -244,7 +234,7 @@ impl<'h, R: Wait + Clock> Doors for HostDoors<'h, R> {
                     self.ask_owner(tenancy, job, request),
                 ),
                 Request::Retire => self.retire(tenancy),
-                other => self.ask_serving(tenancy, other),
+                other => self.ask_serving(tenancy, other).reply,
             },
         };
         self.desk.end_asking();
@@ -268,7 +258,7 @@ impl<'h, R: Wait + Clock> Doors for HostDoors<'h, R> {
                 stops
             }
             // Its outcome is there, or it has none.
-            Found::Answered(_) => false,
+            Found::Answered(_) | Found::Leaving => false,
         }
     }
 }

@@ -2,10 +2,12 @@
 ghost use Rattle.std.specs.Prelude.{◌≤◌};
 ghost use Rattle.term_life.specs.declared.terms.TheConstants.{MOST_JOBS};
 
+mod notes;
 mod waits;
 
 use crate::desks::Desk;
 use crate::endings::Ending;
+use crate::forgetting::Notes;
 use crate::outcomes::{Outcome, Outcomes};
 use crate::roster::Roster;
 use crate::terms::{Booking, HostTerm, Span};
@@ -13,14 +15,15 @@ use job_language::{Error, Reply, Request, TenantName};
 use server_io::ServerEnd;
 use std::alloc::{AllocError, Global};
 use std::sync::{Arc, Condvar, Mutex, Wait};
+use tenant_book::Naming;
 use term_life::{Term, Terms, Why};
 
 /// What is kept under the lock.
 #[derive(Drop)]
-struct Lives {
+struct Lives<J: Naming> {
     terms: Terms,
     /// The terms that sessions may come to, the oldest first. The last one serves, unless it is left.
-    live: Vec<Arc<HostTerm>>,
+    live: Vec<Arc<HostTerm<J>>>,
     /// Of terms that are closed.
     outcomes: Outcomes,
     /// The jobs of terms before the one of this number are retired.
@@ -35,41 +38,45 @@ struct Lives {
     is_stopped: bool,
 }
 
-impl Lives {
+impl<J: Naming> Lives<J> {
     /// The term that serves, if one does.
-    fn serving(&self) -> Option<&Arc<HostTerm>> {
+    fn serving(&self) -> Option<&Arc<HostTerm<J>>> {
         let last = self.live.last()?;
         if last.is_left() { None } else { Some(last) }
     }
 
     /// The live term to which a job belongs, by its number outside.
-    fn owner(&self, job: u64) -> Option<&Arc<HostTerm>> {
+    fn owner(&self, job: u64) -> Option<&Arc<HostTerm<J>>> {
         self.live.iter().find(|term| term.span().owns(job))
     }
 }
 
 /// Where a job is to be asked for.
 #[derive(Drop)]
-pub(crate) enum Found {
+pub(crate) enum Found<J: Naming> {
     /// In its term.
-    Live(Booking),
+    Live(Booking<J>),
     /// Its term is closed, or there is none: the reply.
     Answered(Reply),
+    /// Its term is closed, and the request releases it: that is to be noted before it is answered.
+    Leaving,
 }
 
 /// A tenant of a host. Its sessions stay when its terms follow one another.
 #[derive(Drop)]
-pub struct Tenancy {
+pub struct Tenancy<J: Naming> {
     name: TenantName,
-    lives: Mutex<Lives>,
+    lives: Mutex<Lives<J>>,
     /// A term was opened, or it is known that none can be.
     changed: Condvar,
+    /// Where it is noted what is forgotten of terms that are closed.
+    notes: Mutex<Option<Notes>>,
 }
 
-impl Tenancy {
+impl<J: Naming> Tenancy<J> {
     /// A tenant without a term. The first one will have that number, and its jobs are numbered after `base`. Of terms that
     /// are closed the outcomes of the last `keep` are kept.
-    pub fn new(alloc: Global, name: TenantName, first: u64, base: u64, keep: usize) -> Tenancy
+    pub fn new(alloc: Global, name: TenantName, first: u64, base: u64, keep: usize) -> Tenancy<J>
         requires { base ≤ MOST_JOBS }
     {
         Tenancy {
@@ -85,6 +92,7 @@ impl Tenancy {
                 is_stopped: false,
             }),
             changed: Condvar::new(),
+            notes: Mutex::new(None),
         }
     }
 
@@ -100,13 +108,17 @@ impl Tenancy {
     }
 
     /// The term that serves, if one does.
-    pub fn serving<R: Wait>(&self, rt: &R) -> Option<Arc<HostTerm>> {
+    pub fn serving<R: Wait>(&self, rt: &R) -> Option<Arc<HostTerm<J>>> {
         let lives = self.lives.lock(rt);
         Arc::try_clone(lives.serving()?).ok()
     }
 
     /// The terms that are not closed and that sessions may come to, the oldest first. An error if an allocation fails.
-    pub fn live<R: Wait>(&self, rt: &R, alloc: Global) -> Result<Vec<Arc<HostTerm>>, AllocError> {
+    pub fn live<R: Wait>(
+        &self,
+        rt: &R,
+        alloc: Global,
+    ) -> Result<Vec<Arc<HostTerm<J>>>, AllocError> {
         let lives = self.lives.lock(rt);
         let mut live = Vec::with_capacity(alloc, lives.live.len())?;
         for term in &lives.live {
@@ -167,9 +179,9 @@ impl Tenancy {
     pub(crate) fn begin<R: Wait>(
         &self,
         rt: &R,
-        roster: &Mutex<Roster>,
+        roster: &Mutex<Roster<J>>,
         tenant: usize,
-        term: Arc<HostTerm>,
+        term: Arc<HostTerm<J>>,
         why: Why,
     ) -> Result<(), ServerEnd> {
         let Span { number, base, room } = term.span();
@@ -179,14 +191,16 @@ impl Tenancy {
         }
         lives.live.reserve(1)?;
         let handle = Arc::try_clone(&term)?;
+        let mut roster = roster.lock(rt);
+        roster.make_room(tenant)?;
         if lives.terms.open(why, room)?.is_none() {
             return Err(ServerEnd::Device);
         }
         if let Some(before) = lives.live.last() {
             before.leave();
         }
-        // Without memory it has no workers; its sessions serve what they execute.
-        let _added = roster.lock(rt).add(tenant, handle);
+        // There is room for it.
+        let _added = roster.add(tenant, handle);
         lives.live.push_reserved(term);
         lives.wish = None;
         lives.is_refused = false;
@@ -207,16 +221,16 @@ impl Tenancy {
 
     /// Takes a term out whose jobs have their outcomes and where no session is, if there is one: sessions come to it no
     /// more, and get its outcomes. Places that sessions keep in terms that were left are given back before. If it is
-    /// forced, a term may have open jobs.
+    /// forced, a term may have open jobs. If an allocation fails, the term stays, and can be taken out later.
     pub(crate) fn next_ending<R: Wait>(
         &self,
         rt: &R,
         alloc: Global,
-        roster: &Mutex<Roster>,
+        roster: &Mutex<Roster<J>>,
         tenant: usize,
-        desks: &[Desk],
+        desks: &[Desk<J>],
         is_forced: bool,
-    ) -> Result<Option<Ending>, AllocError> {
+    ) -> Result<Option<Ending<J>>, AllocError> {
         let mut lives = self.lives.lock(rt);
         let Some(place) = lives.live.iter().position(|term| {
             term.is_left() && (is_forced || term.is_quiet(rt))
@@ -231,10 +245,16 @@ impl Tenancy {
             return Ok(None);
         }
         let outcomes = lives.live[place].outcomes(rt, alloc)?;
+        let span = lives.live[place].span();
+        let mut kept = Vec::new(alloc);
+        if span.number >= lives.retired {
+            kept.extend_from_slice(outcomes.as_slice())?;
+        }
+        lives.outcomes.make_room()?;
         // From now on they are told without its journal.
-        let _is_there = lives.live[place].catch_up(rt, alloc, false);
+        let _is_there = lives.live[place].catch_up(rt, alloc, false)?;
+        // No allocation from here on: else the term would be lost with what was taken out.
         let term = lives.live.remove(place);
-        let span = term.span();
         lives.terms.close(span.number);
         roster.lock(rt).remove(tenant, span.number);
         let why = lives
@@ -243,11 +263,8 @@ impl Tenancy {
             .iter()
             .find(|known| known.number == span.number)
             .and_then(|known| known.why);
-        let mut kept = Vec::new(alloc);
-        if span.number >= lives.retired {
-            kept.extend_from_slice(outcomes.as_slice())?;
-        }
-        lives.outcomes.add(span, kept)?;
+        // There is room for them.
+        let _kept = lives.outcomes.add(span, kept);
         Ok(Some(Ending::new(term, why.unwrap_or(Why::Stop), outcomes)))
     }
 
@@ -282,13 +299,13 @@ impl Tenancy {
     }
 
     /// A place in the term that serves. None if none does.
-    pub(crate) fn book_serving<R: Wait>(&self, rt: &R) -> Option<Booking> {
+    pub(crate) fn book_serving<R: Wait>(&self, rt: &R) -> Option<Booking<J>> {
         let lives = self.lives.lock(rt);
         Booking::of(rt, lives.serving()?)
     }
 
     /// Where a job is to be asked for, by its number outside.
-    pub(crate) fn find<R: Wait>(&self, rt: &R, job: u64, request: &Request) -> Found {
+    pub(crate) fn find<R: Wait>(&self, rt: &R, job: u64, request: &Request) -> Found<J> {
         let mut lives = self.lives.lock(rt);
         let retired = lives.retired;
         let booked = match lives.owner(job) {
@@ -299,8 +316,15 @@ impl Tenancy {
         match booked {
             Some(Some(booking)) => Found::Live(booking),
             Some(None) => Found::Answered(Reply::Refused(Error::NoMemory)),
+            None if lives.outcomes.is_released_by(job, request) => Found::Leaving,
             None => Found::Answered(lives.outcomes.answer(job, request)),
         }
+    }
+
+    /// The reply to a request about a job, by its number outside, whose term is closed, once it is noted if the job is
+    /// released.
+    pub(crate) fn answer_closed<R: Wait>(&self, rt: &R, job: u64, request: &Request) -> Reply {
+        self.lives.lock(rt).outcomes.answer(job, request)
     }
 
     /// Whether a row is open in a term that was left.
@@ -309,20 +333,9 @@ impl Tenancy {
         lives.live.iter().any(|term| {
             term.is_left()
                 && match term.door() {
-                    Some(door) => door.tally(rt).open_rows > 0,
+                    Some(door) => door.tally(rt, &mut door.front()).open_rows > 0,
                     None => false,
                 }
         })
-    }
-
-    /// The jobs of all terms before the one that serves are retired.
-    pub(crate) fn retire_before<R: Wait>(&self, rt: &R) {
-        let mut lives = self.lives.lock(rt);
-        lives.outcomes.clear();
-        let serving = match lives.serving() {
-            Some(term) => term.span().number,
-            None => lives.terms.next(),
-        };
-        lives.retired = serving;
     }
 }

@@ -14,6 +14,7 @@ use server_io::ServerEnd;
 use std::alloc::{AllocError, Global};
 use std::sync::atomic::{AtomicBool, Ordering};
 use std::sync::{Arc, Mutex, Wait};
+use tenant_book::{Naming, Registry};
 use tenant_lock::{CloseFault, Closed, TenantDoor};
 use tenant_model::MAX_JOBS;
 use term_life::is_used;
@@ -39,37 +40,39 @@ impl Span {
 
 /// A term that is not closed.
 #[derive(Drop)]
-pub struct HostTerm {
+pub struct HostTerm<J: Naming> {
     span: Span,
     tenant: TenantConfig,
     /// When it was opened, in seconds since 1970.
     began: u64,
-    house: Arc<House>,
+    house: Arc<House<J>>,
     /// Its tenant's history in a file, unless that is to end with the host.
     journal: Option<Journal>,
     calls: Calls,
     /// Whether it takes no new jobs.
     is_left: AtomicBool,
     /// The posts of workers that are not there, and how many posts there are in all.
-    posts: Mutex<Vec<OwnPost>>,
+    posts: Mutex<Vec<OwnPost<J>>>,
     workers: usize,
     /// The places of sessions that are not there, and how many places there are in all.
-    clients: Mutex<Vec<OwnClient>>,
+    clients: Mutex<Vec<OwnClient<J>>>,
     sessions: usize,
 }
 
-impl HostTerm {
+impl<J: Naming> HostTerm<J> {
     /// A term that has done nothing yet, for so many workers and sessions. `Config` if the tenant can't be served by so many
     /// workers, `Device` if a place is missing, and `Memory` if an allocation fails.
-    pub fn open(
+    pub fn open<R: Wait>(
+        rt: &R,
         alloc: Global,
+        registry: &Registry<J>,
         span: Span,
         tenant: TenantConfig,
         began: u64,
         workers: usize,
         sessions: u8,
         journal: Option<Journal>,
-    ) -> Result<HostTerm, ServerEnd>
+    ) -> Result<HostTerm<J>, ServerEnd>
         requires { 1 ≤ sessions }
     {
         let mut tenants = Vec::with_capacity(alloc, 1)?;
@@ -77,7 +80,7 @@ impl HostTerm {
         let Some(config) = Config::new(tenants, workers) else {
             return Err(ServerEnd::Config);
         };
-        let Some(lodging) = Lodging::open(alloc, &config, sessions)? else {
+        let Some(lodging) = Lodging::open(rt, alloc, registry, &config, sessions)? else {
             return Err(ServerEnd::Device);
         };
         let Lodging {
@@ -117,7 +120,7 @@ impl HostTerm {
     }
 
     /// The door of its tenant.
-    pub fn door(&self) -> Option<&TenantDoor> {
+    pub fn door(&self) -> Option<&TenantDoor<J>> {
         self.house.doors().first()
     }
 
@@ -163,12 +166,23 @@ impl HostTerm {
     }
 
     /// Brings all of its history to its journal, and that to the disk if it is to be synced. It says whether all of it is
-    /// there.
-    pub(crate) fn catch_up<R: Wait>(&self, rt: &R, alloc: Global, syncs: bool) -> bool {
+    /// there. If an allocation fails, it can be done again.
+    pub(crate) fn catch_up<R: Wait>(
+        &self,
+        rt: &R,
+        alloc: Global,
+        syncs: bool,
+    ) -> Result<bool, AllocError> {
         match (&self.journal, self.door()) {
             (Some(journal), Some(door)) => journal.catch_up(rt, alloc, door, syncs),
-            _ => false,
+            _ => Ok(false),
         }
+    }
+
+    /// Room for the seats of its sessions.
+    pub(crate) fn room_for_seats(&self, alloc: Global) -> Result<ClientSeats, AllocError> {
+        // It has one tenant, so each session has one seat.
+        ClientSeats::with_room(alloc, self.sessions)
     }
 
     /// Whether its journal failed, so that nothing that it is asked can be acknowledged.
@@ -196,17 +210,21 @@ impl HostTerm {
             return true;
         };
         let tenant = self.tenant.tenant();
-        let tally = door.tally(rt);
+        let mut me = door.front();
+        let tally = door.tally(rt, &mut me);
         let has_no_slot = tenant.reserved >= tenant.slots;
         (tally.open_rows == 0 && tally.jobs.running == 0)
             || (has_no_slot && tally.open_rows == tally.waiting_rows)
-            || door.counts(rt).entries >= tenant.steps
+            || door.counts(rt, &mut me).entries >= tenant.steps
     }
 
     /// Whether its history has that many per cent of its steps.
     pub fn is_used<R: Wait>(&self, rt: &R, percent: u32) -> bool {
         match self.door() {
-            Some(door) => is_used(door.counts(rt).entries, self.tenant.tenant().steps, percent),
+            Some(door) => {
+                let entries = door.counts(rt, &mut door.front()).entries;
+                is_used(entries, self.tenant.tenant().steps, percent)
+            }
             None => false,
         }
     }
@@ -218,7 +236,8 @@ impl HostTerm {
             Request::Collect(job) => (*job, true),
             _ => return None,
         };
-        match self.door()?.status(rt, job) {
+        let door = self.door()?;
+        match door.status(rt, &mut door.front(), job) {
             None => Some(Reply::Refused(Error::UnknownJob)),
             Some(Status::Running) if waits => None,
             Some(status) => Some(Reply::Job(job, status)),
@@ -247,10 +266,10 @@ impl HostTerm {
         };
         let mut last = 0;
         for _job in 0..MAX_JOBS {
-            let Some(job) = door.next_job(rt, last) else {
+            let Some(job) = door.next_job(rt, &mut door.front(), last) else {
                 return Ok(outcomes);
             };
-            if let Some(status) = door.status(rt, job) {
+            if let Some(status) = door.status(rt, &mut door.front(), job) {
                 outcomes.push(Outcome {
                     job: self.span.base.saturating_add(job),
                     status,
@@ -261,9 +280,14 @@ impl HostTerm {
         Ok(outcomes)
     }
 
-    /// Closes it, once nobody is there: its tenant's history, or what is wrong. None if somebody still is, or an allocation
-    /// fails.
-    pub(crate) fn close(self, alloc: Global) -> Option<Result<Closed, CloseFault>> {
+    /// Closes it, once nobody is there: its tenant's history, or what is wrong. The seats of its sessions are put where there
+    /// is room for them. None if somebody still is there.
+    pub(crate) fn close<R: Wait>(
+        self,
+        rt: &R,
+        alloc: Global,
+        room: ClientSeats,
+    ) -> Option<Result<Closed, CloseFault>> {
         let HostTerm {
             span: _span,
             tenant: _tenant,
@@ -279,12 +303,12 @@ impl HostTerm {
         } = self;
         drop(journal);
         drop(posts);
-        let mut seats = ClientSeats::new(alloc);
+        let mut seats = room;
         for client in clients.into_inner() {
             // If they were lost, the close would find that they are missing.
             let _added = seats.add(client);
         }
         let house = Arc::try_unwrap(house).ok()?;
-        seats.close(alloc, house).ok()?.pop()
+        seats.close_only(rt, alloc, house)
     }
 }

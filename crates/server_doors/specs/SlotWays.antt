@@ -1,5 +1,5 @@
 -- What a thread may see and do at the doors of tenants.
-use Rattle.std.specs.Prelude.{ℕ, ◌≡◌, ◌≤◌, ◌<◌, Bool, true, length, Option, None, MatchOption, option_map}
+use Rattle.std.specs.Prelude.{ℕ, ◌≡◌, ◌≤◌, ◌<◌, Bool, true, List, length, Option, None, MatchOption, option_map}
 use Rattle.job_language.specs.declared.answers.Came.{Came}
 use Rattle.job_language.specs.declared.answers.Came.TheVariants.{Nothing}
 use Rattle.job_language.specs.declared.answers.Moved.{Moved}
@@ -10,13 +10,14 @@ use Rattle.job_step.specs.declared.segments.Top.{Top}
 use Rattle.job_step.specs.declared.segments.View.{View}
 use Rattle.job_step.specs.declared.segments.View.TheVariants.{Bare}
 use Rattle.tenant_lock.specs.Doors.{ComesBack, ComesWith}
-use Rattle.tenant_lock.specs.Under.{IsAdvanceOf, IsArrivalOf, IsAskOf, IsCommitOf, IsHandOverOf, WasUnder}
+use Rattle.tenant_book.specs.Fronts.{FrontData}
+use Rattle.tenant_lock.specs.Under.{IsAdvanceOf, IsArrivalOf, IsAskOf, IsCommitOf, IsGivenHome, IsHandOverOf, WasUnder}
 use Rattle.tenant_model.specs.Told.{placed_on}
 use Rattle.tenant_record.specs.Cell.{CellData}
 use Rattle.tenant_record.specs.PassData.{PassData, GoesWith}
 use Rattle.tenant_record.specs.SeatData.{SeatData, asked}
 use Rattle.tenant_record.specs.declared.slots.Advanced.{Advanced}
-use Rattle.server_doors.specs.Slots.{SlotsSeen}
+use Rattle.server_doors.specs.Slots.{SeesOn, SlotsSeen}
 use Rattle.market_config.specs.declared.calls.Call.{Call}
 
 -- the call for a slot of a tenant
@@ -29,20 +30,24 @@ pub record MakesDue (tenant : ℕ) (due : Option Call) (under : Option ℕ → T
   pub called : due ≡ option_map (call_at tenant) slot
   pub done : under slot
 
+-- That was done under the lock of a tenant, of whose history it was seen.
+abbrev pub WasSeen : (tenant : ℕ) → (before after : List FrontData) → (CellData → CellData → Type 0) → Type 0
+WasSeen tenant before after done = SeesOn tenant before after (λ seen now. WasUnder tenant seen now done)
+
 -- what is known of a move of a pass's slot with that answer, from which the pass q comes back: the slot that it made due is called
-abbrev pub IsMoveBy : (Advanced → CellData → CellData → Type 0) → PassData → Moved → Option Call → Option PassData → Type 0
-IsMoveBy moves p m due q =
-    ComesBack p m q × MakesDue p.tenant due (λ slot. WasUnder p.tenant (moves (record { moved = m; due = slot; pass = q })))
+abbrev pub IsMoveBy : (Advanced → CellData → CellData → Type 0) → PassData → Moved → Option Call → (before after : List FrontData) → Option PassData → Type 0
+IsMoveBy moves p m due before after q =
+    ComesBack p m q × MakesDue p.tenant due (λ slot. WasSeen p.tenant before after (moves (record { moved = m; due = slot; pass = q })))
 
 -- An advance. Without a pass it is idle.
 abbrev pub Moves : SlotsSeen → Moved → Option Call → SlotsSeen → Type 0
 Moves s m due t =
-    MatchOption s.pass ((m ≡ Idle) × (due ≡ None) × (t ≡ s)) (λ p. (t.doors ≡ s.doors) × IsMoveBy (IsAdvanceOf p) p m due t.pass)
+    MatchOption s.pass ((m ≡ Idle) × (due ≡ None) × (t ≡ s)) (λ p. (t.doors ≡ s.doors) × IsMoveBy (IsAdvanceOf p) p m due s.fronts t.fronts t.pass)
 
 -- A commit of the private run of a frame. Without a pass it is idle.
 abbrev pub Commits : SlotsSeen → Top → Moved → Option Call → SlotsSeen → Type 0
 Commits s top m due t =
-    MatchOption s.pass ((m ≡ Idle) × (due ≡ None) × (t ≡ s)) (λ p. (t.doors ≡ s.doors) × IsMoveBy (IsCommitOf p top) p m due t.pass)
+    MatchOption s.pass ((m ≡ Idle) × (due ≡ None) × (t ≡ s)) (λ p. (t.doors ≡ s.doors) × IsMoveBy (IsCommitOf p top) p m due s.fronts t.fronts t.pass)
 
 -- without a pass no row is on the slot
 abbrev pub MayBeHigh : SlotsSeen → ℕ → Type 0
@@ -55,33 +60,45 @@ MayBeSeen s seen = MatchOption s.pass (seen ≡ Bare) (λ p. Unit {0})
 abbrev pub Pauses : SlotsSeen → Bool → SlotsSeen → Type 0
 Pauses s stops t = (t ≡ s) × MatchOption s.pass (stops ≡ true) (λ p. Unit {0})
 
--- the thread without its pass
-abbrev pub left : SlotsSeen → SlotsSeen
-left s = record s { pass = None }
+-- The thread is at no slot any more, once the pass of the one that it was at was given home.
+pub record LeavesSlot (p : PassData) (s t : SlotsSeen) : Type 0 where
+  pub doors : t.doors ≡ s.doors
+  pub pass : t.pass ≡ None
+  pub under : WasSeen p.tenant s.fronts t.fronts (IsGivenHome p)
 
+-- Without a pass nothing happens.
 abbrev pub GoesHome : SlotsSeen → SlotsSeen → Type 0
-GoesHome s t = t ≡ left s
+GoesHome s t = MatchOption s.pass (t ≡ s) (λ p. LeavesSlot p s t)
 
--- The thread without its pass, and a slot of the pass's tenant, if one became due. Without a pass none does.
+-- The thread is at no slot any more, and that slot of its pass's tenant is called, if one became due.
+pub record HandsSlot (p : PassData) (s : SlotsSeen) (due : Option Call) (t : SlotsSeen) : Type 0 where
+  pub doors : t.doors ≡ s.doors
+  pub pass : t.pass ≡ None
+  pub under : MakesDue p.tenant due (λ slot. WasSeen p.tenant s.fronts t.fronts (IsHandOverOf p slot))
+
+-- Without a pass nothing happens.
 abbrev pub HandsOver : SlotsSeen → Option Call → SlotsSeen → Type 0
-HandsOver s due t =
-    (t ≡ left s) × MatchOption s.pass (due ≡ None) (λ p. MakesDue p.tenant due (λ slot. WasUnder p.tenant (IsHandOverOf p slot)))
+HandsOver s due t = MatchOption s.pass ((due ≡ None) × (t ≡ s)) (λ p. HandsSlot p s due t)
 
 -- An arrival at the door of a call's tenant. Without such a tenant it finds nothing.
-abbrev pub IsArrivalBy : (tenants : ℕ) → Call → Came → Option Call → Option PassData → Type 0
-IsArrivalBy tenants call came due q =
-    (call.tenant < tenants → MakesDue call.tenant due (λ slot. WasUnder call.tenant (IsArrivalOf call.tenant call (record { came = came; due = slot; pass = q }))))
-    × (tenants ≤ call.tenant → (came ≡ Nothing) × (due ≡ None))
+abbrev pub IsArrivalBy : SlotsSeen → Call → Came → Option Call → SlotsSeen → Type 0
+IsArrivalBy s call came due t =
+    (call.tenant < length s.doors → MakesDue call.tenant due (λ slot. WasSeen call.tenant s.fronts t.fronts (IsArrivalOf call.tenant call (record { came = came; due = slot; pass = t.pass }))))
+    × (length s.doors ≤ call.tenant → (came ≡ Nothing) × (due ≡ None) × (t ≡ s))
 
 -- An arrival for a call. The pass that the thread had goes home first.
 pub record ArrivesAt (s : SlotsSeen) (call : Call) (came : Came) (called : Option Call) (t : SlotsSeen) : Type 0 where
+  pub mid : SlotsSeen
+  pub home : GoesHome s mid
   pub doors : t.doors ≡ s.doors
   pub pass : ComesWith call.tenant call.slot came t.pass
-  pub under : IsArrivalBy (length s.doors) call came called t.pass
+  pub under : IsArrivalBy mid call came called t
 
 -- An ask of a seat. The pass that the thread had goes home first; with a job that is placed on a slot comes that slot's pass.
 pub record AsksBy (s : SlotsSeen) (asker : SeatData) (request : Request) (reply : Reply) (called : Option Call) (t : SlotsSeen) (told : SeatData) : Type 0 where
+  pub mid : SlotsSeen
+  pub home : GoesHome s mid
   pub doors : t.doors ≡ s.doors
   pub pass : GoesWith asker.tenant (placed_on reply) t.pass
   pub seat : told ≡ asked asker request reply
-  pub under : MakesDue asker.tenant called (λ slot. WasUnder asker.tenant (IsAskOf asker.tenant asker request (record { reply = reply; due = slot; pass = t.pass }) told))
+  pub under : MakesDue asker.tenant called (λ slot. WasSeen asker.tenant mid.fronts t.fronts (IsAskOf asker.tenant asker request (record { reply = reply; due = slot; pass = t.pass }) told))

@@ -1,6 +1,7 @@
 //! A server's ways to tenants that are behind locks: one thread's to their slots, and one session's.
 #![tactic(auto)]
 
+mod places;
 mod sessions;
 mod slots;
 

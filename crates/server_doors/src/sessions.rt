@@ -1,10 +1,10 @@
 // One session at the doors of tenants.
-ghost use Rattle.std.specs.Prelude.{◌≡◌, ◌≤◌, ◌<◌, length, map};
+ghost use Rattle.std.specs.Prelude.{◌≡◌, ◌≤◌, ◌<◌, length, map, None};
 ghost use Rattle.job_language.specs.Collecting.{IsCollect};
-ghost use Rattle.server_doors.specs.Slots.{AreNumbered};
+ghost use Rattle.server_doors.specs.Slots.{AreFronts};
 ghost use Rattle.server_doors.specs.Sessions.{AreOwn};
 ghost use Rattle.server_doors.specs.SessionWays.{AsksBound, with_thread};
-ghost use Rattle.server_doors.specs.SlotWays.{left};
+ghost use Rattle.server_doors.specs.SlotWays.{GoesHome};
 
 use crate::slots::TenantSlots;
 use job_language::{Error, Moved, Reply, Request, TenantName};
@@ -13,21 +13,22 @@ use nested_wait::Door;
 use session_core::{Answered, Doors};
 use std::marker::Model;
 use std::sync::Wait;
+use tenant_book::{Front, Naming};
 use tenant_record::Seat;
 use worker_main::{DueDoor, Ringer, Signal};
 
 /// One session's ways to the tenants behind locks. It has a seat of each tenant, and is at one slot
 /// at most: that of the job that it executes. It calls workers to the slots that become due. It can't be let go: at its
 /// end the slot goes home and the seats come back (`LockedDoors::into_parts`).
-pub struct LockedDoors<'d, 'q, R: Wait, S: Signal> {
-    slots: TenantSlots<'d, R>,
+pub struct LockedDoors<'d, 'q, J: Naming, R: Wait, S: Signal> {
+    slots: TenantSlots<'d, J, R>,
     ringer: Ringer<'q, R, S>,
     names: &'d [TenantName],
     seats: Vec<Seat>,
     bound: usize,
 }
 
-impl<'d, 'q, R: Wait, S: Signal> Model for LockedDoors<'d, 'q, R, S> {
+impl<'d, 'q, J: Naming, R: Wait, S: Signal> Model for LockedDoors<'d, 'q, J, R, S> {
     ghost use Rattle.server_doors.specs.Sessions.{SessionSeen, IsSession};
 
     ghost Value = { SessionSeen };
@@ -48,10 +49,10 @@ impl<'d, 'q, R: Wait, S: Signal> Model for LockedDoors<'d, 'q, R, S> {
         }) };
 }
 
-impl<'d, 'q, R: Wait, S: Signal> LockedDoors<'d, 'q, R, S> {
+impl<'d, 'q, J: Naming, R: Wait, S: Signal> LockedDoors<'d, 'q, J, R, S> {
     /// A session that is bound to no tenant yet. Seats and names are those of tenants 0, 1 and so on.
     pub fn new(
-        slots: TenantSlots<'d, R>,
+        slots: TenantSlots<'d, J, R>,
         ringer: Ringer<'q, R, S>,
         names: &'d [TenantName],
         seats: Vec<Seat>,
@@ -78,18 +79,23 @@ impl<'d, 'q, R: Wait, S: Signal> LockedDoors<'d, 'q, R, S> {
 
     /// Gives the slot home that it is at. The doors can then serve another session, by the same seats.
     pub fn leave(&mut self)
-        ensures { self.new ≡ with_thread self.old
-            (record self.old.at { doors = left self.old.at.doors }) }
+        ensures home { GoesHome self.old.at.doors self.new.at.doors }
+        ensures session { self.new ≡ with_thread self.old
+            (record self.old.at { doors = self.new.at.doors }) }
     {
         self.slots.give_home();
     }
 
-    /// Gives the slot home that it is at, and gives back the seats, and the ringer with its queue pass.
-    pub fn into_parts(self) -> (Vec<Seat>, Ringer<'q, R, S>)
+    /// Gives the slot home that it is at, and gives back the seats, what it has seen of each tenant's history, and the
+    /// ringer with its queue pass.
+    pub fn into_parts(self) -> (Vec<Seat>, Vec<Front<J>>, Ringer<'q, R, S>)
+        ensures home { GoesHome self.entry.at.doors
+            (record { doors = self.entry.at.doors.doors; fronts = result.1.items; pass = None }) }
+        ensures fronts { AreFronts self.entry.at.doors.doors result.1.items }
         ensures seats { result.0.items ≡ self.entry.seats }
         ensures count { length result.0.items ≡ length self.entry.at.doors.doors }
         ensures own { AreOwn result.0.items }
-        ensures ringer { result.1 ≡ self.entry.at.ringer }
+        ensures ringer { result.2 ≡ self.entry.at.ringer }
     {
         let LockedDoors {
             slots,
@@ -98,8 +104,8 @@ impl<'d, 'q, R: Wait, S: Signal> LockedDoors<'d, 'q, R, S> {
             seats,
             bound: _bound,
         } = self;
-        slots.end();
-        (seats, ringer)
+        let fronts = slots.end();
+        (seats, fronts, ringer)
     }
 
     /// Asks the tenant of the session, by its seat there.
@@ -117,7 +123,7 @@ impl<'d, 'q, R: Wait, S: Signal> LockedDoors<'d, 'q, R, S> {
     }
 }
 
-impl<'d, 'q, R: Wait, S: Signal> Door for LockedDoors<'d, 'q, R, S> {
+impl<'d, 'q, J: Naming, R: Wait, S: Signal> Door for LockedDoors<'d, 'q, J, R, S> {
     ghost use Rattle.server_doors.specs.SessionWays.{Sees, Commits, Advances, IsAsHigh, Waits};
 
     ghost views = { Sees };
@@ -155,7 +161,7 @@ impl<'d, 'q, R: Wait, S: Signal> Door for LockedDoors<'d, 'q, R, S> {
     }
 }
 
-impl<'d, 'q, R: Wait, S: Signal> Doors for LockedDoors<'d, 'q, R, S> {
+impl<'d, 'q, J: Naming, R: Wait, S: Signal> Doors for LockedDoors<'d, 'q, J, R, S> {
     ghost use Rattle.server_doors.specs.SessionWays.{Finds, Binds, Asks, WaitsFor};
 
     ghost finds = { Finds };

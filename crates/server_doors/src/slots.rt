@@ -1,9 +1,10 @@
 // One thread at the doors of tenants.
 ghost use Rattle.std.specs.Prelude.{◌≡◌, ◌<◌, length, IfSome, None, option_map};
 ghost use Rattle.job_language.specs.Collecting.{IsCollect};
-ghost use Rattle.server_doors.specs.Slots.{AreNumbered};
-ghost use Rattle.server_doors.specs.SlotWays.{AsksBy, call_at};
+ghost use Rattle.server_doors.specs.Slots.{AreFronts, AreNumbered};
+ghost use Rattle.server_doors.specs.SlotWays.{AsksBy, GoesHome, call_at};
 
+use crate::places;
 use job_language::{Came, Moved, Reply, Request};
 use job_step::{Segment, View};
 use market_config::Call;
@@ -11,6 +12,7 @@ use std::cell::Cell;
 use std::marker::Model;
 use std::mem;
 use std::sync::Wait;
+use tenant_book::{Front, Naming};
 use tenant_lock::{StopFlag, TenantDoor, Turned};
 use tenant_record::{Advanced, Arrived, AskOutcome, Pass, Seat};
 use worker_main::{CallDoors, DueDoor};
@@ -27,9 +29,11 @@ const _: () = prove!(nested_wait::MAX_HEIGHT == tenant_model::MAX_HEIGHT as usiz
 
 /// One thread's way to the slots of all tenants. It is at one slot at most, whose pass it has. It can't be let go: at its
 /// end the slot goes home (`TenantSlots::end`).
-pub struct TenantSlots<'d, R: Wait> {
+pub struct TenantSlots<'d, J: Naming, R: Wait> {
     rt: &'d R,
-    doors: &'d [TenantDoor],
+    doors: &'d [TenantDoor<J>],
+    /// What it has seen of each tenant's history.
+    fronts: Vec<Front<J>>,
     stop: &'d StopFlag,
     pass: Option<Pass>,
     /// What its last move saw of its slot under the lock, which nobody else moves, if that is known. A view that
@@ -40,30 +44,38 @@ pub struct TenantSlots<'d, R: Wait> {
     under_lock: u8,
 }
 
-impl<'d, R: Wait> Model for TenantSlots<'d, R> {
+impl<'d, J: Naming, R: Wait> Model for TenantSlots<'d, J, R> {
     ghost use Rattle.server_doors.specs.Slots.{SlotsSeen, IsAtDoors};
 
     ghost Value = { SlotsSeen };
 
-    ghost view = { λ s. record { doors = s.doors.now; pass = s.pass } };
+    ghost view = { λ s. record { doors = s.doors.now; fronts = s.fronts.items; pass = s.pass } };
 
     ghost use Rattle.std.specs.Prelude.{◌≤◌, IfSome};
     ghost use Rattle.tenant_model.specs.declared.rows.TheConstants.{MAX_HEIGHT};
 
-    ghost invariant = { λ s. IsAtDoors (record { doors = s.doors.now; pass = s.pass })
+    ghost invariant = { λ s. IsAtDoors (record { doors = s.doors.now; fronts = s.fronts.items; pass = s.pass })
         × IfSome s.height (λ height. height ≤ MAX_HEIGHT) };
 }
 
-impl<'d, R: Wait> TenantSlots<'d, R> {
+impl<'d, J: Naming, R: Wait> TenantSlots<'d, J, R> {
     /// A thread that is at no slot. The doors are those of tenants 0, 1 and so on. If it waits for a job, it stops
-    /// once the flag is raised. At a slot it does not: whoever is there stays until the slot may be left.
-    pub fn new(rt: &'d R, doors: &'d [TenantDoor], stop: &'d StopFlag) -> Self
-        requires { AreNumbered doors.now }
-        ensures { result ≡ record { doors = doors.now; pass = None } }
+    /// once the flag is raised. At a slot it does not: whoever is there stays until the slot may be left. What it does goes
+    /// on from what the fronts have seen.
+    pub fn new(
+        rt: &'d R,
+        doors: &'d [TenantDoor<J>],
+        fronts: Vec<Front<J>>,
+        stop: &'d StopFlag,
+    ) -> Self
+        requires numbers { AreNumbered doors.now }
+        requires fronts { AreFronts doors.now fronts.items }
+        ensures { result ≡ record { doors = doors.now; fronts = fronts.items; pass = None } }
     {
         TenantSlots {
             rt,
             doors,
+            fronts,
             stop,
             pass: None,
             height: None,
@@ -82,8 +94,13 @@ impl<'d, R: Wait> TenantSlots<'d, R> {
     {
         self.give_home();
         let tenant = seat.tenant();
-        let doors = self.doors;
-        let AskOutcome { reply, due, pass } = doors[tenant].ask(self.rt, seat, request);
+        let AskOutcome { reply, due, pass } = places::ask(
+            self.rt,
+            self.doors,
+            &mut self.fronts,
+            seat,
+            request,
+        );
         self.hold(pass);
         (reply, call_of(tenant, due))
     }
@@ -96,29 +113,37 @@ impl<'d, R: Wait> TenantSlots<'d, R> {
         doors[seat.tenant()].pause_for_until(self.rt, seat, job, self.stop)
     }
 
-    /// Gives the slot home that it is at.
-    pub fn end(self) {
+    /// Gives the slot home that it is at, and gives back what it has seen.
+    pub fn end(self) -> Vec<Front<J>>
+        ensures home { GoesHome self.entry
+            (record { doors = self.entry.doors; fronts = result.items; pass = None }) }
+        ensures fronts { AreFronts self.entry.doors result.items }
+    {
         let TenantSlots {
             rt,
             doors,
+            fronts,
             stop: _stop,
             pass,
             height: _height,
             view: _view,
             under_lock: _under_lock,
         } = self;
+        let mut fronts = fronts;
         if let Some(pass) = pass {
-            doors[pass.tenant()].give_home(rt, pass);
+            places::give_home(rt, doors, &mut fronts, pass);
         }
+        fronts
     }
 
-    /// Takes a pass, if there is one, and gives the one home that it has.
+    /// Takes a pass, if there is one. It has none.
     fn hold(&mut self, pass: Option<Pass>)
-        requires { IfSome pass (λ p. p.tenant < length self.old.doors) }
+        requires none { self.old.pass ≡ None }
+        requires there { IfSome pass (λ p. p.tenant < length self.old.doors) }
         ensures { self.new ≡ record self.old { pass = pass } }
     {
         if let Some(left) = mem::replace(&mut self.pass, pass) {
-            self.doors[left.tenant()].give_home(self.rt, left);
+            places::give_home(self.rt, self.doors, &mut self.fronts, left);
         }
     }
 
@@ -132,7 +157,7 @@ impl<'d, R: Wait> TenantSlots<'d, R> {
     }
 }
 
-impl<'d, R: Wait> DueDoor for TenantSlots<'d, R> {
+impl<'d, J: Naming, R: Wait> DueDoor for TenantSlots<'d, J, R> {
     ghost use Rattle.std.specs.Prelude.{length, option_map};
     ghost use Rattle.server_doors.specs.SlotWays.{Commits, Moves, MayBeHigh, MayBeSeen, Pauses, GoesHome, HandsOver};
 
@@ -163,7 +188,11 @@ impl<'d, R: Wait> DueDoor for TenantSlots<'d, R> {
             return View::Bare;
         };
         match self.view.replace(View::Bare) {
-            View::Bare => self.doors[pass.tenant()].view(self.rt, pass),
+            View::Bare => {
+                let tenant = pass.tenant();
+                let mut me = self.fronts[tenant].again();
+                self.doors[tenant].view(self.rt, &mut me, pass)
+            }
             view => view,
         }
     }
@@ -175,8 +204,10 @@ impl<'d, R: Wait> DueDoor for TenantSlots<'d, R> {
         let tenant = pass.tenant();
         let (rt, doors) = (self.rt, self.doors);
         let is_short = segment.run().count < SHORT_RUN;
-        let Turned { advanced, height } = doors[tenant].commit_and_look(
+        let Turned { advanced, height } = places::commit(
             rt,
+            doors,
+            &mut self.fronts,
             pass,
             segment,
             self.view.get_mut(),
@@ -198,11 +229,12 @@ impl<'d, R: Wait> DueDoor for TenantSlots<'d, R> {
         let tenant = pass.tenant();
         let (rt, doors) = (self.rt, self.doors);
         self.under_lock = self.under_lock.saturating_sub(1);
+        let fronts = &mut self.fronts;
         let Turned { advanced, height } = if self.under_lock > 0 {
             self.view.set(View::Unshared);
-            doors[tenant].advance_and_count(rt, pass)
+            places::advance_and_count(rt, doors, fronts, pass)
         } else {
-            doors[tenant].advance_and_look(rt, pass, self.view.get_mut())
+            places::advance_and_look(rt, doors, fronts, pass, self.view.get_mut())
         };
         let Advanced { moved, due, pass } = advanced;
         self.hold(pass);
@@ -216,7 +248,11 @@ impl<'d, R: Wait> DueDoor for TenantSlots<'d, R> {
         };
         match self.height {
             Some(height) => height,
-            None => self.doors[pass.tenant()].height(self.rt, pass),
+            None => {
+                let tenant = pass.tenant();
+                let mut me = self.fronts[tenant].again();
+                self.doors[tenant].height(self.rt, &mut me, pass)
+            }
         }
     }
 
@@ -231,7 +267,7 @@ impl<'d, R: Wait> DueDoor for TenantSlots<'d, R> {
     fn give_home(&mut self) {
         self.forget();
         if let Some(pass) = self.pass.take() {
-            self.doors[pass.tenant()].give_home(self.rt, pass);
+            places::give_home(self.rt, self.doors, &mut self.fronts, pass);
         }
     }
 
@@ -239,22 +275,27 @@ impl<'d, R: Wait> DueDoor for TenantSlots<'d, R> {
         self.forget();
         let pass = self.pass.take()?;
         let tenant = pass.tenant();
-        let due = self.doors[tenant].hand_over(self.rt, pass);
+        let due = places::hand_over(self.rt, self.doors, &mut self.fronts, pass);
         call_of(tenant, due)
     }
 }
 
-impl<'d, R: Wait> CallDoors for TenantSlots<'d, R> {
+impl<'d, J: Naming, R: Wait> CallDoors for TenantSlots<'d, J, R> {
     ghost use Rattle.server_doors.specs.SlotWays.{ArrivesAt};
 
     ghost arrives = { ArrivesAt };
 
     fn arrive(&mut self, call: Call) -> (Came, Option<Call>) {
         self.give_home();
-        let Some(door) = self.doors.get(call.tenant) else {
+        if call.tenant >= self.doors.len() {
             return (Came::Nothing, None);
-        };
-        let Arrived { came, due, pass } = door.arrive(self.rt, call);
+        }
+        let Arrived { came, due, pass } = places::arrive(
+            self.rt,
+            self.doors,
+            &mut self.fronts,
+            call,
+        );
         self.hold(pass);
         (came, call_of(call.tenant, due))
     }

@@ -1,5 +1,5 @@
 -- The doors and the seats of tenants.
-use Rattle.std.proofs.Common.{◌≡◌, ◌≢◌, ◌<◌, ◌≤◌, ◌+◌, Bool, not, ℕ, zero, suc, if◌then◌else◌, List, [], ◌∷◌, Result, Ok, Err, IfOk, length, map, filter, refl, sym, ◌∙◌, ap, subst, inl, inr, arith}
+use Rattle.std.proofs.Common.{◌≡◌, ◌≢◌, ◌<◌, ◌≤◌, ◌+◌, Bool, not, ℕ, zero, suc, if◌then◌else◌, List, [], ◌∷◌, ◌++◌, Result, Ok, Err, IfOk, length, map, filter, refl, sym, ◌∙◌, ap, subst, inl, inr, arith}
 use Rattle.std.specs.Prelude.{All, slice_index_or}
 use Rattle.std.specs.List.{enumerate_from}
 use Rattle.std.proofs.lemmas.Bool.Decides.{eqb_tells}
@@ -21,7 +21,33 @@ use Rattle.tenant_lock.specs.declared.doors.Closed.{Closed}
 use Rattle.tenant_lock.specs.declared.faults.CloseFault.{CloseFault}
 use Rattle.tenant_record.specs.History.{IsHistory, steps_of}
 use Rattle.tenant_record.specs.SeatData.{SeatData}
-use Rattle.server_house.specs.Houses.{IsOwnHistory, door_of, is_of}
+use Rattle.server_doors.specs.Slots.{AreNumbered}
+use Rattle.server_house.specs.Houses.{IsOwnHistory, door_of, is_of, plain}
+
+-- What holds of doors holds whatever the numbers of their lives are.
+plain_at : (doors : List DoorData) (k : ℕ) (d : DoorData) → k < length doors → slice_index_or (map plain doors) k (plain d) ≡ plain (slice_index_or doors k d)
+plain_at [] k d low = absurd (omega (arith, low))
+plain_at (c ∷ doors) zero d low = refl
+plain_at (c ∷ doors) (suc k) d low = plain_at doors k d (omega (arith, low))
+
+pub numbered_plain : (doors : List DoorData) → AreNumbered (map plain doors) → AreNumbered doors
+numbered_plain doors are k d low = ap (λ (e : DoorData). e.tenant) (sym (plain_at doors k d low)) ∙ are k (plain d) (omega (arith, low, length-map doors plain))
+
+pub valid_plain : (doors : List DoorData) → All (λ (d : DoorData). IsValidTenant d.config) (map plain doors) → All (λ (d : DoorData). IsValidTenant d.config) doors
+valid_plain doors are k d low = subst (λ (e : DoorData). IsValidTenant e.config) (plain_at doors k d low) (are k (plain d) (omega (arith, low, length-map doors plain)))
+
+pub names_plain : (doors : List DoorData) → map (λ (d : DoorData). d.config.name) doors ≡ map (λ (d : DoorData). d.config.name) (map plain doors)
+names_plain [] = refl
+names_plain (d ∷ doors) = ap (λ rest. d.config.name ∷ rest) (names_plain doors)
+
+pub market_plain : (doors : List DoorData) → map (λ (d : DoorData). market_tenant d.config) doors ≡ map (λ (d : DoorData). market_tenant d.config) (map plain doors)
+market_plain [] = refl
+market_plain (d ∷ doors) = ap (λ rest. market_tenant d.config ∷ rest) (market_plain doors)
+
+-- One more door of the tenants.
+pub plain_more : (doors : List DoorData) (d : DoorData) (rest : List DoorData) → map plain (doors ++ d ∷ []) ++ rest ≡ map plain doors ++ plain d ∷ rest
+plain_more [] d rest = refl
+plain_more (c ∷ doors) d rest = ap (λ ds. plain c ∷ ds) (plain_more doors d rest)
 
 -- Doors are numbered as their tenants are.
 pub numbered_from : (seats n : ℕ) (ts : List Tenant) (k : ℕ) (d : DoorData) → k < length (map (door_of seats) (enumerate_from n ts)) → (slice_index_or (map (door_of seats) (enumerate_from n ts)) k d).tenant ≡ n + k

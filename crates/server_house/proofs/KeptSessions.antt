@@ -39,7 +39,7 @@ equal s t e = (ap (λ (x : SessionSeen). x.at.doors.doors) e, ap (λ (x : Sessio
 joined : (r s t : SessionSeen) → Same r s → Same s t → Same r t
 joined r s t a b = (b.0 ∙ a.0, b.1 ∙ a.1)
 
-doors_of : (A B : Type 0) (X : PassData → Type 0) (p : Option PassData) (s t : SlotsSeen) → MatchOption p (A × B × (t ≡ s)) (λ q. (t.doors ≡ s.doors) × X q) → t.doors ≡ s.doors
+pub doors_of : (A B : Type 0) (X : PassData → Type 0) (p : Option PassData) (s t : SlotsSeen) → MatchOption p (A × B × (t ≡ s)) (λ q. (t.doors ≡ s.doors) × X q) → t.doors ≡ s.doors
 doors_of A B X None s t is = ap (λ (x : SlotsSeen). x.doors) is.2
 doors_of A B X (Some q) s t is = is.0
 

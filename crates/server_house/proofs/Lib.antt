@@ -1,5 +1,6 @@
 pub mod Numbering
 pub mod Houses
 pub mod KeptSessions
+pub mod KeptWorkers
 pub mod ServedOrNot
 pub mod Seats

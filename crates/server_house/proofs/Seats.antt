@@ -1,12 +1,14 @@
 -- Fresh seats, and seats that were given back.
-use Rattle.std.proofs.Common.{inl, inr, ◌+◌, ℕ, List, [], ◌∷◌, Option, Result, Ok, Err, IfOk, filter, refl}
-use Rattle.std.specs.Prelude.{All, flat_map}
+use Rattle.std.proofs.Common.{inl, inr, ◌+◌, ◌++◌, ◌<◌, ◌∙◌, ℕ, List, [], ◌∷◌, Option, Some, None, Result, Ok, Err, IfOk, IfSome, arith, filter, length, length-append, refl}
+use Rattle.std.proofs.lemmas.List.{get_or-append-add, get_or_append_left}
+use Rattle.std.specs.Prelude.{All, Contains, flat_map}
 use Rattle.std.specs.List.{enumerate_from, range_with_len}
 use Rattle.std.proofs.lemmas.List.Elements.{All-nil, All-append, All-map, All-filter, All-weaker, Contains-get_or}
 use Rattle.job_language.specs.declared.tenants.Tenant.{Tenant}
 use Rattle.tenant_lock.specs.Doors.{DoorData}
 use Rattle.tenant_lock.specs.declared.doors.Closed.{Closed}
 use Rattle.tenant_lock.specs.declared.faults.CloseFault.{CloseFault}
+use Rattle.tenant_book.specs.Fronts.{FrontData}
 use Rattle.tenant_record.specs.SeatData.{SeatData, first_seat, first_seats}
 use Rattle.server_house.specs.Houses.{AreEnds, IsEnd, is_of}
 use Rattle.server_house.specs.Posts.{ClientSeen, IsClient, IsFresh}
@@ -22,11 +24,45 @@ fresh_from seats n (t ∷ ts) =
     (All-map IsFresh (first_seat n t.steps) (range_with_len 0 seats) (λ k d low. record { log = refl; full = refl }))
     (fresh_from seats (n + 1) ts)
 
-pub fresh_given_back : (seats : List SeatData) → All IsFresh seats → All IsGivenBack seats
-fresh_given_back seats fresh = All-weaker IsFresh IsGivenBack (λ s is_fresh. inl is_fresh) seats fresh
+pub fresh_given_back : (all : List FrontData) (seats : List SeatData) → All IsFresh seats → All (IsGivenBack all) seats
+fresh_given_back all seats fresh = All-weaker IsFresh (IsGivenBack all) (λ s is_fresh. inl is_fresh) seats fresh
 
-pub session_given_back : (c : ClientSeen) (bytes left written out : Option (List ℕ)) (seats : List SeatData) (end : SessionEnd) → IsClient c → ServesClient c bytes left written out seats end → All IsGivenBack seats
-session_given_back c bytes left written out seats end begins serves k s low = inr (record {
+-- More fronts take nothing away.
+pub more_fronts : (all more : List FrontData) (seats : List SeatData) → ((f : FrontData) → Contains all f → Contains more f) → All (IsGivenBack all) seats → All (IsGivenBack more) seats
+more_fronts all more seats within are = All-weaker (IsGivenBack all) (IsGivenBack more) (λ s is. elim is [
+  | inl fresh ↦ inl fresh
+  | inr from ↦ inr (record {
+    client = from.client;
+    begins = from.begins;
+    bytes = from.bytes;
+    left = from.left;
+    written = from.written;
+    out = from.out;
+    seats = from.seats;
+    end = from.end;
+    fronts = from.fronts;
+    serves = from.serves;
+    is_one = from.is_one;
+    told = λ f one. within f (from.told f one);
+  })
+]) seats are
+
+within_left : (xs ys : List FrontData) (f : FrontData) → Contains xs f → Contains (xs ++ ys) f
+within_left xs ys f is = (is.0, omega (arith, is.1, length-append xs ys), get_or_append_left xs ys f is.0 is.1 ∙ is.2)
+
+within_right : (xs ys : List FrontData) (f : FrontData) → Contains ys f → Contains (xs ++ ys) f
+within_right xs ys f is = (length xs + is.0, omega (arith, is.1, length-append xs ys), get_or-append-add xs ys is.0 f ∙ is.2)
+
+-- What came back later is kept with what came back before.
+pub both_given_back : (all seen : List FrontData) (seats own : List SeatData) → All (IsGivenBack all) seats → All (IsGivenBack seen) own → All (IsGivenBack (all ++ seen)) (seats ++ own)
+both_given_back all seen seats own before after =
+    All-append (IsGivenBack (all ++ seen)) seats own (more_fronts all (all ++ seen) seats (within_left all seen) before) (more_fronts seen (all ++ seen) own (within_right all seen) after)
+
+pub before_given_back : (all seen : List FrontData) (seats : List SeatData) → All (IsGivenBack all) seats → All (IsGivenBack (all ++ seen)) seats
+before_given_back all seen seats before = more_fronts all (all ++ seen) seats (within_left all seen) before
+
+pub session_given_back : (c : ClientSeen) (bytes left written out : Option (List ℕ)) (seats : List SeatData) (fronts : List FrontData) (end : SessionEnd) → IsClient c → ServesClient c bytes left written out seats fronts end → All (IsGivenBack fronts) seats
+session_given_back c bytes left written out seats fronts end begins serves k s low = inr (record {
   client = c;
   begins = begins;
   bytes = bytes;
@@ -34,9 +70,11 @@ session_given_back c bytes left written out seats end begins serves k s low = in
   written = written;
   out = out;
   seats = seats;
+  fronts = fronts;
   end = end;
   serves = serves;
   is_one = Contains-get_or seats k s low;
+  told = λ f one. one;
 })
 
 module _ (are : SeatData → Type 0) where
@@ -58,3 +96,11 @@ module _ (are : SeatData → Type 0) where
 pub if_ok : {A E : Type 0} {P Q : A → Type 0} (r : Result A E) → ((a : A) → P a → Q a) → IfOk r P → IfOk r Q
 if_ok (Ok a) follows holds = follows a holds
 if_ok (Err e) follows holds = tt
+
+-- Seats that nobody used are kept with what came back before.
+pub fresh_kept : (all : List FrontData) (seats own : List SeatData) → All (IsGivenBack all) seats → All IsFresh own → All (IsGivenBack all) (seats ++ own)
+fresh_kept all seats own before fresh = All-append (IsGivenBack all) seats own before (fresh_given_back all own fresh)
+
+pub if_some : {A : Type 0} {P Q : A → Type 0} (r : Option A) → ((a : A) → P a → Q a) → IfSome r P → IfSome r Q
+if_some (Some a) follows holds = follows a holds
+if_some None follows holds = tt

@@ -2,6 +2,8 @@
 use Rattle.std.specs.Prelude.{ℕ, ◌<◌, ◌≡◌, ◌≢◌, false, List, [], length, All}
 use Rattle.call_queues.specs.Queues.{PassSeen}
 use Rattle.server_doors.specs.Sessions.{AreOwn}
+use Rattle.server_doors.specs.Slots.{AreFronts}
+use Rattle.tenant_book.specs.Fronts.{FrontData}
 use Rattle.server_house.specs.Shared.{SharedSeen, ArePassesOf}
 use Rattle.tenant_record.specs.SeatData.{SeatData}
 
@@ -10,10 +12,11 @@ pub record PostsSeen : Type 0 where
   pub house : SharedSeen
   pub passes : List PassSeen
 
--- one thread's pass of the house's queues
+-- one thread's pass of the house's queues, and what the thread has seen of each tenant's history
 pub record PostSeen : Type 0 where
   pub house : SharedSeen
   pub pass : PassSeen
+  pub fronts : List FrontData
 
 -- one session's pass, and its seat of each tenant
 pub record ClientSeen : Type 0 where
@@ -23,8 +26,9 @@ pub record ClientSeen : Type 0 where
 abbrev pub IsPosts : PostsSeen → Type 0
 IsPosts p = ArePassesOf p.house.queues.queues p.passes
 
-abbrev pub IsPost : PostSeen → Type 0
-IsPost p = p.pass.queues ≡ p.house.queues.queues
+pub record IsPost (p : PostSeen) : Type 0 where
+  pub pass : p.pass.queues ≡ p.house.queues.queues
+  pub fronts : AreFronts p.house.doors p.fronts
 
 -- Nothing was asked by the seat.
 pub record IsFresh (s : SeatData) : Type 0 where

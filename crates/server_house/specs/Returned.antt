@@ -6,14 +6,16 @@ use Rattle.tenant_lock.specs.Closing.{Closes}
 use Rattle.tenant_lock.specs.Doors.{DoorData}
 use Rattle.tenant_lock.specs.declared.doors.Closed.{Closed}
 use Rattle.tenant_lock.specs.declared.faults.CloseFault.{CloseFault}
+use Rattle.tenant_book.specs.Fronts.{FrontData}
 use Rattle.tenant_record.specs.SeatData.{SeatData}
 use Rattle.session_core.specs.declared.serving.SessionEnd.{SessionEnd}
 use Rattle.server_house.specs.Posts.{ClientSeen, IsClient, IsFresh}
 use Rattle.server_house.specs.Sessions.{ServesClient}
 
 -- A session gave the seat back: a client was served whose seats had asked nothing, what was written is what answers the
--- lines that were read, and this is one of the client's seats, with what it noted of the session's asks.
-pub record IsFromSession (s : SeatData) : Type 0 where
+-- lines that were read, this is one of the client's seats, with what it noted of the session's asks, and what the session had
+-- seen at its end of each tenant's history is among those fronts.
+pub record IsFromSession (all : List FrontData) (s : SeatData) : Type 0 where
   pub client : ClientSeen
   pub begins : IsClient client
   pub bytes : Option (List ℕ)
@@ -22,16 +24,19 @@ pub record IsFromSession (s : SeatData) : Type 0 where
   pub out : Option (List ℕ)
   pub seats : List SeatData
   pub end : SessionEnd
-  pub serves : ServesClient client bytes left written out seats end
+  pub fronts : List FrontData
+  pub serves : ServesClient client bytes left written out seats fronts end
   pub is_one : Contains seats s
+  pub told : (f : FrontData) → Contains fronts f → Contains all f
 
--- A seat by which nothing was asked, or one that a session gave back.
-abbrev pub IsGivenBack : SeatData → Type 0
-IsGivenBack s = IsFresh s ⊎ IsFromSession s
+-- A seat by which nothing was asked, or one that a session gave back, whose fronts are among those.
+abbrev pub IsGivenBack : List FrontData → SeatData → Type 0
+IsGivenBack all s = IsFresh s ⊎ IsFromSession all s
 
--- the seats that came back, and whether one was lost for lack of memory
+-- the seats and the fronts that came back, and whether some were lost for lack of memory
 pub record ReturnedSeen : Type 0 where
   pub seats : List SeatData
+  pub fronts : List FrontData
   pub is_short : Bool
 
 -- The asks in a tenant's history are those that its seats noted, seat by seat, and the seats are such ones.

@@ -4,6 +4,10 @@ use Rattle.job_language.specs.declared.answers.Reply.{Reply}
 use Rattle.nested_wait.specs.Runs.{Attends}
 use Rattle.nested_wait.specs.Turns.{Turn}
 use Rattle.server_doors.specs.Sessions.{SessionSeen}
+use Rattle.server_doors.specs.SlotWays.{GoesHome}
+use Rattle.server_doors.specs.Slots.{SlotsSeen}
+use Rattle.tenant_book.specs.Fronts.{FrontData}
+use Rattle.tenant_lock.specs.Doors.{DoorData}
 use Rattle.server_doors.specs.SessionWays.{Finds, Binds, Asks, WaitsFor, Sees, Commits, Advances, IsAsHigh, Waits}
 use Rattle.session_core.specs.Replies.{Replies}
 use Rattle.session_core.specs.Sessions.{Serves}
@@ -16,7 +20,7 @@ abbrev pub first_session : ClientSeen → SessionSeen
 first_session c = record {
   at = record {
     ringer = record { queues = c.post.house.queues; pass = c.post.pass };
-    doors = record { doors = c.post.house.doors; pass = None };
+    doors = record { doors = c.post.house.doors; fronts = c.post.fronts; pass = None };
   };
   names = c.post.house.names;
   seats = c.seats;
@@ -27,8 +31,14 @@ first_session c = record {
 abbrev pub RepliesThere : (text : List ℕ) → Bool × SessionSeen → Option Reply → Bool × SessionSeen → Type 0
 RepliesThere = Replies Finds Binds Asks WaitsFor (Attends (Turn Sees Commits Advances) IsAsHigh Waits 1)
 
--- What was written is what answers the lines that were read, in order, up to that end, and the seats are as the session's asks have left them.
-pub record ServesClient (c : ClientSeen) (bytes left written out : Option (List ℕ)) (seats : List SeatData) (end : SessionEnd) : Type 0 where
+-- at no slot of the doors, with that seen of each tenant's history
+abbrev pub at_none : List DoorData → List FrontData → SlotsSeen
+at_none doors fronts = record { doors = doors; fronts = fronts; pass = None }
+
+-- What was written is what answers the lines that were read, in order, up to that end, and the seats and what was seen are as the
+-- session's asks, and then its leaving the slot that it was at, have left them.
+pub record ServesClient (c : ClientSeen) (bytes left written out : Option (List ℕ)) (seats : List SeatData) (fronts : List FrontData) (end : SessionEnd) : Type 0 where
   pub session : SessionSeen
   pub serves : Serves RepliesThere bytes left written out (false, first_session c) session end
   pub seats_are : seats ≡ session.seats
+  pub home : GoesHome session.at.doors (at_none session.at.doors.doors fronts)

@@ -16,7 +16,7 @@ ways_there = ways MayBeSeen Commits Moves MayBeHigh Pauses GoesHome HandsOver Ar
 abbrev pub first_worker : PostSeen → SlotSeen SlotsSeen
 first_worker p = record {
   ringer = record { queues = p.house.queues; pass = p.pass };
-  doors = record { doors = p.house.doors; pass = None };
+  doors = record { doors = p.house.doors; fronts = p.fronts; pass = None };
 }
 
 -- It works at the slots of the house, as a worker does, until the signal says to stop.

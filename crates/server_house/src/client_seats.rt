@@ -1,5 +1,5 @@
 // The seats of sessions that keep a house alive, once they have left it.
-ghost use Rattle.std.specs.Prelude.{◌≡◌, ◌++◌, [], All, IfOk, OnOk};
+ghost use Rattle.std.specs.Prelude.{◌≡◌, ◌++◌, ◌∷◌, [], All, IfOk, IfSome, OnOk};
 ghost use Rattle.server_house.specs.Houses.{AreEnds};
 ghost use Rattle.server_house.specs.Owned.{IsGivenBackByClient};
 ghost use Rattle.server_house.specs.Returned.{AreAskedBy};
@@ -8,6 +8,8 @@ use crate::house::House;
 use crate::owned::OwnClient;
 use std::alloc::{AllocError, Global};
 use std::marker::Model;
+use std::sync::Wait;
+use tenant_book::Naming;
 use tenant_lock::{CloseFault, Closed};
 use tenant_record::Seat;
 
@@ -30,17 +32,17 @@ impl Model for ClientSeats {
 }
 
 impl ClientSeats {
-    /// No seats yet.
-    pub fn new(alloc: Global) -> ClientSeats
-        ensures { result ≡ [] }
+    /// No seats yet, and room for so many, which are added without an allocation.
+    pub fn with_room(alloc: Global, seats: usize) -> Result<ClientSeats, AllocError>
+        ensures { IfOk result (λ made. made ≡ []) }
     {
-        ClientSeats {
-            seats: Vec::new(alloc),
-        }
+        Ok(ClientSeats {
+            seats: Vec::with_capacity(alloc, seats)?,
+        })
     }
 
     /// Adds the seats of a session that has left. Without memory for them they are lost.
-    pub fn add(&mut self, client: OwnClient) -> Result<(), AllocError>
+    pub fn add<J: Naming>(&mut self, client: OwnClient<J>) -> Result<(), AllocError>
         ensures { OnOk result (self.new ≡ self.old ++ client.seats) }
     {
         self.add_seats(client.into_seats())
@@ -54,18 +56,20 @@ impl ClientSeats {
         self.seats.append(&mut seats)
     }
 
-    /// Closes all tenants of a house with these seats, as `House::close` does: the asks in each history are those that
-    /// the seats noted, each of which its session made.
-    pub fn close(
+    /// Closes the only tenant of a house with these seats, as `House::close_only` does: the asks in its history are those
+    /// that the seats noted, each of which its session made.
+    pub fn close_only<J: Naming, R: Wait>(
         self,
+        rt: &R,
         alloc: Global,
-        house: House,
-    ) -> Result<Vec<Result<Closed, CloseFault>>, AllocError>
-        ensures ends { IfOk result (λ ends. AreEnds house.doors self ends.items) }
-        ensures sessions { IfOk result
-            (λ ends. AreAskedBy IsGivenBackByClient house.doors ends.items) }
+        house: House<J>,
+    ) -> Option<Result<Closed, CloseFault>>
+        ensures ends { IfSome result (λ end. AreEnds house.doors self (end ∷ [])) }
+        ensures sessions { IfSome result
+            (λ end. AreAskedBy IsGivenBackByClient house.doors (end ∷ [])) }
     {
         let ClientSeats { seats } = self;
-        house.close(alloc, seats)
+        let seen = Vec::new(alloc);
+        house.close_only(rt, seats, seen.as_slice())
     }
 }

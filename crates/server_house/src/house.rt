@@ -2,10 +2,10 @@
 ghost use Rattle.std.specs.Prelude.{◌≡◌, ◌≤◌, ◌+◌, All, IfOk, length};
 ghost use Rattle.job_language.specs.Configuration.{names_of};
 ghost use Rattle.job_language.specs.Tenant.{IsValidTenant};
-ghost use Rattle.server_house.specs.Houses.{doors_of, seats_of};
+ghost use Rattle.server_house.specs.Houses.{AreDoorsOf, seats_of};
 ghost use Rattle.server_house.specs.Shared.{ArePassesOf};
 ghost use Rattle.tenant_lock.specs.Doors.{DoorData};
-ghost use Rattle.server_doors.specs.Slots.{AreNumbered};
+ghost use Rattle.server_doors.specs.Slots.{AreFronts, AreNumbered};
 
 use crate::fresh::FreshSeats;
 use crate::starting::open_doors;
@@ -15,19 +15,20 @@ use market_config::{market_config, names_of};
 use std::alloc::{AllocError, Global};
 use std::marker::Model;
 use std::sync::Wait;
+use tenant_book::{Front, Naming, Registry};
 use tenant_lock::TenantDoor;
 use worker_main::Bell;
 
 /// What all threads of a server share: the doors of all tenants with their names, the queues of
 /// calls for workers, and the bell that is rung after each push.
-pub struct House {
-    pub(crate) doors: Vec<TenantDoor>,
+pub struct House<J: Naming> {
+    pub(crate) doors: Vec<TenantDoor<J>>,
     pub(crate) names: Vec<TenantName>,
     pub(crate) queues: CallQueues,
     pub(crate) bell: Bell,
 }
 
-impl Drop for House {
+impl<J: Naming> Drop for House<J> {
     // An owner drops it in one call, not part by part at each of its ways out.
     fn drop(self) {
         let House {
@@ -39,7 +40,7 @@ impl Drop for House {
     }
 }
 
-impl Model for House {
+impl<J: Naming> Model for House<J> {
     ghost use Rattle.server_house.specs.Shared.{SharedSeen, IsShared};
 
     ghost Value = { SharedSeen };
@@ -56,29 +57,36 @@ impl Model for House {
 
 /// A house with all passes of its queues, one for each worker and each connection, and all seats.
 #[derive(Drop)]
-pub struct Opened {
-    pub house: House,
+pub struct Opened<J: Naming> {
+    pub house: House<J>,
     pub passes: Vec<QueuePass>,
     pub seats: FreshSeats,
 }
 
-impl House {
-    /// The house of a configuration's tenants, which have done nothing yet, for `connections` connections.
-    pub fn open(alloc: Global, config: &Config, connections: u8) -> Result<Opened, AllocError>
+impl<J: Naming> House<J> {
+    /// The house of a configuration's tenants, which have done nothing yet, for `connections` connections. Their lives are
+    /// entered in the registry.
+    pub fn open<R: Wait>(
+        rt: &R,
+        alloc: Global,
+        registry: &Registry<J>,
+        config: &Config,
+        connections: u8,
+    ) -> Result<Opened<J>, AllocError>
         requires { 1 ≤ connections }
         ensures passes { IfOk result
             (λ opened. ArePassesOf opened.house.queues.queues opened.passes.items) }
         ensures count { IfOk result
             (λ opened. length opened.passes.items ≡ config.now.workers + connections) }
         ensures doors { IfOk result
-            (λ opened. opened.house.doors ≡ doors_of connections config.now.tenants) }
+            (λ opened. AreDoorsOf connections config.now.tenants opened.house.doors) }
         ensures names { IfOk result (λ opened. opened.house.names ≡ names_of config.now.tenants) }
         ensures seats { IfOk result
             (λ opened. opened.seats ≡ seats_of connections config.now.tenants) }
     {
         let tenants = config.tenants();
         let names = names_of(alloc, tenants)?;
-        let (doors, seats) = open_doors(alloc, tenants, usize::from(connections))?;
+        let (doors, seats) = open_doors(rt, alloc, registry, tenants, usize::from(connections))?;
         let market = market_config(alloc, config)?;
         let count = config.workers() + usize::from(connections);
         let (queues, passes) = CallQueues::new(alloc, market, count)?;
@@ -96,7 +104,7 @@ impl House {
     }
 
     /// The tenants' doors, when nothing else of the house is needed.
-    pub(crate) fn into_doors(self) -> Vec<TenantDoor>
+    pub(crate) fn into_doors(self) -> Vec<TenantDoor<J>>
         ensures value { result.items ≡ self.doors }
         ensures numbers { AreNumbered result.items }
         ensures tenants { All (λ (d : DoorData). IsValidTenant d.config) result.items }
@@ -123,10 +131,21 @@ impl House {
     }
 
     /// The doors of the tenants, in the order of the configuration.
-    pub fn doors(&self) -> &[TenantDoor]
+    pub fn doors(&self) -> &[TenantDoor<J>]
         ensures { result.now ≡ self.now.doors }
     {
         self.doors.as_slice()
+    }
+
+    /// What is known of each tenant's life to a thread that comes: a front of it, with nothing seen.
+    pub fn fronts(&self, alloc: Global) -> Result<Vec<Front<J>>, AllocError>
+        ensures { IfOk result (λ fronts. AreFronts self.now.doors fronts.items) }
+    {
+        let mut fronts = Vec::with_capacity(alloc, self.doors.len())?;
+        for door in &self.doors {
+            fronts.push_reserved(door.front());
+        }
+        Ok(fronts)
     }
 
     /// Tells all that wait, for a tenant or for a call, to stop.

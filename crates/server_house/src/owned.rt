@@ -1,12 +1,12 @@
 // Places in a house whose threads come and go: each keeps the house alive.
 ghost use Rattle.std.specs.Prelude.{◌≡◌, ◌≤◌, ◌<◌, [], All, IfNone, IfOk, IfSome, length};
 ghost use Rattle.std.specs.Arc.{arc_value};
-ghost use Rattle.server_house.specs.Houses.{doors_of};
+ghost use Rattle.server_house.specs.Houses.{AreDoorsOf};
 ghost use Rattle.job_language.specs.Collecting.{IsCollect};
 ghost use Rattle.nested_wait.specs.Runs.{Attends};
 ghost use Rattle.nested_wait.specs.Turns.{Turn};
-ghost use Rattle.server_doors.specs.Sessions.{AreOwn};
-ghost use Rattle.server_house.specs.Owned.{AsksAndAttends, AsksThere, IsGivenBackByClient, ServesThere, client_of};
+ghost use Rattle.server_doors.specs.Slots.{AreFronts};
+ghost use Rattle.server_house.specs.Owned.{AsksAndAttends, AsksThere, IsGivenBackByClient, IsPlace, ServesThere, client_of, post_of};
 ghost use Rattle.server_house.specs.Posts.{IsClient};
 ghost use Rattle.server_house.specs.Sessions.{first_session};
 ghost use Rattle.worker_main.specs.Visits.{told};
@@ -21,29 +21,31 @@ use session_core::Doors;
 use std::alloc::{AllocError, Global};
 use std::marker::Model;
 use std::sync::{Arc, Wait};
+use tenant_book::{Front, Naming, Registry};
 use tenant_lock::StopFlag;
 use tenant_record::Seat;
 use worker_main::{Gate, Ringer, Signal, Visiting, serve_call};
 
 /// A pass of the queues of a house, by which a worker serves one call at a time.
 #[derive(Drop)]
-pub struct OwnPost {
-    house: Arc<House>,
+pub struct OwnPost<J: Naming> {
+    house: Arc<House<J>>,
     pass: QueuePass,
+    fronts: Vec<Front<J>>,
 }
 
-impl Model for OwnPost {
+impl<J: Naming> Model for OwnPost<J> {
     ghost use Rattle.std.specs.Arc.{arc_value};
     ghost use Rattle.server_house.specs.Posts.{PostSeen, IsPost};
 
     ghost Value = { PostSeen };
 
-    ghost view = { λ p. record { house = arc_value p.house; pass = p.pass } };
+    ghost view = { λ p. record { house = arc_value p.house; pass = p.pass; fronts = p.fronts.items } };
 
-    ghost invariant = { λ p. IsPost (record { house = arc_value p.house; pass = p.pass }) };
+    ghost invariant = { λ p. IsPost (record { house = arc_value p.house; pass = p.pass; fronts = p.fronts.items }) };
 }
 
-impl OwnPost {
+impl<J: Naming> OwnPost<J> {
     /// Serves the first call, as a worker that visits slots in that way, and says whether there was one. The gate sees
     /// each private run.
     pub fn serve_call<R: Wait, S: Signal, G: Gate>(
@@ -52,34 +54,48 @@ impl OwnPost {
         signal: &S,
         gate: &G,
         visiting: Visiting,
-    ) -> (OwnPost, bool)
+    ) -> (OwnPost<J>, bool)
         ensures house { result.0.house ≡ self.house }
         ensures serves { ServesThere visiting (told (S.stops signal.now) (S.looked signal.now))
-            result.1 self }
+            result.1 self result.0 }
     {
-        let OwnPost { house, pass } = self;
-        let (pass, is_called) = serve_there(rt, &house, pass, signal, gate, visiting);
-        (OwnPost { house, pass }, is_called)
+        let OwnPost {
+            house,
+            pass,
+            fronts,
+        } = self;
+        let (pass, fronts, is_called) = serve_there(
+            rt, &house, pass, fronts, signal, gate, visiting,
+        );
+        let post = OwnPost {
+            house,
+            pass,
+            fronts,
+        };
+        (post, is_called)
     }
 }
 
 /// Serves the first call at the slots of a house by a pass of its queues, which comes back, and says whether there was one.
-fn serve_there<R: Wait, S: Signal, G: Gate>(
+fn serve_there<J: Naming, R: Wait, S: Signal, G: Gate>(
     rt: &R,
-    house: &House,
+    house: &House<J>,
     pass: QueuePass,
+    fronts: Vec<Front<J>>,
     signal: &S,
     gate: &G,
     visiting: Visiting,
-) -> (QueuePass, bool)
-    requires { pass.queues ≡ house.now.queues.queues }
+) -> (QueuePass, Vec<Front<J>>, bool)
+    requires pass { pass.queues ≡ house.now.queues.queues }
+    requires fronts { AreFronts house.now.doors fronts.items }
     ensures queues { result.0.queues ≡ house.now.queues.queues }
-    ensures serves { ServesThere visiting (told (S.stops signal.now) (S.looked signal.now)) result.1
-        (record { house = house.now; pass = pass }) }
+    ensures fronts { AreFronts house.now.doors result.1.items }
+    ensures serves { ServesThere visiting (told (S.stops signal.now) (S.looked signal.now)) result.2
+        (post_of house.now pass fronts.items) (post_of house.now result.0 result.1.items) }
 {
     // A worker stops with the house.
     let never = StopFlag::new();
-    let slots = TenantSlots::new(rt, house.doors.as_slice(), &never);
+    let slots = TenantSlots::new(rt, house.doors.as_slice(), fronts, &never);
     let (pass, slots, is_called) = serve_call(
         rt,
         &house.queues,
@@ -89,8 +105,8 @@ fn serve_there<R: Wait, S: Signal, G: Gate>(
         gate,
         visiting,
     );
-    slots.end();
-    (pass, is_called)
+    let fronts = slots.end();
+    (pass, fronts, is_called)
 }
 
 /// What an ask was answered.
@@ -103,38 +119,42 @@ pub struct Told {
 
 /// A pass of the queues of a house, and a seat of each of its tenants, by which a session asks.
 #[derive(Drop)]
-pub struct OwnClient {
-    house: Arc<House>,
+pub struct OwnClient<J: Naming> {
+    house: Arc<House<J>>,
     pass: QueuePass,
+    fronts: Vec<Front<J>>,
     seats: Vec<Seat>,
 }
 
-impl Model for OwnClient {
+impl<J: Naming> Model for OwnClient<J> {
     ghost use Rattle.std.specs.Arc.{arc_value};
     ghost use Rattle.server_house.specs.Posts.{ClientSeen};
-    ghost use Rattle.server_house.specs.Owned.{IsOwnClient};
+    ghost use Rattle.server_house.specs.Owned.{IsOwnClient, client_of};
 
     ghost Value = { ClientSeen };
 
-    ghost view = { λ c. record {
-      post = record { house = arc_value c.house; pass = c.pass };
-      seats = c.seats.items;
-    } };
+    ghost view = { λ c. client_of (arc_value c.house) c.pass c.fronts.items c.seats.items };
 
     ghost invariant = { λ c. IsOwnClient
-        (record {
-          post = record { house = arc_value c.house; pass = c.pass };
-          seats = c.seats.items;
-        }) };
+        (client_of (arc_value c.house) c.pass c.fronts.items c.seats.items) };
 }
 
-impl OwnClient {
+impl<J: Naming> OwnClient<J> {
     /// The place of a session that has asked nothing yet.
-    fn new(post: OwnPost, seats: Vec<Seat>) -> OwnClient
+    fn new(post: OwnPost<J>, seats: Vec<Seat>) -> OwnClient<J>
         requires { IsClient (record { post = post; seats = seats.items }) }
     {
-        let OwnPost { house, pass } = post;
-        OwnClient { house, pass, seats }
+        let OwnPost {
+            house,
+            pass,
+            fronts,
+        } = post;
+        OwnClient {
+            house,
+            pass,
+            fronts,
+            seats,
+        }
     }
 
     /// Asks the first tenant of the house. If a job is placed on a slot, the slot is attended until it is free, its history
@@ -145,14 +165,35 @@ impl OwnClient {
         signal: &S,
         stop: &StopFlag,
         request: Request,
-    ) -> (OwnClient, Told)
+    ) -> (OwnClient<J>, Told)
         ensures house { result.0.post.house ≡ self.post.house }
         ensures asks { AsksThere self request result.1 result.0 }
         ensures pending { result.1.reply ≡ Reply.Pending → IsCollect request }
     {
-        let OwnClient { house, pass, seats } = self;
-        let (seats, pass, told) = ask_there(rt, &house, pass, seats, signal, stop, request);
-        (OwnClient { house, pass, seats }, told)
+        let OwnClient {
+            house,
+            pass,
+            fronts,
+            seats,
+        } = self;
+        let place = Place {
+            pass,
+            fronts,
+            seats,
+        };
+        let (place, told) = ask_there(rt, &house, place, signal, stop, request);
+        let Place {
+            pass,
+            fronts,
+            seats,
+        } = place;
+        let client = OwnClient {
+            house,
+            pass,
+            fronts,
+            seats,
+        };
+        (client, told)
     }
 
     /// Waits while a job of the first tenant has no outcome, and says whether to stop: those who wait were told to, or the
@@ -165,10 +206,7 @@ impl OwnClient {
         if seat.tenant() >= doors.len() {
             return true;
         }
-        let slots = TenantSlots::new(rt, doors, stop);
-        let stops = slots.wait_for(seat, job);
-        slots.end();
-        stops
+        doors[seat.tenant()].pause_for_until(rt, seat, job, stop)
     }
 
     /// The seats, with what they noted of the asks.
@@ -179,53 +217,67 @@ impl OwnClient {
         let OwnClient {
             house: _house,
             pass: _pass,
+            fronts: _fronts,
             seats,
         } = self;
         seats
     }
 }
 
-/// Asks the first tenant of a house by a pass of its queues and a seat of each tenant, which come back.
-fn ask_there<R: Wait, S: Signal>(
-    rt: &R,
-    house: &House,
+/// What a client has of a house: a pass of its queues, what it has seen of each tenant's history, and a seat of each.
+#[derive(Drop)]
+struct Place<J: Naming> {
     pass: QueuePass,
+    fronts: Vec<Front<J>>,
     seats: Vec<Seat>,
+}
+
+/// Asks the first tenant of a house from a place there.
+fn ask_there<J: Naming, R: Wait, S: Signal>(
+    rt: &R,
+    house: &House<J>,
+    place: Place<J>,
     signal: &S,
     stop: &StopFlag,
     request: Request,
-) -> (Vec<Seat>, QueuePass, Told)
-    requires pass { pass.queues ≡ house.now.queues.queues }
-    requires count { length seats.items ≡ length house.now.doors }
-    requires own { AreOwn seats.items }
-    ensures pass { result.1.queues ≡ house.now.queues.queues }
-    ensures count { length result.0.items ≡ length house.now.doors }
-    ensures own { AreOwn result.0.items }
-    ensures asks { AsksThere (client_of house.now pass seats.items) request result.2
-        (client_of house.now result.1 result.0.items) }
-    ensures pending { result.2.reply ≡ Reply.Pending → IsCollect request }
+) -> (Place<J>, Told)
+    requires { IsPlace house.now place.pass place.fronts.items place.seats.items }
+    ensures place { IsPlace house.now result.0.pass result.0.fronts.items result.0.seats.items }
+    ensures asks { AsksThere (client_of house.now place.pass place.fronts.items place.seats.items)
+        request result.1
+        (client_of house.now result.0.pass result.0.fronts.items result.0.seats.items) }
+    ensures pending { result.1.reply ≡ Reply.Pending → IsCollect request }
 {
-    let mut doors = first_doors(rt, house, pass, seats, signal, stop);
+    let mut doors = first_doors(rt, house, place, signal, stop);
     let told = ask_and_attend(&mut doors, request);
-    let (seats, ringer) = doors.into_parts();
-    (seats, ringer.into_pass(), told)
+    let (seats, fronts, ringer) = doors.into_parts();
+    let pass = ringer.into_pass();
+    let place = Place {
+        pass,
+        fronts,
+        seats,
+    };
+    (place, told)
 }
 
 /// The doors of a session of a house that is at no slot.
-fn first_doors<'h, R: Wait, S: Signal>(
+fn first_doors<'h, J: Naming, R: Wait, S: Signal>(
     rt: &'h R,
-    house: &'h House,
-    pass: QueuePass,
-    seats: Vec<Seat>,
+    house: &'h House<J>,
+    place: Place<J>,
     signal: &'h S,
     stop: &'h StopFlag,
-) -> LockedDoors<'h, 'h, R, S>
-    requires pass { pass.queues ≡ house.now.queues.queues }
-    requires count { length seats.items ≡ length house.now.doors }
-    requires own { AreOwn seats.items }
-    ensures { result ≡ first_session (client_of house.now pass seats.items) }
+) -> LockedDoors<'h, 'h, J, R, S>
+    requires { IsPlace house.now place.pass place.fronts.items place.seats.items }
+    ensures { result
+        ≡ first_session (client_of house.now place.pass place.fronts.items place.seats.items) }
 {
-    let slots = TenantSlots::new(rt, house.doors.as_slice(), stop);
+    let Place {
+        pass,
+        fronts,
+        seats,
+    } = place;
+    let slots = TenantSlots::new(rt, house.doors.as_slice(), fronts, stop);
     let ringer = Ringer::new(rt, signal, &house.queues, pass);
     LockedDoors::new(slots, ringer, house.names.as_slice(), seats)
 }
@@ -251,12 +303,12 @@ fn ask_and_attend<D: Doors>(doors: &mut D, request: Request) -> Told
 
 /// The passes of a house's queues that no thread has yet, with a handle on the house.
 #[derive(Drop)]
-struct OwnPosts {
-    house: Arc<House>,
+struct OwnPosts<J: Naming> {
+    house: Arc<House<J>>,
     passes: Vec<QueuePass>,
 }
 
-impl Model for OwnPosts {
+impl<J: Naming> Model for OwnPosts<J> {
     ghost use Rattle.std.specs.Arc.{arc_value};
     ghost use Rattle.server_house.specs.Posts.{PostsSeen, IsPosts};
 
@@ -268,29 +320,37 @@ impl Model for OwnPosts {
         (record { house = arc_value p.house; passes = p.passes.items }) };
 }
 
-impl OwnPosts {
+impl<J: Naming> OwnPosts<J> {
     /// A post of the house with its last pass, if one is left.
-    fn next(&mut self) -> Result<Option<OwnPost>, AllocError>
+    fn next(&mut self, alloc: Global) -> Result<Option<OwnPost<J>>, AllocError>
         ensures house { self.new.house ≡ self.old.house }
         ensures post { IfOk result (λ made. IfSome made (λ post. post.house ≡ self.old.house)) }
         ensures none { IfOk result (λ made. IfNone made (self.new.passes ≡ [])) }
     {
         let house = Arc::try_clone(&self.house)?;
+        let fronts = house.fronts(alloc)?;
         match self.passes.pop() {
-            Some(pass) => Ok(Some(OwnPost { house, pass })),
+            Some(pass) => {
+                let post = OwnPost {
+                    house,
+                    pass,
+                    fronts,
+                };
+                Ok(Some(post))
+            }
             None => Ok(None),
         }
     }
 
     /// The next posts, `count` of them if that many are left, and else all.
-    fn next_posts(&mut self, alloc: Global, count: usize) -> Result<Vec<OwnPost>, AllocError>
+    fn next_posts(&mut self, alloc: Global, count: usize) -> Result<Vec<OwnPost<J>>, AllocError>
         ensures house { self.new.house ≡ self.old.house }
         ensures most { IfOk result (λ posts. length posts.items ≤ count) }
         ensures all { IfOk result (λ posts. length posts.items < count → self.new.passes ≡ []) }
     {
         let mut posts = Vec::with_capacity(alloc, count)?;
         for _post in 0..count {
-            let Some(post) = self.next()? else {
+            let Some(post) = self.next(alloc)? else {
                 return Ok(posts);
             };
             posts.push(post)?;
@@ -304,7 +364,7 @@ impl OwnPosts {
         alloc: Global,
         seats: &mut FreshSeats,
         count: usize,
-    ) -> Result<Option<Vec<OwnClient>>, AllocError>
+    ) -> Result<Option<Vec<OwnClient<J>>>, AllocError>
         ensures house { self.new.house ≡ self.old.house }
         ensures count { IfOk result
             (λ made. IfSome made (λ clients. length clients.items ≡ count)) }
@@ -324,10 +384,10 @@ impl OwnPosts {
         &mut self,
         alloc: Global,
         seats: &mut FreshSeats,
-    ) -> Result<Option<OwnClient>, AllocError>
+    ) -> Result<Option<OwnClient<J>>, AllocError>
         ensures house { self.new.house ≡ self.old.house }
     {
-        let Some(post) = self.next()? else {
+        let Some(post) = self.next(alloc)? else {
             return Ok(None);
         };
         let tenants = post.house.doors.len();
@@ -340,21 +400,27 @@ impl OwnPosts {
 
 /// A house with the places of all threads that come to it.
 #[derive(Drop)]
-pub struct Lodging {
-    pub house: Arc<House>,
+pub struct Lodging<J: Naming> {
+    pub house: Arc<House<J>>,
     /// One for each worker.
-    pub posts: Vec<OwnPost>,
+    pub posts: Vec<OwnPost<J>>,
     /// One for each session.
-    pub clients: Vec<OwnClient>,
+    pub clients: Vec<OwnClient<J>>,
 }
 
-impl Lodging {
+impl<J: Naming> Lodging<J> {
     /// The house of a configuration's tenants, which have done nothing yet, for its workers and so many sessions. None if a
     /// pass or a seat is missing.
-    pub fn open(alloc: Global, config: &Config, sessions: u8) -> Result<Option<Lodging>, AllocError>
+    pub fn open<R: Wait>(
+        rt: &R,
+        alloc: Global,
+        registry: &Registry<J>,
+        config: &Config,
+        sessions: u8,
+    ) -> Result<Option<Lodging<J>>, AllocError>
         requires { 1 ≤ sessions }
         ensures doors { IfOk result (λ made. IfSome made (λ lodging.
-            (arc_value lodging.house).doors ≡ doors_of sessions config.now.tenants)) }
+            AreDoorsOf sessions config.now.tenants (arc_value lodging.house).doors)) }
         ensures most { IfOk result (λ made. IfSome made
             (λ lodging. length lodging.posts.items ≤ config.now.workers)) }
         ensures count { IfOk result (λ made. IfSome made
@@ -364,7 +430,7 @@ impl Lodging {
             house,
             passes,
             seats,
-        } = House::open(alloc, config, sessions)?;
+        } = House::open(rt, alloc, registry, config, sessions)?;
         let mut seats = seats;
         let mut own = OwnPosts {
             house: Arc::new(alloc, house)?,

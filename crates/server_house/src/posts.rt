@@ -3,6 +3,7 @@ ghost use Rattle.std.specs.Prelude.{◌≡◌, ◌⊎◌, ◌++◌, [], ◌∷�
 ghost use Rattle.server_house.specs.Posts.{IsClient, LacksOne};
 ghost use Rattle.server_house.specs.Sessions.{first_session};
 ghost use Rattle.server_house.specs.Shared.{ArePassesOf};
+ghost use Rattle.server_doors.specs.Slots.{AreFronts};
 
 use crate::fresh::FreshSeats;
 use crate::house::House;
@@ -11,17 +12,18 @@ use server_doors::{LockedDoors, TenantSlots};
 use std::alloc::{AllocError, Global};
 use std::marker::Model;
 use std::sync::Wait;
+use tenant_book::{Front, Naming};
 use tenant_lock::StopFlag;
 use tenant_record::Seat;
 use worker_main::{Bell, Ringer};
 
 /// The passes of a house's queues that no thread has yet.
-pub struct Posts<'h> {
-    house: &'h House,
+pub struct Posts<'h, J: Naming> {
+    house: &'h House<J>,
     passes: Vec<QueuePass>,
 }
 
-impl<'h> Drop for Posts<'h> {
+impl<'h, J: Naming> Drop for Posts<'h, J> {
     // An owner drops it in one call, not part by part at each of its ways out.
     fn drop(self) {
         let Posts {
@@ -31,7 +33,7 @@ impl<'h> Drop for Posts<'h> {
     }
 }
 
-impl<'h> Model for Posts<'h> {
+impl<'h, J: Naming> Model for Posts<'h, J> {
     ghost use Rattle.server_house.specs.Posts.{PostsSeen, IsPosts};
 
     ghost Value = { PostsSeen };
@@ -41,30 +43,31 @@ impl<'h> Model for Posts<'h> {
     ghost invariant = { λ p. IsPosts (record { house = p.house.now; passes = p.passes.items }) };
 }
 
-/// One thread's pass of the queues of a house.
+/// One thread's pass of the queues of a house, and what the thread has seen of each tenant's history.
 #[derive(Drop)]
-pub struct Post<'h> {
-    pub(crate) house: &'h House,
+pub struct Post<'h, J: Naming> {
+    pub(crate) house: &'h House<J>,
     pub(crate) pass: QueuePass,
+    pub(crate) fronts: Vec<Front<J>>,
 }
 
-impl<'h> Model for Post<'h> {
+impl<'h, J: Naming> Model for Post<'h, J> {
     ghost use Rattle.server_house.specs.Posts.{PostSeen, IsPost};
 
     ghost Value = { PostSeen };
 
-    ghost view = { λ p. record { house = p.house.now; pass = p.pass } };
+    ghost view = { λ p. record { house = p.house.now; pass = p.pass; fronts = p.fronts.items } };
 
-    ghost invariant = { λ p. IsPost (record { house = p.house.now; pass = p.pass }) };
+    ghost invariant = { λ p. IsPost (record { house = p.house.now; pass = p.pass; fronts = p.fronts.items }) };
 }
 
 /// One session's pass, and its seat of each tenant.
-pub struct Client<'h> {
-    pub(crate) post: Post<'h>,
+pub struct Client<'h, J: Naming> {
+    pub(crate) post: Post<'h, J>,
     pub(crate) seats: Vec<Seat>,
 }
 
-impl<'h> Drop for Client<'h> {
+impl<'h, J: Naming> Drop for Client<'h, J> {
     // An owner drops it in one call, not part by part at each of its ways out.
     fn drop(self) {
         let Client {
@@ -74,7 +77,7 @@ impl<'h> Drop for Client<'h> {
     }
 }
 
-impl<'h> Model for Client<'h> {
+impl<'h, J: Naming> Model for Client<'h, J> {
     ghost use Rattle.server_house.specs.Posts.{ClientSeen, IsClient};
 
     ghost Value = { ClientSeen };
@@ -84,17 +87,33 @@ impl<'h> Model for Client<'h> {
     ghost invariant = { λ c. IsClient (record { post = c.post; seats = c.seats.items }) };
 }
 
-impl<'h> Posts<'h> {
+impl<'h, J: Naming> Posts<'h, J> {
     /// The posts of a house for whose queues the passes are.
-    pub fn new(house: &'h House, passes: Vec<QueuePass>) -> Self
+    pub fn new(house: &'h House<J>, passes: Vec<QueuePass>) -> Self
         requires { ArePassesOf house.now.queues.queues passes.items }
         ensures { result ≡ record { house = house.now; passes = passes.items } }
     {
         Posts { house, passes }
     }
 
-    /// A post of the house with its last pass, if one is left.
-    pub fn next(&mut self) -> Option<Post<'h>>
+    /// A post of the house with its last pass, if one is left. An error takes nothing.
+    pub fn next(&mut self, alloc: Global) -> Result<Option<Post<'h, J>>, AllocError>
+        ensures house { self.new.house ≡ self.old.house }
+        ensures none { IfOk result (λ made. IfNone made (self.old.passes ≡ [])) }
+        ensures stay { IfOk result (λ made. IfNone made (self.new ≡ self.old)) }
+        ensures post { IfOk result (λ made. IfSome made
+            (λ post. post.house ≡ self.old.house)) }
+        ensures pass { IfOk result (λ made. IfSome made
+            (λ post. self.old.passes ≡ self.new.passes ++ post.pass ∷ [])) }
+        ensures kept { IfErr result (λ _. self.new ≡ self.old) }
+    {
+        let fronts = self.house.fronts(alloc)?;
+        Ok(self.next_with(fronts))
+    }
+
+    /// A post of the house with its last pass, if one is left, and with these fronts.
+    fn next_with(&mut self, fronts: Vec<Front<J>>) -> Option<Post<'h, J>>
+        requires { AreFronts self.old.house.doors fronts.items }
         ensures house { self.new.house ≡ self.old.house }
         ensures none { IfNone result (self.old.passes ≡ []) }
         ensures stay { IfNone result (self.new ≡ self.old) }
@@ -105,6 +124,7 @@ impl<'h> Posts<'h> {
         Some(Post {
             house: self.house,
             pass,
+            fronts,
         })
     }
 
@@ -114,7 +134,7 @@ impl<'h> Posts<'h> {
         &mut self,
         alloc: Global,
         seats: &mut FreshSeats,
-    ) -> Result<Option<Client<'h>>, AllocError>
+    ) -> Result<Option<Client<'h, J>>, AllocError>
         ensures house { self.new.house ≡ self.old.house }
         ensures post { IfOk result (λ made. IfSome made
             (λ client. client.post.house ≡ self.old.house)) }
@@ -131,25 +151,34 @@ impl<'h> Posts<'h> {
             return Ok(None);
         }
         let house = self.house;
+        let fronts = house.fronts(alloc)?;
         let Some(seats) = seats.take_each(alloc, house.doors.len())? else {
             return Ok(None);
         };
-        let Some(post) = self.next() else {
+        let Some(post) = self.next_with(fronts) else {
             return Ok(None);
         };
         Ok(Some(Client { post, seats }))
     }
 }
 
-impl<'h> Client<'h> {
+impl<'h, J: Naming> Client<'h, J> {
     /// The doors of a session that has asked nothing yet. If it waits, it stops once the flag is raised.
-    pub fn into_doors<R: Wait>(self, rt: &'h R, stop: &'h StopFlag) -> LockedDoors<'h, 'h, R, Bell>
+    pub fn into_doors<R: Wait>(
+        self,
+        rt: &'h R,
+        stop: &'h StopFlag,
+    ) -> LockedDoors<'h, 'h, J, R, Bell>
         ensures session { result ≡ first_session self.entry }
         ensures client { IsClient self.entry }
     {
         let Client { post, seats } = self;
-        let Post { house, pass } = post;
-        let slots = TenantSlots::new(rt, house.doors.as_slice(), stop);
+        let Post {
+            house,
+            pass,
+            fronts,
+        } = post;
+        let slots = TenantSlots::new(rt, house.doors.as_slice(), fronts, stop);
         let ringer = Ringer::new(rt, &house.bell, &house.queues, pass);
         LockedDoors::new(slots, ringer, house.names.as_slice(), seats)
     }

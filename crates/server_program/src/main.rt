@@ -7,7 +7,7 @@ ghost use Rattle.server_program.specs.Ends.{AreDoorsOf, AreOwnEnds, EndsAs, IsOw
 
 use dump_files::{can_dump, dump_history};
 use dump_lines::DumpFault;
-use job_language::TenantConfig;
+use job_language::{Config, TenantConfig};
 use program_version::{asks_version, print_version};
 use program_words::{ServerWords, WordsFault, read_server_words};
 use server_house::{House, Opened, Returned};
@@ -17,11 +17,13 @@ use std::alloc::Global;
 use std::env::Env;
 use std::fs::{File, Files};
 use std::io::{ErrorKind, Read};
+use std::marker::Brand;
 use std::net::Net;
 use std::process::ExitCode;
 use std::sync::Wait;
 use std::thread::Threads;
 use std::{env, io};
+use tenant_book::{Naming, OpenedRegistry, Registry};
 use tenant_lock::{CloseFault, Closed};
 
 fn main(rt: HostRuntime) -> ExitCode {
@@ -94,7 +96,7 @@ fn told(printed: io::Result<()>) -> Result<ServerEnd, ServerEnd> {
     }
 }
 
-/// Opens the tenants of the configuration, serves them, and closes them.
+/// Reads the configuration, serves its tenants, and closes them. Their histories are those of one registry.
 fn serve_tenants<R>(rt: &R, words: ServerWords<'_>) -> Result<ServerEnd, ServerEnd>
 where
     R: Files + Net + Threads + Wait + Sync + Print + Eprint + AllocGlobal,
@@ -103,11 +105,28 @@ where
     let alloc = rt.alloc();
     let bytes = config_bytes(rt, words.config)?;
     let config = config_of(alloc, bytes.as_slice())?;
+    serve_named::<Brand, R>(rt, alloc, OpenedRegistry::new(), &config, words)
+}
+
+/// Opens the tenants of a configuration, serves them, and closes them.
+fn serve_named<J: Naming + Send + Sync, R>(
+    rt: &R,
+    alloc: Global,
+    opened: OpenedRegistry,
+    config: &Config,
+    words: ServerWords<'_>,
+) -> Result<ServerEnd, ServerEnd>
+where
+    R: Files + Net + Threads + Wait + Sync + Print + Eprint,
+    requires registry { opened ≡ J.registry }
+    requires connections { 1 ≤ words.connections }
+{
+    let registry: Registry<J> = opened.named();
     let Opened {
         house,
         passes,
         seats,
-    } = House::open(alloc, &config, words.connections)?;
+    } = House::open(rt, alloc, &registry, config, words.connections)?;
     if let Some(folder) = words.dump {
         try_folder(rt, alloc, folder, config.tenants())?;
     }
@@ -198,18 +217,18 @@ fn config_bytes<R: Files + AllocGlobal>(rt: &R, path: &str) -> Result<Vec<u8>, S
 }
 
 /// Closes all tenants, reports each one's end, and goes on after a fault. The first fault is the end.
-fn close_tenants<R: Files + Print>(
+fn close_tenants<J: Naming, R: Files + Print + Wait>(
     rt: &R,
     alloc: Global,
-    house: House,
-    returned: Returned,
+    house: House<J>,
+    returned: Returned<J>,
     configs: &[TenantConfig],
     folder: Option<&str>,
 ) -> Result<ServerEnd, ServerEnd>
     requires { AreDoorsOf configs.now house.doors }
-    ensures { IfOk result (λ end. EndsAs house.doors returned.seats end) }
+    ensures { IfOk result (λ end. EndsAs house.doors returned end) }
 {
-    let ends = house.close_returned(alloc, returned)?;
+    let ends = house.close_returned(rt, alloc, returned)?;
     match report_ends(rt, alloc, ends.as_slice(), configs, folder) {
         Some(fault) => Err(fault),
         None => Ok(end_of_all(ends.as_slice())),

@@ -8,6 +8,7 @@ use std::fs::Files;
 use std::os::unix::net::UnixStream;
 use std::sync::{Arc, Wait};
 use std::time::Duration;
+use tenant_book::Naming;
 
 /// How long a wait takes at most, in milliseconds. What is looked at after each, such as whether the socket's file is
 /// still there, is seen within that time.
@@ -18,15 +19,15 @@ const PATIENCE: u8 = 4;
 
 /// A connection that was accepted, for its session's thread.
 #[derive(Drop)]
-pub(crate) struct Admitted<'h> {
-    pub(crate) client: Client<'h>,
+pub(crate) struct Admitted<'h, J: Naming> {
+    pub(crate) client: Client<'h, J>,
     pub(crate) connection: Arc<Connection>,
 }
 
 /// What the thread that accepts has: the posts and seats that no session took, and the connections so far.
 #[derive(Drop)]
-pub(crate) struct Reception<'h> {
-    posts: Posts<'h>,
+pub(crate) struct Reception<'h, J: Naming> {
+    posts: Posts<'h, J>,
     seats: FreshSeats,
     watch: Watch,
     accepted: Vec<Arc<Connection>>,
@@ -38,10 +39,10 @@ pub(crate) struct Reception<'h> {
     patience: Option<u8>,
 }
 
-impl<'h> Reception<'h> {
+impl<'h, J: Naming> Reception<'h, J> {
     pub(crate) fn new(
         alloc: Global,
-        posts: Posts<'h>,
+        posts: Posts<'h, J>,
         seats: FreshSeats,
         watch: Watch,
         connections: u8,
@@ -63,7 +64,11 @@ impl<'h> Reception<'h> {
     }
 
     /// Accepts a connection, if one waits and one is still to be accepted.
-    pub(crate) fn admit(&mut self, alloc: Global, endpoint: &Endpoint<'_>) -> Option<Admitted<'h>> {
+    pub(crate) fn admit(
+        &mut self,
+        alloc: Global,
+        endpoint: &Endpoint<'_>,
+    ) -> Option<Admitted<'h, J>> {
         let left = self.left.checked_sub(1)?;
         let Ok(accepted) = endpoint.accept() else {
             self.fail(ServerEnd::Device);
@@ -86,7 +91,7 @@ impl<'h> Reception<'h> {
         &mut self,
         alloc: Global,
         stream: UnixStream,
-    ) -> Result<Option<Admitted<'h>>, AllocError> {
+    ) -> Result<Option<Admitted<'h, J>>, AllocError> {
         let connection = Arc::new(alloc, Connection::new(stream))?;
         if self
             .watch
@@ -139,7 +144,7 @@ impl<'h> Reception<'h> {
     pub(crate) fn attend<R: Files + Wait>(
         &mut self,
         rt: &R,
-        house: &House,
+        house: &House<J>,
         endpoint: &Endpoint<'_>,
     ) {
         if self.watch.wait(Duration::from_millis(TICK)).is_err() {
@@ -169,7 +174,7 @@ impl<'h> Reception<'h> {
     }
 
     /// Stops the server: it accepts no more, nothing waits any more, and no more lines come in.
-    fn stop<R: Wait>(&mut self, rt: &R, house: &House) {
+    fn stop<R: Wait>(&mut self, rt: &R, house: &House<J>) {
         self.left = 0;
         self.patience = self.patience.or(Some(PATIENCE));
         house.stop(rt);

@@ -1,6 +1,7 @@
 // All threads of a server.
 ghost use Rattle.std.specs.Prelude.{◌≡◌, ◌⊎◌, true, All, IfErr, IfOk, IsSome};
 ghost use Rattle.server_io.specs.declared.ends.ServerEnd.TheVariants.{Device, Memory};
+ghost use Rattle.std.specs.Thread.{IsSend};
 ghost use Rattle.server_house.specs.Returned.{IsGivenBack};
 ghost use Rattle.server_house.specs.Shared.{ArePassesOf};
 
@@ -15,24 +16,25 @@ use std::fs::Files;
 use std::io::ErrorKind;
 use std::net::Net;
 use std::sync::{Mutex, Wait};
-use std::thread::Threads;
+use std::thread::{Scope, Threads};
 use std::{io, thread};
+use tenant_book::Naming;
 use worker_main::{NoGate, Visiting};
 
 /// How the connections of a server ended.
 #[derive(Drop)]
-pub struct Served {
-    /// The seats that came back from the sessions, and those that no session took.
-    pub returned: Returned,
+pub struct Served<J: Naming> {
+    /// The seats that came back from the sessions, with what they had seen, and those that no session took.
+    pub returned: Returned<J>,
     /// The first fault: `listening` could not be printed, a connection could not be accepted or have its thread, or a
     /// seat was lost for lack of memory.
     pub fault: Option<ServerEnd>,
 }
 
-impl Served {
+impl<J: Naming> Served<J> {
     /// The end after that fault. Without one it is a fault that a seat was lost.
-    fn new(returned: Returned, fault: Option<ServerEnd>) -> Served
-        ensures given_back { All IsGivenBack result.returned.seats }
+    fn new(returned: Returned<J>, fault: Option<ServerEnd>) -> Served<J>
+        ensures given_back { All (IsGivenBack result.returned.fronts) result.returned.seats }
         ensures lost { result.returned.is_short ≡ true → IsSome result.fault }
     {
         let is_short = returned.is_short();
@@ -50,19 +52,19 @@ impl Served {
 /// more connections are accepted, nothing waits any more, and each session ends once it has answered the lines that
 /// it has. `Device` if a worker can't be started or the socket can't be watched, and `Memory` if an allocation
 /// fails first: nothing was printed, and nobody served.
-pub fn serve_connections<R: Threads + Wait + Files + Net + Sync + Print>(
+pub fn serve_connections<J: Naming + Send + Sync, R: Threads + Wait + Files + Net + Sync + Print>(
     rt: &R,
     alloc: Global,
-    house: &House,
+    house: &House<J>,
     passes: Vec<QueuePass>,
     seats: FreshSeats,
     endpoint: &Endpoint<'_>,
     workers: usize,
     connections: u8,
-) -> Result<Served, ServerEnd>
+) -> Result<Served<J>, ServerEnd>
     requires { ArePassesOf house.now.queues.queues passes.items }
     ensures fault { IfErr result (λ end. (end ≡ Device) ⊎ (end ≡ Memory)) }
-    ensures given_back { IfOk result (λ served. All IsGivenBack served.returned.seats) }
+    ensures given_back { IfOk result (λ served. All (IsGivenBack served.returned.fronts) served.returned.seats) }
     ensures lost { IfOk result (λ served. served.returned.is_short ≡ true → IsSome served.fault) }
 {
     let posts = Posts::new(house, passes);
@@ -73,44 +75,67 @@ pub fn serve_connections<R: Threads + Wait + Files + Net + Sync + Print>(
         Err(fault) => return Err(end_of(&fault)),
     };
     let back = &returned;
-    let served = thread::scope(thread::scope_env(), rt, move |scope| {
-        let mut posts = posts;
-        for _worker in 0..workers {
-            let Some(post) = posts.next() else {
-                break;
+    let served = thread::scope(
+        thread::scope_env(),
+        rt,
+        move |scope|
+            requires { IsSend J.row }
+        {
+            let posts = match start_workers(scope, rt, alloc, house, posts, workers) {
+                Ok(rest) => rest,
+                Err(fault) => {
+                    house.stop(rt);
+                    return Err(fault);
+                }
             };
-            if scope
-                .spawn(move || serve_calls(rt, post, house.bell(), &NoGate, Visiting::Staying))
-                .is_err()
-            {
-                house.stop(rt);
-                return None;
+            let mut reception = Reception::new(alloc, posts, seats, watch, connections);
+            if println!(rt; "listening").is_err() {
+                reception.note(ServerEnd::Device);
             }
-        }
-        let mut reception = Reception::new(alloc, posts, seats, watch, connections);
-        if println!(rt; "listening").is_err() {
-            reception.note(ServerEnd::Device);
-        }
-        let fault = accept_all(rt, alloc, house, reception, endpoint, waiting, back, &waker);
-        house.stop(rt);
-        Some(fault)
-    });
+            let fault = accept_all(rt, alloc, house, reception, endpoint, waiting, back, &waker);
+            house.stop(rt);
+            Ok(fault)
+        },
+    );
     match served {
-        Some(fault) => Ok(Served::new(returned.into_inner(), fault)),
-        None => Err(ServerEnd::Device),
+        Ok(fault) => Ok(Served::new(returned.into_inner(), fault)),
+        Err(fault) => Err(end_of(&fault)),
     }
+}
+
+/// Starts a thread for each of `workers` workers, as long as there is a pass for it, and gives back the passes that are
+/// left. `OutOfMemory` if there is no room for what a worker sees, or the fault of the thread that can't be started: the
+/// workers that were started go on.
+fn start_workers<'s, 'r: 's, 'h: 's, J: Naming + Send + Sync, E: 's, R: Threads + Wait + Sync>(
+    scope: &Scope<'s, E>,
+    rt: &'r R,
+    alloc: Global,
+    house: &'h House<J>,
+    posts: Posts<'h, J>,
+    workers: usize,
+) -> io::Result<Posts<'h, J>> {
+    let mut posts = posts;
+    for _worker in 0..workers {
+        let post = match posts.next(alloc) {
+            Ok(Some(post)) => post,
+            Ok(None) => break,
+            Err(_) => return Err(io::Error::from(ErrorKind::OutOfMemory)),
+        };
+        scope.spawn(move || serve_calls(rt, post, house.bell(), &NoGate, Visiting::Staying))?;
+    }
+    Ok(posts)
 }
 
 /// Accepts connections, waits until their sessions have ended, and gives the first fault. The seats that no session
 /// took come back too.
-fn accept_all<'h, R: Threads + Wait + Files + Sync>(
+fn accept_all<'h, J: Naming + Send + Sync, R: Threads + Wait + Files + Sync>(
     rt: &R,
     alloc: Global,
-    house: &House,
-    reception: Reception<'h>,
+    house: &House<J>,
+    reception: Reception<'h, J>,
     endpoint: &Endpoint<'_>,
-    waiting: Mutex<Vec<Client<'h>>>,
-    back: &Mutex<Returned>,
+    waiting: Mutex<Vec<Client<'h, J>>>,
+    back: &Mutex<Returned<J>>,
     waker: &Waker,
 ) -> Option<ServerEnd> {
     let desk = &waiting;
@@ -147,11 +172,11 @@ fn accept_all<'h, R: Threads + Wait + Files + Sync>(
 }
 
 /// Lets a client wait for its thread. `Memory` if there is no room for it; its seats come back then.
-fn let_wait<'h, R: Wait>(
+fn let_wait<'h, J: Naming, R: Wait>(
     rt: &R,
-    desk: &Mutex<Vec<Client<'h>>>,
-    back: &Mutex<Returned>,
-    client: Client<'h>,
+    desk: &Mutex<Vec<Client<'h, J>>>,
+    back: &Mutex<Returned<J>>,
+    client: Client<'h, J>,
 ) -> Result<(), ServerEnd> {
     match put(rt, desk, client) {
         None => Ok(()),
@@ -163,29 +188,29 @@ fn let_wait<'h, R: Wait>(
 }
 
 /// Puts a client with those that wait. It comes back if there is no room for it.
-fn put<'h, R: Wait>(
+fn put<'h, J: Naming, R: Wait>(
     rt: &R,
-    desk: &Mutex<Vec<Client<'h>>>,
-    client: Client<'h>,
-) -> Option<Client<'h>> {
+    desk: &Mutex<Vec<Client<'h, J>>>,
+    client: Client<'h, J>,
+) -> Option<Client<'h, J>> {
     let refused = desk.lock(rt).push(client).err()?;
     Some(refused.value)
 }
 
 /// Serves a client that waits, and keeps its seats.
-fn serve_waiting<R: Wait>(
+fn serve_waiting<J: Naming, R: Wait>(
     rt: &R,
     alloc: Global,
-    desk: &Mutex<Vec<Client<'_>>>,
+    desk: &Mutex<Vec<Client<'_, J>>>,
     connection: &Connection,
-    back: &Mutex<Returned>,
+    back: &Mutex<Returned<J>>,
     waker: &Waker,
 ) {
     let client = desk.lock(rt).pop();
     if let Some(client) = client {
         let stream = &connection.stream;
         // However it ended, its seats come back, and the connection ends.
-        let (_end, seats) = serve_client(
+        let (_end, seats, fronts) = serve_client(
             rt,
             alloc,
             client,
@@ -193,7 +218,7 @@ fn serve_waiting<R: Wait>(
             &mut &*stream,
             &mut &*stream,
         );
-        back.lock(rt).keep(seats);
+        back.lock(rt).keep(seats, fronts);
     }
     connection.end();
     // If the waker fails, the next tick shows that the session has ended.

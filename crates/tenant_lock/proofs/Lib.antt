@@ -1,3 +1,4 @@
 pub mod Waiters
 pub mod Asking
 pub mod Telling
+pub mod Watching

@@ -11,8 +11,9 @@ use Rattle.tenant_lock.specs.Pauses.{has_to_stop}
 use Rattle.tenant_lock.specs.declared.awaited.Jobs.{Jobs}
 use Rattle.tenant_lock.specs.declared.waits.Slots.{Slots}
 
--- The tenant's cell, whether those who wait for it were told to stop, and at which slots and for which jobs somebody may sleep who was not told to look again.
+-- The number of the cell's life, the tenant's cell, whether those who wait for it were told to stop, and at which slots and for which jobs somebody may sleep who was not told to look again.
 pub record HeldData : Type 0 where
+  pub life : ℕ
   pub cell : CellData
   pub is_stopped : Bool
   pub noted : List Bool

@@ -21,6 +21,7 @@ use Rattle.tenant_record.specs.SeatData.{SeatData}
 use Rattle.tenant_record.specs.declared.cells.AskOutcome.{AskOutcome}
 use Rattle.tenant_record.specs.declared.slots.Advanced.{Advanced}
 use Rattle.tenant_record.specs.declared.slots.Arrived.{Arrived}
+use Rattle.tenant_book.specs.Fronts.{Finds, Follows, FrontData}
 use Rattle.tenant_lock.specs.declared.counts.Counts.{Counts}
 use Rattle.tenant_lock.specs.declared.counts.Tally.{Tally}
 use Rattle.tenant_lock.specs.declared.held.Turned.{Turned}
@@ -64,18 +65,25 @@ pub record IsHandOverOf (p : PassData) (due : Option ℕ) (c d : CellData) : Typ
   pub there : has_slot_of c p ≡ true
   pub handed : IsHandedOver c p due d
 
--- A right cell of the tenant of that number lay under the lock, to which that was done, and which is right after it.
-pub record WasUnder (tenant : ℕ) (done : CellData → CellData → Type 0) : Type 0 where
+-- A right cell of the tenant of that number lay under the lock, the last moment of the tenant's one history, of which the caller
+-- had seen a beginning. That was done to it, it is right after it, and the caller has seen the history up to then.
+pub record WasUnder (tenant : ℕ) (seen now : FrontData) (done : CellData → CellData → Type 0) : Type 0 where
   pub before : CellData
   pub after : CellData
   pub own : before.tenant ≡ tenant
+  pub front : Follows seen now before after
   pub right : IsRight before
   pub still_right : IsRight after
   pub is : done before after
 
--- Of a right cell, with nothing done to it.
-abbrev pub WasThere : (tenant : ℕ) → (CellData → Type 0) → Type 0
-WasThere tenant holds = WasUnder tenant (λ c d. holds c × (d ≡ c))
+-- That holds of a right cell of the tenant that lay under the lock, the last moment of the tenant's one history, of which the
+-- caller had seen a beginning, and has seen all now.
+pub record WasThere (tenant : ℕ) (seen now : FrontData) (holds : CellData → Type 0) : Type 0 where
+  pub cell : CellData
+  pub own : cell.tenant ≡ tenant
+  pub front : Finds seen now cell
+  pub right : IsRight cell
+  pub is : holds cell
 
 -- That many rows are on the slot of a pass.
 abbrev pub IsHigh : PassData → ℕ → CellData → Type 0

@@ -1,5 +1,5 @@
 // Closing a door: its cell against its tokens.
-ghost use Rattle.std.specs.Prelude.{◌≡◌};
+ghost use Rattle.std.specs.Prelude.{ℕ, ◌≡◌};
 ghost use Rattle.tenant_lock.specs.Closing.{IsSeatFault, IsAskFault, IsFault, fault_at, is_full_wrong};
 ghost use Rattle.tenant_lock.specs.Doors.{door_of};
 
@@ -20,7 +20,7 @@ pub fn fault_of(
     config: &TenantConfig,
     count: usize,
 ) -> Option<CloseFault>
-    ensures { IsFault cell.now seats.now (door_of tenant config.now count) result }
+    ensures { (life : ℕ) → IsFault cell.now seats.now (door_of life tenant config.now count) result }
 {
     if !are_seats(tenant, seats, count) {
         return Some(CloseFault::SeatMissing);

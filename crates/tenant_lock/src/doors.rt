@@ -1,5 +1,5 @@
 // The tenant's door: the calls that take the lock.
-ghost use Rattle.std.specs.Prelude.{◌≡◌, ◌≤◌, IfOk, IfErr, IfSome, IsSome, Some};
+ghost use Rattle.std.specs.Prelude.{ℕ, ◌≡◌, ◌≤◌, IfOk, IfErr, IfSome, IsSome, Some};
 ghost use Rattle.std.specs.Option.{is_some};
 ghost use Rattle.std.specs.Sync.Mutex.{mutex_guard_value};
 ghost use Rattle.job_language.specs.Brought.{job_of};
@@ -12,7 +12,7 @@ ghost use Rattle.arena_core.specs.Views.{IsSeen};
 ghost use Rattle.job_language.specs.Collecting.{IsCollect};
 ghost use Rattle.tenant_record.specs.Cell.{IsRight, state_of};
 ghost use Rattle.tenant_lock.specs.Closing.{Agree, Closes, IsFault, IsRefused};
-ghost use Rattle.tenant_lock.specs.Doors.{ComesBack, ComesWith, door_of};
+ghost use Rattle.tenant_lock.specs.Doors.{AreBegun, ComesBack, ComesWith, IsFrontOf, door_of};
 ghost use Rattle.tenant_lock.specs.Under.{AndCounted, AndLooked, AreCopiesOf, AreCounts, IsAdvanceOf, IsArrivalOf, IsAskOf, IsCommitOf, IsGivenHome, IsHandOverOf, IsHigh, IsNextJob, IsStatus, IsTally, WasThere, WasUnder};
 ghost use Rattle.tenant_lock.specs.Sleepers.{MayLeave};
 
@@ -32,6 +32,7 @@ use std::marker::Model;
 use std::sync::atomic::{AtomicU64, Ordering};
 use std::sync::{Condvar, Mutex, MutexGuard, Wait};
 use std::thread::yield_now;
+use tenant_book::{Front, Naming, Registry};
 use tenant_record::{Advanced, Arrived, AskOutcome, Pass, Seat, TenantCell, first_seats};
 
 /// How often a thread looks whether the lock is free, and lets others run, before it sleeps for it.
@@ -46,11 +47,13 @@ pub struct Closed {
 
 /// A tenant behind a lock. Each call takes the lock once, and what it does to the tenant is said of
 /// the tenant's cell; here stands what it does to the tokens.
-pub struct TenantDoor {
+pub struct TenantDoor<J: Naming> {
     tenant: usize,
     config: TenantConfig,
     seats: usize,
-    held: Mutex<Held>,
+    /// What is known of the tenant's life to whoever comes to the door.
+    first: Front<J>,
+    held: Mutex<Held<J>>,
     /// Who waits at each slot.
     at_slots: [Condvar; MAX_SLOTS as usize],
     /// Who waits for a job.
@@ -59,13 +62,14 @@ pub struct TenantDoor {
     jobs: AtomicU64,
 }
 
-impl Drop for TenantDoor {
+impl<J: Naming> Drop for TenantDoor<J> {
     // An owner drops it in one call, not part by part at each of its ways out.
     fn drop(self) {
         let TenantDoor {
             tenant: _tenant,
             config: _config,
             seats: _seats,
+            first: _first,
             held: _held,
             at_slots: _at_slots,
             outcomes: _outcomes,
@@ -74,33 +78,42 @@ impl Drop for TenantDoor {
     }
 }
 
-impl Model for TenantDoor {
-    ghost use Rattle.tenant_lock.specs.Doors.{DoorData};
-    ghost use Rattle.tenant_lock.specs.DoorFields.{door_data};
+impl<J: Naming> Model for TenantDoor<J> {
+    ghost use Rattle.std.specs.Prelude.{◌≡◌};
+    ghost use Rattle.tenant_lock.specs.Doors.{DoorData, door_of};
 
     ghost Value = { DoorData };
 
-    ghost view = { door_data };
+    ghost view = { λ d. door_of d.first.life d.tenant d.config d.seats };
+
+    ghost invariant = { λ d. d.first.config ≡ d.config };
 }
 
-impl TenantDoor {
+impl<J: Naming> TenantDoor<J> {
     /// The door of a tenant that has done nothing yet, with that many seats. Tenants are numbered from
-    /// 0, and so are seats.
-    pub fn new(
+    /// 0, and so are seats. The tenant's life is entered in the registry.
+    pub fn new<R: Wait>(
+        rt: &R,
         alloc: Global,
+        registry: &Registry<J>,
         tenant: usize,
         config: TenantConfig,
         seats: usize,
-    ) -> Result<(TenantDoor, Vec<Seat>), AllocError>
-        ensures door { IfOk result (λ made. made.0 ≡ door_of tenant config seats) }
+    ) -> Result<(TenantDoor<J>, Vec<Seat>), AllocError>
+        ensures door { IfOk result
+            (λ made. made.0 ≡ door_of made.0.life tenant config seats) }
         ensures seats { IfOk result (λ made. made.1.items ≡ first_seats tenant config.steps seats) }
     {
         let all_seats = first_seats(alloc, tenant, config, seats)?;
-        let held = Held::new(TenantCell::new(alloc, tenant, config)?);
+        let cell = TenantCell::new(alloc, tenant, config)?;
+        let whole = registry.begin(rt, config);
+        let first = whole.front().again();
+        let held = Held::new(rt, cell, whole);
         let door = TenantDoor {
             tenant,
             config,
             seats,
+            first,
             held: Mutex::new(held),
             at_slots: array::from_fn(|_slot| Condvar::new()),
             outcomes: Condvar::new(),
@@ -116,18 +129,33 @@ impl TenantDoor {
         self.tenant
     }
 
+    /// What is known of the tenant's life to whoever comes to the door: a front of it, with nothing seen.
+    pub fn front(&self) -> Front<J>
+        ensures { IsFrontOf self.now result }
+    {
+        self.first.again()
+    }
+
     /// Answers an ask of a seat. With a job that is placed on a slot goes the slot's pass, and with no
     /// other reply a pass. A collect alone can be pending.
-    pub fn ask<R: Wait>(&self, rt: &R, seat: &mut Seat, request: Request) -> AskOutcome
-        requires { seat.old.tenant ≡ self.now.tenant }
+    pub fn ask<R: Wait>(
+        &self,
+        rt: &R,
+        me: &mut Front<J>,
+        seat: &mut Seat,
+        request: Request,
+    ) -> AskOutcome
+        requires front { IsFrontOf self.now me.old }
+        requires seat { seat.old.tenant ≡ self.now.tenant }
+        ensures front { IsFrontOf self.now me.new }
         ensures seat { seat.new ≡ asked seat.old request result.reply }
         ensures memory { result.reply ≡ Reply.Refused NoMemory → IsSome (job_of request) }
         ensures placed { GoesWith self.now.tenant (placed_on result.reply) result.pass }
         ensures pending { result.reply ≡ Reply.Pending → IsCollect request }
-        ensures cell { WasUnder self.now.tenant
+        ensures cell { WasUnder self.now.tenant me.old me.new
             (IsAskOf self.now.tenant seat.old request result seat.new) }
     {
-        let done = self.lock(rt).ask(self.tenant, seat, request);
+        let done = self.lock(rt).ask(rt, me, self.tenant, seat, request);
         let asked = self.tell(done);
         if let Reply::Made(_) | Reply::Placed(..) = asked.reply {
             self.jobs.fetch_add(1, Ordering::SeqCst);
@@ -138,61 +166,83 @@ impl TenantDoor {
     /// Lets a worker arrive at the slot of a call. If a row was found there, the slot's pass comes with
     /// it. At a slot of another tenant, at one that the tenant lacks, and at one whose pass is out,
     /// nothing happens.
-    pub fn arrive<R: Wait>(&self, rt: &R, call: Call) -> Arrived
+    pub fn arrive<R: Wait>(&self, rt: &R, me: &mut Front<J>, call: Call) -> Arrived
+        requires front { IsFrontOf self.now me.old }
+        ensures front { IsFrontOf self.now me.new }
         ensures comes { ComesWith self.now.tenant call.slot result.came result.pass }
-        ensures cell { WasUnder self.now.tenant (IsArrivalOf self.now.tenant call result) }
+        ensures cell { WasUnder self.now.tenant me.old me.new (IsArrivalOf self.now.tenant call result) }
     {
-        let done = self.lock(rt).arrive(self.tenant, call);
+        let done = self.lock(rt).arrive(rt, me, self.tenant, call);
         self.tell(done)
     }
 
     /// Advances the slot of a pass. The pass comes back, unless it went home.
-    pub fn advance<R: Wait>(&self, rt: &R, pass: Pass) -> Advanced
-        requires { pass.tenant ≡ self.now.tenant }
+    pub fn advance<R: Wait>(&self, rt: &R, me: &mut Front<J>, pass: Pass) -> Advanced
+        requires front { IsFrontOf self.now me.old }
+        requires pass { pass.tenant ≡ self.now.tenant }
+        ensures front { IsFrontOf self.now me.new }
         ensures back { ComesBack pass result.moved result.pass }
-        ensures cell { WasUnder self.now.tenant (IsAdvanceOf pass result) }
+        ensures cell { WasUnder self.now.tenant me.old me.new (IsAdvanceOf pass result) }
     {
-        let done = self.lock(rt).advance(pass);
+        let done = self.lock(rt).advance(rt, me, pass);
         self.tell(done)
     }
 
     /// Puts a private run in the place of an advance of the slot of a pass. It is `Stale` if its frame
     /// is no longer the slot's topmost one. The pass comes back, unless it went home.
-    pub fn commit<R: Wait>(&self, rt: &R, pass: Pass, segment: Segment) -> Advanced
-        requires { pass.tenant ≡ self.now.tenant }
+    pub fn commit<R: Wait>(
+        &self,
+        rt: &R,
+        me: &mut Front<J>,
+        pass: Pass,
+        segment: Segment,
+    ) -> Advanced
+        requires front { IsFrontOf self.now me.old }
+        requires pass { pass.tenant ≡ self.now.tenant }
+        ensures front { IsFrontOf self.now me.new }
         ensures back { ComesBack pass result.moved result.pass }
-        ensures cell { WasUnder self.now.tenant (IsCommitOf pass segment result) }
+        ensures cell { WasUnder self.now.tenant me.old me.new (IsCommitOf pass segment result) }
     {
-        let done = self.lock(rt).commit(pass, segment);
+        let done = self.lock(rt).commit(rt, me, pass, segment);
         self.tell(done)
     }
 
     /// Advances the slot of a pass as `advance`, and under the same lock looks at the slot: the view is
     /// that after it, or `Unshared` if no other pass of the tenant is out.
-    pub fn advance_and_look<R: Wait>(&self, rt: &R, pass: Pass, view: &mut View) -> Turned
-        requires { pass.tenant ≡ self.now.tenant }
+    pub fn advance_and_look<R: Wait>(
+        &self,
+        rt: &R,
+        me: &mut Front<J>,
+        pass: Pass,
+        view: &mut View,
+    ) -> Turned
+        requires front { IsFrontOf self.now me.old }
+        requires pass { pass.tenant ≡ self.now.tenant }
+        ensures front { IsFrontOf self.now me.new }
         ensures back { ComesBack pass result.advanced.moved result.advanced.pass }
-        ensures cell { WasUnder self.now.tenant (IsAdvanceOf pass result.advanced) }
-        ensures seen { WasUnder self.now.tenant
+        ensures cell { WasUnder self.now.tenant me.old me.new (IsAdvanceOf pass result.advanced) }
+        ensures seen { WasUnder self.now.tenant me.old me.new
             (AndLooked result view.new (IsAdvanceOf pass result.advanced)) }
         ensures look { is_some result.height ≡ is_some result.advanced.pass }
         ensures most { IfSome result.height (λ height. height ≤ MAX_HEIGHT) }
     {
-        let done = self.lock(rt).advance_and_look(pass, view);
+        let done = self.lock(rt).advance_and_look(rt, me, pass, view);
         self.tell(done)
     }
 
     /// Advances the slot of a pass as `advance`, and under the same lock counts the rows on it.
-    pub fn advance_and_count<R: Wait>(&self, rt: &R, pass: Pass) -> Turned
-        requires { pass.tenant ≡ self.now.tenant }
+    pub fn advance_and_count<R: Wait>(&self, rt: &R, me: &mut Front<J>, pass: Pass) -> Turned
+        requires front { IsFrontOf self.now me.old }
+        requires pass { pass.tenant ≡ self.now.tenant }
+        ensures front { IsFrontOf self.now me.new }
         ensures back { ComesBack pass result.advanced.moved result.advanced.pass }
-        ensures cell { WasUnder self.now.tenant (IsAdvanceOf pass result.advanced) }
-        ensures counted { WasUnder self.now.tenant
+        ensures cell { WasUnder self.now.tenant me.old me.new (IsAdvanceOf pass result.advanced) }
+        ensures counted { WasUnder self.now.tenant me.old me.new
             (AndCounted result (IsAdvanceOf pass result.advanced)) }
         ensures count { is_some result.height ≡ is_some result.advanced.pass }
         ensures most { IfSome result.height (λ height. height ≤ MAX_HEIGHT) }
     {
-        let done = self.lock(rt).advance_and_count(pass);
+        let done = self.lock(rt).advance_and_count(rt, me, pass);
         self.tell(done)
     }
 
@@ -201,45 +251,60 @@ impl TenantDoor {
     pub fn commit_and_look<R: Wait>(
         &self,
         rt: &R,
+        me: &mut Front<J>,
         pass: Pass,
         segment: Segment,
         view: &mut View,
     ) -> Turned
-        requires { pass.tenant ≡ self.now.tenant }
+        requires front { IsFrontOf self.now me.old }
+        requires pass { pass.tenant ≡ self.now.tenant }
+        ensures front { IsFrontOf self.now me.new }
         ensures back { ComesBack pass result.advanced.moved result.advanced.pass }
-        ensures cell { WasUnder self.now.tenant (IsCommitOf pass segment result.advanced) }
-        ensures seen { WasUnder self.now.tenant
+        ensures cell { WasUnder self.now.tenant me.old me.new (IsCommitOf pass segment result.advanced) }
+        ensures seen { WasUnder self.now.tenant me.old me.new
             (AndLooked result view.new (IsCommitOf pass segment result.advanced)) }
         ensures look { is_some result.height ≡ is_some result.advanced.pass }
         ensures most { IfSome result.height (λ height. height ≤ MAX_HEIGHT) }
     {
-        let done = self.lock(rt).commit_and_look(pass, segment, view);
+        let done = self.lock(rt).commit_and_look(rt, me, pass, segment, view);
         self.tell(done)
     }
 
     /// What is seen of a pass's slot: its topmost frame, if another handle on the frame's program is
     /// granted.
-    pub fn view<R: Wait>(&self, rt: &R, pass: &Pass) -> View
-        requires { pass.now.tenant ≡ self.now.tenant }
-        ensures cell { WasThere self.now.tenant (λ c. IsSeen (state_of c) pass.now.slot result) }
+    pub fn view<R: Wait>(&self, rt: &R, me: &mut Front<J>, pass: &Pass) -> View
+        requires front { IsFrontOf self.now me.old }
+        requires pass { pass.now.tenant ≡ self.now.tenant }
+        ensures front { IsFrontOf self.now me.new }
+        ensures cell { WasThere self.now.tenant me.old me.new (λ c. IsSeen (state_of c) pass.now.slot result) }
     {
-        self.lock(rt).cell().view(pass)
+        let held = self.lock(rt);
+        held.show_all(rt, me);
+        held.cell().view(pass)
     }
 
     /// How many rows are on a pass's slot.
-    pub fn height<R: Wait>(&self, rt: &R, pass: &Pass) -> usize
-        requires { pass.now.tenant ≡ self.now.tenant }
-        ensures cell { WasThere self.now.tenant (IsHigh pass.now result) }
+    pub fn height<R: Wait>(&self, rt: &R, me: &mut Front<J>, pass: &Pass) -> usize
+        requires front { IsFrontOf self.now me.old }
+        requires pass { pass.now.tenant ≡ self.now.tenant }
+        ensures front { IsFrontOf self.now me.new }
+        ensures cell { WasThere self.now.tenant me.old me.new (IsHigh pass.now result) }
         ensures most { result ≤ MAX_HEIGHT }
     {
-        self.lock(rt).cell().height(pass)
+        let held = self.lock(rt);
+        held.show_all(rt, me);
+        held.cell().height(pass)
     }
 
     /// How much of the tenant's history is used.
-    pub fn counts<R: Wait>(&self, rt: &R) -> Counts
-        ensures { WasThere self.now.tenant (AreCounts result) }
+    pub fn counts<R: Wait>(&self, rt: &R, me: &mut Front<J>) -> Counts
+        requires { IsFrontOf self.now me.old }
+        ensures front { IsFrontOf self.now me.new }
+        ensures cell { WasThere self.now.tenant me.old me.new (AreCounts result) }
     {
-        self.lock(rt).counts()
+        let held = self.lock(rt);
+        held.show_all(rt, me);
+        held.counts()
     }
 
     /// Adds copies of the entries of the tenant's history from that number on to a vector, `most` of them at most, and
@@ -247,35 +312,52 @@ impl TenantDoor {
     pub fn copy_entries<R: Wait>(
         &self,
         rt: &R,
+        me: &mut Front<J>,
         from: usize,
         most: usize,
         copies: &mut Vec<Entry>,
     ) -> Result<usize, AllocError>
-        ensures { WasThere self.now.tenant
+        requires { IsFrontOf self.now me.old }
+        ensures front { IsFrontOf self.now me.new }
+        ensures cell { WasThere self.now.tenant me.old me.new
             (AreCopiesOf from most copies.old.items copies.new.items result) }
     {
-        self.lock(rt).copy_entries(from, most, copies)
+        let held = self.lock(rt);
+        held.show_all(rt, me);
+        held.copy_entries(from, most, copies)
     }
 
     /// How far the tenant's jobs are, and how many of its rows are open.
-    pub fn tally<R: Wait>(&self, rt: &R) -> Tally
-        ensures { WasThere self.now.tenant (IsTally result) }
+    pub fn tally<R: Wait>(&self, rt: &R, me: &mut Front<J>) -> Tally
+        requires { IsFrontOf self.now me.old }
+        ensures front { IsFrontOf self.now me.new }
+        ensures cell { WasThere self.now.tenant me.old me.new (IsTally result) }
     {
-        self.lock(rt).tally()
+        let held = self.lock(rt);
+        held.show_all(rt, me);
+        held.tally()
     }
 
     /// The least number above another one of a job of the tenant that is neither retired nor released.
-    pub fn next_job<R: Wait>(&self, rt: &R, after: u64) -> Option<u64>
-        ensures { WasThere self.now.tenant (IsNextJob after result) }
+    pub fn next_job<R: Wait>(&self, rt: &R, me: &mut Front<J>, after: u64) -> Option<u64>
+        requires { IsFrontOf self.now me.old }
+        ensures front { IsFrontOf self.now me.new }
+        ensures cell { WasThere self.now.tenant me.old me.new (IsNextJob after result) }
     {
-        self.lock(rt).next_job(after)
+        let held = self.lock(rt);
+        held.show_all(rt, me);
+        held.next_job(after)
     }
 
     /// How far a job of the tenant is, if it was made and is neither retired nor released.
-    pub fn status<R: Wait>(&self, rt: &R, job: u64) -> Option<Status>
-        ensures { WasThere self.now.tenant (IsStatus job result) }
+    pub fn status<R: Wait>(&self, rt: &R, me: &mut Front<J>, job: u64) -> Option<Status>
+        requires { IsFrontOf self.now me.old }
+        ensures front { IsFrontOf self.now me.new }
+        ensures cell { WasThere self.now.tenant me.old me.new (IsStatus job result) }
     {
-        self.lock(rt).status(job)
+        let held = self.lock(rt);
+        held.show_all(rt, me);
+        held.status(job)
     }
 
     /// How many jobs were made at the tenant.
@@ -285,21 +367,25 @@ impl TenantDoor {
 
     /// Puts a pass home. A slot with rows on it is not left to itself: until they are gone, those who wait
     /// for the tenant were told to stop, or its history is full, the call does not return.
-    pub fn give_home<R: Wait>(&self, rt: &R, pass: Pass)
-        requires { pass.tenant ≡ self.now.tenant }
-        ensures { WasUnder self.now.tenant (IsGivenHome pass) }
+    pub fn give_home<R: Wait>(&self, rt: &R, me: &mut Front<J>, pass: Pass)
+        requires front { IsFrontOf self.now me.old }
+        requires pass { pass.tenant ≡ self.now.tenant }
+        ensures front { IsFrontOf self.now me.new }
+        ensures cell { WasUnder self.now.tenant me.old me.new (IsGivenHome pass) }
     {
-        self.lock_to_leave(rt, &pass).give_home(pass);
+        self.lock_to_leave(rt, &pass).give_home(rt, me, pass);
     }
 
     /// Puts a pass home as `give_home`, and under the same lock calls a worker to the lowest slot for
     /// workers whose pass is home with nobody called, if a row waits. That slot is given, and who asks for
     /// it has to call the worker. It is no entry, so nobody is woken.
-    pub fn hand_over<R: Wait>(&self, rt: &R, pass: Pass) -> Option<u8>
-        requires { pass.tenant ≡ self.now.tenant }
-        ensures cell { WasUnder self.now.tenant (IsHandOverOf pass result) }
+    pub fn hand_over<R: Wait>(&self, rt: &R, me: &mut Front<J>, pass: Pass) -> Option<u8>
+        requires front { IsFrontOf self.now me.old }
+        requires pass { pass.tenant ≡ self.now.tenant }
+        ensures front { IsFrontOf self.now me.new }
+        ensures cell { WasUnder self.now.tenant me.old me.new (IsHandOverOf pass result) }
     {
-        self.lock_to_leave(rt, &pass).hand_over(pass)
+        self.lock_to_leave(rt, &pass).hand_over(rt, me, pass)
     }
 
     /// Waits while an advance of the pass's slot would be idle. It says whether to stop: those who wait were told
@@ -361,14 +447,16 @@ impl TenantDoor {
         self.wake_all(&held);
     }
 
-    /// Takes the lock. What lies under it is known by its type alone, so whether it is this tenant's cell is looked at
-    /// each time. It always is: a lock with another one under it would never be taken.
-    fn lock<R: Wait>(&self, rt: &R) -> MutexGuard<'_, Held>
-        ensures { (mutex_guard_value result).cell.tenant ≡ self.now.tenant }
+    /// Takes the lock. What lies under it is known by its type alone, so whether it is this tenant's cell in this life is
+    /// looked at each time. It always is: a lock with another one under it would never be taken.
+    fn lock<R: Wait>(&self, rt: &R) -> MutexGuard<'_, Held<J>>
+        ensures own { (mutex_guard_value result).cell.tenant ≡ self.now.tenant }
+        ensures life { (mutex_guard_value result).life ≡ self.now.life }
     {
+        let life = self.first.life();
         for _ in rt.forever() {
             let held = self.wait_for_lock(rt);
-            if held.tenant() == self.tenant {
+            if held.tenant() == self.tenant && held.life() == life {
                 return held;
             }
         }
@@ -377,8 +465,9 @@ impl TenantDoor {
 
     /// Takes the lock when the slot of a pass may be left. Who moved the slot until it was empty, or until a
     /// pause said to stop, takes it at once.
-    fn lock_to_leave<R: Wait>(&self, rt: &R, pass: &Pass) -> MutexGuard<'_, Held>
+    fn lock_to_leave<R: Wait>(&self, rt: &R, pass: &Pass) -> MutexGuard<'_, Held<J>>
         ensures own { (mutex_guard_value result).cell.tenant ≡ self.now.tenant }
+        ensures life { (mutex_guard_value result).life ≡ self.now.life }
         ensures may { MayLeave (mutex_guard_value result) pass.now }
     {
         for _ in rt.forever() {
@@ -393,7 +482,7 @@ impl TenantDoor {
     }
 
     /// Waits for the lock. It is held for microseconds, so a thread looks for about as long before it sleeps for it.
-    fn wait_for_lock<R: Wait>(&self, rt: &R) -> MutexGuard<'_, Held> {
+    fn wait_for_lock<R: Wait>(&self, rt: &R) -> MutexGuard<'_, Held<J>> {
         for _ in 0..LOOKS {
             if let Some(held) = self.held.try_lock() {
                 return held;
@@ -415,7 +504,7 @@ impl TenantDoor {
     }
 
     /// Wakes all that wait. Who has the lock can do it alone.
-    fn wake_all(&self, _held: &MutexGuard<'_, Held>) {
+    fn wake_all(&self, _held: &MutexGuard<'_, Held<J>>) {
         for at_slot in self.at_slots.iter() {
             at_slot.notify_all();
         }
@@ -423,23 +512,46 @@ impl TenantDoor {
     }
 
     /// Closes the door, to which all seats come back: the tenant's history, if it agrees with what the
-    /// holders of its tokens were told. At a fault the tenant is given up.
-    pub fn close(self, seats: Vec<Seat>) -> Result<Closed, CloseFault>
+    /// holders of its tokens were told. At a fault the tenant is given up. What was seen of the tenant's life begins the
+    /// history that is given: it is compared.
+    pub fn close<R: Wait>(
+        self,
+        rt: &R,
+        fronts: &[Front<J>],
+        seats: Vec<Seat>,
+    ) -> Result<Closed, CloseFault>
         ensures closed { IfOk result (λ closed. Closes self seats.items closed.history.items) }
         ensures refused { IfErr result (λ fault. IsRefused self seats.items fault) }
+        ensures seen { IfOk result (λ closed. AreBegun self.life fronts.now closed.history.items) }
     {
         let TenantDoor {
             tenant,
             config,
             seats: count,
+            first,
             held,
             at_slots: _at_slots,
             outcomes: _outcomes,
             jobs: _jobs,
         } = self;
-        let cell = held.into_inner().into_cell();
+        let held = of_life(rt, held.into_inner(), first.life());
+        held.meet_all(rt, fronts);
+        let cell = held.into_cell();
         close(cell, seats.as_slice(), tenant, &config, count)
     }
+}
+
+/// What a lock kept, which is of that life. It always is: what is of another one is never taken.
+fn of_life<J: Naming, R: Wait>(rt: &R, held: Held<J>, life: usize) -> Held<J>
+    ensures value { result ≡ held }
+    ensures life { result.life ≡ life }
+{
+    for _ in rt.forever() {
+        if held.life() == life {
+            return held;
+        }
+    }
+    unreachable!()
 }
 
 /// Closes the door of a cell.
@@ -451,9 +563,9 @@ fn close(
     count: usize,
 ) -> Result<Closed, CloseFault>
     ensures right { IsRight cell }
-    ensures agree { IfOk result (λ closed. Agree cell seats.now (door_of tenant config.now count)) }
+    ensures agree { (life : ℕ) → IfOk result (λ closed. Agree cell seats.now (door_of life tenant config.now count)) }
     ensures history { IfOk result (λ closed. closed.history.items ≡ cell.history) }
-    ensures refused { let door = door_of tenant config.now count in
+    ensures refused { (life : ℕ) → let door = door_of life tenant config.now count in
         IfErr result (λ fault. IsFault cell seats.now door (Some fault)) }
 {
     // Proof hint: the cell is right.

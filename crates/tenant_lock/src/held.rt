@@ -1,5 +1,5 @@
 // What a tenant's lock keeps, and the calls to which it is lent.
-ghost use Rattle.std.specs.Prelude.{◌≡◌, ◌≢◌, ◌<◌, ◌≤◌, ◌↔◌, true, false, IfOk, IfSome, IsSome, IsTrue, None, OnOk, count_by, length, replicate};
+ghost use Rattle.std.specs.Prelude.{◌≡◌, ◌≢◌, ◌<◌, ◌≤◌, ◌↔◌, true, false, All, IfOk, IfSome, IsSome, IsTrue, None, [], OnOk, count_by, length, replicate};
 ghost use Rattle.job_language.specs.Brought.{job_of};
 ghost use Rattle.job_language.specs.Recorded.{is_entry, is_recorded_reply};
 ghost use Rattle.job_language.specs.declared.answers.Moved.{Moved};
@@ -12,6 +12,7 @@ ghost use Rattle.tenant_record.specs.SeatData.{asked};
 ghost use Rattle.job_language.specs.Collecting.{IsCollect};
 ghost use Rattle.tenant_record.specs.Cell.{IsAttended, IsRight, arrival, has_slot_of};
 ghost use Rattle.tenant_record.specs.Locked.{IsArrived};
+ghost use Rattle.tenant_book.specs.Fronts.{BeginsIn, Finds, Follows, FrontData};
 ghost use Rattle.tenant_lock.specs.Awaited.{is_open};
 ghost use Rattle.tenant_lock.specs.Doors.{ComesWith};
 ghost use Rattle.tenant_lock.specs.Looks.{IsCountAfter, IsLook, IsLookAfter, IsShown, rows_on};
@@ -30,6 +31,8 @@ use job_step::{Segment, View};
 use market_config::Call;
 use std::alloc::AllocError;
 use std::marker::Model;
+use std::sync::Wait;
+use tenant_book::{Front, Naming, Whole};
 use tenant_model::MAX_JOBS;
 use tenant_record::{Advanced, Arrived, AskOutcome, Pass, Seat, TenantCell};
 
@@ -38,22 +41,24 @@ use tenant_record::{Advanced, Arrived, AskOutcome, Pass, Seat, TenantCell};
 /// names the slot. And a slot with rows on it is out, so that somebody moves it, until those who wait have
 /// to stop.
 #[derive(Drop)]
-pub(crate) struct Held {
+pub(crate) struct Held<J: Naming> {
     cell: TenantCell,
+    /// The moments of the cell's life, of which the cell is the last.
+    whole: Whole<J>,
     is_stopped: bool,
     waiting: Waiting,
     awaited: Option<Jobs>,
 }
 
-impl Model for Held {
+impl<J: Naming> Model for Held<J> {
     ghost use Rattle.tenant_lock.specs.Sleepers.{HeldData};
-    ghost use Rattle.tenant_lock.specs.HeldFields.{held_data, IsWatched};
+    ghost use Rattle.tenant_lock.specs.HeldFields.{IsNoted, IsWatched, held_data};
 
     ghost Value = { HeldData };
 
-    ghost view = { held_data };
+    ghost view = { λ h. held_data h.whole.life h.cell h.is_stopped h.waiting h.awaited };
 
-    ghost invariant = { IsWatched };
+    ghost invariant = { λ h. IsWatched h.cell h.is_stopped h.waiting h.awaited × IsNoted h.whole h.cell };
 }
 
 /// What a move of a slot came to.
@@ -63,17 +68,24 @@ pub struct Turned {
     pub height: Option<usize>,
 }
 
-impl Held {
-    /// A tenant for which nobody waits, and of which no slot has rows but those that are out.
-    pub(crate) fn new(cell: TenantCell) -> Held
-        requires { IsAttended cell }
+impl<J: Naming> Held<J> {
+    /// A tenant for which nobody waits, and of which no slot has rows but those that are out. Its life has no moment yet,
+    /// and the cell is its first.
+    pub(crate) fn new<R: Wait>(rt: &R, cell: TenantCell, whole: Whole<J>) -> Held<J>
+        requires attended { IsAttended cell }
+        requires config { cell.config ≡ whole.config }
+        requires begins { whole.log ≡ [] }
+        ensures life { result.life ≡ whole.life }
         ensures cell { result.cell ≡ cell }
         ensures stopped { result.is_stopped ≡ false }
         ensures noted { result.noted ≡ replicate MAX_SLOTS false }
         ensures awaited { result.awaited ≡ None }
     {
+        let mut whole = whole;
+        whole.note(rt, &cell);
         Held {
             cell,
+            whole,
             is_stopped: false,
             waiting: Waiting::new(),
             awaited: None,
@@ -82,12 +94,16 @@ impl Held {
 
     /// Answers an ask of a seat of the tenant of that number.
     #[tactic(auto, using(crate::proofs::Asking::memory_of))]
-    pub(crate) fn ask(
+    pub(crate) fn ask<R: Wait>(
         &mut self,
+        rt: &R,
+        me: &mut Front<J>,
         tenant: usize,
         seat: &mut Seat,
         request: Request,
     ) -> Done<AskOutcome>
+        requires { me.old.life ≡ self.old.life }
+        ensures front { Follows me.old me.new self.old.cell self.new.cell }
         ensures seat { seat.new ≡ asked seat.old request result.answer.reply }
         ensures memory { result.answer.reply ≡ Reply.Refused NoMemory → IsSome (job_of request) }
         ensures placed { GoesWith tenant (placed_on result.answer.reply) result.answer.pass }
@@ -102,6 +118,7 @@ impl Held {
         // Proof hint: the cell is right.
         let _ = self.cell.history();
         if self.cell.tenant() != tenant {
+            self.whole.follow(rt, me, &self.cell);
             return Done::nothing(AskOutcome {
                 reply: Reply::Refused(Error::NoTenant),
                 due: None,
@@ -109,6 +126,7 @@ impl Held {
             });
         }
         let asked = self.cell.ask(seat, request);
+        self.whole.follow(rt, me, &self.cell);
         let has_entered = asked.reply.is_recorded();
         Done::made(
             asked,
@@ -121,7 +139,15 @@ impl Held {
     }
 
     /// Lets a worker arrive at the slot of a call, if that is of the tenant of that number.
-    pub(crate) fn arrive(&mut self, tenant: usize, call: Call) -> Done<Arrived>
+    pub(crate) fn arrive<R: Wait>(
+        &mut self,
+        rt: &R,
+        me: &mut Front<J>,
+        tenant: usize,
+        call: Call,
+    ) -> Done<Arrived>
+        requires { me.old.life ≡ self.old.life }
+        ensures front { Follows me.old me.new self.old.cell self.new.cell }
         ensures comes { ComesWith tenant call.slot result.answer.came result.answer.pass }
         ensures cell { IsArrivalOf tenant call result.answer self.old.cell self.new.cell }
         ensures right { IsRight self.old.cell × IsRight self.new.cell }
@@ -132,6 +158,7 @@ impl Held {
         // Proof hint: the cell is right.
         let _ = self.cell.history();
         if call.tenant != tenant || self.cell.tenant() != tenant {
+            self.whole.follow(rt, me, &self.cell);
             return Done::nothing(Arrived {
                 came: Came::Nothing,
                 due: None,
@@ -139,6 +166,7 @@ impl Held {
             });
         }
         let arrived = arrive_at(&mut self.cell, call.slot);
+        self.whole.follow(rt, me, &self.cell);
         let has_entered = Answer::Came(arrived.came).is_entry();
         Done::made(
             arrived,
@@ -151,16 +179,25 @@ impl Held {
     }
 
     /// Advances the slot of a pass.
-    pub(crate) fn advance(&mut self, pass: Pass) -> Done<Advanced>
+    pub(crate) fn advance<R: Wait>(
+        &mut self,
+        rt: &R,
+        me: &mut Front<J>,
+        pass: Pass,
+    ) -> Done<Advanced>
+        requires { me.old.life ≡ self.old.life }
+        ensures front { Follows me.old me.new self.old.cell self.new.cell }
         ensures cell { IsAdvanceOf pass result.answer self.old.cell self.new.cell }
         ensures turn { IsTurn pass result.answer self.old self.new result.news }
     {
         // Proof hint: the cell is right.
         let _ = self.cell.history();
         if !self.cell.has_slot_of(&pass) {
+            self.whole.follow(rt, me, &self.cell);
             return Done::nothing(stale(pass));
         }
         let advanced = self.cell.advance(pass);
+        self.whole.follow(rt, me, &self.cell);
         let has_entered = Answer::Moved(advanced.moved).is_entry();
         Done::made(
             advanced,
@@ -173,16 +210,26 @@ impl Held {
     }
 
     /// Puts a private run in the place of an advance of the slot of a pass.
-    pub(crate) fn commit(&mut self, pass: Pass, segment: Segment) -> Done<Advanced>
+    pub(crate) fn commit<R: Wait>(
+        &mut self,
+        rt: &R,
+        me: &mut Front<J>,
+        pass: Pass,
+        segment: Segment,
+    ) -> Done<Advanced>
+        requires { me.old.life ≡ self.old.life }
+        ensures front { Follows me.old me.new self.old.cell self.new.cell }
         ensures cell { IsCommitOf pass segment result.answer self.old.cell self.new.cell }
         ensures turn { IsTurn pass result.answer self.old self.new result.news }
     {
         // Proof hint: the cell is right.
         let _ = self.cell.history();
         if !self.cell.has_slot_of(&pass) {
+            self.whole.follow(rt, me, &self.cell);
             return Done::nothing(stale(pass));
         }
         let advanced = self.cell.commit(pass, segment);
+        self.whole.follow(rt, me, &self.cell);
         let has_entered = Answer::Moved(advanced.moved).is_entry();
         Done::made(
             advanced,
@@ -195,7 +242,15 @@ impl Held {
     }
 
     /// Advances the slot of a pass, and looks at it.
-    pub(crate) fn advance_and_look(&mut self, pass: Pass, view: &mut View) -> Done<Turned>
+    pub(crate) fn advance_and_look<R: Wait>(
+        &mut self,
+        rt: &R,
+        me: &mut Front<J>,
+        pass: Pass,
+        view: &mut View,
+    ) -> Done<Turned>
+        requires { me.old.life ≡ self.old.life }
+        ensures front { Follows me.old me.new self.old.cell self.new.cell }
         ensures cell { IsAdvanceOf pass result.answer.advanced self.old.cell self.new.cell }
         ensures turn { IsTurn pass result.answer.advanced self.old self.new result.news }
         ensures look { IsLookAfter result.answer view.new self.new.cell }
@@ -204,7 +259,7 @@ impl Held {
         let Done {
             answer: advanced,
             news,
-        } = self.advance(pass);
+        } = self.advance(rt, me, pass);
         let height = self.look(&advanced.pass, view);
         Done {
             answer: Turned { advanced, height },
@@ -213,7 +268,14 @@ impl Held {
     }
 
     /// Advances the slot of a pass, and counts the rows on it.
-    pub(crate) fn advance_and_count(&mut self, pass: Pass) -> Done<Turned>
+    pub(crate) fn advance_and_count<R: Wait>(
+        &mut self,
+        rt: &R,
+        me: &mut Front<J>,
+        pass: Pass,
+    ) -> Done<Turned>
+        requires { me.old.life ≡ self.old.life }
+        ensures front { Follows me.old me.new self.old.cell self.new.cell }
         ensures cell { IsAdvanceOf pass result.answer.advanced self.old.cell self.new.cell }
         ensures turn { IsTurn pass result.answer.advanced self.old self.new result.news }
         ensures count { IsCountAfter result.answer self.new.cell }
@@ -222,7 +284,7 @@ impl Held {
         let Done {
             answer: advanced,
             news,
-        } = self.advance(pass);
+        } = self.advance(rt, me, pass);
         let height = self.rows_on(&advanced.pass);
         Done {
             answer: Turned { advanced, height },
@@ -242,12 +304,16 @@ impl Held {
     }
 
     /// Puts a private run in the place of an advance of the slot of a pass, and looks at the slot.
-    pub(crate) fn commit_and_look(
+    pub(crate) fn commit_and_look<R: Wait>(
         &mut self,
+        rt: &R,
+        me: &mut Front<J>,
         pass: Pass,
         segment: Segment,
         view: &mut View,
     ) -> Done<Turned>
+        requires { me.old.life ≡ self.old.life }
+        ensures front { Follows me.old me.new self.old.cell self.new.cell }
         ensures cell { IsCommitOf pass segment result.answer.advanced self.old.cell self.new.cell }
         ensures turn { IsTurn pass result.answer.advanced self.old self.new result.news }
         ensures look { IsLookAfter result.answer view.new self.new.cell }
@@ -256,7 +322,7 @@ impl Held {
         let Done {
             answer: advanced,
             news,
-        } = self.commit(pass, segment);
+        } = self.commit(rt, me, pass, segment);
         let height = self.look(&advanced.pass, view);
         Done {
             answer: Turned { advanced, height },
@@ -297,8 +363,10 @@ impl Held {
     }
 
     /// Puts a pass home.
-    pub(crate) fn give_home(&mut self, pass: Pass)
-        requires { MayLeave self.old pass }
+    pub(crate) fn give_home<R: Wait>(&mut self, rt: &R, me: &mut Front<J>, pass: Pass)
+        requires life { me.old.life ≡ self.old.life }
+        requires may { MayLeave self.old pass }
+        ensures front { Follows me.old me.new self.old.cell self.new.cell }
         ensures cell { IsGivenHome pass self.old.cell self.new.cell }
         ensures right { IsRight self.old.cell × IsRight self.new.cell }
         // Whoever is noted as asleep stays noted.
@@ -307,13 +375,16 @@ impl Held {
         // Proof hint: the cell is right.
         let _ = self.cell.history();
         self.cell.give_home(pass);
+        self.whole.follow(rt, me, &self.cell);
         // Proof hint: it still is.
         let _ = self.cell.history();
     }
 
     /// Puts a pass home and calls a worker.
-    pub(crate) fn hand_over(&mut self, pass: Pass) -> Option<u8>
-        requires { MayLeave self.old pass }
+    pub(crate) fn hand_over<R: Wait>(&mut self, rt: &R, me: &mut Front<J>, pass: Pass) -> Option<u8>
+        requires life { me.old.life ≡ self.old.life }
+        requires may { MayLeave self.old pass }
+        ensures front { Follows me.old me.new self.old.cell self.new.cell }
         ensures cell { IsHandOverOf pass result self.old.cell self.new.cell }
         ensures right { IsRight self.old.cell × IsRight self.new.cell }
         // Whoever is noted as asleep stays noted.
@@ -322,6 +393,7 @@ impl Held {
         // Proof hint: the cell is right.
         let _ = self.cell.history();
         let due = self.cell.hand_over(pass);
+        self.whole.follow(rt, me, &self.cell);
         // Proof hint: it still is.
         let _ = self.cell.history();
         due
@@ -483,6 +555,45 @@ impl Held {
         self.waiting.waits()
     }
 
+    /// Shows all that was done to the holder of a front.
+    pub(crate) fn show_all<R: Wait>(&self, rt: &R, me: &mut Front<J>)
+        requires { me.old.life ≡ self.now.life }
+        ensures front { Finds me.old me.new self.now.cell }
+        ensures right { IsRight self.now.cell }
+    {
+        // Proof hint: the cell is right.
+        let _ = self.cell.history();
+        self.whole.show(rt, me);
+    }
+
+    /// Compares what was seen of the cell's life with all that was done: it begins it.
+    pub(crate) fn meet_all<R: Wait>(&self, rt: &R, fronts: &[Front<J>])
+        ensures { All (λ (f : FrontData). f.life ≡ self.now.life → BeginsIn f self.now.cell.history) fronts.now }
+    {
+        for front in fronts {
+            self.meet(rt, front);
+        }
+    }
+
+    /// Compares what was seen of a life with all that was done, if it is the cell's.
+    fn meet<R: Wait>(&self, rt: &R, front: &Front<J>)
+        ensures { front.now.life ≡ self.now.life → BeginsIn front.now self.now.cell.history }
+    {
+        if front.life() == self.life() {
+            let mut me = front.again();
+            self.show_all(rt, &mut me);
+            // Proof hint: each moment goes on from the one before.
+            let _ = me.life();
+        }
+    }
+
+    /// The number of the cell's life.
+    pub(crate) fn life(&self) -> usize
+        ensures { result ≡ self.now.life }
+    {
+        self.whole.front().life()
+    }
+
     /// The number of the cell's tenant.
     pub(crate) fn tenant(&self) -> usize
         ensures { result ≡ self.now.cell.tenant }
@@ -506,6 +617,7 @@ impl Held {
     {
         let Held {
             cell,
+            whole: _whole,
             is_stopped: _,
             waiting: _waiting,
             awaited: _awaited,

@@ -3,13 +3,14 @@ ghost use Rattle.std.specs.Prelude.{◌≡◌};
 
 use job_language::{Reply, Request};
 use std::sync::Wait;
+use tenant_book::Naming;
 use tenant_lock::TenantDoor;
 use tenant_record::{AskOutcome, Seat};
 
 /// The reply to an ask of a seat. A pass that comes with it goes home.
-pub(crate) fn reply_to<R: Wait>(
+pub(crate) fn reply_to<J: Naming, R: Wait>(
     rt: &R,
-    door: &TenantDoor,
+    door: &TenantDoor<J>,
     seat: &mut Seat,
     request: Request,
 ) -> Reply
@@ -20,9 +21,9 @@ pub(crate) fn reply_to<R: Wait>(
         reply,
         due: _due,
         pass,
-    } = door.ask(rt, seat, request);
+    } = door.ask(rt, &mut door.front(), seat, request);
     if let Some(pass) = pass {
-        door.give_home(rt, pass);
+        door.give_home(rt, &mut door.front(), pass);
     }
     reply
 }

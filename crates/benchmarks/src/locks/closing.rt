@@ -4,16 +4,20 @@ use job_language::{Entry, TenantConfig};
 use server_house::House;
 use solo_eval::{Verdict, check};
 use std::alloc::Global;
+use std::sync::Wait;
+use tenant_book::{Front, Naming};
 use tenant_record::Seat;
 
 /// Closes the only tenant of a house with its seats, and takes the history again. How many entries it has.
-pub(crate) fn close_checked(
+pub(crate) fn close_checked<J: Naming, R: Wait>(
+    rt: &R,
     alloc: Global,
     config: TenantConfig,
-    house: House,
+    house: House<J>,
     seats: Vec<Seat>,
+    fronts: &[Front<J>],
 ) -> Result<usize, Stop> {
-    let mut ends = house.close(alloc, seats)?;
+    let mut ends = house.close(rt, alloc, seats, fronts)?;
     let closed = ends.pop().ok_or(Stop::Place)??;
     checked(alloc, config, closed.history.as_slice())
 }

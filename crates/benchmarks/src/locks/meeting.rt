@@ -1,11 +1,15 @@
 // Two private runs on one tenant that are under way at once.
+ghost use Rattle.std.specs.Prelude.{◌≡◌};
+
 use crate::locks::jobs::with_slots;
 use crate::locks::lines::{HELLO, push_job};
 use crate::locks::served::serve;
 use crate::stops::Stop;
 use std::alloc::Global;
+use std::marker::Brand;
 use std::sync::{Mutex, Wait};
 use std::thread::{Threads, yield_now};
+use tenant_book::{Naming, OpenedRegistry, Registry};
 use worked_jobs::FIRST;
 use worker_main::Gate;
 
@@ -74,7 +78,7 @@ pub(crate) fn meet<R: Threads + Wait + Sync>(rt: &R, alloc: Global) -> Result<Me
         came: 0,
         saw_two: 0,
     });
-    let entries = meet_at(rt, alloc, &inside)?;
+    let entries = meet_at::<Brand, R>(rt, alloc, OpenedRegistry::new(), &inside)?;
     Ok(Met {
         saw_two: inside.into_inner().saw_two,
         entries,
@@ -82,16 +86,27 @@ pub(crate) fn meet<R: Threads + Wait + Sync>(rt: &R, alloc: Global) -> Result<Me
 }
 
 /// Lets the private runs meet at a gate. How many entries the history has.
-fn meet_at<R: Threads + Wait + Sync>(
+fn meet_at<J: Naming + Send + Sync, R: Threads + Wait + Sync>(
     rt: &R,
     alloc: Global,
+    opened: OpenedRegistry,
     inside: &Mutex<Inside>,
-) -> Result<usize, Stop> {
+) -> Result<usize, Stop>
+    requires { opened ≡ J.registry }
+{
+    let registry: Registry<J> = opened.named();
     let mut lines = String::from_str(alloc, HELLO)?;
     push_job(&mut lines, "submit", FIRST)?;
     push_job(&mut lines, "submit", FIRST)?;
     lines.push_str(COLLECTS)?;
     let gate = TwoGate { rt, inside };
-    let served = serve(rt, alloc, with_slots(2, 0, STEPS)?, lines.as_str(), &gate)?;
+    let served = serve(
+        rt,
+        alloc,
+        &registry,
+        with_slots(2, 0, STEPS)?,
+        lines.as_str(),
+        &gate,
+    )?;
     Ok(served.entries)
 }

@@ -10,6 +10,7 @@ use std::alloc::Global;
 use std::sync::Wait;
 use std::thread;
 use std::thread::Threads;
+use tenant_book::{Front, Naming, Registry};
 use tenant_lock::StopFlag;
 use tenant_record::Seat;
 use worker_main::{Gate, Visiting};
@@ -26,16 +27,18 @@ pub(crate) struct Served {
 
 /// What a session wrote, and the seats that it gives back.
 #[derive(Drop)]
-struct Session {
+struct Session<J: Naming> {
     replies: Vec<u8>,
     seats: Vec<Seat>,
+    fronts: Vec<Front<J>>,
 }
 
 /// Lets a session of a house with one tenant answer these lines, beside two workers whose private runs the gate sees.
 /// Then the tenant is closed, and its history taken again.
-pub(crate) fn serve<R: Threads + Wait + Sync, G: Gate + Sync>(
+pub(crate) fn serve<J: Naming + Send + Sync, R: Threads + Wait + Sync, G: Gate + Sync>(
     rt: &R,
     alloc: Global,
+    registry: &Registry<J>,
     tenant: TenantConfig,
     lines: &str,
     gate: &G,
@@ -45,11 +48,17 @@ pub(crate) fn serve<R: Threads + Wait + Sync, G: Gate + Sync>(
         house,
         passes,
         seats,
-    } = House::open(alloc, &config, 1)?;
+    } = House::open(rt, alloc, registry, &config, 1)?;
     let served = serve_in(rt, alloc, &house, passes, seats, lines, gate);
     match served {
-        Ok(Session { replies, seats }) => {
-            let entries = close_checked(alloc, tenant, house, seats)?;
+        Ok(
+            Session {
+                replies,
+                seats,
+                fronts,
+            },
+        ) => {
+            let entries = close_checked(rt, alloc, tenant, house, seats, fronts.as_slice())?;
             Ok(Served { replies, entries })
         }
         Err(stop) => Err(stop),
@@ -57,22 +66,22 @@ pub(crate) fn serve<R: Threads + Wait + Sync, G: Gate + Sync>(
 }
 
 /// Serves the session, and lets the workers serve calls until it has ended.
-fn serve_in<R: Threads + Wait + Sync, G: Gate + Sync>(
+fn serve_in<J: Naming + Send + Sync, R: Threads + Wait + Sync, G: Gate + Sync>(
     rt: &R,
     alloc: Global,
-    house: &House,
+    house: &House<J>,
     passes: Vec<QueuePass>,
     seats: FreshSeats,
     lines: &str,
     gate: &G,
-) -> Result<Session, Stop>
+) -> Result<Session<J>, Stop>
     requires { ArePassesOf house.now.queues.queues passes.items }
 {
     let mut seats = seats;
     let mut posts = Posts::new(house, passes);
     let client = posts.next_client(alloc, &mut seats)?.ok_or(Stop::Place)?;
-    let first = posts.next().ok_or(Stop::Place)?;
-    let second = posts.next().ok_or(Stop::Place)?;
+    let first = posts.next(alloc)?.ok_or(Stop::Place)?;
+    let second = posts.next(alloc)?.ok_or(Stop::Place)?;
     let (session, _served) = thread::join(
         rt,
         move || serve_lines(rt, alloc, house, client, lines),
@@ -82,27 +91,31 @@ fn serve_in<R: Threads + Wait + Sync, G: Gate + Sync>(
 }
 
 /// Serves the session, and tells the workers to stop.
-fn serve_lines<R: Wait>(
+fn serve_lines<J: Naming, R: Wait>(
     rt: &R,
     alloc: Global,
-    house: &House,
-    client: Client<'_>,
+    house: &House<J>,
+    client: Client<'_, J>,
     lines: &str,
-) -> Session {
+) -> Session<J> {
     let mut reader = lines.as_bytes();
     let mut replies = Vec::new(alloc);
     let never = StopFlag::new();
-    let (_end, seats) = serve_client(rt, alloc, client, &never, &mut reader, &mut replies);
+    let (_end, seats, fronts) = serve_client(rt, alloc, client, &never, &mut reader, &mut replies);
     house.stop(rt);
-    Session { replies, seats }
+    Session {
+        replies,
+        seats,
+        fronts,
+    }
 }
 
 /// Two workers serve calls until the house stops.
-fn work_both<R: Threads + Wait + Sync, G: Gate + Sync>(
+fn work_both<J: Naming + Send + Sync, R: Threads + Wait + Sync, G: Gate + Sync>(
     rt: &R,
-    house: &House,
-    first: Post<'_>,
-    second: Post<'_>,
+    house: &House<J>,
+    first: Post<'_, J>,
+    second: Post<'_, J>,
     gate: &G,
 ) {
     let bell = house.bell();

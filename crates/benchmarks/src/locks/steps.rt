@@ -7,23 +7,24 @@ use crate::locks::load::{Load, MAX_THREADS};
 use crate::stops::Stop;
 use job_language::{Job, Request};
 use std::alloc::{AllocError, Global};
-use std::marker::Model;
+use std::marker::{Brand, Model};
 use std::sync::{Mutex, Wait};
-use std::thread;
 use std::thread::Threads;
+use std::{slice, thread};
+use tenant_book::{Naming, OpenedRegistry, Registry};
 use tenant_lock::TenantDoor;
 use tenant_record::Seat;
 use worked_jobs::FIRST;
 
 /// A seat at a tenant's door, with a job to submit there.
 #[derive(Drop)]
-struct Desk<'d> {
-    door: &'d TenantDoor,
+struct Desk<'d, J: Naming> {
+    door: &'d TenantDoor<J>,
     seat: Seat,
     job: Job,
 }
 
-impl<'d> Model for Desk<'d> {
+impl<'d, J: Naming> Model for Desk<'d, J> {
     ghost use Rattle.benchmarks.specs.Places.{DeskSeen, IsDesk};
 
     ghost Value = { DeskSeen };
@@ -39,24 +40,38 @@ pub(crate) fn run<R: Threads + Wait + Sync>(
     alloc: Global,
     load: Load,
 ) -> Result<usize, Stop> {
+    run_named::<Brand, R>(rt, alloc, OpenedRegistry::new(), load)
+}
+
+/// Makes the events as `run` does, at tenants whose lives are entered in that registry.
+fn run_named<J: Naming + Send + Sync, R: Threads + Wait + Sync>(
+    rt: &R,
+    alloc: Global,
+    opened: OpenedRegistry,
+    load: Load,
+) -> Result<usize, Stop>
+    requires { opened ≡ J.registry }
+{
+    let registry: Registry<J> = opened.named();
     let back = Mutex::new(Vec::with_capacity(alloc, MAX_THREADS)?);
     let mut doors = Vec::new(alloc);
-    let made = make_events(rt, alloc, load, &mut doors, &back);
-    let closed = close_all(alloc, doors, back.into_inner());
+    let made = make_events(rt, alloc, &registry, load, &mut doors, &back);
+    let closed = close_all(rt, alloc, doors, back.into_inner());
     made?;
     closed
 }
 
 /// Opens the tenants, and makes the events at their doors. All seats come back.
-fn make_events<R: Threads + Wait + Sync>(
+fn make_events<J: Naming + Send + Sync, R: Threads + Wait + Sync>(
     rt: &R,
     alloc: Global,
+    registry: &Registry<J>,
     load: Load,
-    doors: &mut Vec<TenantDoor>,
+    doors: &mut Vec<TenantDoor<J>>,
     back: &Mutex<Vec<Seat>>,
 ) -> Result<(), Stop> {
     let mut seats = Vec::new(alloc);
-    open(alloc, load, doors, &mut seats)?;
+    open(rt, alloc, registry, load, doors, &mut seats)?;
     if in_threads(rt, alloc, doors.as_slice(), seats, load.events, back) {
         Ok(())
     } else {
@@ -65,16 +80,18 @@ fn make_events<R: Threads + Wait + Sync>(
 }
 
 /// Adds the doors of the tenants, and all their seats.
-fn open(
+fn open<J: Naming, R: Wait>(
+    rt: &R,
     alloc: Global,
+    registry: &Registry<J>,
     load: Load,
-    doors: &mut Vec<TenantDoor>,
+    doors: &mut Vec<TenantDoor<J>>,
     seats: &mut Vec<Seat>,
 ) -> Result<(), Stop> {
     let config = with_slots(1, 0, load.steps)?;
     for number in 0..load.tenants {
         add(
-            TenantDoor::new(alloc, number, config, load.seats)?,
+            TenantDoor::new(rt, alloc, registry, number, config, load.seats)?,
             doors,
             seats,
         )?;
@@ -82,9 +99,9 @@ fn open(
     Ok(())
 }
 
-fn add(
-    opened: (TenantDoor, Vec<Seat>),
-    doors: &mut Vec<TenantDoor>,
+fn add<J: Naming>(
+    opened: (TenantDoor<J>, Vec<Seat>),
+    doors: &mut Vec<TenantDoor<J>>,
     seats: &mut Vec<Seat>,
 ) -> Result<(), Stop> {
     let (door, mut own) = opened;
@@ -98,10 +115,10 @@ fn add(
 }
 
 /// Lets a thread for each seat make the events, and says whether each did. The seats come back.
-fn in_threads<R: Threads + Wait + Sync>(
+fn in_threads<J: Naming + Send + Sync, R: Threads + Wait + Sync>(
     rt: &R,
     alloc: Global,
-    doors: &[TenantDoor],
+    doors: &[TenantDoor<J>],
     seats: Vec<Seat>,
     events: usize,
     back: &Mutex<Vec<Seat>>,
@@ -125,14 +142,14 @@ fn in_threads<R: Threads + Wait + Sync>(
 }
 
 /// The desk of a seat, at the door of its tenant.
-fn desk_of(alloc: Global, doors: &[TenantDoor], seat: Seat) -> Option<Desk<'_>> {
+fn desk_of<J: Naming>(alloc: Global, doors: &[TenantDoor<J>], seat: Seat) -> Option<Desk<'_, J>> {
     match (door_of(doors, &seat), worked_job(alloc, FIRST)) {
         (Some(door), Ok(job)) => Some(Desk { door, seat, job }),
         _ => None,
     }
 }
 
-fn door_of<'d>(doors: &'d [TenantDoor], seat: &Seat) -> Option<&'d TenantDoor>
+fn door_of<'d, J: Naming>(doors: &'d [TenantDoor<J>], seat: &Seat) -> Option<&'d TenantDoor<J>>
     ensures { IfSome result (λ door. seat.now.tenant ≡ door.now.tenant) }
 {
     let door = doors.get(seat.tenant())?;
@@ -144,7 +161,7 @@ fn door_of<'d>(doors: &'d [TenantDoor], seat: &Seat) -> Option<&'d TenantDoor>
 }
 
 /// Submits a job, and polls the tenant's first job, so that `events` events are made. The seat comes back.
-fn submit_and_poll<R: Wait>(rt: &R, desk: Desk<'_>, events: usize) -> Seat {
+fn submit_and_poll<J: Naming, R: Wait>(rt: &R, desk: Desk<'_, J>, events: usize) -> Seat {
     let Desk {
         door,
         mut seat,
@@ -158,11 +175,16 @@ fn submit_and_poll<R: Wait>(rt: &R, desk: Desk<'_>, events: usize) -> Seat {
 }
 
 /// Closes all doors. How many entries their histories have.
-fn close_all(alloc: Global, doors: Vec<TenantDoor>, seats: Vec<Seat>) -> Result<usize, Stop> {
+fn close_all<J: Naming, R: Wait>(
+    rt: &R,
+    alloc: Global,
+    doors: Vec<TenantDoor<J>>,
+    seats: Vec<Seat>,
+) -> Result<usize, Stop> {
     let mut left = seats;
     let mut entries = Ok(0usize);
     for door in doors {
-        entries = sum(entries, close(alloc, door, &mut left));
+        entries = sum(entries, close(rt, alloc, door, &mut left));
     }
     entries
 }
@@ -172,10 +194,18 @@ fn sum(entries: Result<usize, Stop>, more: Result<usize, Stop>) -> Result<usize,
 }
 
 /// Closes a door, to which its seats come back of those that are left. How many entries its history has.
-fn close(alloc: Global, door: TenantDoor, left: &mut Vec<Seat>) -> Result<usize, Stop> {
+fn close<J: Naming, R: Wait>(
+    rt: &R,
+    alloc: Global,
+    door: TenantDoor<J>,
+    left: &mut Vec<Seat>,
+) -> Result<usize, Stop> {
     let mut own = Vec::new(alloc);
     let moved = move_seats(door.tenant(), left, &mut own);
-    let entries = door.close(own).map(|closed| closed.history.len());
+    let seen = door.front();
+    let entries = door
+        .close(rt, slice::from_ref(&seen), own)
+        .map(|closed| closed.history.len());
     moved?;
     Ok(entries?)
 }

@@ -3,6 +3,7 @@
 use super::{Lives, Tenancy};
 use std::sync::{CondvarTimeouts, MutexGuard, Wait};
 use std::time::{Clock, Duration};
+use tenant_book::Naming;
 use tenant_lock::StopFlag;
 use term_life::Why;
 
@@ -12,7 +13,7 @@ const LOOK: u64 = 100;
 /// How often it looks while the next term waits until an older one is closed: for 5 seconds.
 const LOOKS: u32 = 50;
 
-impl Lives {
+impl<J: Naming> Lives<J> {
     /// Whether a term serves that is not the one of that number.
     fn has_other(&self, number: Option<u64>) -> bool {
         match self.serving() {
@@ -27,7 +28,7 @@ impl Lives {
     }
 }
 
-impl Tenancy {
+impl<J: Naming> Tenancy<J> {
     /// Waits until a term serves that is not the one of that number, and says whether one does. It does not if none can be
     /// opened, the flag is raised, or older terms are not closed within some seconds.
     pub(crate) fn wait_for_next<R: Wait + Clock>(
@@ -71,8 +72,8 @@ impl Tenancy {
     fn after_a_look<'l, R: Wait + Clock>(
         &'l self,
         rt: &R,
-        lives: MutexGuard<'l, Lives>,
-    ) -> MutexGuard<'l, Lives> {
+        lives: MutexGuard<'l, Lives<J>>,
+    ) -> MutexGuard<'l, Lives<J>> {
         let mut lives = lives;
         if lives.wish.is_none() {
             lives.wish = Some(Why::History);

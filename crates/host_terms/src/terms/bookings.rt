@@ -5,24 +5,25 @@ use crate::board::{Board, TermSignal};
 use job_language::Request;
 use server_house::{OwnClient, Told};
 use std::sync::{Arc, Wait};
+use tenant_book::Naming;
 use tenant_lock::StopFlag;
 
 /// A session's place in a term.
 #[derive(Drop)]
-pub(crate) struct Booking {
-    term: Arc<HostTerm>,
-    client: OwnClient,
+pub(crate) struct Booking<J: Naming> {
+    term: Arc<HostTerm<J>>,
+    client: OwnClient<J>,
 }
 
-impl Booking {
+impl<J: Naming> Booking<J> {
     /// A place in a term. None if all are taken, or too many handles on the term are out.
-    pub(crate) fn of<R: Wait>(rt: &R, term: &Arc<HostTerm>) -> Option<Booking> {
+    pub(crate) fn of<R: Wait>(rt: &R, term: &Arc<HostTerm<J>>) -> Option<Booking<J>> {
         let term = Arc::try_clone(term).ok()?;
         let client = term.clients.lock(rt).pop()?;
         Some(Booking { term, client })
     }
 
-    pub(crate) fn term(&self) -> &HostTerm {
+    pub(crate) fn term(&self) -> &HostTerm<J> {
         &self.term
     }
 
@@ -33,7 +34,7 @@ impl Booking {
         board: &Board,
         stop: &StopFlag,
         request: Request,
-    ) -> (Booking, Told) {
+    ) -> (Booking<J>, Told) {
         let Booking { term, client } = self;
         let signal = TermSignal {
             board,

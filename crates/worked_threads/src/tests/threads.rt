@@ -1,5 +1,5 @@
 // What threads share: a tenant behind its door, queues of calls, and a worker.
-mod locks;
+pub(super) mod locks;
 mod queues;
 mod sleepers;
 mod workers;

@@ -1,27 +1,33 @@
 // How a thread's door moves its slot: if nobody else is out, and beside another one.
+ghost use Rattle.std.specs.Prelude.{◌≡◌};
 
 use crate::tests::assert_same;
+use crate::tests::threads::locks::closed;
 use job_language::{Moved, Reply, Request};
 use job_step::{Segment, View, segment_of};
 use nested_wait::{Attended, Door, attend};
 use server_doors::{MOVES_UNDER_LOCK, TenantSlots};
 use std::alloc::Global;
+use std::marker::Brand;
+use std::process::Abort;
 use std::slice;
 use std::sync::Wait;
 use std::test::Fail;
+use std::thread::Threads;
+use tenant_book::{Naming, OpenedRegistry, Registry};
 use tenant_lock::{StopFlag, TenantDoor};
 use tenant_record::Seat;
 use worked_jobs::{FIB_OF_SIX, job_of, tenant};
 use worker_main::DueDoor;
 
 /// A thread's door, and how often it was moved by a commit and by an advance.
-struct Counted<'d, R: Wait> {
-    slots: TenantSlots<'d, R>,
+struct Counted<'d, J: Naming, R: Wait> {
+    slots: TenantSlots<'d, J, R>,
     commits: u32,
     advances: u32,
 }
 
-impl<R: Wait> Door for Counted<'_, R> {
+impl<J: Naming, R: Wait> Door for Counted<'_, J, R> {
     ghost views = { λ _ _. Unit {0} };
 
     ghost commits = { λ _ _ _ _. Unit {0} };
@@ -59,10 +65,10 @@ impl<R: Wait> Door for Counted<'_, R> {
 type Turns = (Attended, u32, u32);
 
 /// Executes the sixth Fibonacci number by a seat, and attends its slot.
-fn attended<R: Wait>(
+fn attended<J: Naming, R: Wait>(
     rt: &R,
     alloc: Global,
-    door: &TenantDoor,
+    door: &TenantDoor<J>,
     seat: &mut Seat,
 ) -> Result<Turns, Fail> {
     if door.tenant() != 0 || seat.tenant() != 0 {
@@ -70,7 +76,8 @@ fn attended<R: Wait>(
     }
     let job = job_of(alloc, FIB_OF_SIX)?;
     let stop = StopFlag::new();
-    let mut slots = TenantSlots::new(rt, slice::from_ref(door), &stop);
+    let fronts = vec![in alloc; door.front()]?;
+    let mut slots = TenantSlots::new(rt, slice::from_ref(door), fronts, &stop);
     let _placed = slots.ask(seat, Request::Execute(job));
     let mut counted = Counted {
         slots,
@@ -84,12 +91,26 @@ fn attended<R: Wait>(
 
 #[test]
 fn a_slot_that_is_alone_is_advanced_after_its_first_turn(rt: HostRuntime) -> Result<(), Fail> {
+    a_slot_that_is_alone_is_advanced_after_its_first_turn_in::<Brand, _>(
+        &rt,
+        rt.alloc(),
+        OpenedRegistry::new(),
+    )
+}
+
+fn a_slot_that_is_alone_is_advanced_after_its_first_turn_in<
+    J: Naming + Send + Sync,
+    R: Threads + Wait + Sync + Abort,
+>(rt: &R, alloc: Global, opened: OpenedRegistry) -> Result<(), Fail>
+    requires { opened ≡ J.registry }
+{
+    let registry: Registry<J> = opened.named();
     let config = tenant("acme", 1, 1, 100).ok_or("each number is in its range")?;
-    let (door, mut seats) = TenantDoor::new(rt.alloc(), 0, config, 1)?;
+    let (door, mut seats) = TenantDoor::new(rt, alloc, &registry, 0, config, 1)?;
     let seat = seats.as_mut_slice().first_mut().ok_or("a seat")?;
-    let turns = attended(&rt, rt.alloc(), &door, seat)?;
-    assert_same(&rt, &turns, &(Attended::Below, 1, 84));
-    let _closed = door.close(seats)?;
+    let turns = attended(rt, alloc, &door, seat)?;
+    assert_same(rt, &turns, &(Attended::Below, 1, 84));
+    let _closed = closed(rt, door, seats)?;
     Ok(())
 }
 
@@ -98,21 +119,22 @@ const SHORT_THEN_LONG: &str =
     r#"{"args":[13300,0],"fuel":100000,"procs":[[["ask",2],["ask",2],["ask",2],["ask",2],["ask",2],["ask",2],["ask",2],["ask",2],["ask",2],["ask",2],["ask",2],["ask",2],["ask",2],["ask",2],["ask",2],["ask",2],["ask",2],["ask",2],["ask",2],["ask",2],["set",4,1],["sub",0,0,4],["jz",0,24],["jmp",21],["ret",0]]]}"#;
 
 /// A thread's door at the slot where a job is placed that a seat executes.
-fn counted_at<'d, R: Wait>(
+fn counted_at<'d, J: Naming, R: Wait>(
     rt: &'d R,
     alloc: Global,
-    door: &'d TenantDoor,
+    door: &'d TenantDoor<J>,
     seat: &mut Seat,
     stop: &'d StopFlag,
-) -> Result<Counted<'d, R>, Fail> {
+) -> Result<Counted<'d, J, R>, Fail> {
     if door.tenant() != 0 || seat.tenant() != 0 {
         return Err("tenant 0")?;
     }
     let job = job_of(alloc, SHORT_THEN_LONG)?;
-    let mut slots = TenantSlots::new(rt, slice::from_ref(door), stop);
+    let fronts = vec![in alloc; door.front()]?;
+    let mut slots = TenantSlots::new(rt, slice::from_ref(door), fronts, stop);
     let (reply, _due) = slots.ask(seat, Request::Execute(job));
     let Reply::Placed(..) = reply else {
-        slots.end();
+        let _fronts = slots.end();
         return Err("a slot is free")?;
     };
     Ok(Counted {
@@ -122,7 +144,7 @@ fn counted_at<'d, R: Wait>(
     })
 }
 
-impl<R: Wait> Counted<'_, R> {
+impl<J: Naming, R: Wait> Counted<'_, J, R> {
     /// Gives the slot home: how often it was moved by a commit, and by an advance.
     fn end(self) -> (u32, u32) {
         let Counted {
@@ -130,7 +152,7 @@ impl<R: Wait> Counted<'_, R> {
             commits,
             advances,
         } = self;
-        slots.end();
+        let _fronts = slots.end();
         (commits, advances)
     }
 
@@ -147,7 +169,10 @@ impl<R: Wait> Counted<'_, R> {
 
 /// Moves both slots once by private runs, of which the second begins before the first is committed, if that is how
 /// both are to be moved.
-fn move_at_once<R: Wait>(one: &mut Counted<'_, R>, two: &mut Counted<'_, R>) -> Option<[Moved; 2]> {
+fn move_at_once<J: Naming, R: Wait>(
+    one: &mut Counted<'_, J, R>,
+    two: &mut Counted<'_, J, R>,
+) -> Option<[Moved; 2]> {
     let (View::Top(first), View::Top(second)) = (one.view(), two.view()) else {
         return None;
     };
@@ -159,10 +184,10 @@ fn move_at_once<R: Wait>(one: &mut Counted<'_, R>, two: &mut Counted<'_, R>) -> 
 type Beside = ([(u32, u32); 2], Option<[Moved; 2]>);
 
 /// Two doors at a slot each are moved so often, and then at once.
-fn moved_beside<R: Wait>(
+fn moved_beside<J: Naming, R: Wait>(
     rt: &R,
     alloc: Global,
-    door: &TenantDoor,
+    door: &TenantDoor<J>,
     (first, second): (&mut Seat, &mut Seat),
     moves: u32,
 ) -> Result<Beside, Fail> {
@@ -179,11 +204,11 @@ fn moved_beside<R: Wait>(
 }
 
 /// Moves two doors at a slot each so often, and then at once. The slots are left once the tenant's door is stopped.
-fn move_both<R: Wait>(
+fn move_both<J: Naming, R: Wait>(
     rt: &R,
-    door: &TenantDoor,
-    one: Counted<'_, R>,
-    two: Counted<'_, R>,
+    door: &TenantDoor<J>,
+    one: Counted<'_, J, R>,
+    two: Counted<'_, J, R>,
     moves: u32,
 ) -> Beside {
     let (mut one, mut two) = (one, two);
@@ -197,31 +222,61 @@ fn move_both<R: Wait>(
 }
 
 /// What two slots of a tenant are answered, after so many moves of each.
-fn beside<R: Wait>(rt: &R, alloc: Global, moves: u32) -> Result<Beside, Fail> {
+fn beside<J: Naming, R: Wait>(
+    rt: &R,
+    alloc: Global,
+    registry: &Registry<J>,
+    moves: u32,
+) -> Result<Beside, Fail> {
     let config = tenant("acme", 2, 2, 200).ok_or("each number is in its range")?;
-    let (door, mut seats) = TenantDoor::new(alloc, 0, config, 2)?;
+    let (door, mut seats) = TenantDoor::new(rt, alloc, registry, 0, config, 2)?;
     let mut second = seats.pop().ok_or("two seats")?;
     let mut first = seats.pop().ok_or("two seats")?;
     let seen = moved_beside(rt, alloc, &door, (&mut first, &mut second), moves)?;
-    let _closed = door.close(vec![in alloc; first, second]?)?;
+    let _closed = closed(rt, door, vec![in alloc; first, second]?)?;
     Ok(seen)
 }
 
 #[test]
 fn after_a_short_run_a_slot_is_advanced_for_a_while(rt: HostRuntime) -> Result<(), Fail> {
+    after_a_short_run_a_slot_is_advanced_for_a_while_in::<Brand, _>(
+        &rt,
+        rt.alloc(),
+        OpenedRegistry::new(),
+    )
+}
+
+fn after_a_short_run_a_slot_is_advanced_for_a_while_in<
+    J: Naming + Send + Sync,
+    R: Threads + Wait + Sync + Abort,
+>(rt: &R, alloc: Global, opened: OpenedRegistry) -> Result<(), Fail>
+    requires { opened ≡ J.registry }
+{
+    let registry: Registry<J> = opened.named();
     let advances = u32::from(MOVES_UNDER_LOCK);
-    let seen = beside(&rt, rt.alloc(), 2 + advances)?;
+    let seen = beside(rt, alloc, &registry, 2 + advances)?;
     let moved = Some([Moved::Ran, Moved::Ran]);
-    assert_same(&rt, &seen.0, &[(2, advances); 2]);
-    assert_same(&rt, &beside(&rt, rt.alloc(), 1 + advances)?.1, &moved);
+    assert_same(rt, &seen.0, &[(2, advances); 2]);
+    assert_same(rt, &beside(rt, alloc, &registry, 1 + advances)?.1, &moved);
     Ok(())
 }
 
 #[test]
 fn long_runs_after_short_ones_overlap(rt: HostRuntime) -> Result<(), Fail> {
+    long_runs_after_short_ones_overlap_in::<Brand, _>(&rt, rt.alloc(), OpenedRegistry::new())
+}
+
+fn long_runs_after_short_ones_overlap_in<J: Naming + Send + Sync, R: Threads + Wait + Sync + Abort>(
+    rt: &R,
+    alloc: Global,
+    opened: OpenedRegistry,
+) -> Result<(), Fail>
+    requires { opened ≡ J.registry }
+{
+    let registry: Registry<J> = opened.named();
     let advances = 2 * u32::from(MOVES_UNDER_LOCK);
-    let seen = beside(&rt, rt.alloc(), 2 + advances + 10)?;
+    let seen = beside(rt, alloc, &registry, 2 + advances + 10)?;
     let moved = Some([Moved::Ran, Moved::Ran]);
-    assert_same(&rt, &seen, &([(2 + 10, advances); 2], moved));
+    assert_same(rt, &seen, &([(2 + 10, advances); 2], moved));
     Ok(())
 }

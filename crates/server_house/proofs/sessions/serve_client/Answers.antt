@@ -15,6 +15,7 @@ returns-clause-served g c =
       session = c.serve-end.new.doors;
       serves = subst (λ (s : SessionSeen). Serves RepliesThere (g.I.Read.remaining c.args.reader.now) (g.I.Read.remaining c.serve-end.new.reader) (g.O.Write.contents c.args.writer.now) (g.O.Write.contents c.serve-end.new.writer) (false, s) c.serve-end.new.doors end) first serves;
       seats_are = c.into_parts-seats.ensures.seats;
+      home = c.into_parts-seats.ensures.home;
     }) c.serve-end.ensures.serves
 
 pub returns-clause-refused : goal.returns-clause-refused
@@ -28,5 +29,5 @@ pub returns-clause-given_back : goal.returns-clause-given_back
 returns-clause-given_back g c =
     let begins = c.into_doors-doors.ensures.client in
     either_way c.serve-end.result (returns-clause-served g c) (returns-clause-refused g c)
-    (λ end served. session_given_back c.args.client _ _ _ _ _ end begins served)
-    (λ same. subst (All IsGivenBack) (sym same.2) (fresh_given_back c.args.client.seats begins.fresh))
+    (λ end served. session_given_back c.args.client _ _ _ _ _ _ end begins served)
+    (λ same. subst (All (IsGivenBack c.into_parts-seats.result.1.items)) (sym same.2) (fresh_given_back c.into_parts-seats.result.1.items c.args.client.seats begins.fresh))

@@ -1,14 +1,18 @@
 // Who is woken at the slots of a tenant, by counts of wakes.
+ghost use Rattle.std.specs.Prelude.{◌≡◌};
 
 use super::locks::{advance, arrive, ask, give_home, pause, poll, tenant, waiting};
 use crate::tests::assert_same;
 use job_language::{Moved, Request};
 use market_config::Call;
 use std::alloc::Global;
+use std::marker::Brand;
+use std::process::Abort;
 use std::sync::Wait;
 use std::test::Fail;
 use std::thread;
 use std::thread::{Threads, yield_now};
+use tenant_book::{Naming, OpenedRegistry, Registry};
 use tenant_lock::{TenantDoor, Waits};
 use tenant_record::{Pass, Seat};
 
@@ -22,10 +26,10 @@ const LOOKS: u32 = 20_000_000;
 type Pair = (Option<Pass>, Option<Pass>);
 
 /// Lets a worker at that slot run a job until it waits for a task that another worker has at the next slot.
-fn pair<R: Wait>(
+fn pair<J: Naming, R: Wait>(
     rt: &R,
     alloc: Global,
-    door: &TenantDoor,
+    door: &TenantDoor<J>,
     seat: &mut Seat,
     slot: u8,
 ) -> Option<Pair> {
@@ -42,10 +46,10 @@ fn pair<R: Wait>(
 }
 
 /// As `pair`; no passes if it has none.
-fn pair_or_none<R: Wait>(
+fn pair_or_none<J: Naming, R: Wait>(
     rt: &R,
     alloc: Global,
-    door: &TenantDoor,
+    door: &TenantDoor<J>,
     seat: &mut Seat,
     slot: u8,
 ) -> Pair {
@@ -56,7 +60,11 @@ fn pair_or_none<R: Wait>(
 }
 
 /// Advances the slot of a pass, and gives it home: the answer.
-fn finish<R: Wait>(rt: &R, door: &TenantDoor, pass: &mut Option<Pass>) -> Option<Moved> {
+fn finish<J: Naming, R: Wait>(
+    rt: &R,
+    door: &TenantDoor<J>,
+    pass: &mut Option<Pass>,
+) -> Option<Moved> {
     let (moved, pass) = advance(rt, door, pass.take());
     give_home(rt, door, pass);
     moved
@@ -64,7 +72,7 @@ fn finish<R: Wait>(rt: &R, door: &TenantDoor, pass: &mut Option<Pass>) -> Option
 
 /// Lets others run until that many slots have a sleeper, and that many were woken. It gives up after some seconds, so
 /// that a test which waits for something else fails and does not hang.
-fn watch<R: Wait>(rt: &R, door: &TenantDoor, asleep: usize, wakes: u64) {
+fn watch<J: Naming, R: Wait>(rt: &R, door: &TenantDoor<J>, asleep: usize, wakes: u64) {
     for _look in 0..LOOKS {
         let waits = door.waits(rt);
         if waits.asleep == asleep && waits.wakes == wakes {
@@ -75,7 +83,7 @@ fn watch<R: Wait>(rt: &R, door: &TenantDoor, asleep: usize, wakes: u64) {
 }
 
 /// Once somebody sleeps, makes entries that leave its slot idle: who sleeps then, and who was woken.
-fn poll_often<R: Wait>(rt: &R, door: &TenantDoor, seat: &mut Seat) -> Waits {
+fn poll_often<J: Naming, R: Wait>(rt: &R, door: &TenantDoor<J>, seat: &mut Seat) -> Waits {
     watch(rt, door, 1, 0);
     for _entry in 0..ENTRIES {
         let _polled = poll(rt, door, seat, 1);
@@ -88,10 +96,10 @@ fn poll_often<R: Wait>(rt: &R, door: &TenantDoor, seat: &mut Seat) -> Waits {
 type Slept = (bool, Waits, Option<Moved>);
 
 /// One worker sleeps at its slot; another thread makes entries that leave that idle, and then does its task.
-fn sleep_beside_polls<R: Threads + Wait + Sync>(
+fn sleep_beside_polls<J: Naming + Send + Sync, R: Threads + Wait + Sync>(
     rt: &R,
     alloc: Global,
-    door: &TenantDoor,
+    door: &TenantDoor<J>,
     seat: &mut Seat,
 ) -> Option<Slept> {
     let (waits, mut works) = pair(rt, alloc, door, seat, 1)?;
@@ -108,12 +116,26 @@ fn sleep_beside_polls<R: Threads + Wait + Sync>(
 
 #[test]
 fn entries_that_leave_a_slot_idle_wake_nobody_there(rt: HostRuntime) -> Result<(), Fail> {
-    let (door, mut seats) = TenantDoor::new(rt.alloc(), 0, tenant(3, 256)?, 1)?;
+    entries_that_leave_a_slot_idle_wake_nobody_there_in::<Brand, _>(
+        &rt,
+        rt.alloc(),
+        OpenedRegistry::new(),
+    )
+}
+
+fn entries_that_leave_a_slot_idle_wake_nobody_there_in<
+    J: Naming + Send + Sync,
+    R: Threads + Wait + Sync + Abort,
+>(rt: &R, alloc: Global, opened: OpenedRegistry) -> Result<(), Fail>
+    requires { opened ≡ J.registry }
+{
+    let registry: Registry<J> = opened.named();
+    let (door, mut seats) = TenantDoor::new(rt, alloc, &registry, 0, tenant(3, 256)?, 1)?;
     let seat = seats.as_mut_slice().first_mut().ok_or("a seat")?;
-    let slept = sleep_beside_polls(&rt, rt.alloc(), &door, seat);
+    let slept = sleep_beside_polls(rt, alloc, &door, seat);
     let before = waits(1, 0);
-    assert_same(&rt, &slept, &Some((false, before, Some(Moved::Ran))));
-    assert_same(&rt, &door.waits(&rt), &waits(0, 1));
+    assert_same(rt, &slept, &Some((false, before, Some(Moved::Ran))));
+    assert_same(rt, &door.waits(rt), &waits(0, 1));
     Ok(())
 }
 
@@ -128,10 +150,10 @@ fn waits(asleep: usize, wakes: u64) -> Waits {
 
 /// Two workers sleep at their slots in a thread each, while a third thread does one task and then the other: who slept
 /// once the first one was woken.
-fn sleep_beside_another<R: Threads + Wait + Sync>(
+fn sleep_beside_another<J: Naming + Send + Sync, R: Threads + Wait + Sync>(
     rt: &R,
     alloc: Global,
-    door: &TenantDoor,
+    door: &TenantDoor<J>,
     seat: &mut Seat,
 ) -> Option<([bool; 2], Waits)> {
     let (one, mut works) = pair(rt, alloc, door, seat, 1)?;
@@ -163,20 +185,34 @@ fn sleep_beside_another<R: Threads + Wait + Sync>(
 
 #[test]
 fn an_entry_wakes_the_slot_alone_that_it_lets_move(rt: HostRuntime) -> Result<(), Fail> {
-    let (door, mut seats) = TenantDoor::new(rt.alloc(), 0, tenant(5, 256)?, 1)?;
+    an_entry_wakes_the_slot_alone_that_it_lets_move_in::<Brand, _>(
+        &rt,
+        rt.alloc(),
+        OpenedRegistry::new(),
+    )
+}
+
+fn an_entry_wakes_the_slot_alone_that_it_lets_move_in<
+    J: Naming + Send + Sync,
+    R: Threads + Wait + Sync + Abort,
+>(rt: &R, alloc: Global, opened: OpenedRegistry) -> Result<(), Fail>
+    requires { opened ≡ J.registry }
+{
+    let registry: Registry<J> = opened.named();
+    let (door, mut seats) = TenantDoor::new(rt, alloc, &registry, 0, tenant(5, 256)?, 1)?;
     let seat = seats.as_mut_slice().first_mut().ok_or("a seat")?;
-    let slept = sleep_beside_another(&rt, rt.alloc(), &door, seat);
-    assert_same(&rt, &slept, &Some(([false, false], waits(1, 1))));
-    assert_same(&rt, &door.waits(&rt), &waits(0, 2));
+    let slept = sleep_beside_another(rt, alloc, &door, seat);
+    assert_same(rt, &slept, &Some(([false, false], waits(1, 1))));
+    assert_same(rt, &door.waits(rt), &waits(0, 2));
     Ok(())
 }
 
 /// A worker sleeps at its slot, and sleeps on when all are woken, as they are when a client hangs up; then another
 /// thread does its task.
-fn sleep_through_a_wake<R: Threads + Wait + Sync>(
+fn sleep_through_a_wake<J: Naming + Send + Sync, R: Threads + Wait + Sync>(
     rt: &R,
     alloc: Global,
-    door: &TenantDoor,
+    door: &TenantDoor<J>,
     seat: &mut Seat,
 ) -> Option<(bool, Option<Moved>)> {
     let (waits, mut works) = pair(rt, alloc, door, seat, 1)?;
@@ -195,9 +231,23 @@ fn sleep_through_a_wake<R: Threads + Wait + Sync>(
 
 #[test]
 fn a_sleeper_at_a_slot_stays_until_it_can_move(rt: HostRuntime) -> Result<(), Fail> {
-    let (door, mut seats) = TenantDoor::new(rt.alloc(), 0, tenant(3, 256)?, 1)?;
+    a_sleeper_at_a_slot_stays_until_it_can_move_in::<Brand, _>(
+        &rt,
+        rt.alloc(),
+        OpenedRegistry::new(),
+    )
+}
+
+fn a_sleeper_at_a_slot_stays_until_it_can_move_in<
+    J: Naming + Send + Sync,
+    R: Threads + Wait + Sync + Abort,
+>(rt: &R, alloc: Global, opened: OpenedRegistry) -> Result<(), Fail>
+    requires { opened ≡ J.registry }
+{
+    let registry: Registry<J> = opened.named();
+    let (door, mut seats) = TenantDoor::new(rt, alloc, &registry, 0, tenant(3, 256)?, 1)?;
     let seat = seats.as_mut_slice().first_mut().ok_or("a seat")?;
-    let slept = sleep_through_a_wake(&rt, rt.alloc(), &door, seat);
-    assert_same(&rt, &slept, &Some((false, Some(Moved::Ran))));
+    let slept = sleep_through_a_wake(rt, alloc, &door, seat);
+    assert_same(rt, &slept, &Some((false, Some(Moved::Ran))));
     Ok(())
 }

@@ -5,12 +5,12 @@ use Rattle.std.proofs.lemmas.Iterator.Consumers.{YieldsList-turn}
 use Rattle.std.proofs.lemmas.Slice.Zip.{all_zipped_more}
 use Rattle.tenant_lock.specs.Doors.{DoorData}
 use Rattle.tenant_record.specs.SeatData.{SeatData}
-use Rattle.server_house.specs.Houses.{AreEnds, IsEnd, is_of}
+use Rattle.server_house.specs.Houses.{AreEnds, AreSeenIn, IsEnd, IsSeenIn, is_of}
 use Rattle.server_house.proofs.Houses.{kept_by_others}
 use Rattle.server_house.proofs.house.House.close.Goals as goal
 
 pub loop-door-preserved : goal.loop-door-preserved
-loop-door-preserved c =
+loop-door-preserved g c =
     let seats = c.args.seats.items in
     let so_far = c.loop-door.invariant in
     let door = c.in-Some.door in
@@ -24,7 +24,9 @@ loop-door-preserved c =
     record {
       ends = subst (AreEnds (yielded ++ door ∷ []) seats) (sym c.in_ok-push.ensures.items)
           (all_zipped_more (λ (d : DoorData) end. IsEnd d (filter (is_of d.tenant) seats) end) yielded c.loop-door.ends.items door c.close_door.result so_far.ends
-          (subst (λ (ss : List SeatData). IsEnd door ss c.close_door.result) own c.close_door.ensures));
+          (subst (λ (ss : List SeatData). IsEnd door ss c.close_door.result) own c.close_door.ensures.end));
+      seen = subst (AreSeenIn c.args.fronts.now (yielded ++ door ∷ [])) (sym c.in_ok-push.ensures.items)
+          (all_zipped_more (λ (d : DoorData) end. IsSeenIn c.args.fronts.now d end) yielded c.loop-door.ends.items door c.close_door.result so_far.seen c.close_door.ensures.seen);
       left = λ t above.
           let apart : door.tenant ≢ t = λ e. absurd (omega (arith, above, long, number, e)) in
           ap (filter (is_of t)) c.in_ok-own.ensures.others ∙ ap (λ u. filter (is_of t) (filter (λ (s : SeatData). not (is_of u s)) left)) c.tenant.ensures

@@ -1,0 +1,64 @@
+// The names in the folders of a host.
+
+use job_language::TenantName;
+use server_io::ServerEnd;
+use std::fs::Files;
+use std::{fs, io};
+
+/// How a host ends, for a fault of a file.
+pub(crate) fn end_of(fault: &io::Error) -> ServerEnd {
+    match fault.kind() {
+        io::ErrorKind::OutOfMemory => ServerEnd::Memory,
+        _ => ServerEnd::Device,
+    }
+}
+
+/// The paths of the files in a folder whose names are texts.
+pub(crate) fn listed<R: Files + AllocGlobal + Clone + Drop>(
+    rt: &R,
+    folder: &str,
+) -> Result<Vec<String>, ServerEnd> {
+    match list(rt, folder) {
+        Ok(paths) => Ok(paths),
+        Err(fault) => Err(end_of(&fault)),
+    }
+}
+
+fn list<R: Files + AllocGlobal + Clone + Drop>(rt: &R, folder: &str) -> io::Result<Vec<String>> {
+    let alloc = rt.alloc();
+    let mut paths = Vec::new(alloc);
+    for entry in fs::read_dir(rt, folder)? {
+        match entry {
+            Ok(entry) => paths.push(format!(in alloc; "{folder}/{}", entry.file_name())?)?,
+            // A name that is no text is none of a host's.
+            Err(fault) if fault.kind() == io::ErrorKind::InvalidFilename => {}
+            Err(fault) => return Err(fault),
+        }
+    }
+    Ok(paths)
+}
+
+/// Whether a path is that of a dump that was not written whole.
+pub(crate) fn is_part(path: &str) -> bool {
+    match path.rsplit_once(".jsonl.part") {
+        Some((_, number)) => number.bytes().all(|byte| byte.is_ascii_digit()),
+        None => false,
+    }
+}
+
+/// The name of the tenant and the number of the term of a dump's path.
+pub(crate) fn parts_of(path: &str) -> Option<(&str, u64)> {
+    let (_, file) = path.rsplit_once('/')?;
+    let (name, rest) = file.split_once('.')?;
+    let number = rest.strip_suffix(".jsonl")?;
+    Some((name, number.parse::<u64>().ok()?))
+}
+
+/// The name of the tenant, the number of the term and the base of its jobs' numbers of a journal's path.
+pub(crate) fn journal_in(path: &str) -> Option<(&str, u64, u64)> {
+    let (_, file) = path.rsplit_once('/')?;
+    let (name, rest) = file.split_once('.')?;
+    let (term, base) = rest.strip_suffix(".jsonl")?.split_once('.')?;
+    TenantName::new(name)?;
+    Some((name, term.parse::<u64>().ok()?, base.parse::<u64>().ok()?))
+}

@@ -1,0 +1,15 @@
+use Rattle.std.proofs.Common.{◌≡◌, sym, ◌∙◌, ap}
+use Rattle.tenant_book.proofs.Adding.{adds_moves}
+use Rattle.tenant_book.proofs.book.exchange.Goals as goal
+
+pub compare_exchange-requires : goal.compare_exchange-requires
+compare_exchange-requires c =
+    let h = c.requires.head in
+    let offer = c.plain-offer.ensures in
+    let pen = c.no_pen-pen.ensures in (
+      ap (λ w. w.tracked) h,
+      sym (ap (λ w. w.book) h),
+      pen.0 ∙ sym (ap (λ w. w.book) h),
+      offer.0,
+      rw (ap (λ w. w.key) h, pen.1, offer.1, offer.3) (adds_moves c.args.seen.now.log c.args.cell.now c.args.len (sym c.requires.all)),
+    )
