@@ -130,9 +130,14 @@ class Draws:
         chance = self.random.random()
         if chance < 0.1:
             return self.random.choice(["", " \t", *REFUSED])
-        if chance < 0.5:
-            return json.dumps(self.making())
-        return json.dumps(self.request(made))
+        return self.spelled(self.making() if chance < 0.5 else self.request(made))
+
+    def spelled(self, request: dict) -> str:
+        """The text of a request: as the client writes it, which is read without a JSON value between, or with blanks and with
+        its members in the order that they have here."""
+        if self.random.random() < 0.5:
+            return json.dumps(request, separators=(",", ":"), sort_keys=True)
+        return json.dumps(request)
 
     def stray_step(self, names: Sequence[str]) -> dict:
         """A step of a world, of any tenant, slot and worker, whether or not it is there."""

@@ -10,7 +10,7 @@ CRATE = ROOT / "crates/failed_allocations"
 class Calls:
     """The program, with what it prints."""
 
-    name, effects, is_by_hand, lanes = "failed_allocations", [], False, 1
+    name, effects, stride, lanes = "failed_allocations", [], 1, 1
 
     def run(self, room: dict[str, str]) -> Outcome:
         """Runs it. A failed allocation may do nothing."""

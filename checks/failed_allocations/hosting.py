@@ -26,6 +26,7 @@ ENDED = "a connection ends, and the next one goes on"
 TOLD = "it is told as a fault, and nobody else notices"
 LATER = "what an ordered stop could not write, the next start has"
 UNSEEN = "it is tried again, and nobody notices"
+UNKNOWN = {"code": 6, "error": "unknown_job"}
 EFFECTS = (NO_START, REFUSED, ENDED, TOLD, UNSEEN)
 
 
@@ -67,6 +68,11 @@ def event_of(line: str) -> dict:
     except ValueError:
         return {}
     return value if isinstance(value, dict) else {}
+
+
+def outcome_of(number: int, value: int) -> dict:
+    """What is answered of a job: that it has this value, or that it is unknown, if that is 0."""
+    return {"job": number, "status": "complete", "value": value} if value else UNKNOWN
 
 
 class Client:
@@ -118,10 +124,16 @@ class Client:
         return number
 
     def expect(self, number: int, value: int, reply: dict | None = None) -> None:
-        """The outcome of a job is this value."""
+        """The outcome of a job is this value; 0 stands for one that was released."""
         got = reply or self.ask(collect(number))
-        if got != {"job": number, "status": "complete", "value": value}:
+        if got != outcome_of(number, value):
             self.wrong.append(f"job {number} of {self.name}: {got}")
+
+    def release(self, number: int) -> None:
+        """Releases a job. If its connection ended, it may have been released before."""
+        got = self.ask({"job": number, "op": "release"})
+        if got != {"released": number} and not (ENDED in self.effects and got == UNKNOWN):
+            self.wrong.append(f"job {number} of {self.name}, to be released: {got}")
 
     def end(self) -> None:
         """Hangs up."""
@@ -133,7 +145,7 @@ class Client:
 class Host:
     """The host as a program whose allocations fail."""
 
-    name, effects, is_by_hand, lanes = "arena-host", EFFECTS, True, 8
+    name, effects, stride, lanes = "arena-host", EFFECTS, 5, 8
 
     def run(self, room: dict[str, str]) -> Outcome:
         """Runs it with its clients, through a rotation to an ordered stop, and starts it again."""
@@ -168,8 +180,13 @@ class Host:
         acme, beta = Client(path, "acme"), Client(path, "beta")
         jobs = {("acme", acme.run(SEVEN, 7, False)): 7, ("acme", acme.run(MIXED, 15, True)): 15,
                 ("beta", beta.run(SEVEN, 7, True)): 7}
+        gone = acme.run(SEVEN, 7, True)
         if not self._rotated(at, lines):
             acme.wrong.append("no second term")
+        # Whether its file is told or not, the term is taken out by then, or soon.
+        lines.wait_for({"event": "closed", "tenant": "acme", "term": 0}, {"event": "fault"}, {"event": "unwritten"})
+        acme.release(gone)
+        jobs[("acme", gone)] = 0
         jobs[("acme", acme.run(SEVEN, 7, False))] = 7
         for (name, number), value in jobs.items():
             {"acme": acme, "beta": beta}[name].expect(number, value)
@@ -178,13 +195,15 @@ class Host:
         return [acme, beta], jobs
 
     def _rotated(self, at: pathlib.Path, lines: Lines) -> bool:
-        """Asks for acme's second term, again if the host tells that it could not be opened, and says whether it was."""
-        told = {"event": "fault"}
+        """Asks for acme's next term, again if the host tells that it could not be opened, or that a line of its was lost, and
+        says whether it was."""
+        opened = [{"event": "opened", "tenant": "acme", "term": term} for term in range(1, 1 + TRIES)]
         for _ in range(TRIES):
-            if told.get("event") == "fault":
-                (at / "run" / "rotate.acme").touch()
-                told = lines.wait_for({"event": "opened", "tenant": "acme", "term": 1}, {"event": "fault", "tenant": "acme"})
-        return told.get("event") == "opened"
+            (at / "run" / "rotate.acme").touch()
+            told = lines.wait_for(*opened, {"event": "fault", "tenant": "acme"}, {"event": "unwritten"})
+            if told.get("event") == "opened":
+                return True
+        return False
 
     def _again(self, at: pathlib.Path, jobs: dict[tuple[str, int], int]) -> list[str]:
         """What is wrong after the next start."""
@@ -197,7 +216,7 @@ class Host:
             clients = {name: Client(path, name) for name in ("acme", "beta")}
             for (name, number), value in jobs.items():
                 got = clients[name].ask(poll(number))
-                if got != {"job": number, "status": "complete", "value": value}:
+                if got != outcome_of(number, value):
                     wrong.append(f"after the next start, job {number} of {name}: {got}")
             for name, client in clients.items():
                 number = client.run(SEVEN, 7, True)

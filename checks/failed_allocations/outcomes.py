@@ -17,8 +17,8 @@ class Program(Protocol):
 
     name: str
     effects: Sequence[str]
-    is_by_hand: bool
-    """Whether it is tried only if it is named."""
+    stride: int
+    """Each how many-th allocation fails in turn, unless the program is named: then each does."""
     lanes: int
     """How many runs go on at a time."""
 

@@ -1,6 +1,6 @@
 #!/usr/bin/env python3
 """Fails each allocation in turn of `failed_allocations`, of `arena-script`, by each of its words, and of `arena-server` with three
-sessions; and, by hand, of `arena-host` with two terms and the start after it.
+sessions; and each fifth one of `arena-host` with two terms and the start after it, or each one if it is named.
 
 With one allocation failed, `failed_allocations` makes the call that failed again and prints the same. A script ends for lack of memory
 after a first part of its answers, or refuses one line and answers the others as if that were not there. The server does not start,
@@ -8,7 +8,7 @@ or refuses one line, which is answered when it is sent again, or has one of the 
 `hosting.py`, and the next start has all that it acknowledged. Each effect must come up.
 
 usage: checks/failed_allocations/run.py [NAME ..], after `rt ci`, or `rt run` in crates/failed_allocations, crates/script_program,
-crates/server_program and crates/host_program: of all programs but the host, or of those with these names, `arena-host` among them.
+crates/server_program and crates/host_program: of all programs, or of those with these names.
 It needs `cc` on the path.
 """
 import argparse
@@ -31,11 +31,11 @@ from sessions import Server
 WHOLE_RUNS, WRONG_RUNS = 3, 10
 
 
-def sweep(program: Program, failing: pathlib.Path) -> tuple[int, list[str]]:
-    """Fails each allocation of a program in turn. Returns how many failed, and a line for each fault that was found. Runs that wait
-    most of their time go on side by side."""
+def sweep(program: Program, failing: pathlib.Path, stride: int) -> tuple[int, list[str]]:
+    """Fails each allocation of a program in turn, from the first on, by that stride. Returns how many failed, and a line for
+    each fault that was found. Runs that wait most of their time go on side by side."""
     effects, wrong, whole = collections.Counter(), [], 0
-    numbers = itertools.count(1)
+    numbers = itertools.count(1, stride)
     with ThreadPoolExecutor(program.lanes) as pool:
         while whole < WHOLE_RUNS and len(wrong) < WRONG_RUNS:
             batch = list(itertools.islice(numbers, program.lanes))
@@ -60,9 +60,9 @@ def main() -> None:
         source = pathlib.Path(__file__).with_name("fail.c")
         subprocess.run(["cc", "-shared", "-fPIC", "-O2", "-o", failing, source], check=True)
         for program in [Calls(), *scripts(), Server(), Host()]:
-            if program.name not in words.names if words.names else program.is_by_hand:
+            if words.names and program.name not in words.names:
                 continue
-            failed, others = sweep(program, failing)
+            failed, others = sweep(program, failing, 1 if words.names else program.stride)
             print(f"{program.name}: {failed} allocations failed", flush=True)
             count, wrong = count + failed, wrong + others
     print(*wrong, sep="\n", end="\n" if wrong else "")

@@ -103,7 +103,7 @@ class Script:
     def __init__(self, word: str, lines: Sequence[object], answers: Sequence[object],
                  refusals: Sequence[list[dict]] = ()) -> None:
         self.name, self.words = f"arena-script {word}", [PROGRAM, word]
-        self.is_by_hand, self.lanes = False, 1
+        self.stride, self.lanes = 1, 1
         self.text, self.answers = text_of(lines), text_of(answers)
         self.refusals = {text_of(others): f"a refusal of step {others.index(NO_MEMORY) + 1}" for others in refusals}
         counts = [0] if word == "finish" else range(len(answers))  # a finished dump is written at once
@@ -136,7 +136,9 @@ def text_of(lines: Sequence[object]) -> str:
 def scripts() -> list[Script]:
     """A script for each word."""
     tenant = Tenant(TENANT)
-    refusals = [world_answers(number) for number, step in enumerate(RUN) if step["step"] == "line"]
+    # a line that brings a job is read straight, and by its JSON value if an allocation fails there, so none is refused
+    refusals = [world_answers(number) for number, step in enumerate(RUN)
+                if step["step"] == "line" and '"job":{' not in step["text"]]
     return [Script("own", [{"tenant": TENANT}, *OWN], [tenant_answer(tenant, step) for step in OWN]),
             Script("run", [WORLD, *RUN], world_answers(), refusals),
             Script("serial", JOBS, [serial_answer(job) for job in JOBS]),

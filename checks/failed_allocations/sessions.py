@@ -172,7 +172,7 @@ def are_last(others: Sequence[str], sessions: Sequence[str]) -> bool:
 class Server:
     """The server as a program whose allocations fail."""
 
-    name, effects, is_by_hand, lanes = "arena-server", EFFECTS, False, 1
+    name, effects, stride, lanes = "arena-server", EFFECTS, 1, 1
 
     def run(self, room: dict[str, str]) -> Outcome:
         """Runs it with its sessions, for half a minute at most."""

@@ -7,10 +7,9 @@ import time
 from hosts import Host, Load, ask, dump_lines, dumps, fib, hang_up, is_at_end, results, rotate, tenant
 from servers import by_deadline
 
-# What a client may get from a host that ends: a reply that is right, none, or the end of its connection.
-ENDED = {"right", "None", "FileNotFoundError", "ConnectionResetError", "BrokenPipeError", "ConnectionRefusedError"}
-# From one whose history may become full meanwhile.
-ENDED_OR_FULL = {*ENDED, "full"}
+# What a client may get from a host that ends: a reply that is right, none, the end of its connection, or that its history
+# takes no new job: because it is full, or because the host was stopped just before.
+ENDED = {"right", "None", "full", "FileNotFoundError", "ConnectionResetError", "BrokenPipeError", "ConnectionRefusedError"}
 
 
 def stop_under_load() -> None:
@@ -69,7 +68,7 @@ def kills_at_drawn_moments() -> None:
                 ask(client, {"op": "retire"})
         host.kill()
         replies = load.end()
-        assert set(replies) <= ENDED_OR_FULL, replies
+        assert set(replies) <= ENDED, replies
         for number in dumps(host, "acme"):
             dump_lines(host.path("dumps", f"acme.{number:06}.jsonl"))
         host = Host([tenant("acme", steps=600)], "--connections", 5, "--keep", 100, after=host)

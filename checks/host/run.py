@@ -10,13 +10,14 @@ import time
 import clients
 import durable
 import ends
+import forgetting
 import limits
 import losses
 import rotations
 import sharing
 import starts
 
-CHECKS = [check for module in (starts, clients, sharing, rotations, losses, durable, limits, ends) for check in module.CHECKS]
+CHECKS = [check for module in (starts, clients, sharing, rotations, losses, forgetting, durable, limits, ends) for check in module.CHECKS]
 
 
 def main() -> None:
