@@ -15,6 +15,13 @@ use std::marker::Model;
 /// keeps what its holders were told: the entries of the slot, in order, whether a move was refused as at a full history,
 /// and the count of entries at which the slot was last found idle, unless it was touched since.
 pub struct Pass {
+    // On the heap, so that a pass that is handed on is one pointer.
+    kept: Box<Kept>,
+}
+
+/// What a pass keeps.
+#[derive(Drop)]
+struct Kept {
     tenant: usize,
     slot: u8,
     limit: usize,
@@ -44,75 +51,73 @@ impl Pass {
     ) -> Result<Pass, AllocError>
         ensures { IfOk result (λ pass. pass ≡ first_pass tenant limit slot) }
     {
-        Ok(Pass {
+        let kept = Kept {
             tenant,
             slot,
             limit,
             log: Vec::with_capacity(alloc, limit)?,
             full: false,
             still: None,
+        };
+        Ok(Pass {
+            kept: Box::new(alloc, kept)?,
         })
     }
 
     /// Ends a pass: its cell ends, or it has none.
     pub(crate) fn end(self) {
-        let Pass {
-            tenant: _tenant,
-            slot: _slot,
-            limit: _limit,
-            log: _log,
-            full: _full,
-            still: _still,
-        } = self;
+        let Pass { kept } = self;
+        drop(kept);
     }
 
     /// The number of its tenant, from 0.
     pub fn tenant(&self) -> usize
         ensures { result ≡ self.now.tenant }
     {
-        self.tenant
+        self.kept.tenant
     }
 
     /// The number of its slot, from 0.
     pub fn slot(&self) -> u8
         ensures { result ≡ self.now.slot }
     {
-        self.slot
+        self.kept.slot
     }
 
     /// How many entries of its slot its holders were told of.
     pub fn count(&self) -> usize
         ensures { result ≡ length self.now.log }
     {
-        self.log.len()
+        self.kept.log.len()
     }
 
     /// Whether one of its moves was refused as at a full history.
     pub fn is_full(&self) -> bool
         ensures { result ≡ self.now.full }
     {
-        self.full
+        self.kept.full
     }
 
     /// How many entries the history had when its slot was found idle, if the slot was not touched since.
     pub fn still(&self) -> Option<usize>
         ensures { result ≡ self.now.still }
     {
-        self.still
+        self.kept.still
     }
 
     /// Whether its log has room for an entry.
     pub fn has_room(&self) -> bool
         ensures { result ≡ has_room self.now }
     {
-        self.log.len() < self.limit
+        self.kept.log.len() < self.kept.limit
     }
 
     /// Whether its log is exactly what a history has of its slot, in order.
     pub fn is_log_of(&self, history: &[Entry]) -> bool
         ensures { IsTrue result ↔ (self.now.log ≡ entries_on self.now.slot history.now) }
     {
-        is_log(self.slot, history, self.log.as_slice())
+        let kept: &Kept = &self.kept;
+        is_log(kept.slot, history, kept.log.as_slice())
     }
 
     /// Tells its holder how an advance was answered, which came when the history had `entries` entries.
@@ -120,9 +125,9 @@ impl Pass {
         requires { is_entry (Answer.Moved moved) ≡ true → has_room self.old ≡ true }
         ensures { self.new ≡ advanced self.old moved entries }
     {
-        note_move(&mut self.log, moved);
-        self.full = self.full || matches!(moved, Moved::Full);
-        self.still = still_after(self.still, moved, entries);
+        note_move(&mut self.kept.log, moved);
+        self.kept.full = self.kept.full || matches!(moved, Moved::Full);
+        self.kept.still = still_after(self.kept.still, moved, entries);
     }
 
     /// Tells its holder that an arrival found a row.
@@ -130,15 +135,15 @@ impl Pass {
         requires { has_room self.old ≡ true }
         ensures { self.new ≡ arrived self.old row }
     {
-        self.log.push_reserved(Told::Arrived(row));
-        self.still = None;
+        self.kept.log.push_reserved(Told::Arrived(row));
+        self.kept.still = None;
     }
 
     /// Tells its holder that a job was placed on its slot.
     pub(crate) fn tell_placed(&mut self)
         ensures { self.new ≡ placed self.old }
     {
-        self.still = None;
+        self.kept.still = None;
     }
 }
 
