@@ -40,7 +40,8 @@ pub struct TenantSlots<'d, J: Naming, R: Wait> {
     /// was taken is `Bare`.
     height: Option<usize>,
     view: Cell<View>,
-    /// How many of its next moves are advances under the lock, since its last private run was short.
+    /// How many of its next moves are advances under the lock, whatever its view is: its last private run was short,
+    /// nobody else was at a slot, or a row has just come to it.
     under_lock: u8,
 }
 
@@ -101,7 +102,7 @@ impl<'d, J: Naming, R: Wait> TenantSlots<'d, J, R> {
             seat,
             request,
         );
-        self.hold(pass);
+        self.begin(pass);
         (reply, call_of(tenant, due))
     }
 
@@ -147,6 +148,20 @@ impl<'d, J: Naming, R: Wait> TenantSlots<'d, J, R> {
         }
     }
 
+    /// Takes a pass with which a row has just come to an empty slot, if there is one: one row is on the slot then, and its
+    /// first move is an advance under the lock, so neither is looked up.
+    fn begin(&mut self, pass: Option<Pass>)
+        requires none { self.old.pass ≡ None }
+        requires there { IfSome pass (λ p. p.tenant < length self.old.doors) }
+        ensures { self.new ≡ record self.old { pass = pass } }
+    {
+        if pass.is_some() {
+            self.height = Some(1);
+            self.under_lock = 1;
+        }
+        self.hold(pass);
+    }
+
     /// Forgets what its last move saw of its slot.
     fn forget(&mut self)
         ensures { self.new ≡ self.old }
@@ -187,6 +202,9 @@ impl<'d, J: Naming, R: Wait> DueDoor for TenantSlots<'d, J, R> {
         let Some(pass) = &self.pass else {
             return View::Bare;
         };
+        if self.under_lock > 0 {
+            return View::Unshared;
+        }
         match self.view.replace(View::Bare) {
             View::Bare => {
                 let tenant = pass.tenant();
@@ -215,9 +233,8 @@ impl<'d, J: Naming, R: Wait> DueDoor for TenantSlots<'d, J, R> {
         let Advanced { moved, due, pass } = advanced;
         self.hold(pass);
         self.height = height;
-        if is_short {
+        if is_short || matches!(self.view.get_mut(), View::Unshared) {
             self.under_lock = MOVES_UNDER_LOCK;
-            self.view.set(View::Unshared);
         }
         (moved, call_of(tenant, due))
     }
@@ -230,15 +247,18 @@ impl<'d, J: Naming, R: Wait> DueDoor for TenantSlots<'d, J, R> {
         let (rt, doors) = (self.rt, self.doors);
         self.under_lock = self.under_lock.saturating_sub(1);
         let fronts = &mut self.fronts;
-        let Turned { advanced, height } = if self.under_lock > 0 {
-            self.view.set(View::Unshared);
-            places::advance_and_count(rt, doors, fronts, pass)
-        } else {
+        let has_looked = self.under_lock == 0;
+        let Turned { advanced, height } = if has_looked {
             places::advance_and_look(rt, doors, fronts, pass, self.view.get_mut())
+        } else {
+            places::advance_and_count(rt, doors, fronts, pass)
         };
         let Advanced { moved, due, pass } = advanced;
         self.hold(pass);
         self.height = height;
+        if has_looked && matches!(self.view.get_mut(), View::Unshared) {
+            self.under_lock = MOVES_UNDER_LOCK;
+        }
         (moved, call_of(tenant, due))
     }
 
@@ -296,7 +316,7 @@ impl<'d, J: Naming, R: Wait> CallDoors for TenantSlots<'d, J, R> {
             &mut self.fronts,
             call,
         );
-        self.hold(pass);
+        self.begin(pass);
         (came, call_of(call.tenant, due))
     }
 }
