@@ -1,6 +1,6 @@
 #!/usr/bin/env python3
-"""Measures how long a quiet tenant's small job waits beside a noisy one by the host, and compares it with the bound of
-docs/HOST.md (who is served when): with w workers, and s slots of the noisy tenant for workers, s / w of its rows, rounded down.
+"""Measures how long a quiet tenant's small job waits beside a noisy one by the host, and compares it with a bound:
+with w workers, and s slots of the noisy tenant for workers, s / w of its rows, rounded down.
 
 usage: benches/host/waits.py [ROUNDS [HOST]], at the top of the repository. For each row there are ROUNDS, eight if none are
 said, each with a host of its own, which the noisy tenant asks for as many jobs as its history has room for. It needs

@@ -101,8 +101,8 @@ class Lane(Generic[Tag]):
         self._ask([Asked(Op.RETIRE)], [requests.retire().line])
 
     def cancel(self, task: Task[Tag]) -> None:
-        """Cancels a job that it was fed, unless its collect is sent already: on another connection its number might be that
-        of another job."""
+        """Cancels a job that it was fed, unless its collect is sent already: at another connection a server that was started
+        anew may have given its number to another job."""
         self._to_cancel.add(task)
 
     def _ask(self, asked: Sequence[Asked[Tag]], lines: Sequence[bytes]) -> None:
