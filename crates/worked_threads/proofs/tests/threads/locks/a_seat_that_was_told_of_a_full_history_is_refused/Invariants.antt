@@ -1,5 +1,0 @@
-use Rattle.worked_threads.proofs.tests.threads.locks.a_seat_that_was_told_of_a_full_history_is_refused.Given as goal
-
--- the registry that was just opened
-abbrev pub ghosts-a_seat_that_was_told_of_a_full_history_is_refused_in : goal.ghosts-a_seat_that_was_told_of_a_full_history_is_refused_in
-ghosts-a_seat_that_was_told_of_a_full_history_is_refused_in g a = record { registry = a.opened }
