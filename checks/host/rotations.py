@@ -206,14 +206,17 @@ def what_it_shows() -> None:
                 "--finish", 7)
     connections = asks_both(host)
     status = by_deadline(lambda: shown(host, lambda acme, beta: acme["asks"] == 4 and beta["asks"] == 3))
-    assert set(status) == {"version", "time", "began", "connections", "connected", "served", "cut", "hello_seconds", "idle_seconds",
-                           "rotate_at", "keep", "finish", "durable", "memory", "workers", "terms", "closed"}
+    assert set(status) == {"version", "time", "began", "connections", "connected", "served", "cut", "tenant_connections",
+                           "hello_seconds", "idle_seconds", "rotate_at", "keep", "finish", "durable", "memory", "workers",
+                           "tenants", "terms", "closed"}
     told = subprocess.run([PROGRAM, "--version"], capture_output=True, text=True, check=True).stdout
     assert told == f"arena-host {status['version']}\n", told
     assert (status["connections"], status["rotate_at"], status["keep"], status["finish"]) == (3, 50, 5, 7)
     assert status["durable"] == "write"
     assert (status["connected"], status["served"]) == (2, 2)
     assert (status["cut"], status["hello_seconds"], status["idle_seconds"]) == ({"hello": 0, "idle": 0}, 60, 0)
+    assert status["tenant_connections"] == 64
+    assert status["tenants"] == [{"tenant": it, "connected": 1, "refused": 0} for it in ("acme", "beta")]
     assert abs(status["time"] - time.time()) < 5 and status["memory"] > 1 << 20 and status["closed"] == []
     acme, beta = status["terms"]
     assert acme.pop("began") >= status["began"] and beta.pop("began") >= status["began"]

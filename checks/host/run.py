@@ -8,6 +8,7 @@ import sys
 import time
 
 import clients
+import crowds
 import durable
 import ends
 import forgetting
@@ -17,7 +18,7 @@ import rotations
 import sharing
 import starts
 
-CHECKS = [check for module in (starts, clients, sharing, rotations, losses, forgetting, durable, limits, ends) for check in module.CHECKS]
+CHECKS = [check for module in (starts, clients, sharing, rotations, losses, forgetting, durable, limits, crowds, ends) for check in module.CHECKS]
 
 
 def main() -> None:

@@ -21,7 +21,8 @@ def words_that_are_refused() -> None:
             it.write("{}")
         good = ["--config", config, "--run", folder]
         for words in ([], ["--config", config], ["--run", folder], [*good, "more"], [*good, "--connections", "0"],
-                      [*good, "--connections", "65"], [*good, "--rotate-at", "0"], [*good, "--rotate-at", "101"],
+                      [*good, "--connections", "65"], [*good, "--tenant-connections", "0"],
+                      [*good, "--tenant-connections", "65"], [*good, "--rotate-at", "0"], [*good, "--rotate-at", "101"],
                       [*good, "--keep", "0"], [*good, "--keep", "1000000"], [*good, "--finish", "86401"],
                       [*good, "--mode", "800"], [*good, "--mode", "1000"], [*good, "--group", "4294967295"],
                       [*good, "--group", "staff"], [*good, "--connections", "64", "--connections", "64"]):

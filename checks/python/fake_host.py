@@ -71,8 +71,9 @@ class Folder:
                served: int = 0, at: float | None = None) -> dict:
         """A status of now, or of a time in seconds since 1970, that has these terms."""
         return {"version": "0.9.0", "time": int(time.time() if at is None else at), "began": began, "connections": 64, "connected": 0,
-                "served": served, "cut": {"hello": 0, "idle": 0}, "hello_seconds": 60, "idle_seconds": 0, "rotate_at": 50,
-                "keep": 8, "finish": 10, "durable": "write", "memory": None, "workers": [*workers],
+                "served": served, "cut": {"hello": 0, "idle": 0}, "tenant_connections": 64, "hello_seconds": 60, "idle_seconds": 0,
+                "rotate_at": 50, "keep": 8, "finish": 10, "durable": "write", "memory": None, "workers": [*workers],
+                "tenants": [{"tenant": it, "connected": 0, "refused": 0} for it in dict.fromkeys(term["tenant"] for term in terms)],
                 "terms": [*terms], "closed": [*closed]}
 
     def dump(self, name: str, verdict: str = "yes") -> None:

@@ -30,12 +30,13 @@ from arena.host.report import duration, sections_of, size, to_text
 SHOWN = """host: 1 tenant served, up 2 min 3 s, 77.5 MiB of memory
 3 connections now of 64 at most, 47 so far, 2 ended without a hello and 1 idle ones
 rotates at 50 %, keeps 8 dumps of a tenant, finishes within 10 s, durable: write
+16 connections of a tenant at most, hellos refused for that: acme 5
 workers: 1 with a tenant, 1 waiting for a call
 
 terms, those of one tenant together
-tenant  term  state                       age  entries      steps     %  asks  jobs  running  rows  waiting  workers
-acme     122  finishing (history)  1 min 53 s  524,300  1,048,576  50.0    88    40        2     7        3        -
-acme     123  serving                    13 s       90  1,048,576   0.0     3     2        0     0        0        1
+tenant  term  state                       age  entries      steps     %  asks  jobs  running  rows  waiting  workers  connected
+acme     122  finishing (history)  1 min 53 s  524,300  1,048,576  50.0    88    40        2     7        3        -          -
+acme     123  serving                    13 s       90  1,048,576   0.0     3     2        0     0        0        1          2
 
 closed terms, the newest last
 tenant  term  why       lasted  ms  entries  dump
@@ -62,7 +63,7 @@ def status_of_now_is_done(it, folder):
         closed(5, fault=5, dumped=False, lost=2), closed(5, "beta", dumped=False), closed(6)])
     folder.write(now)
     rows = re.compile(r"(?s)host: 2 tenants served, .*\nworkers: 3 with a tenant, 1 waiting for a call\n.*"
-                      r"\nacme +7 +serving +0 s +50 +200 +25\.0 +0 +0 +0 +0 +0 +2\nbeta +3 +serving +0 s +0 +10,000 +0\.0 +0 +0 +0 +0 +0 +1\n.*"
+                      r"\nacme +7 +serving +0 s +50 +200 +25\.0 +0 +0 +0 +0 +0 +2 +0\nbeta +3 +serving +0 s +0 +10,000 +0\.0 +0 +0 +0 +0 +0 +1 +0\n.*"
                       r"\nacme +5 .* 2 jobs lost; close fault 5\nbeta +5 .* no dump\nacme +6 .* dumped\n")
     it.call("status", folder.path, out=rows, how=arena_process)
     it.call("status", out=rows, ARENA_RUN=folder.path)
@@ -259,13 +260,13 @@ def two_readings(folder, every):
 
 def rates_are_shown(it, folder):
     """500 entries, one request and three jobs more in two seconds; 4,400 entries are left to the 5,000 of 10,000."""
-    line = r"acme +7 +serving +2 s +600 +10,000 +6\.0 +11 +4 +4 +4 +0 +0 +250\.0 +0\.5 +1\.5 +17 s"
+    line = r"acme +7 +serving +2 s +600 +10,000 +6\.0 +11 +4 +4 +4 +0 +0 +0 +250\.0 +0\.5 +1\.5 +17 s"
     with contextlib.closing(folder.lock()):
         with slept(two_readings(folder, 2.0)):
             it.call("top", folder.path, "--once", out=re.compile(
                 rf"(?s)host: .*\n250\.0 entries, 0\.5 requests and 1\.5 jobs a second\n.*\n{line}\n\n"))
         with slept(two_readings(folder, 0.5), interrupt):
-            first = r"acme +7 +serving +0 s +100 +10,000 +1\.0 +10 +1 +1 +1 +0 +0 +- +- +- +-"
+            first = r"acme +7 +serving +0 s +100 +10,000 +1\.0 +10 +1 +1 +1 +0 +0 +0 +- +- +- +-"
             it.call("top", "--every", "0.5", out=re.compile(rf"(?s)host: .*\n{first}\n\nhost: .*\n{line}\n\n"),
                     ARENA_RUN=folder.path)
         with slept(two_readings(folder, 2.0)):

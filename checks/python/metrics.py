@@ -45,6 +45,9 @@ SAMPLES = {
     "arena_connections": {"": 3},
     "arena_connections_served_total": {"": 47},
     "arena_connections_cut_total": {"why=hello": 2, "why=idle": 1},
+    "arena_tenant_connections_limit": {"": 16},
+    "arena_tenant_connections": {"tenant=acme": 2},
+    "arena_hellos_refused_total": {"tenant=acme": 5},
     "arena_hello_limit_seconds": {"": 60},
     "arena_idle_limit_seconds": {"": 0},
     "arena_rotate_at_ratio": {"": 0.5},
@@ -140,7 +143,7 @@ def counters_never_go_back():
             for labels, value in it.samples.items() if it.kind == "counter" else ():
                 assert value >= seen.get((name, labels), 0), (name, labels, value)
                 seen[name, labels] = value
-    assert len(seen) == 7, seen
+    assert len(seen) == 8, seen
 
 
 @contextlib.contextmanager

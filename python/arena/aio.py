@@ -83,8 +83,8 @@ class Client:
         await self.close()
 
     async def connect(self) -> None:
-        """Connects, and binds the connection to the client's tenant. Raises ConnectionLost, UnknownTenant, TimedOut, and
-        InUse if it is connected."""
+        """Connects, and binds the connection to the client's tenant. Raises ConnectionLost, UnknownTenant, ConnectionLimit,
+        TimedOut, and InUse if it is connected."""
         if self._writer is not None or self._is_connecting:
             raise InUse(f"{self.path}: the client is connected; to connect it anew, call reconnect")
         self._is_connecting = True
@@ -145,7 +145,8 @@ class Client:
     # Requests.
 
     async def hello(self, tenant: str) -> str:
-        """Binds a connection that was made without a tenant. Raises UnknownTenant, and BadRequest if it is bound."""
+        """Binds a connection that was made without a tenant. Raises UnknownTenant, ConnectionLimit, and BadRequest if it is
+        bound."""
         named = await self.ask(requests.hello(tenant))
         self.tenant = named
         return named

@@ -116,7 +116,7 @@ class Client:
         self._connection.close()
 
     def reconnect(self) -> None:
-        """Ends the connection and makes another, bound to the same tenant. Raises ConnectionLost, UnknownTenant.
+        """Ends the connection and makes another, bound to the same tenant. Raises ConnectionLost, UnknownTenant, ConnectionLimit.
 
         A job that was made before is found by its number on an arena-host. If the server was started anew since, it may be
         unknown: then `LostJob` is raised. If another job of an arena-server has its number by now, that one is meant. """
@@ -138,7 +138,8 @@ class Client:
     # Requests.
 
     def hello(self, tenant: str) -> str:
-        """Binds a connection that was made without a tenant. Raises UnknownTenant, and BadRequest if it is bound."""
+        """Binds a connection that was made without a tenant. Raises UnknownTenant, ConnectionLimit, and BadRequest if it is
+        bound."""
         self.tenant = self.ask(requests.hello(tenant))
         return self.tenant
 

@@ -265,7 +265,8 @@ class ConnectionLimit(Refused):
     """Error 13, for a hello."""
 
     code, name, passes = 13, "connection_limit", True
-    advice = "the tenant has as many connections as it may; close one that is not needed, or try again later"
+    advice = ("the tenant has as many connections as the host lets it have (`--tenant-connections`); close one that is not "
+              "needed, or try again later")
 
 
 REFUSALS: dict[int, type[Refused]] = {kind.code: kind for kind in Refused.__subclasses__()}

@@ -2,8 +2,8 @@
 
 use crate::clocks::millis;
 use crate::site::Site;
-use host_status::{Event, Fault};
-use host_terms::{Cuts, Patience, Reception};
+use host_status::{Event, Fault, Refusal};
+use host_terms::{Cuts, Patience, Reception, Tenancy};
 use server_io::Endpoint;
 use std::alloc::Global;
 use std::sync::Wait;
@@ -21,6 +21,9 @@ const BETWEEN_REPORTS: u64 = 1000;
 /// How often connections are looked for that do nothing, in milliseconds.
 const BETWEEN_LOOKS: u64 = 100;
 
+/// How long between two reports that hellos were refused, in milliseconds.
+const BETWEEN_REFUSALS: u64 = 10_000;
+
 /// Accepts connections until the host stops, and lets sessions stop waiting whose clients have gone, until nobody is left.
 pub(crate) fn accept_all<J: Naming, R: Wait + Clock>(
     rt: &R,
@@ -34,6 +37,7 @@ pub(crate) fn accept_all<J: Naming, R: Wait + Clock>(
     let mut done = Done {
         reported: 0,
         looked: 0,
+        refused: None,
     };
     for _turn in rt.forever() {
         match reception.attend(rt) {
@@ -58,6 +62,7 @@ pub(crate) fn accept_all<J: Naming, R: Wait + Clock>(
         if now.saturating_sub(done.looked) >= BETWEEN_LOOKS {
             done.looked = now;
             cut(rt, alloc, site, &reception, now);
+            done.tell_refused(rt, alloc, site, now);
         }
         match reception.admit(rt, alloc, endpoint, now) {
             Ok(admitted) => {
@@ -75,6 +80,8 @@ struct Done {
     reported: u64,
     /// Looked for connections that do nothing.
     looked: u64,
+    /// Reported that hellos were refused, if it has.
+    refused: Option<u64>,
 }
 
 impl Done {
@@ -91,6 +98,56 @@ impl Done {
             site.say_fault(rt, alloc, Fault::Accept, None, None);
         }
     }
+
+    /// Reports for which tenants hellos were refused since then, once in ten seconds at most.
+    fn tell_refused<J: Naming, R: Wait + Clock>(
+        &mut self,
+        rt: &R,
+        alloc: Global,
+        site: Site<'_, J>,
+        now: u64,
+    ) {
+        if let Some(refused) = self.refused
+            && now.saturating_sub(refused) < BETWEEN_REFUSALS
+        {
+            return;
+        }
+        if report_refused(rt, alloc, site) {
+            self.refused = Some(now);
+        }
+    }
+}
+
+/// Reports for which tenants hellos were refused since that was done last. It says whether there are some.
+fn report_refused<J: Naming, R: Wait + Clock>(rt: &R, alloc: Global, site: Site<'_, J>) -> bool {
+    let mut is_reported = false;
+    for tenant in 0..site.host.count(rt) {
+        if let Some(tenancy) = site.host.tenancy(rt, tenant) {
+            is_reported |= report_refused_of(rt, alloc, site, &tenancy);
+        }
+    }
+    is_reported
+}
+
+/// The same for one tenant.
+fn report_refused_of<J: Naming, R: Wait + Clock>(
+    rt: &R,
+    alloc: Global,
+    site: Site<'_, J>,
+    tenancy: &Tenancy<J>,
+) -> bool {
+    let hellos = tenancy.take_unreported();
+    if hellos == 0 {
+        return false;
+    }
+    let name = tenancy.name();
+    let refused = Event::Refused {
+        tenant: name.as_str(),
+        why: Refusal::Connections,
+        hellos,
+    };
+    site.say(rt, alloc, refused);
+    true
 }
 
 /// Ends the connections that have done nothing for too long by that time, and reports how many.

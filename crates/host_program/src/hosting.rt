@@ -71,7 +71,12 @@ fn host_named<'h, J: Naming + Send + Sync, R: System>(
     };
     let config = read_config(rt, alloc, words.config)?;
     let mut shelves = folder.prepare(rt, words.keep)?;
-    let host: Host<J> = Host::new(alloc, opened.named(), words.rotate_at);
+    let host: Host<J> = Host::new(
+        alloc,
+        opened.named(),
+        words.rotate_at,
+        words.tenant_connections,
+    );
     let desks = new_desks(alloc, connections)?;
     let places = new_places(alloc, config.workers())?;
     let progress = Progress::new();

@@ -2,7 +2,9 @@
 
 use crate::clocks::seconds;
 use crate::site::Site;
-use host_status::{ClosedTerm, CutSoFar, HostStatus, Jobs, Rows, TermStatus, Worker, status_line};
+use host_status::{
+    ClosedTerm, CutSoFar, HostStatus, Jobs, Rows, TenantStatus, TermStatus, Worker, status_line,
+};
 use host_terms::{HostTerm, Place, Tenancy};
 use job_language::TenantName;
 use program_version::VERSION;
@@ -30,6 +32,7 @@ pub(crate) fn show<J: Naming, R: Files<File = File> + Wait + Clock + AllocGlobal
     closed: &[ClosedTerm],
 ) -> io::Result<()> {
     let workers = workers(rt, alloc, site)?;
+    let tenants = tenants(rt, alloc, site)?;
     let terms = terms(rt, alloc, site)?;
     let words = site.words;
     let status = HostStatus {
@@ -43,6 +46,7 @@ pub(crate) fn show<J: Naming, R: Files<File = File> + Wait + Clock + AllocGlobal
             hello: site.progress.cut_hello.load(Ordering::SeqCst),
             idle: site.progress.cut_idle.load(Ordering::SeqCst),
         },
+        tenant_connections: words.tenant_connections,
         hello_seconds: words.hello_seconds,
         idle_seconds: words.idle_seconds,
         rotate_at: words.rotate_at,
@@ -51,6 +55,7 @@ pub(crate) fn show<J: Naming, R: Files<File = File> + Wait + Clock + AllocGlobal
         durable: words.durable.word(),
         memory: resident(rt),
         workers: workers.as_slice(),
+        tenants: tenants.as_slice(),
         terms: terms.as_slice(),
         closed,
     };
@@ -99,6 +104,25 @@ fn where_is<J: Naming, R: Wait>(
 
 fn text_of(alloc: Global, name: TenantName) -> Result<String, AllocError> {
     String::from_str(alloc, name.as_str())
+}
+
+/// What each tenant has of the connections.
+fn tenants<J: Naming, R: Wait>(
+    rt: &R,
+    alloc: Global,
+    site: Site<'_, J>,
+) -> Result<Vec<TenantStatus>, AllocError> {
+    let mut tenants = Vec::new(alloc);
+    for tenant in 0..site.host.count(rt) {
+        if let Some(tenancy) = site.host.tenancy(rt, tenant) {
+            tenants.push(TenantStatus {
+                tenant: text_of(alloc, tenancy.name())?,
+                connected: tenancy.connected(),
+                refused: tenancy.refused(),
+            })?;
+        }
+    }
+    Ok(tenants)
 }
 
 /// The terms that are not closed.

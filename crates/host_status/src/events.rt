@@ -31,6 +31,14 @@ pub enum Fault {
     Numbers,
 }
 
+/// Why a hello was refused.
+#[derive(Clone, Copy, Debug, PartialEq, Eq, Serialize)]
+#[serde(rename_all = "lowercase")]
+pub enum Refusal {
+    /// The tenant has as many connections as it may.
+    Connections,
+}
+
 /// Something that happened in a host. `term` is the number of the term of a tenant that it happened to.
 #[derive(Clone, Copy, Debug, PartialEq, Eq, Serialize)]
 #[serde(tag = "event", rename_all = "lowercase")]
@@ -88,6 +96,12 @@ pub enum Event<'e> {
     Cut {
         hello: u64,
         idle: u64,
+    },
+    /// That many hellos of clients of a tenant were refused since this was said of it last, for that reason.
+    Refused {
+        tenant: &'e str,
+        why: Refusal,
+        hellos: u64,
     },
     /// The host is to stop.
     Stop,

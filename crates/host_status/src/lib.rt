@@ -4,5 +4,7 @@
 mod events;
 mod status;
 
-pub use events::{Event, Fault};
-pub use status::{ClosedTerm, CutSoFar, HostStatus, Jobs, Rows, TermStatus, Worker, status_line};
+pub use events::{Event, Fault, Refusal};
+pub use status::{
+    ClosedTerm, CutSoFar, HostStatus, Jobs, Rows, TenantStatus, TermStatus, Worker, status_line,
+};

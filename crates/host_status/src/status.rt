@@ -42,6 +42,17 @@ pub struct CutSoFar {
     pub idle: u64,
 }
 
+/// What a tenant has of the host's connections.
+#[derive(Drop, Serialize)]
+pub struct TenantStatus {
+    /// The tenant's name.
+    pub tenant: String,
+    /// How many connections are bound to it.
+    pub connected: u64,
+    /// How many hellos of its clients were refused so far, since it had as many connections as it may.
+    pub refused: u64,
+}
+
 /// A term that is not closed. Times are in seconds since 1970.
 #[derive(Drop, Serialize)]
 pub struct TermStatus {
@@ -116,6 +127,8 @@ pub struct HostStatus<'s> {
     pub served: u64,
     /// How many were ended for doing nothing.
     pub cut: CutSoFar,
+    /// How many connections may be bound to one tenant.
+    pub tenant_connections: u32,
     /// How many seconds a connection has until its hello is answered; 0 for any time.
     pub hello_seconds: u32,
     /// How many seconds it may ask nothing after that; 0 for any time.
@@ -132,6 +145,8 @@ pub struct HostStatus<'s> {
     pub memory: Option<u64>,
     /// By their numbers.
     pub workers: &'s [Worker],
+    /// In the order in which they came to the host.
+    pub tenants: &'s [TenantStatus],
     /// Those of one tenant together, the oldest first.
     pub terms: &'s [TermStatus],
     /// The newest last.

@@ -1,5 +1,8 @@
 // What all threads of a host share.
+ghost use Rattle.std.specs.Prelude.{IfErr};
+ghost use Rattle.host_terms.specs.Hellos.{IsRefusal};
 
+use crate::admissions::Admission;
 use crate::board::Board;
 use crate::desks::Desk;
 use crate::endings::Ending;
@@ -7,7 +10,7 @@ use crate::places::Place;
 use crate::roster::Roster;
 use crate::tenancies::Tenancy;
 use crate::terms::HostTerm;
-use job_language::TenantName;
+use job_language::{Error, TenantName};
 use server_io::ServerEnd;
 use std::alloc::{AllocError, Global};
 use std::sync::{Arc, Mutex, Wait};
@@ -25,18 +28,27 @@ pub struct Host<J: Naming> {
     registry: Registry<J>,
     /// At how many per cent of its steps a history takes no new jobs at the latest.
     latest: u32,
+    /// How many connections may be bound to one tenant.
+    tenant_connections: u32,
 }
 
 impl<J: Naming> Host<J> {
     /// A host without a tenant, whose histories end a term at that many per cent of their steps. A term takes no new jobs
-    /// once its history has half of the rest as well, if the next one can be opened.
-    pub fn new(alloc: Global, registry: Registry<J>, rotate_at: u32) -> Host<J> {
+    /// once its history has half of the rest as well, if the next one can be opened. So many connections may be bound to
+    /// one tenant.
+    pub fn new(
+        alloc: Global,
+        registry: Registry<J>,
+        rotate_at: u32,
+        tenant_connections: u32,
+    ) -> Host<J> {
         Host {
             tenants: Mutex::new(Vec::new(alloc)),
             roster: Mutex::new(Roster::new(alloc)),
             board: Board::new(),
             registry,
             latest: rotate_at.saturating_add(100) / 2,
+            tenant_connections,
         }
     }
 
@@ -80,6 +92,17 @@ impl<J: Naming> Host<J> {
     pub fn tenancy<R: Wait>(&self, rt: &R, tenant: usize) -> Option<Arc<Tenancy<J>>> {
         let tenants = self.tenants.lock(rt);
         Arc::try_clone(tenants.get(tenant)?).ok()
+    }
+
+    /// A place at the tenant of that number for one more connection. An error if it has as many connections as it may.
+    pub(crate) fn admit<R: Wait>(&self, rt: &R, tenant: usize) -> Result<Admission<J>, Error>
+        ensures { IfErr result IsRefusal }
+    {
+        let Some(tenancy) = self.tenancy(rt, tenant) else {
+            // It is there, and too many handles on it are never out.
+            return Err(Error::NoMemory);
+        };
+        Admission::of(tenancy, u64::from(self.tenant_connections)).ok_or(Error::ConnectionLimit)
     }
 
     /// How many tenants there are.

@@ -2,6 +2,7 @@
 //! its terms follow one another, and workers come to all terms.
 #![tactic(auto)]
 
+mod admissions;
 mod board;
 mod desks;
 mod endings;

@@ -1,8 +1,11 @@
 // A session's ways to the tenants of a host.
-ghost use Rattle.std.specs.Prelude.{◌≡◌, ◌≢◌};
+ghost use Rattle.std.specs.Prelude.{◌≡◌, ◌≢◌, IfErr};
+ghost use Rattle.job_language.specs.Collecting.{IsCollect};
+ghost use Rattle.host_terms.specs.Hellos.{IsRefusal};
 
 mod forgetting;
 
+use crate::admissions::Admission;
 use crate::desks::Desk;
 use crate::hosts::Host;
 use crate::numbering::{Served, acknowledged, at_once, brings_job, renumbered};
@@ -15,7 +18,7 @@ use server_house::Told;
 use session_core::{Answered, Doors};
 use std::alloc::Global;
 use std::net::Shutdown;
-use std::sync::{Arc, Wait};
+use std::sync::Wait;
 use std::time::Clock;
 use tenant_book::Naming;
 
@@ -30,8 +33,8 @@ pub(crate) struct HostDoors<'h, J: Naming, R: Wait + Clock> {
     alloc: Global,
     host: &'h Host<J>,
     desk: &'h Desk<J>,
-    /// The tenant that it is bound to.
-    tenancy: Option<Arc<Tenancy<J>>>,
+    /// Its place at the tenant that it is bound to.
+    admission: Option<Admission<J>>,
 }
 
 impl<'h, J: Naming, R: Wait + Clock> HostDoors<'h, J, R> {
@@ -42,16 +45,30 @@ impl<'h, J: Naming, R: Wait + Clock> HostDoors<'h, J, R> {
             alloc,
             host,
             desk,
-            tenancy: None,
+            admission: None,
         }
     }
 
     /// The session has ended. Another one may begin.
     pub(crate) fn leave(&mut self) {
-        self.tenancy = None;
         self.desk.unbind();
         if let Some(booking) = self.desk.take_booking(self.rt) {
             booking.give_back(self.rt);
+        }
+        self.admission = None;
+    }
+
+    /// Asks the tenant that the session is bound to.
+    fn ask_bound(&self, tenancy: &Tenancy<J>, request: Request) -> Reply
+        ensures { result ≡ Reply.Pending → IsCollect request }
+    {
+        match request {
+            Request::Collect(job) | Request::Take(job) => self.ask_owner(tenancy, job, request),
+            Request::Poll(job) | Request::Cancel(job) | Request::Release(job) => at_once(
+                self.ask_owner(tenancy, job, request),
+            ),
+            Request::Retire => self.retire(tenancy),
+            other => self.ask_serving(tenancy, other).reply,
         }
     }
 
@@ -209,7 +226,7 @@ impl<'h, J: Naming, R: Wait + Clock> Door for HostDoors<'h, J, R> {
 impl<'h, J: Naming, R: Wait + Clock> Doors for HostDoors<'h, J, R> {
     ghost finds = { λ _ _ _. Unit {0} };
 
-    ghost binds = { λ _ _ _. Unit {0} };
+    ghost binds = { λ _ _ answer _. IfErr answer IsRefusal };
 
     ghost asks = { λ _ _ _ _. Unit {0} };
 
@@ -219,23 +236,17 @@ impl<'h, J: Naming, R: Wait + Clock> Doors for HostDoors<'h, J, R> {
         self.host.find(self.rt, name)
     }
 
-    fn bind(&mut self, tenant: usize) {
-        self.tenancy = self.host.tenancy(self.rt, tenant);
+    fn bind(&mut self, tenant: usize) -> Result<(), Error> {
+        self.admission = Some(self.host.admit(self.rt, tenant)?);
         self.desk.bind();
+        Ok(())
     }
 
     fn ask(&mut self, request: Request) -> Answered {
         self.desk.begin_asking();
-        let reply = match &self.tenancy {
+        let reply = match &self.admission {
             None => Reply::Refused(Error::NoTenant),
-            Some(tenancy) => match request {
-                Request::Collect(job) | Request::Take(job) => self.ask_owner(tenancy, job, request),
-                Request::Poll(job) | Request::Cancel(job) | Request::Release(job) => at_once(
-                    self.ask_owner(tenancy, job, request),
-                ),
-                Request::Retire => self.retire(tenancy),
-                other => self.ask_serving(tenancy, other).reply,
-            },
+            Some(admission) => self.ask_bound(admission.tenancy(), request),
         };
         self.desk.end_asking();
         // A slot that a job is placed on was attended.
@@ -246,9 +257,10 @@ impl<'h, J: Naming, R: Wait + Clock> Doors for HostDoors<'h, J, R> {
     }
 
     fn pause_for(&mut self, job: u64) -> bool {
-        let Some(tenancy) = &self.tenancy else {
+        let Some(admission) = &self.admission else {
             return true;
         };
+        let tenancy = admission.tenancy();
         match self.find_owner(tenancy, job, &Request::Collect(job)) {
             Found::Live(booking) => {
                 self.desk.begin_asking();

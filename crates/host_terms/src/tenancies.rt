@@ -5,6 +5,7 @@ ghost use Rattle.term_life.specs.declared.terms.TheConstants.{MOST_JOBS};
 mod notes;
 mod waits;
 
+use crate::admissions::Admissions;
 use crate::desks::Desk;
 use crate::endings::Ending;
 use crate::forgetting::Notes;
@@ -71,6 +72,8 @@ pub struct Tenancy<J: Naming> {
     changed: Condvar,
     /// Where it is noted what is forgotten of terms that are closed.
     notes: Mutex<Option<Notes>>,
+    /// The connections that are bound to it.
+    admissions: Admissions,
 }
 
 impl<J: Naming> Tenancy<J> {
@@ -93,12 +96,32 @@ impl<J: Naming> Tenancy<J> {
             }),
             changed: Condvar::new(),
             notes: Mutex::new(None),
+            admissions: Admissions::new(),
         }
     }
 
     /// The tenant's name.
     pub fn name(&self) -> TenantName {
         self.name
+    }
+
+    pub(crate) fn admissions(&self) -> &Admissions {
+        &self.admissions
+    }
+
+    /// How many connections are bound to the tenant.
+    pub fn connected(&self) -> u64 {
+        self.admissions.connected()
+    }
+
+    /// How many hellos were refused so far, since the tenant had as many connections as it may.
+    pub fn refused(&self) -> u64 {
+        self.admissions.refused()
+    }
+
+    /// How many of them were refused since this was asked last.
+    pub fn take_unreported(&self) -> u64 {
+        self.admissions.take_unreported()
     }
 
     /// The number of the term that is opened next, and the number of a job after which its jobs are numbered.

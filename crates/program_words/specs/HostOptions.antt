@@ -17,9 +17,10 @@ abbrev pub serving_app : App
 serving_app = with_rule (with_rule (with_rule (with_rule needed_app
     (option_rule (codes "connections"))) (option_rule (codes "rotate-at"))) (option_rule (codes "keep"))) (option_rule (codes "finish"))
 
--- the same with how long connections may do nothing
+-- the same with how long connections may do nothing, and how many a tenant may have
 abbrev pub limiting_app : App
-limiting_app = with_rule (with_rule serving_app (option_rule (codes "hello-seconds"))) (option_rule (codes "idle-seconds"))
+limiting_app = with_rule (with_rule (with_rule serving_app
+    (option_rule (codes "hello-seconds"))) (option_rule (codes "idle-seconds"))) (option_rule (codes "tenant-connections"))
 
 -- the host's command
 abbrev pub host_app : App
@@ -36,6 +37,7 @@ options_in words = matches_of host_app words
 abbrev pub decimal : (least most : ℕ) → Range
 decimal least most = record { radix = 10; least = least; most = most }
 
+-- of all connections, and of those of a tenant
 abbrev pub connections_range : Range
 connections_range = decimal 1 64
 
@@ -68,6 +70,7 @@ pub record AreRead (options : List Row) (w : HostWords) : Type 0 where
   pub config : first_of (codes "config") options ≡ Some w.config.now
   pub run : first_of (codes "run") options ≡ Some w.run.now
   pub connections : IsGiven connections_range 64 (first_of (codes "connections") options) w.connections
+  pub tenant_connections : IsGiven connections_range 64 (first_of (codes "tenant-connections") options) w.tenant_connections
   pub rotate_at : IsGiven rotate_range 50 (first_of (codes "rotate-at") options) w.rotate_at
   pub keep : IsGiven keep_range 8 (first_of (codes "keep") options) w.keep
   pub finish : IsGiven finish_range 10 (first_of (codes "finish") options) w.finish
@@ -81,6 +84,7 @@ pub record AreRead (options : List Row) (w : HostWords) : Type 0 where
 abbrev pub LackValues : List Row → Type 0
 LackValues options = (first_of (codes "config") options ≡ None) ⊎ (first_of (codes "run") options ≡ None)
     ⊎ IsMisgiven connections_range (first_of (codes "connections") options)
+    ⊎ IsMisgiven connections_range (first_of (codes "tenant-connections") options)
     ⊎ IsMisgiven rotate_range (first_of (codes "rotate-at") options)
     ⊎ IsMisgiven keep_range (first_of (codes "keep") options)
     ⊎ IsMisgiven finish_range (first_of (codes "finish") options)

@@ -21,6 +21,8 @@ pub struct HostWords<'a> {
     pub run: &'a str,
     /// How many connections are served at a time, from 1 to 64.
     pub connections: u32,
+    /// How many of them may be bound to one tenant, from 1 to 64.
+    pub tenant_connections: u32,
     /// At how many per cent of its steps a history ends a term, from 1 to 100.
     pub rotate_at: u32,
     /// How many dumps of each tenant are kept, from 1 to 999,999.
@@ -40,8 +42,9 @@ pub struct HostWords<'a> {
 }
 
 /// Reads the words of a command line, the program's name first: `arena-host --config F --run D [--connections N]
-/// [--rotate-at P] [--keep K] [--finish S] [--hello-seconds S] [--idle-seconds S] [--durable off|write|second|reply]
-/// [--mode M] [--group G]`, in any order, also as `--config=F`. M is in octal digits, all other numbers are in decimal ones.
+/// [--tenant-connections N] [--rotate-at P] [--keep K] [--finish S] [--hello-seconds S] [--idle-seconds S]
+/// [--durable off|write|second|reply] [--mode M] [--group G]`, in any order, also as `--config=F`. M is in octal digits, all
+/// other numbers are in decimal ones.
 pub fn read_host_words<'a>(alloc: Global, words: &'a [&'a str]) -> Result<HostWords<'a>, WordsFault>
     ensures read { IfOk result
         (λ read. AreRead (options_in (map (λ word. word.now) words.entry.now)) read) }
@@ -60,6 +63,10 @@ fn values_of<'a>(matches: &ArgMatches<'a>) -> Option<HostWords<'a>>
     let config = value_of(matches, "config")?;
     let run = value_of(matches, "run")?;
     let connections = Range::decimal(1, 64).given_or(value_of(matches, "connections"), 64)?;
+    let tenant_connections = Range::decimal(1, 64).given_or(
+        value_of(matches, "tenant-connections"),
+        64,
+    )?;
     let rotate_at = Range::decimal(1, 100).given_or(value_of(matches, "rotate-at"), 50)?;
     let keep = Range::decimal(1, 999_999).given_or(value_of(matches, "keep"), 8)?;
     let finish = Range::decimal(0, 86_400).given_or(value_of(matches, "finish"), 10)?;
@@ -72,6 +79,7 @@ fn values_of<'a>(matches: &ArgMatches<'a>) -> Option<HostWords<'a>>
         config,
         run,
         connections,
+        tenant_connections,
         rotate_at,
         keep,
         finish,
@@ -138,11 +146,12 @@ fn serving<'a>(alloc: Global, needed: Command<'a>) -> Result<Command<'a>, AllocE
         .arg(option(alloc, "finish"))
 }
 
-/// The same with how long connections may do nothing.
+/// The same with how long connections may do nothing, and how many a tenant may have.
 fn limiting<'a>(alloc: Global) -> Result<Command<'a>, AllocError>
     ensures { IfOk result (λ command. app_of command ≡ limiting_app) }
 {
     serving(alloc, needed(alloc)?)?
         .arg(option(alloc, "hello-seconds"))?
-        .arg(option(alloc, "idle-seconds"))
+        .arg(option(alloc, "idle-seconds"))?
+        .arg(option(alloc, "tenant-connections"))
 }

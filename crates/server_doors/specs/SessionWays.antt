@@ -1,8 +1,9 @@
 -- What a session may see and do at the doors of tenants while others act on them too.
-use Rattle.std.specs.Prelude.{ℕ, ◌≡◌, ◌<◌, Bool, List, length, Option, position, slice_index_or, slice_set, is_some, ◌≤◌}
+use Rattle.std.specs.Prelude.{ℕ, ◌≡◌, ◌<◌, Bool, List, length, Option, Result, Ok, Err, position, slice_index_or, slice_set, is_some, ◌≤◌}
 use Rattle.std.specs.Str.{bytes_eq}
 use Rattle.job_language.specs.declared.answers.Moved.{Moved}
 use Rattle.job_language.specs.declared.answers.Reply.TheVariants.{Refused}
+use Rattle.job_language.specs.declared.errors.Error.{Error}
 use Rattle.job_language.specs.declared.errors.Error.TheVariants.{NoTenant}
 use Rattle.job_language.specs.declared.requests.Request.{Request}
 use Rattle.job_step.specs.declared.segments.Top.{Top}
@@ -26,8 +27,10 @@ with_thread s at = record s { at = at }
 abbrev pub Finds : SessionSeen → (name : List ℕ) → Option ℕ → Type 0
 Finds s name tenant = tenant ≡ position (bytes_eq name) s.names
 
-abbrev pub Binds : SessionSeen → (tenant : ℕ) → SessionSeen → Type 0
-Binds s tenant t = t ≡ record s { bound = tenant }
+-- A session is bound to any tenant that it asks for.
+abbrev pub Binds : SessionSeen → (tenant : ℕ) → Result (Unit {0}) Error → SessionSeen → Type 0
+Binds s tenant (Ok u) t = t ≡ record s { bound = tenant }
+Binds s tenant (Err error) t = ⊥
 
 -- An advance of the slot; the slot that it made due is pushed.
 abbrev pub Advances : SessionSeen → Moved → SessionSeen → Type 0

@@ -178,8 +178,9 @@ impl<'d, 'q, J: Naming, R: Wait, S: Signal> Doors for LockedDoors<'d, 'q, J, R, 
             .position(|known| name.as_bytes() == known.as_bytes())
     }
 
-    fn bind(&mut self, tenant: usize) {
+    fn bind(&mut self, tenant: usize) -> Result<(), Error> {
         self.bound = tenant;
+        Ok(())
     }
 
     fn ask(&mut self, request: Request) -> Answered {

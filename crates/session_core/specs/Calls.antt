@@ -1,5 +1,6 @@
 -- Relations of the calls of some doors: what each may answer and lead to.
-use Rattle.std.specs.Prelude.{ℕ, Bool, List, Option}
+use Rattle.std.specs.Prelude.{ℕ, Bool, List, Option, Result}
+use Rattle.job_language.specs.declared.errors.Error.{Error}
 use Rattle.job_language.specs.declared.requests.Request.{Request}
 use Rattle.nested_wait.specs.declared.attending.Attended.{Attended}
 use Rattle.session_core.specs.declared.doors.Answered.{Answered}
@@ -8,8 +9,9 @@ use Rattle.session_core.specs.declared.doors.Answered.{Answered}
 abbrev pub Finds : Type 0 → Type 1
 Finds D = D → List ℕ → Option ℕ → Type 0
 
+-- binding a tenant, or the error of a hello that is refused
 abbrev pub Binds : Type 0 → Type 1
-Binds D = D → ℕ → D → Type 0
+Binds D = D → ℕ → Result (Unit {0}) Error → D → Type 0
 
 abbrev pub Asks : Type 0 → Type 1
 Asks D = D → Request → Answered → D → Type 0

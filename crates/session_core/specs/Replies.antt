@@ -20,9 +20,14 @@ abbrev pub hello_in : AskedData → Option (Option (List ℕ))
 hello_in (plain (Hello name)) = Some name
 hello_in asked = None
 
+-- a hello whose tenant was found, by how binding it was answered. The doors' error is the reply, and leaves the session as it was
+abbrev pub GreetsBinding : {D : Type 0} → Binds D → (name : List ℕ) → (tenant : ℕ) → (answer : Result (Unit {0}) Error) → D → Reply → Bool × D → Type 0
+GreetsBinding {D = D} binds name tenant (Ok u) d r t = (r ≡ Bound name) × (t.0 ≡ true) × binds d tenant (Ok u) t.1
+GreetsBinding {D = D} binds name tenant (Err error) d r t = (r ≡ Refused error) × (t ≡ (false, d)) × binds d tenant (Err error) d
+
 -- a hello on a session that is not bound, after the tenant was looked for
 abbrev pub GreetsFound : {D : Type 0} → Binds D → (name : List ℕ) → (tenant : Option ℕ) → D → Reply → Bool × D → Type 0
-GreetsFound {D = D} binds name (Some tenant) d r t = (r ≡ Bound name) × (t.0 ≡ true) × binds d tenant t.1
+GreetsFound {D = D} binds name (Some tenant) d r t = (answer : Result (Unit {0}) Error) × GreetsBinding binds name tenant answer d r t
 GreetsFound {D = D} binds name None d r t = (r ≡ Refused UnknownTenant) × (t ≡ (false, d))
 
 abbrev pub GreetsFirst : {D : Type 0} → Finds D → Binds D → (name : Option (List ℕ)) → D → Reply → Bool × D → Type 0

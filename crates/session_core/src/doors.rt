@@ -1,10 +1,11 @@
 // What a session asks of the tenants.
-ghost use Rattle.std.specs.Prelude.{◌≡◌, ℕ, List, Bool, Option};
+ghost use Rattle.std.specs.Prelude.{◌≡◌, ℕ, List, Bool, OnErr, Option, Result};
 ghost use Rattle.job_language.specs.Collecting.{IsCollect};
+ghost use Rattle.job_language.specs.declared.errors.Error.{Error};
 ghost use Rattle.job_language.specs.declared.requests.Request.{Request};
 ghost use Rattle.session_core.specs.declared.doors.Answered.{Answered};
 
-use job_language::{Reply, Request, TenantName};
+use job_language::{Error, Reply, Request, TenantName};
 use nested_wait::Door;
 
 /// The answer to a request.
@@ -23,8 +24,8 @@ pub trait Doors: Door {
     /// Which tenant may have a name.
     ghost finds: { Self → List ℕ → Option ℕ → Type 0 };
 
-    /// What binding a tenant may lead to.
-    ghost binds: { Self → ℕ → Self → Type 0 };
+    /// What binding a tenant may answer and lead to.
+    ghost binds: { Self → ℕ → Result (Unit {0}) Error → Self → Type 0 };
 
     /// What a request with this answer may lead to.
     ghost asks: { Self → Request → Answered → Self → Type 0 };
@@ -36,9 +37,11 @@ pub trait Doors: Door {
     fn find(&self, name: TenantName) -> Option<usize>
         ensures { finds self.now name result };
 
-    /// Binds the session to a tenant. Requests are asked of it from then on.
-    fn bind(&mut self, tenant: usize)
-        ensures { binds self.old tenant self.new };
+    /// Binds the session to a tenant. Requests are asked of it from then on. The error is the reply to
+    /// a hello that is refused, which leaves the session as it was.
+    fn bind(&mut self, tenant: usize) -> Result<(), Error>
+        ensures binds { binds self.old tenant result self.new }
+        ensures refused { OnErr result (self.new ≡ self.old) };
 
     /// Asks the tenant that is bound.
     fn ask(&mut self, request: Request) -> Answered

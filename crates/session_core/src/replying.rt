@@ -63,11 +63,13 @@ fn greet<D: Doors>(doors: &mut D, is_bound: &mut bool, name: Option<TenantName>)
         return Reply::Refused(Error::UnknownTenant);
     };
     match doors.find(name) {
-        Some(tenant) => {
-            doors.bind(tenant);
-            *is_bound = true;
-            Reply::Bound(name)
-        }
+        Some(tenant) => match doors.bind(tenant) {
+            Ok(()) => {
+                *is_bound = true;
+                Reply::Bound(name)
+            }
+            Err(error) => Reply::Refused(error),
+        },
         None => Reply::Refused(Error::UnknownTenant),
     }
 }

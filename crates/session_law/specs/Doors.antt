@@ -1,7 +1,8 @@
 -- The doors of all arenas, by what the definitions do to the states that these stand for.
-use Rattle.std.specs.Prelude.{ℕ, ◌≡◌, ◌<◌, Bool, true, List, length, Option, Some, None, slice_index_or}
+use Rattle.std.specs.Prelude.{ℕ, ◌≡◌, ◌<◌, Bool, true, List, length, Option, Some, None, Result, slice_index_or}
 use Rattle.job_language.specs.declared.answers.Moved.{Moved}
 use Rattle.job_language.specs.declared.answers.Moved.TheVariants as moved
+use Rattle.job_language.specs.declared.errors.Error.{Error}
 use Rattle.job_language.specs.declared.requests.Request.{Request}
 use Rattle.job_step.specs.declared.segments.Top.{Top}
 use Rattle.job_step.specs.declared.segments.View.{View}
@@ -33,8 +34,8 @@ Does happens d e = (ts : Tenants) → AreAt d ts → (us : Tenants) × (happens 
 abbrev pub Finds : ArenaDoors → (name : List ℕ) → Option ℕ → Type 0
 Finds d name tenant = (ts : Tenants) → AreAt d ts → FindsTenant ts name tenant
 
-abbrev pub Binds : ArenaDoors → (tenant : ℕ) → ArenaDoors → Type 0
-Binds d tenant e = Does (λ ts us. BindsTenant ts tenant us) d e
+abbrev pub Binds : ArenaDoors → (tenant : ℕ) → Result (Unit {0}) Error → ArenaDoors → Type 0
+Binds d tenant answer e = Does (λ ts us. BindsTenant ts tenant answer us) d e
 
 abbrev pub Asks : ArenaDoors → Request → Answered → ArenaDoors → Type 0
 Asks d request a e = Does (λ ts us. AsksTenant ts request a us) d e

@@ -1,9 +1,10 @@
 -- What a session does to the tenants by the definitions, if nobody else acts on them.
-use Rattle.std.specs.Prelude.{ℕ, zero, suc, ◌≡◌, ◌≢◌, ◌<◌, ◌≤◌, Bool, true, List, length, Option, Some, None, is_some, unwrap_or, slice_get, slice_set}
+use Rattle.std.specs.Prelude.{ℕ, zero, suc, ◌≡◌, ◌≢◌, ◌<◌, ◌≤◌, Bool, true, List, length, Option, Some, None, Result, Ok, Err, is_some, unwrap_or, slice_get, slice_set}
 use Rattle.job_language.specs.declared.answers.Moved.{Moved}
 use Rattle.job_language.specs.declared.answers.Moved.TheVariants as moved
 use Rattle.job_language.specs.declared.answers.Reply.{Reply}
 use Rattle.job_language.specs.declared.answers.Reply.TheVariants.{Refused}
+use Rattle.job_language.specs.declared.errors.Error.{Error}
 use Rattle.job_language.specs.declared.errors.Error.TheVariants.{NoTenant}
 use Rattle.job_language.specs.declared.requests.Request.{Request}
 use Rattle.job_language.specs.declared.tenants.TheConstants.{MAX_STEPS}
@@ -39,8 +40,10 @@ abbrev pub FindsTenant : Tenants → (name : List ℕ) → Option ℕ → Type 0
 FindsTenant ts name None = IsNoneBefore ts.states name (length ts.states)
 FindsTenant ts name (Some t) = ((s : State) × ((slice_get ts.states t ≡ Some s) × (s.config.name ≡ name))) × IsNoneBefore ts.states name t
 
-abbrev pub BindsTenant : Tenants → (tenant : ℕ) → Tenants → Type 0
-BindsTenant ts tenant us = us ≡ record ts { bound = tenant }
+-- A session is bound to any tenant that it asks for.
+abbrev pub BindsTenant : Tenants → (tenant : ℕ) → Result (Unit {0}) Error → Tenants → Type 0
+BindsTenant ts tenant (Ok u) us = us ≡ record ts { bound = tenant }
+BindsTenant ts tenant (Err error) us = ⊥
 
 -- the answer with this reply
 abbrev pub answered : Reply → Answered

@@ -103,8 +103,9 @@ impl Doors for ArenaDoors {
         None
     }
 
-    fn bind(&mut self, tenant: usize) {
+    fn bind(&mut self, tenant: usize) -> Result<(), Error> {
         self.tenant = tenant;
+        Ok(())
     }
 
     fn ask(&mut self, request: Request) -> Answered {

@@ -61,7 +61,7 @@ class Call:
 
     @property
     def client(self) -> "Client":
-        """The connection. Raises WordsFault, ConnectionLost, UnknownTenant."""
+        """The connection. Raises WordsFault, ConnectionLost, UnknownTenant, ConnectionLimit."""
         if self._client is None:
             from arena.client import Client
             self._client = Client(self.socket, self.tenant, timeout=self.words.timeout)

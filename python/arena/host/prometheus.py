@@ -74,7 +74,7 @@ def families_of(status: HostStatus | None) -> list[Family]:
                 [Sample(int(status is not None))])
     if status is None:
         return [up]
-    return [up, *_host(status), *_workers(status), *_terms(status), *_closed(status)]
+    return [up, *_host(status), *_tenants(status), *_workers(status), *_terms(status), *_closed(status)]
 
 
 def _host(it: HostStatus) -> Iterator[Family]:
@@ -91,6 +91,7 @@ def _host(it: HostStatus) -> Iterator[Family]:
     yield Family("arena_connections_served_total", Kind.COUNTER, "Connections so far.", [Sample(it.served)])
     yield Family("arena_connections_cut_total", Kind.COUNTER, "Connections that the host ended since they did nothing.",
                  [Sample(it.cut.hello, {"why": "hello"}), Sample(it.cut.idle, {"why": "idle"})])
+    yield gauge("arena_tenant_connections_limit", "How many connections may be bound to one tenant.", it.tenant_connections)
     yield gauge("arena_hello_limit_seconds", "How long a connection has until its hello is answered; 0 for any time.",
                 it.hello_seconds)
     yield gauge("arena_idle_limit_seconds", "How long a connection may ask nothing; 0 for any time.", it.idle_seconds)
@@ -98,6 +99,14 @@ def _host(it: HostStatus) -> Iterator[Family]:
                 it.rotate_at / 100)
     yield gauge("arena_finish_seconds", "How long jobs have to end once the host is to stop.", it.finish)
     yield gauge("arena_dumps_limit", "How many dumps of each tenant are kept.", it.keep)
+
+
+def _tenants(status: HostStatus) -> Iterator[Family]:
+    bound = [Sample(it.connected, {"tenant": it.tenant}) for it in status.tenants]
+    yield Family("arena_tenant_connections", Kind.GAUGE, "Connections that are bound to a tenant now.", bound)
+    refused = [Sample(it.refused, {"tenant": it.tenant}) for it in status.tenants]
+    yield Family("arena_hellos_refused_total", Kind.COUNTER,
+                 "Hellos that were refused since their tenant had as many connections as it may.", refused)
 
 
 def _workers(status: HostStatus) -> Iterator[Family]:

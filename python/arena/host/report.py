@@ -47,6 +47,8 @@ def _host(status: HostStatus, watch: Watch | None) -> Section:
              f"{status.cut.hello:,} ended without a hello and {status.cut.idle:,} idle ones",
              f"rotates at {status.rotate_at} %, keeps {counted(status.keep, 'dump')} of a tenant, finishes within "
              f"{duration(status.finish)}, durable: {status.durable.value}"]
+    if status.tenant_connections < status.connections or any(it.refused for it in status.tenants):
+        notes.append(_limited(status))
     if status.workers:
         notes.append(f"workers: {len(status.workers) - waiting} with a tenant, {waiting} waiting for a call")
     total = watch.total() if watch else None
@@ -56,6 +58,13 @@ def _host(status: HostStatus, watch: Watch | None) -> Section:
     if recent:
         notes.append(_recent(recent))
     return Section(f"host: {where}, up {duration(status.time - status.began)}{memory}", notes)
+
+
+def _limited(status: HostStatus) -> str:
+    """How many connections a tenant may have, and whose hellos were refused for that."""
+    refused = [it for it in status.tenants if it.refused]
+    those = ", ".join(f"{it.tenant} {it.refused:,}" for it in refused) or "none"
+    return f"{counted(status.tenant_connections, 'connection')} of a tenant at most, hellos refused for that: {those}"
 
 
 def _recent(it: Recent) -> str:
@@ -68,7 +77,7 @@ def _recent(it: Recent) -> str:
 
 def _terms(status: HostStatus, watch: Watch | None) -> Section:
     head: tuple[str, ...] = ("tenant", "term", "state", "age", "entries", "steps", "%", "asks", "jobs", "running", "rows",
-                             "waiting", "workers")
+                             "waiting", "workers", "connected")
     rows = [_term(status, it) for it in status.terms]
     if watch:
         head += ("entries/s", "asks/s", "jobs/s", "rotates in")
@@ -78,10 +87,12 @@ def _terms(status: HostStatus, watch: Watch | None) -> Section:
 
 def _term(status: HostStatus, it: Term) -> list[object]:
     why = f" ({it.why.value})" if it.why else ""
-    workers = status.workers_at(it.tenant) if it.state is State.SERVING else "-"
+    is_serving = it.state is State.SERVING
+    workers = status.workers_at(it.tenant) if is_serving else "-"
+    connected = status.connected_to(it.tenant) if is_serving else "-"
     return [it.tenant, it.number, f"{it.state.value}{why}", duration(status.time - it.began), f"{it.entries:,}",
             f"{it.steps:,}", f"{100 * it.share:.1f}", f"{it.asks:,}", f"{it.jobs:,}", f"{it.jobs_now.running:,}",
-            f"{it.rows.open:,}", f"{it.rows.waiting:,}", workers]
+            f"{it.rows.open:,}", f"{it.rows.waiting:,}", workers, connected]
 
 
 def _rates(status: HostStatus, term: Term, rates: Rates | None) -> list[object]:

@@ -137,11 +137,21 @@ class Cut:
 
 
 @dataclass(frozen=True, slots=True)
+class TenantStatus:
+    """What a tenant has of a host's connections: how many are bound to it now, and how many hellos were refused so far since
+    it had as many as it may."""
+
+    tenant: str
+    connected: int
+    refused: int
+
+
+@dataclass(frozen=True, slots=True)
 class HostStatus:
     """What a host said of itself. `time` and `began` are in seconds since 1970, `memory` in bytes or None, `rotate_at` in per
     cent, `finish` in seconds, and so are `hello_seconds` and `idle_seconds`, where 0 stands for any time; `connections` is
-    the most at a time, `connected` how many there are now, `served` all so far.
-    The terms of one tenant stand together, the oldest first, and of those that are closed the newest is last."""
+    the most at a time, `connected` how many there are now, `served` all so far, `tenant_connections` the most of one tenant.
+    The tenants stand in the order in which they came, those that are not configured any more among them. The terms of one tenant stand together, the oldest first, and of those that are closed the newest is last."""
 
     version: str
     time: int
@@ -150,6 +160,7 @@ class HostStatus:
     connected: int
     served: int
     cut: Cut
+    tenant_connections: int
     hello_seconds: int
     idle_seconds: int
     rotate_at: int
@@ -158,6 +169,7 @@ class HostStatus:
     durable: Durable
     memory: int | None
     workers: tuple[WorkerStatus, ...]
+    tenants: tuple[TenantStatus, ...]
     terms: tuple[Term, ...]
     closed: tuple[ClosedTerm, ...]
 
@@ -165,6 +177,10 @@ class HostStatus:
     def serving(self) -> dict[str, Term]:
         """The term of each tenant that takes new jobs; a tenant has none while the host stops."""
         return {it.tenant: it for it in self.terms if it.state is State.SERVING}
+
+    def connected_to(self, tenant: str) -> int:
+        """How many connections are bound to a tenant."""
+        return sum(it.connected for it in self.tenants if it.tenant == tenant)
 
     def workers_at(self, tenant: str) -> int:
         """How many workers were last at a slot of a tenant."""
@@ -314,11 +330,12 @@ def parse_status(data: bytes, file: str = "status.json") -> Parsed:
 def _host(part: _Part) -> HostStatus:
     status = HostStatus(
         part.text("version"), part.number("time"), part.number("began"), part.number("connections"), part.number("connected"),
-        part.number("served"), _cut(part.part("cut")), part.number("hello_seconds"), part.number("idle_seconds"),
-        part.number("rotate_at"), part.number("keep"), part.number("finish"), part.one_of("durable", Durable),
+        part.number("served"), _cut(part.part("cut")), part.number("tenant_connections"), part.number("hello_seconds"),
+        part.number("idle_seconds"), part.number("rotate_at"), part.number("keep"), part.number("finish"), part.one_of("durable", Durable),
         part.or_none("memory", part.number),
-        tuple(map(_worker, part.parts("workers"))), tuple(map(_term, part.parts("terms"))),
-        tuple(map(_closed, part.parts("closed"))))
+        tuple(map(_worker, part.parts("workers"))), tuple(map(_tenant, part.parts("tenants"))),
+        tuple(map(_term, part.parts("terms"))), tuple(map(_closed, part.parts("closed"))))
+    part.distinct("tenants", "tenant", [it.tenant for it in status.tenants])
     known: list[Term | ClosedTerm] = [*status.terms, *status.closed]
     part.distinct("terms", "term", [f"{it.tenant}.{it.number:06}" for it in known])
     return status
@@ -326,6 +343,10 @@ def _host(part: _Part) -> HostStatus:
 
 def _cut(part: _Part) -> Cut:
     return Cut(part.number("hello"), part.number("idle"))
+
+
+def _tenant(part: _Part) -> TenantStatus:
+    return TenantStatus(part.text("tenant"), part.number("connected"), part.number("refused"))
 
 
 def _worker(part: _Part) -> WorkerStatus:
