@@ -1,0 +1,60 @@
+"""Requests that are sent together: their replies share a write, and none of them waits for what a later one waits for."""
+import json
+import os
+import subprocess
+import tempfile
+
+from durable import submits
+from hosts import Host, ask, hang_up, tenant
+from losses import ORDERS
+from servers import PATIENCE, Bound
+
+TOGETHER = 16
+WRITES = 4
+"""How many writes they may take: the host may read them in pieces."""
+
+
+def send(connection: Bound, requests: list[dict]) -> None:
+    """Sends requests in one piece."""
+    connection.client.sendall("".join(json.dumps(it) + "\n" for it in requests).encode())
+
+
+def replies(connection: Bound, count: int) -> list[dict]:
+    """The next replies."""
+    return [json.loads(connection.replies.readline()) for _ in range(count)]
+
+
+def replies_share_a_write() -> None:
+    """Each time replies go out, what they tell was written to the journal, and by `reply` it is on the disk; for sixteen
+    requests that does not happen sixteen times."""
+    with tempfile.TemporaryDirectory() as folder:
+        library = os.path.join(folder, "orders.so")
+        subprocess.run(["cc", "-shared", "-fPIC", "-o", library, ORDERS], check=True, timeout=PATIENCE)
+        for durable, steps in (("write", ["written", "told"]), ("reply", ["written", "synced", "told"])):
+            os.environ["ORDERS"] = os.path.join(folder, durable)
+            # Nothing runs by itself: the only slot is reserved.
+            host = Host([tenant("acme", slots=1)], "--durable", durable, preload=library)
+            client = host.connect()
+            with open(os.environ["ORDERS"]) as noted:
+                noted.seek(0, os.SEEK_END)
+                send(client, [submits(1)] * TOGETHER)
+                assert replies(client, TOGETHER) == [{"job": number} for number in range(1, TOGETHER + 1)]
+                done = [line.split()[0] for line in noted]
+            assert done == steps * (len(done) // len(steps)) and len(done) <= WRITES * len(steps), done
+            hang_up(client)
+            assert host.stop() == 0
+
+
+def no_reply_waits_for_a_later_one() -> None:
+    """A collect waits, and the number of its job has gone out before: another connection can cancel that."""
+    host = Host([tenant("acme", slots=1)])
+    client, other = host.connect(), host.connect()
+    send(client, [submits(1), {"op": "poll", "job": 7}, {"op": "collect", "job": 1}])
+    assert replies(client, 2) == [{"job": 1}, {"code": 6, "error": "unknown_job"}]
+    assert ask(other, {"op": "cancel", "job": 1}) == {"first": True, "job": 1}
+    assert replies(client, 1) == [{"job": 1, "status": "canceled"}]
+    hang_up(client, other)
+    assert host.stop() == 0
+
+
+CHECKS = [replies_share_a_write, no_reply_waits_for_a_later_one]
