@@ -4,7 +4,7 @@ import os
 import subprocess
 import tempfile
 
-from durable import submits
+from durable import submits, told_in_order
 from hosts import Host, ask, hang_up, tenant
 from losses import ORDERS
 from servers import PATIENCE, Bound
@@ -39,7 +39,7 @@ def replies_share_a_write() -> None:
                 noted.seek(0, os.SEEK_END)
                 send(client, [submits(1)] * TOGETHER)
                 assert replies(client, TOGETHER) == [{"job": number} for number in range(1, TOGETHER + 1)]
-                done = [line.split()[0] for line in noted]
+                done = told_in_order(noted)
             assert done == steps * (len(done) // len(steps)) and len(done) <= WRITES * len(steps), done
             hang_up(client)
             assert host.stop() == 0
