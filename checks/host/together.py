@@ -30,7 +30,7 @@ def replies_share_a_write() -> None:
     with tempfile.TemporaryDirectory() as folder:
         library = os.path.join(folder, "orders.so")
         subprocess.run(["cc", "-shared", "-fPIC", "-o", library, ORDERS], check=True, timeout=PATIENCE)
-        for durable, steps in (("write", ["written", "told"]), ("reply", ["written", "synced", "told"])):
+        for durable, steps in (("write", ["written"]), ("reply", ["written", "synced"])):
             os.environ["ORDERS"] = os.path.join(folder, durable)
             # Nothing runs by itself: the only slot is reserved.
             host = Host([tenant("acme", slots=1)], "--durable", durable, preload=library)
@@ -40,7 +40,9 @@ def replies_share_a_write() -> None:
                 send(client, [submits(1)] * TOGETHER)
                 assert replies(client, TOGETHER) == [{"job": number} for number in range(1, TOGETHER + 1)]
                 done = told_in_order(noted)
-            assert done == steps * (len(done) // len(steps)) and len(done) <= WRITES * len(steps), done
+            # What comes before each time that replies went out. A thread writes each second too.
+            before = " ".join(done).removesuffix("told").split("told")
+            assert len(before) <= WRITES and all(list(dict.fromkeys(it.split())) == steps for it in before), done
             hang_up(client)
             assert host.stop() == 0
 
