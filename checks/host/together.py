@@ -25,8 +25,8 @@ def replies(connection: Bound, count: int) -> list[dict]:
 
 
 def replies_share_a_write() -> None:
-    """Each time replies go out, what they tell was written to the journal, and by `reply` it is on the disk; for sixteen
-    requests that does not happen sixteen times."""
+    """Before replies go out, what they tell was written to the journal, and by `reply` it is on the disk; for sixteen requests
+    that does not happen sixteen times."""
     with tempfile.TemporaryDirectory() as folder:
         library = os.path.join(folder, "orders.so")
         subprocess.run(["cc", "-shared", "-fPIC", "-o", library, ORDERS], check=True, timeout=PATIENCE)
@@ -40,9 +40,9 @@ def replies_share_a_write() -> None:
                 send(client, [submits(1)] * TOGETHER)
                 assert replies(client, TOGETHER) == [{"job": number} for number in range(1, TOGETHER + 1)]
                 done = told_in_order(noted)
-            # What comes before each time that replies went out. A thread writes each second too.
-            before = " ".join(done).removesuffix("told").split("told")
-            assert len(before) <= WRITES and all(list(dict.fromkeys(it.split())) == steps for it in before), done
+            assert done.count("told") <= WRITES and done[-1] == "told", done
+            # A thread writes each second too.
+            assert list(dict.fromkeys(done[: done.index("told")])) == steps, done
             hang_up(client)
             assert host.stop() == 0
 
