@@ -20,8 +20,9 @@ JOBS = 100
 BATCH = 50
 
 
-# A step of a slot, as a session's thread takes it: the first one, and the others since nobody else is out, are advances under
-# the lock, where each is recorded. If somebody else were out, it would make a private run outside of the lock and commit it.
+# A step of a slot, as a session's thread takes it: a job's first one looks at the topmost row under the lock, makes the
+# private run outside of it, and commits that under the lock, where it is recorded. The others, since nobody else is out,
+# are advances under the lock.
 STEP = ("server_doors::slots::TenantSlotsDueDoor::view*", "job_step::segments::segment_of",
         "server_doors::slots::TenantSlotsDueDoor::commit*", "server_doors::slots::TenantSlotsDueDoor::advance*")
 
@@ -86,7 +87,7 @@ def an_entry(program: pathlib.Path) -> float:
 
 
 def a_step(program: pathlib.Path) -> float:
-    """What a step of a slot takes, by view and advance."""
+    """What a step of a slot takes, by view, segment and commit, or by view and advance."""
     return serve(program, JOBS, within=STEP).counted.instructions / (JOBS * STEPS)
 
 

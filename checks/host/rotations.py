@@ -243,8 +243,7 @@ def what_it_shows() -> None:
 def is_at_work(host: Host) -> bool:
     """Whether the status shows acme's only worker at its slot, with a job that it runs and others that wait for it."""
     status = host.status()
-    # Nobody else is at a slot, so it makes no run away from the lock, by which its slot would be known.
-    if status["workers"] != [{"worker": 0, "tenant": "acme", "slot": None}]:
+    if status["workers"] != [{"worker": 0, "tenant": "acme", "slot": 1}]:
         return False
     [acme] = status["terms"]
     rows = acme["rows"]

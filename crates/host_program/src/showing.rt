@@ -86,7 +86,7 @@ fn workers<J: Naming, R: Wait>(
     Ok(workers)
 }
 
-/// The name of the tenant at whose slot a worker is, and the slot, if it is known.
+/// The name of the tenant at whose slot a worker is, and the slot.
 fn where_is<J: Naming, R: Wait>(
     rt: &R,
     alloc: Global,
@@ -97,7 +97,7 @@ fn where_is<J: Naming, R: Wait>(
         return Ok((None, None));
     };
     match site.host.tenancy(rt, tenant as usize) {
-        Some(tenancy) => Ok((Some(text_of(alloc, tenancy.name())?), slot)),
+        Some(tenancy) => Ok((Some(text_of(alloc, tenancy.name())?), Some(slot))),
         None => Ok((None, None)),
     }
 }

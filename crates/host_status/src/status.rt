@@ -6,8 +6,7 @@ use serde::Serialize;
 use std::alloc::Global;
 use term_life::{Stage, Why};
 
-/// Where a worker was last: a tenant and one of its slots. Both are missing while it waits for a call, and the slot until the
-/// worker has made a private run there.
+/// Where a worker was last: a tenant and one of its slots. Both are missing while it waits for a call.
 #[derive(Drop, Serialize)]
 pub struct Worker {
     /// The worker's number, from 0 on.

@@ -6,11 +6,7 @@ use worker_main::Gate;
 /// What a place holds while its worker waits for a call.
 const NOWHERE: u64 = u64::MAX;
 
-/// What stands in the place of a slot that is not known. No tenant has so many.
-const ANY_SLOT: u8 = u8::MAX;
-
-/// Where a worker is, for whoever looks: the tenant, and the slot of its last private run there, once it has made one. It
-/// makes none at a slot that it moves under the tenant's lock, as where nobody else is at one.
+/// Where a worker is, for whoever looks: the tenant and the slot of its last private run.
 #[derive(Drop)]
 pub struct Place {
     /// The tenant's number above the lowest 8 bits, and the slot in those.
@@ -25,27 +21,12 @@ impl Place {
         }
     }
 
-    /// The number of the tenant, and the slot if it is known. None while the worker waits for a call.
-    pub fn seen(&self) -> Option<(u64, Option<u8>)> {
-        let at = self.at.load(Ordering::SeqCst);
-        let slot = (at & 0xff) as u8;
-        if at == NOWHERE {
-            None
-        } else if slot == ANY_SLOT {
-            Some((at >> 8, None))
-        } else {
-            Some((at >> 8, Some(slot)))
+    /// The number of the tenant, and the slot. None while the worker waits for a call.
+    pub fn seen(&self) -> Option<(u64, u8)> {
+        match self.at.load(Ordering::SeqCst) {
+            NOWHERE => None,
+            at => Some((at >> 8, (at & 0xff) as u8)),
         }
-    }
-
-    /// The worker is at a slot of the tenant of that number.
-    pub(crate) fn enter(&self, tenant: usize) {
-        self.note(tenant, ANY_SLOT);
-    }
-
-    fn note(&self, tenant: usize, slot: u8) {
-        let at = (tenant as u64) << 8 | u64::from(slot);
-        self.at.store(at, Ordering::SeqCst);
     }
 
     /// The worker waits for a call.
@@ -64,6 +45,7 @@ pub(crate) struct TermGate<'p> {
 
 impl<'p> Gate for TermGate<'p> {
     fn inside(&self, _tenant: usize, slot: u8) {
-        self.place.note(self.tenant, slot);
+        let at = (self.tenant as u64) << 8 | u64::from(slot);
+        self.place.at.store(at, Ordering::SeqCst);
     }
 }

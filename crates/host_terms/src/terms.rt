@@ -154,7 +154,6 @@ impl<J: Naming> HostTerm<J> {
             board,
             calls: &self.calls,
         };
-        place.enter(tenant);
         let gate = TermGate { place, tenant };
         let (post, _is_called) = post.serve_call(rt, &signal, &gate, Visiting::Sharing);
         // There is room for it: it was there before.

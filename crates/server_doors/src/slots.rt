@@ -40,8 +40,8 @@ pub struct TenantSlots<'d, J: Naming, R: Wait> {
     /// was taken is `Bare`.
     height: Option<usize>,
     view: Cell<View>,
-    /// How many of its next moves are advances under the lock, whatever its view is: its last private run was short,
-    /// nobody else was at a slot, or a row has just come to it.
+    /// How many of its next moves are advances under the lock, whatever its view is: its last private run was short, or
+    /// nobody else was at a slot.
     under_lock: u8,
 }
 
@@ -148,8 +148,7 @@ impl<'d, J: Naming, R: Wait> TenantSlots<'d, J, R> {
         }
     }
 
-    /// Takes a pass with which a row has just come to an empty slot, if there is one: one row is on the slot then, and its
-    /// first move is an advance under the lock, so neither is looked up.
+    /// Takes a pass with which a row has just come to an empty slot, if there is one: one row is on the slot then.
     fn begin(&mut self, pass: Option<Pass>)
         requires none { self.old.pass ≡ None }
         requires there { IfSome pass (λ p. p.tenant < length self.old.doors) }
@@ -157,7 +156,6 @@ impl<'d, J: Naming, R: Wait> TenantSlots<'d, J, R> {
     {
         if pass.is_some() {
             self.height = Some(1);
-            self.under_lock = 1;
         }
         self.hold(pass);
     }

@@ -101,8 +101,7 @@ class Term:
 
 @dataclass(frozen=True, slots=True)
 class WorkerStatus:
-    """Where a worker was last: at a slot of a tenant, or None for both while it waits for a call. The slot is None too until the
-    worker has run there away from the lock."""
+    """Where a worker was last: at a slot of a tenant, or None for both while it waits for a call."""
 
     worker: int
     tenant: str | None
