@@ -90,15 +90,18 @@ fn attended<J: Naming, R: Wait>(
 }
 
 #[test]
-fn a_slot_that_is_alone_is_advanced(rt: HostRuntime) -> Result<(), Fail> {
-    a_slot_that_is_alone_is_advanced_in::<Brand, _>(&rt, rt.alloc(), OpenedRegistry::new())
+fn a_slot_that_is_alone_is_advanced_after_its_first_turn(rt: HostRuntime) -> Result<(), Fail> {
+    a_slot_that_is_alone_is_advanced_after_its_first_turn_in::<Brand, _>(
+        &rt,
+        rt.alloc(),
+        OpenedRegistry::new(),
+    )
 }
 
-fn a_slot_that_is_alone_is_advanced_in<J: Naming + Send + Sync, R: Threads + Wait + Sync + Abort>(
-    rt: &R,
-    alloc: Global,
-    opened: OpenedRegistry,
-) -> Result<(), Fail>
+fn a_slot_that_is_alone_is_advanced_after_its_first_turn_in<
+    J: Naming + Send + Sync,
+    R: Threads + Wait + Sync + Abort,
+>(rt: &R, alloc: Global, opened: OpenedRegistry) -> Result<(), Fail>
     requires { opened ≡ J.registry }
 {
     let registry: Registry<J> = opened.named();
