@@ -21,6 +21,8 @@ SECONDS = float(sys.argv[1]) if len(sys.argv) > 1 else 2.0
 ROUNDS = int(sys.argv[2]) if len(sys.argv) > 2 else 5
 HOST = os.path.abspath(sys.argv[3] if len(sys.argv) > 3 else "out/arena-host")
 WORDS = ("off", "write", "second", "reply")
+TOGETHER = 16
+ARENA, INCR = '{"op":"arena"}', "INCR number"
 HELLO = '{"op":"hello","tenant":"acme"}'
 CONFIG = {"tenants": [{"name": "acme", "priority": "normal", "reserved": 1, "rows": 200, "slots": 2, "steps": 1_048_576}],
           "workers": 1}
@@ -49,7 +51,7 @@ def rate(clients: str, durable: str, connections: int, line: str) -> float:
     return float(out.split()[1])
 
 
-def redis_rate(clients: str, connections: int) -> float:
+def redis_rate(clients: str, connections: int, line: str) -> float:
     """How many turns a second clients take at Redis, each of which adds 1 to a number and waits until that is on the disk."""
     with tempfile.TemporaryDirectory(dir=os.environ.get("TMPDIR", "/var/tmp")) as folder:
         socket = os.path.join(folder, "socket")
@@ -59,18 +61,19 @@ def redis_rate(clients: str, connections: int) -> float:
             while not os.path.exists(socket):
                 assert redis.poll() is None
                 time.sleep(0.01)
-            words = [clients, socket, str(connections), str(SECONDS), "PING", "INCR number"]
+            words = [clients, socket, str(connections), str(SECONDS), "PING", line]
             out = subprocess.run(words, check=True, capture_output=True, text=True).stdout
             redis.terminate()
             redis.wait(timeout=60)
     return float(out.split()[1])
 
 
-def beside_redis(clients: str, connections: int, line: str) -> None:
-    """A row of the second table: the medians, and the median of each round's ratio."""
-    rounds = [(rate(clients, "reply", connections, line), redis_rate(clients, connections)) for _ in range(ROUNDS)]
+def beside_redis(clients: str, connections: int, count: int) -> None:
+    """A row of the second table, of so many requests sent together: the medians, and the median of each round's ratio."""
+    own_lines, its_lines = "\n".join([ARENA] * count), "\n".join([INCR] * count)
+    rounds = [(rate(clients, "reply", connections, own_lines), redis_rate(clients, connections, its_lines)) for _ in range(ROUNDS)]
     own, redis = (statistics.median(it) for it in zip(*rounds, strict=True))
-    print(f"| {connections} | {own:,.0f} | {redis:,.0f} | {statistics.median(mine / its for mine, its in rounds):.2f} |", flush=True)
+    print(f"| {count} | {connections} | {own:,.0f} | {redis:,.0f} | {statistics.median(mine / its for mine, its in rounds):.2f} |", flush=True)
 
 
 def compared(clients: str, name: str, connections: int, line: str) -> None:
@@ -88,13 +91,15 @@ def main() -> None:
         subprocess.run(["cc", "-O2", "-pthread", "-o", clients, CLIENTS], check=True)
         print("| A second | Connections | `off` | `write` | `second` | `reply` |\n|---|---|---|---|---|---|")
         for connections in (1, 64):
-            compared(clients, "`arena`", connections, '{"op":"arena"}')
+            compared(clients, "`arena`", connections, ARENA)
+            compared(clients, f"{TOGETHER} `arena`, sent together", connections, "\n".join([ARENA] * TOGETHER))
         compared(clients, "a small job, executed", 1, executes([[["ret", 0]]], 7))
         compared(clients, "fib(6), executed", 1, executes(FIB, 6))
         if shutil.which("redis-server"):
-            print("\n| Connections | `arena`, `--durable reply` | `INCR`, Redis, `appendfsync always` | Ratio |\n|---|---|---|---|")
-            for connections in (1, 64):
-                beside_redis(clients, connections, '{"op":"arena"}')
+            print("\n| Together | Connections | `arena`, `--durable reply` | `INCR`, Redis, `appendfsync always` | Ratio |\n|---|---|---|---|---|")
+            for count in (1, TOGETHER):
+                for connections in (1, 64):
+                    beside_redis(clients, connections, count)
 
 
 main()
