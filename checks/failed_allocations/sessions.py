@@ -25,13 +25,18 @@ def complete(job: int, value: int) -> dict:
     return {"job": job, "status": "complete", "value": value}
 
 
+def spaced(request: dict) -> str:
+    """The text of a request with spaces, so that its job is read by way of a JSON value."""
+    return json.dumps(request)
+
+
 # Each session's lines, each beside its reply. The third session begins when the others have ended.
-SESSIONS = [[(line_of(request), line_of(reply)) for request, reply in pairs] for pairs in [
-    [(hello("acme"), {"tenant": "acme"}), (execute(MIXED), complete(1, 15)),
+SESSIONS = [[(request if isinstance(request, str) else line_of(request), line_of(reply)) for request, reply in pairs] for pairs in [
+    [(hello("acme"), {"tenant": "acme"}), (spaced(execute(MIXED)), complete(1, 15)),
      (cells(0), {"count": 1, "key": 0, "sum": 5}), (submit(SEVEN), {"job": 2}), (collect(2), complete(2, 7)),
      (cancel(2), {"first": False, "job": 2})],
     [(hello("beta"), {"tenant": "beta"}), (submit(SEVEN), {"job": 1}), (cancel(1), {"first": True, "job": 1}),
-     (poll(1), {"job": 1, "status": "canceled"}), (execute(SEVEN), complete(2, 7)), (poll(2), complete(2, 7))],
+     (poll(1), {"job": 1, "status": "canceled"}), (spaced(execute(SEVEN)), complete(2, 7)), (poll(2), complete(2, 7))],
     [(hello("acme"), {"tenant": "acme"}), (ARENA, {"priority": "normal", "reserved": 1, "slots": 3}),
      (RETIRE, {"epoch": 1}), (poll(1), {"code": 6, "error": "unknown_job"}),
      (cells(0), {"count": 0, "key": 0, "sum": 0})]]]
@@ -50,8 +55,11 @@ NO_LINE = "a session has no memory for its lines, and ends"
 NO_MORE = "no more connections are accepted"
 NO_CLOSE = "no tenant is closed"
 NO_DUMP = "a dump is missing"
+# A job in canonical form that could not be read straight for lack of memory is read by way of a JSON value, so one failed
+# allocation never refuses its line.
 EFFECTS = [NO_START, NO_DEVICE, NO_LINE, NO_MORE, NO_CLOSE, NO_DUMP,
-           *(refusal(number, at) for number, lines in enumerate(SESSIONS) for at in range(len(lines)))]
+           *(refusal(number, at) for number, lines in enumerate(SESSIONS) for at, (line, _) in enumerate(lines)
+             if '"job":{' not in line)]
 
 
 class Session:
