@@ -1,5 +1,6 @@
 // The replies of a session on their way to its client. They wait until what they tell is kept: those of requests that came
 // together wait for one write of the journal, and go out by one write to the stream.
+ghost use Rattle.std.specs.Prelude.{◌≤◌, IfOk, length};
 
 use crate::journals::Kept;
 use crate::terms::HostTerm;
@@ -118,8 +119,10 @@ impl<'s, J: Naming, R: Wait> Outbox<'s, J, R> {
         }
     }
 
-    /// Adds a part of a reply to those that wait.
-    fn hold(&self, bytes: &[u8]) -> io::Result<usize> {
+    /// Adds a part of a reply to those that wait, and says how many bytes it took.
+    fn hold(&self, bytes: &[u8]) -> io::Result<usize>
+        ensures { IfOk result (λ count. count ≤ length bytes.now) }
+    {
         let mut held = self.held.lock(self.rt);
         held.lines.extend_from_slice(bytes)?;
         Ok(bytes.len())
