@@ -1,14 +1,13 @@
 // The places of a host's sessions, each of which serves one client after another.
 
 use crate::hosts::Host;
-use crate::outbox::{Incoming, Outbox, Outgoing};
 use crate::patience::{Overdue, Patience, Seen};
 use crate::sessions::HostDoors;
 use crate::terms::Booking;
 use mio::Waker;
 use server_io::Watch;
 use session_core::serve;
-use std::alloc::{AllocError, Global};
+use std::alloc::Global;
 use std::net::Shutdown;
 use std::os::unix::net::UnixStream;
 use std::sync::atomic::{AtomicBool, AtomicU64, Ordering};
@@ -221,35 +220,19 @@ pub fn attend_desk<J: Naming, R: Wait + Clock>(
     desk: &Desk<J>,
     waker: &Waker,
 ) {
+    let mut doors = HostDoors::new(rt, alloc, host, desk);
     for _guest in rt.forever() {
         let Some(stream) = desk.next_guest(rt) else {
             return;
         };
-        // However it ended, the next guest may come. Without memory for its replies, its connection ends.
-        let _served = serve_guest(rt, alloc, host, desk, &stream);
+        let guest = &*stream;
+        // However it ended, the next guest may come.
+        let _end = serve(alloc, &mut &*guest, &mut &*guest, &mut doors);
+        doors.leave();
         // The client may have gone before.
-        let _ = stream.shutdown(Shutdown::Both);
+        let _ = guest.shutdown(Shutdown::Both);
         desk.free(rt);
         // If the waker fails, the next tick shows that the desk is free.
         let _ = waker.wake();
     }
-}
-
-/// Serves a guest until the connection ends, however it does.
-fn serve_guest<J: Naming, R: Wait + Clock>(
-    rt: &R,
-    alloc: Global,
-    host: &Host<J>,
-    desk: &Desk<J>,
-    stream: &UnixStream,
-) -> Result<(), AllocError> {
-    let outbox: Outbox<'_, J, R> = Outbox::new(rt, alloc, stream)?;
-    let mut doors = HostDoors::new(rt, alloc, host, desk, &outbox);
-    let mut incoming = Incoming { outbox: &outbox };
-    let mut outgoing = Outgoing { outbox: &outbox };
-    let _end = serve(alloc, &mut incoming, &mut outgoing, &mut doors);
-    // What was answered before goes out, if it can.
-    let _sent = outbox.let_out();
-    doors.leave();
-    Ok(())
 }

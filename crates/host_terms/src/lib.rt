@@ -10,7 +10,6 @@ mod forgetting;
 mod hosts;
 mod journals;
 mod numbering;
-mod outbox;
 mod outcomes;
 mod outlet;
 mod patience;

@@ -8,8 +8,7 @@ mod forgetting;
 use crate::admissions::Admission;
 use crate::desks::Desk;
 use crate::hosts::Host;
-use crate::numbering::{Served, at_once, brings_job, renumbered, told_outside};
-use crate::outbox::Outbox;
+use crate::numbering::{Served, acknowledged, at_once, brings_job, renumbered};
 use crate::tenancies::{Found, Tenancy};
 use crate::terms::Booking;
 use job_language::{Error, Moved, Reply, Request, TenantName};
@@ -34,27 +33,18 @@ pub(crate) struct HostDoors<'h, J: Naming, R: Wait + Clock> {
     alloc: Global,
     host: &'h Host<J>,
     desk: &'h Desk<J>,
-    /// Where its replies go.
-    outbox: &'h Outbox<'h, J, R>,
     /// Its place at the tenant that it is bound to.
     admission: Option<Admission<J>>,
 }
 
 impl<'h, J: Naming, R: Wait + Clock> HostDoors<'h, J, R> {
     /// A session that is bound to no tenant yet.
-    pub(crate) fn new(
-        rt: &'h R,
-        alloc: Global,
-        host: &'h Host<J>,
-        desk: &'h Desk<J>,
-        outbox: &'h Outbox<'h, J, R>,
-    ) -> Self {
+    pub(crate) fn new(rt: &'h R, alloc: Global, host: &'h Host<J>, desk: &'h Desk<J>) -> Self {
         HostDoors {
             rt,
             alloc,
             host,
             desk,
-            outbox,
             admission: None,
         }
     }
@@ -90,7 +80,7 @@ impl<'h, J: Naming, R: Wait + Clock> HostDoors<'h, J, R> {
         let mut request = request;
         for _try in 0..TRIES {
             let Some(booking) = self.book_for(tenancy, &request) else {
-                if self.waits_for_next(tenancy, None) {
+                if tenancy.wait_for_next(self.rt, None, stop) {
                     continue;
                 }
                 return Served::by_none();
@@ -98,7 +88,7 @@ impl<'h, J: Naming, R: Wait + Clock> HostDoors<'h, J, R> {
             let span = booking.term().span();
             if booking.term().is_broken() {
                 self.desk.keep_booking(self.rt, booking);
-                if self.waits_for_next(tenancy, Some(span.number)) {
+                if tenancy.wait_for_next(self.rt, Some(span.number), stop) {
                     continue;
                 }
                 return Served::by_none();
@@ -111,7 +101,7 @@ impl<'h, J: Naming, R: Wait + Clock> HostDoors<'h, J, R> {
             let Some(again) = spare else {
                 return Served::by(span.number, reply);
             };
-            if !is_full || !self.waits_for_next(tenancy, Some(span.number)) {
+            if !is_full || !tenancy.wait_for_next(self.rt, Some(span.number), stop) {
                 return Served::by(span.number, reply);
             }
             request = again;
@@ -119,27 +109,14 @@ impl<'h, J: Naming, R: Wait + Clock> HostDoors<'h, J, R> {
         Served::by_none()
     }
 
-    /// Waits until another term serves than the one of that number, as `Tenancy::wait_for_next` says. The replies to what
-    /// was asked before go out.
-    fn waits_for_next(&self, tenancy: &Tenancy<J>, number: Option<u64>) -> bool {
-        self.let_out();
-        tenancy.wait_for_next(self.rt, number, self.desk.is_gone())
-    }
-
-    /// Lets the replies go out to what was asked before, since the next one may take a while.
-    fn let_out(&self) {
-        // If they can't, the session finds it out when it goes on.
-        let _sent = self.outbox.let_out();
-    }
-
-    /// What the session is told outside of the term where it was told that. It goes out once what the term was asked is
-    /// kept. If the term can't be noted for that, the client is told nothing: its connection ends.
+    /// What the session is told outside of the term where it was told that, once what the term was asked is kept. If that
+    /// can't be, the client is told nothing: its connection ends.
     fn outside(&self, booking: &Booking<J>, told: Told) -> Reply {
         if told.reply == Reply::Pending {
             return Reply::Pending;
         }
-        match booking.handle() {
-            Some(term) => told_outside(told, booking.term().span().base, self.outbox.owe(term)),
+        match booking.term().kept(self.rt, self.alloc) {
+            Some(kept) => acknowledged(told, booking.term().span().base, kept),
             None => {
                 self.desk.shut(self.rt, Shutdown::Both);
                 Reply::Refused(Error::HistoryFull)
@@ -156,7 +133,6 @@ impl<'h, J: Naming, R: Wait + Clock> HostDoors<'h, J, R> {
         }
         let number = booking.term().span().number;
         self.desk.keep_booking(self.rt, booking);
-        self.let_out();
         tenancy.wait_if_one_comes(self.rt, number, self.desk.is_gone());
         self.book_serving(tenancy)
     }
@@ -267,9 +243,6 @@ impl<'h, J: Naming, R: Wait + Clock> Doors for HostDoors<'h, J, R> {
     }
 
     fn ask(&mut self, request: Request) -> Answered {
-        if let Request::Execute(_) = &request {
-            self.let_out();
-        }
         self.desk.begin_asking();
         let reply = match &self.admission {
             None => Reply::Refused(Error::NoTenant),
@@ -288,7 +261,6 @@ impl<'h, J: Naming, R: Wait + Clock> Doors for HostDoors<'h, J, R> {
             return true;
         };
         let tenancy = admission.tenancy();
-        self.let_out();
         match self.find_owner(tenancy, job, &Request::Collect(job)) {
             Found::Live(booking) => {
                 self.desk.begin_asking();

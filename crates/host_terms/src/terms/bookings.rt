@@ -27,11 +27,6 @@ impl<J: Naming> Booking<J> {
         &self.term
     }
 
-    /// A handle on its term. None if too many are out.
-    pub(crate) fn handle(&self) -> Option<Arc<HostTerm<J>>> {
-        Arc::try_clone(&self.term).ok()
-    }
-
     /// Asks the term's tenant, and attends the slot that a job is placed on.
     pub(crate) fn ask<R: Wait>(
         self,
