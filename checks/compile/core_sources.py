@@ -14,14 +14,22 @@ class Sources:
     draws: random.Random
     count: int = 0
     names: list[str] = field(default_factory=list)
+    constants: list[str] = field(default_factory=list)
 
     def source(self) -> str:
-        """A source with a main of two parameters."""
-        self.count, self.names = 0, ["a", "b"]
+        """A source with a main of two parameters, behind constants."""
+        self.count, self.names, self.constants = 0, ["a", "b"], []
+        items = "".join(self.constant() for _ in range(self.draws.choice((0, 0, 1, 2))))
         body = self.block(1, MOST_DEPTH, in_loop=False)
         last = "" if self.draws.random() < 0.2 else f"    return {self.value(2)}\n"
         comment = "# drawn\n" if self.draws.random() < 0.3 else ""
-        return f"{comment}fn main(a, b) {{\n{body}{last}}}\n"
+        return f"{comment}{items}fn main(a, b) {{\n{body}{last}}}\n"
+
+    def constant(self) -> str:
+        """A constant: a number, or one of those above."""
+        value = self.draws.choice([*self.constants, str(self.draws.randint(-4, 9))])
+        self.constants.append(f"C{len(self.constants)}")
+        return f"{self.draws.choice(('const', 'param'))} {self.constants[-1]} = {value}\n"
 
     def block(self, indent: int, depth: int, in_loop: bool) -> str:
         """The lines of a block, without its braces. No statement in it but the last one leaves."""
@@ -45,7 +53,7 @@ class Sources:
         if kind == "if":
             return self.choice(indent, depth, in_loop)
         if kind == "while":
-            return self.loop(indent, depth)
+            return self.draws.choice((self.loop, self.counted))(indent, depth)
         name = self.draws.choice(self.names)
         if kind == "update":
             return f"{room}{name} {self.draws.choice(ARITHMETIC)}= {self.value(1)}\n"
@@ -72,6 +80,16 @@ class Sources:
         body = self.block(indent + 1, depth - 1, in_loop=True)
         return f"{room}let {turn} = 0\n{room}while {test} {{\n{room}    {turn} += 1\n{body}{room}}}\n"
 
+    def counted(self, indent: int, depth: int) -> str:
+        """A loop that counts. Its ends may be named by what its body changes."""
+        room = "    " * indent
+        self.count += 1
+        index = f"i{self.count}"
+        low, high = (self.draws.choice((str(self.draws.randint(-2, 3)), f"{self.draws.choice(self.names)} % 3")) for _ in range(2))
+        used = f"{room}    {self.draws.choice(self.names)} += {index}\n"
+        body = self.block(indent + 1, depth - 1, in_loop=True)
+        return f"{room}for {index} in {low}..{high} + 2 {{\n{used}{body}{room}}}\n"
+
     def any_value(self) -> str:
         """A value that a variable may be given: a number, or a condition."""
         return self.condition(2) if self.draws.random() < 0.2 else self.value(2)
@@ -79,7 +97,7 @@ class Sources:
     def value(self, depth: int) -> str:
         """A number."""
         if not depth or self.draws.random() < 0.3:
-            return self.draws.choice((self.draws.choice(self.names), str(self.draws.randint(-3, 12))))
+            return self.draws.choice((self.draws.choice([*self.names, *self.constants]), str(self.draws.randint(-3, 12))))
         operator = self.draws.choice((*ARITHMETIC, "<"))
         both = f"{self.value(depth - 1)} {operator} {self.value(depth - 1)}"
         return self.draws.choice((f"({both})", f"({both})", f"-({both})"))

@@ -55,9 +55,13 @@ impl CompileFault {
 fn words_of(wrong: Wrong) -> &'static str {
     match wrong {
         Wrong::Unexpected => "this is not expected here, or is not taken by arena-compile",
-        Wrong::UnknownName => "no variable of this name is known here",
-        Wrong::KnownName => "a variable of this name is there already",
+        Wrong::UnknownName => "no variable and no constant of this name is known here",
+        Wrong::KnownName => "a variable or a constant of this name is there already",
         Wrong::TooManyNames => "a function has at most 240 variables",
+        Wrong::NotAssigned => "only variables are assigned to, and not the index of a `for`",
+        Wrong::NoConstant => "the value of a constant is a number, or a constant above it",
+        Wrong::LateConstant => "constants stand above all functions",
+        Wrong::TooManyConstants => "a source has at most 100 constants",
         Wrong::Comparison => "a comparison is no operand of this operator here",
         Wrong::TooLong => "what begins here is too long, or nested too deep",
         Wrong::NeverReached => "this is never reached: leave it out",

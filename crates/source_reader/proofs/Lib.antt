@@ -1,3 +1,4 @@
 pub mod ValueSteps
 pub mod StmtSteps
 pub mod FunctionSteps
+pub mod ItemSteps

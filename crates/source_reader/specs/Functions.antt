@@ -1,5 +1,5 @@
 -- Functions.
-use Rattle.std.specs.Prelude.{ℕ, zero, suc, ◌+◌, ◌==◌, ◌||◌, nat_lt, Bool, true, false, List, [], ◌∷◌, ◌++◌, drop, Option, Some, None, Result, Ok, Err, if◌then◌else◌}
+use Rattle.std.specs.Prelude.{ℕ, zero, suc, ◌+◌, ◌==◌, ◌||◌, nat_lt, Bool, true, false, List, [], ◌∷◌, ◌++◌, drop, length, Option, Some, None, Result, Ok, Err, if◌then◌else◌}
 use Rattle.source_tokens.specs.declared.tokens.Kind.{Kind}
 use Rattle.source_tokens.specs.declared.tokens.Kind.TheVariants as kind
 use Rattle.source_tokens.specs.declared.tokens.Token.{Token}
@@ -11,15 +11,15 @@ use Rattle.source_reader.specs.declared.functions.TheConstants.{BODY_FUEL}
 use Rattle.source_reader.specs.Faults.{◌>>=◌, fault_at}
 use Rattle.source_reader.specs.Trees.{StmtTree, FunctionTree, function_tree_of, SkipTree, ThenTree, AssignTree, IfTree, LoopTree, RepeatTree, BreakTree, ContinueTree, ReturnTree, MakeTree, WaitTree, CancelTree, ReadTree, StoreTree}
 use Rattle.source_reader.specs.Values.{unexpected, after_open, after_close}
-use Rattle.source_reader.specs.Lines.{is_line_end, after_line_ends}
+use Rattle.source_reader.specs.declared.names.Meaning.{Meaning}
+use Rattle.source_reader.specs.declared.names.Meaning.TheVariants as meaning
+use Rattle.source_reader.specs.Names.{number_after}
+use Rattle.source_reader.specs.Lines.{after_line_ends, free_name, item_ended}
 use Rattle.source_reader.specs.Simple.{ReadStmt}
 use Rattle.source_reader.specs.Statements.{Block, stmt_at}
 
 abbrev pub larger : ℕ → ℕ → ℕ
 larger a b = if nat_lt a b then b else a
-
-abbrev pub number_after : ℕ → ℕ
-number_after x = if nat_lt x 255 then x + 1 else 255
 
 -- how many variables a statement needs that was read
 abbrev pub variables_of : StmtTree → ℕ
@@ -38,8 +38,10 @@ variables_of (CancelTree g) = 0
 variables_of (ReadTree d q) = 0
 variables_of (StoreTree k e) = 0
 
+-- No constant stands below a function.
 abbrev pub after_fn_of : Kind → List Token → List Token → Result (List Token) Fault
 after_fn_of kind.Fn rest ts = Ok rest
+after_fn_of kind.Const rest ts = Err (fault_at ts wrong.LateConstant)
 after_fn_of k rest ts = unexpected ts
 
 abbrev pub after_fn : List Token → Result (List Token) Fault
@@ -74,51 +76,48 @@ abbrev pub main_first : List (Option ℕ) → List Token → Result (Option ℕ)
 main_first [] ts = Ok None
 main_first (first ∷ others) ts = Err (fault_at ts wrong.KnownFunction)
 
+-- the name of a function, which no other function has, and no constant
+abbrev pub new_function : (is_there : Bool) → List (ℕ × Meaning) → List Token → Result (Option ℕ) Fault
+new_function true names ts = Err (fault_at ts wrong.KnownFunction)
+new_function false names ts = free_name names ts >>= λ x. Ok (Some x)
+
 -- A name is no number for `main`, which only the first function may be called.
-abbrev pub function_name_of : Kind → List (Option ℕ) → List Token → Result (Option ℕ) Fault
-function_name_of kind.Main known ts = main_first known ts
-function_name_of (kind.Name x) known ts = if is_known x known then Err (fault_at ts wrong.KnownFunction) else Ok (Some x)
-function_name_of k known ts = unexpected ts
+abbrev pub function_name_of : Kind → List (ℕ × Meaning) → List (Option ℕ) → List Token → Result (Option ℕ) Fault
+function_name_of kind.Main names known ts = main_first known ts
+function_name_of (kind.Name x) names known ts = new_function (is_known x known) names ts
+function_name_of k names known ts = unexpected ts
 
-abbrev pub function_name : List (Option ℕ) → List Token → Result (Option ℕ) Fault
-function_name known [] = unexpected []
-function_name known (t ∷ ts) = function_name_of t.kind known (t ∷ ts)
+abbrev pub function_name : List (ℕ × Meaning) → List (Option ℕ) → List Token → Result (Option ℕ) Fault
+function_name names known [] = unexpected []
+function_name names known (t ∷ ts) = function_name_of t.kind names known (t ∷ ts)
 
-abbrev pub name_at_of : Kind → List Token → Result ℕ Fault
-name_at_of (kind.Name x) ts = Ok x
-name_at_of k ts = unexpected ts
+abbrev pub second_name : ℕ → List (ℕ × Meaning) → List Token → Result ℕ Fault
+second_name x names ts = free_name names ts >>= λ y. if y == x then Err (fault_at ts wrong.KnownName) else Ok y
 
-abbrev pub name_at : List Token → Result ℕ Fault
-name_at [] = unexpected []
-name_at (t ∷ ts) = name_at_of t.kind (t ∷ ts)
-
-abbrev pub second_name : ℕ → List Token → Result ℕ Fault
-second_name x ts = name_at ts >>= λ y. if y == x then Err (fault_at ts wrong.KnownName) else Ok y
-
-abbrev pub second_parameter : ℕ → List Token → Result (Parameters × List Token) Fault
-second_parameter x ts = do
+abbrev pub second_parameter : ℕ → List (ℕ × Meaning) → List Token → Result (Parameters × List Token) Fault
+second_parameter x names ts = do
   rest ← after_comma ts
-  y ← second_name x rest
+  y ← second_name x names rest
   after ← after_close (drop 1 rest)
   Ok (record { first = Some x; second = Some y }, after)
 
-abbrev pub first_parameter : List Token → Result (Parameters × List Token) Fault
-first_parameter ts = name_at ts >>= λ x. if is_close (drop 1 ts) then Ok (record { first = Some x; second = None }, drop 1 (drop 1 ts)) else second_parameter x (drop 1 ts)
+abbrev pub first_parameter : List (ℕ × Meaning) → List Token → Result (Parameters × List Token) Fault
+first_parameter names ts = free_name names ts >>= λ x. if is_close (drop 1 ts) then Ok (record { first = Some x; second = None }, drop 1 (drop 1 ts)) else second_parameter x names (drop 1 ts)
 
 -- behind `(`, with what follows `)`
-abbrev pub parameters_at : List Token → Result (Parameters × List Token) Fault
-parameters_at ts = if is_close ts then Ok (record { first = None; second = None }, drop 1 ts) else first_parameter ts
+abbrev pub parameters_at : List (ℕ × Meaning) → List Token → Result (Parameters × List Token) Fault
+parameters_at names ts = if is_close ts then Ok (record { first = None; second = None }, drop 1 ts) else first_parameter names ts
 
-abbrev pub second_of : ℕ → Option ℕ → List (ℕ × ℕ)
-second_of x None = (x, 0) ∷ []
-second_of x (Some y) = (y, 1) ∷ (x, 0) ∷ []
+abbrev pub second_of : ℕ → Option ℕ → List (ℕ × Meaning) → List (ℕ × Meaning)
+second_of x None names = (x, meaning.Variable 0) ∷ names
+second_of x (Some y) names = (y, meaning.Variable 1) ∷ (x, meaning.Variable 0) ∷ names
 
-abbrev pub names_in : Option ℕ → Option ℕ → List (ℕ × ℕ)
-names_in None second = []
-names_in (Some x) second = second_of x second
+abbrev pub names_in : Option ℕ → Option ℕ → List (ℕ × Meaning) → List (ℕ × Meaning)
+names_in None second names = names
+names_in (Some x) second names = second_of x second names
 
-abbrev pub body_at : Parameters → List Token → ReadStmt
-body_at p ts = stmt_at BODY_FUEL (names_in p.first p.second) (Block false) ts
+abbrev pub body_at : List (ℕ × Meaning) → Parameters → List Token → ReadStmt
+body_at names p ts = stmt_at BODY_FUEL (names_in p.first p.second names) (Block false) ts
 
 -- a function, its name, and what follows it
 pub record NamedTree : Type 0 where
@@ -129,26 +128,22 @@ pub record NamedTree : Type 0 where
 abbrev pub view_named : Named → NamedTree
 view_named n = record { name = n.name; function = function_tree_of n.function; rest = n.rest.now }
 
-abbrev pub function_at : List (Option ℕ) → List Token → Result NamedTree Fault
-function_at known ts = do
+abbrev pub function_at : List (ℕ × Meaning) → List (Option ℕ) → List Token → Result NamedTree Fault
+function_at names known ts = do
   named ← after_fn ts
-  name ← function_name known named
+  name ← function_name names known named
   inside ← after_open (drop 1 named)
-  ps ← parameters_at inside
-  body ← body_at ps.0 ps.1
+  ps ← parameters_at names inside
+  body ← body_at names ps.0 ps.1
   Ok (record { name = name; function = record { variables = larger 2 (variables_of body.0); body = body.0 }; rest = body.1 })
-
-abbrev pub item_ended : List Token → Result (List Token) Fault
-item_ended [] = Ok []
-item_ended (t ∷ ts) = if is_line_end t.kind then Ok (t ∷ ts) else unexpected (t ∷ ts)
 
 abbrev pub Items : Type 0
 Items = List (Option ℕ) → List FunctionTree → List Token → Result (List FunctionTree) Fault
 
-abbrev pub one_more : Items → Items
-one_more next known before [] = Ok before
-one_more next known before (t ∷ ts) = do
-  f ← function_at known (t ∷ ts)
+abbrev pub one_more : Items → List (ℕ × Meaning) → Items
+one_more next names known before [] = Ok before
+one_more next names known before (t ∷ ts) = do
+  f ← function_at names known (t ∷ ts)
   rest ← item_ended f.rest
   next (known ++ f.name ∷ []) (before ++ f.function ∷ []) rest
 
@@ -156,7 +151,7 @@ abbrev pub no_more : List FunctionTree → List Token → Result (List FunctionT
 no_more before [] = Ok before
 no_more before (t ∷ ts) = Err (fault_at (t ∷ ts) wrong.TooManyFunctions)
 
--- so many functions at most, behind those before
-unfoldable pub functions_from : ℕ → Items
-functions_from zero known before ts = no_more before (after_line_ends ts)
-functions_from (suc n) known before ts = one_more (functions_from n) known before (after_line_ends ts)
+-- so many functions at most, behind those before, which see these constants
+unfoldable pub functions_from : ℕ → List (ℕ × Meaning) → Items
+functions_from zero names known before ts = no_more before (after_line_ends ts)
+functions_from (suc n) names known before ts = one_more (functions_from n names) names known before (after_line_ends ts)

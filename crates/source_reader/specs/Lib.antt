@@ -7,5 +7,6 @@ pub mod Lines
 pub mod Simple
 pub mod Statements
 pub mod Functions
+pub mod Items
 pub mod Places
 pub mod Source

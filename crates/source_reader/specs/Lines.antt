@@ -5,6 +5,10 @@ use Rattle.source_tokens.specs.declared.tokens.Kind.TheVariants as kind
 use Rattle.source_tokens.specs.declared.tokens.Token.{Token}
 use Rattle.source_reader.specs.declared.faults.Fault.{Fault}
 use Rattle.source_reader.specs.Trees.{ValueTree, StmtTree, Constant, NumberTree, TruthTree, SkipTree, ThenTree, AssignTree, IfTree, LoopTree, RepeatTree, BreakTree, ContinueTree, ReturnTree, MakeTree, WaitTree, CancelTree, ReadTree, StoreTree}
+use Rattle.source_reader.specs.declared.faults.Wrong.TheVariants as wrong
+use Rattle.source_reader.specs.declared.names.Meaning.{Meaning}
+use Rattle.source_reader.specs.Faults.{◌>>=◌, fault_at}
+use Rattle.source_reader.specs.Names.{meaning_of}
 use Rattle.source_reader.specs.Values.{unexpected}
 
 -- A comparison is 1 or 0.
@@ -49,6 +53,38 @@ abbrev pub after_set : List Token → Result (List Token) Fault
 after_set [] = unexpected []
 after_set (t ∷ ts) = after_set_of t.kind ts (t ∷ ts)
 
+abbrev pub after_in_of : Kind → List Token → List Token → Result (List Token) Fault
+after_in_of kind.In rest ts = Ok rest
+after_in_of k rest ts = unexpected ts
+
+abbrev pub after_in : List Token → Result (List Token) Fault
+after_in [] = unexpected []
+after_in (t ∷ ts) = after_in_of t.kind ts (t ∷ ts)
+
+abbrev pub after_range_of : Kind → List Token → List Token → Result (List Token) Fault
+after_range_of kind.Range rest ts = Ok rest
+after_range_of k rest ts = unexpected ts
+
+abbrev pub after_range : List Token → Result (List Token) Fault
+after_range [] = unexpected []
+after_range (t ∷ ts) = after_range_of t.kind ts (t ∷ ts)
+
+abbrev pub name_at_of : Kind → List Token → Result ℕ Fault
+name_at_of (kind.Name x) ts = Ok x
+name_at_of k ts = unexpected ts
+
+abbrev pub name_at : List Token → Result ℕ Fault
+name_at [] = unexpected []
+name_at (t ∷ ts) = name_at_of t.kind (t ∷ ts)
+
+abbrev pub unless_known : Option Meaning → ℕ → List Token → Result ℕ Fault
+unless_known (Some m) x ts = Err (fault_at ts wrong.KnownName)
+unless_known None x ts = Ok x
+
+-- a name at the front that stands for nothing yet
+abbrev pub free_name : List (ℕ × Meaning) → List Token → Result ℕ Fault
+free_name names ts = name_at ts >>= λ x. unless_known (meaning_of x names) x ts
+
 abbrev pub is_line_end : Kind → Bool
 is_line_end kind.LineEnd = true
 is_line_end k = false
@@ -65,6 +101,11 @@ after_line_ends (t ∷ ts) = if is_line_end t.kind then after_line_ends ts else 
 abbrev pub ended : List Token → Result (List Token) Fault
 ended [] = unexpected []
 ended (t ∷ ts) = if is_line_end t.kind || is_end t.kind then Ok (t ∷ ts) else unexpected (t ∷ ts)
+
+-- A function or a constant ends with its line, or with the text.
+abbrev pub item_ended : List Token → Result (List Token) Fault
+item_ended [] = Ok []
+item_ended (t ∷ ts) = if is_line_end t.kind then Ok (t ∷ ts) else unexpected (t ∷ ts)
 
 -- what follows the end of a block, if it is here
 abbrev pub after_end : List Token → Option (List Token)

@@ -1,21 +1,36 @@
--- The variables of a function at a place: names with their numbers, the last one first.
+-- What names stand for at a place: names with their meanings, the last one first.
 use Rattle.std.specs.Prelude.{ℕ, List, [], ◌∷◌, Option, Some, None, Result, Ok, Err, ◌+◌, ◌==◌, nat_lt, if◌then◌else◌}
 use Rattle.source_tokens.specs.declared.tokens.Token.{Token}
 use Rattle.source_reader.specs.declared.faults.Fault.{Fault}
 use Rattle.source_reader.specs.declared.faults.Wrong.TheVariants as wrong
 use Rattle.source_reader.specs.Faults.{fault_at}
+use Rattle.source_reader.specs.declared.names.Meaning.{Meaning}
+use Rattle.source_reader.specs.declared.names.Meaning.TheVariants as meaning
 use Rattle.source_reader.specs.declared.names.Names.{Names}
 use Rattle.source_reader.specs.declared.names.Names.TheVariants as names
 
-abbrev pub names_of : Names → List (ℕ × ℕ)
+abbrev pub names_of : Names → List (ℕ × Meaning)
 names_of names.Empty = []
-names_of (names.Name' x v p others) = (x, v) ∷ names_of others
+names_of (names.Name' x m p others) = (x, m) ∷ names_of others
 
-abbrev pub variable_named : ℕ → List (ℕ × ℕ) → Option ℕ
-variable_named x [] = None
-variable_named x (first ∷ others) = if first.0 == x then Some first.1 else variable_named x others
+abbrev pub meaning_of : ℕ → List (ℕ × Meaning) → Option Meaning
+meaning_of x [] = None
+meaning_of x (first ∷ others) = if first.0 == x then Some first.1 else meaning_of x others
+
+abbrev pub number_after : ℕ → ℕ
+number_after x = if nat_lt x 255 then x + 1 else 255
+
+-- the variable behind that one, if a function may have so many
+abbrev pub number_behind : ℕ → List Token → Result ℕ Fault
+number_behind v ts = if nat_lt v 240 then Ok (v + 1) else Err (fault_at ts wrong.TooManyNames)
+
+-- The end of a loop that counts is the variable behind its index. Before constants there are no variables.
+abbrev pub number_next : Meaning → List Token → Result ℕ Fault
+number_next (meaning.Variable v) ts = number_behind v ts
+number_next (meaning.Counter v) ts = number_behind (number_after v) ts
+number_next (meaning.Constant z) ts = Ok 0
 
 -- the number of one more variable
-abbrev pub new_number : List (ℕ × ℕ) → List Token → Result ℕ Fault
+abbrev pub new_number : List (ℕ × Meaning) → List Token → Result ℕ Fault
 new_number [] ts = Ok 0
-new_number (first ∷ others) ts = if nat_lt first.1 240 then Ok (first.1 + 1) else Err (fault_at ts wrong.TooManyNames)
+new_number (first ∷ others) ts = number_next first.1 ts

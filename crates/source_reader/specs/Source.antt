@@ -13,8 +13,9 @@ use Rattle.source_reader.specs.declared.source.SourceFault.{SourceFault}
 use Rattle.source_reader.specs.declared.source.SourceError.{SourceError}
 use Rattle.source_reader.specs.declared.source.SourceError.TheVariants as errors
 use Rattle.source_reader.specs.Faults.{◌>>=◌, fault_at}
+use Rattle.source_reader.specs.declared.items.TheConstants.{CONSTANTS}
 use Rattle.source_reader.specs.Trees.{FunctionTree, function_tree_of}
-use Rattle.source_reader.specs.Functions.{functions_from}
+use Rattle.source_reader.specs.Items.{items_from}
 use Rattle.source_reader.specs.Places.{place_of, place_left}
 
 abbrev pub some_functions : List FunctionTree → Result (List FunctionTree) Fault
@@ -22,7 +23,7 @@ some_functions [] = Err (fault_at [] wrong.NoFunction)
 some_functions (f ∷ fs) = Ok (f ∷ fs)
 
 abbrev pub read_tokens : List Token → Result (List FunctionTree) Fault
-read_tokens ts = functions_from 16 [] [] ts >>= some_functions
+read_tokens ts = items_from CONSTANTS [] ts >>= some_functions
 
 -- The text says these functions.
 abbrev pub Says : List ℕ → List FunctionTree → Type 0

@@ -17,6 +17,14 @@ pub enum Wrong {
     KnownName,
     /// More variables than a function may have.
     TooManyNames,
+    /// What the name stands for can't be assigned to.
+    NotAssigned,
+    /// The value of a constant is not written as a number.
+    NoConstant,
+    /// A constant below a function.
+    LateConstant,
+    /// More constants than a source may have.
+    TooManyConstants,
     /// A comparison, where a number is wanted.
     Comparison,
     /// Too many operators and parentheses, or too many statements.

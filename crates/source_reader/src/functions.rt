@@ -2,11 +2,12 @@
 ghost use Rattle.std.specs.Prelude.{◌≡◌, ◌++◌, ◌∷◌, [], Ok, map};
 ghost use Rattle.source_reader.specs.Faults.{Gives};
 ghost use Rattle.source_reader.specs.Trees.{stmt_tree_of, function_tree_of};
-ghost use Rattle.source_reader.specs.Functions.{larger, number_after, variables_of, after_fn, after_comma, is_close, is_this, is_known, function_name, name_at, second_name, parameters_at, body_at, view_named, function_at, item_ended, functions_from};
+ghost use Rattle.source_reader.specs.Names.{names_of};
+ghost use Rattle.source_reader.specs.Functions.{larger, variables_of, after_fn, after_comma, is_close, is_this, is_known, function_name, second_name, parameters_at, body_at, view_named, function_at, functions_from};
 
 use crate::faults::{ReadError, Wrong, fault_at};
-use crate::lines::{after_line_ends, is_line_end};
-use crate::names::Names;
+use crate::lines::{after_line_ends, free_name, item_ended};
+use crate::names::{Meaning, Names, number_after};
 use crate::statements::block_at;
 use crate::values::{after_close, after_first, after_open};
 use source_language::{Function, Stmt};
@@ -15,13 +16,6 @@ use std::alloc::Global;
 
 /// How long the body of a function may be.
 pub const BODY_FUEL: u16 = 600;
-
-/// The number of variables, if this is one of them.
-fn number_after(number: u8) -> u8
-    ensures { result ≡ number_after number }
-{
-    if number < 255 { number + 1 } else { 255 }
-}
 
 /// How many variables a statement needs.
 fn variables_of(s: &Stmt) -> u8
@@ -43,12 +37,14 @@ fn larger(a: u8, b: u8) -> u8
     if a < b { b } else { a }
 }
 
+/// What follows `fn`. No constant stands below a function.
 fn after_fn(tokens: &[Token]) -> Result<&[Token], ReadError>
     ensures { Gives (λ ts. ts.now) result (after_fn tokens.now) }
 {
     match tokens.split_first() {
         Some((first, rest)) => match first.kind {
             Kind::Fn => Ok(rest),
+            Kind::Const => Err(fault_at(tokens, Wrong::LateConstant)),
             _ => Err(fault_at(tokens, Wrong::Unexpected)),
         },
         None => Err(fault_at(tokens, Wrong::Unexpected)),
@@ -79,9 +75,13 @@ fn is_close(tokens: &[Token]) -> bool
     }
 }
 
-/// The name of a function, at the front: none if it is `main`.
-fn function_name(known: &[Option<usize>], tokens: &[Token]) -> Result<Option<usize>, ReadError>
-    ensures { Gives (λ n. n) result (function_name known.now tokens.now) }
+/// The name of a function, at the front, which no other one has, and no constant: none if it is `main`.
+fn function_name(
+    names: &Names,
+    known: &[Option<usize>],
+    tokens: &[Token],
+) -> Result<Option<usize>, ReadError>
+    ensures { Gives (λ n. n) result (function_name (names_of names.now) known.now tokens.now) }
 {
     match tokens.split_first() {
         Some((first, _)) => match first.kind {
@@ -96,7 +96,8 @@ fn function_name(known: &[Option<usize>], tokens: &[Token]) -> Result<Option<usi
                 if is_known(name, known) {
                     Err(fault_at(tokens, Wrong::KnownFunction))
                 } else {
-                    Ok(Some(name))
+                    let free = free_name(names, tokens)?;
+                    Ok(Some(free))
                 }
             }
             _ => Err(fault_at(tokens, Wrong::Unexpected)),
@@ -123,19 +124,6 @@ fn is_this(name: usize, known: Option<usize>) -> bool
     }
 }
 
-/// A name at the front.
-fn name_at(tokens: &[Token]) -> Result<usize, ReadError>
-    ensures { Gives (λ n. n) result (name_at tokens.now) }
-{
-    match tokens.split_first() {
-        Some((first, _)) => match first.kind {
-            Kind::Name(name) => Ok(name),
-            _ => Err(fault_at(tokens, Wrong::Unexpected)),
-        },
-        None => Err(fault_at(tokens, Wrong::Unexpected)),
-    }
-}
-
 /// The names of the parameters.
 #[derive(Clone, Copy)]
 pub(crate) struct Parameters {
@@ -144,10 +132,10 @@ pub(crate) struct Parameters {
 }
 
 /// The name of the second parameter, which is not that of the first one.
-fn second_name(first: usize, tokens: &[Token]) -> Result<usize, ReadError>
-    ensures { Gives (λ n. n) result (second_name first tokens.now) }
+fn second_name(first: usize, names: &Names, tokens: &[Token]) -> Result<usize, ReadError>
+    ensures { Gives (λ n. n) result (second_name first (names_of names.now) tokens.now) }
 {
-    let name = name_at(tokens)?;
+    let name = free_name(names, tokens)?;
     if name == first {
         Err(fault_at(tokens, Wrong::KnownName))
     } else {
@@ -156,8 +144,11 @@ fn second_name(first: usize, tokens: &[Token]) -> Result<usize, ReadError>
 }
 
 /// The parameters, behind `(`, and what follows `)`.
-fn parameters_at(tokens: &[Token]) -> Result<(Parameters, &[Token]), ReadError>
-    ensures { Gives (λ x. (x.0, x.1.now)) result (parameters_at tokens.now) }
+fn parameters_at<'a>(
+    names: &Names,
+    tokens: &'a [Token],
+) -> Result<(Parameters, &'a [Token]), ReadError>
+    ensures { Gives (λ x. (x.0, x.1.now)) result (parameters_at (names_of names.now) tokens.entry.now) }
 {
     if is_close(tokens) {
         let none = Parameters {
@@ -166,7 +157,7 @@ fn parameters_at(tokens: &[Token]) -> Result<(Parameters, &[Token]), ReadError>
         };
         return Ok((none, after_first(tokens)));
     }
-    let first = name_at(tokens)?;
+    let first = free_name(names, tokens)?;
     let rest = after_first(tokens);
     if is_close(rest) {
         let one = Parameters {
@@ -176,7 +167,7 @@ fn parameters_at(tokens: &[Token]) -> Result<(Parameters, &[Token]), ReadError>
         return Ok((one, after_first(rest)));
     }
     let rest = after_comma(rest)?;
-    let second = second_name(first, rest)?;
+    let second = second_name(first, names, rest)?;
     let after = after_close(after_first(rest))?;
     let two = Parameters {
         first: Some(first),
@@ -188,23 +179,24 @@ fn parameters_at(tokens: &[Token]) -> Result<(Parameters, &[Token]), ReadError>
 /// The body of a function with these parameters.
 fn body_at<'a>(
     alloc: Global,
+    names: &Names,
     parameters: Parameters,
     tokens: &'a [Token],
 ) -> Result<(Stmt, &'a [Token]), ReadError>
     ensures { Gives (λ x. (stmt_tree_of x.0, x.1.now)) result
-        (body_at parameters tokens.entry.now) }
+        (body_at (names_of names.now) parameters tokens.entry.now) }
 {
     match parameters.first {
-        None => block_at(alloc, &Names::Empty, false, BODY_FUEL, tokens),
+        None => block_at(alloc, names, false, BODY_FUEL, tokens),
         Some(first) => match parameters.second {
             None => {
-                let names = Names::Name(first, 0, &Names::Empty);
-                block_at(alloc, &names, false, BODY_FUEL, tokens)
+                let one = Names::Name(first, Meaning::Variable(0), names);
+                block_at(alloc, &one, false, BODY_FUEL, tokens)
             }
             Some(second) => {
-                let one = Names::Name(first, 0, &Names::Empty);
-                let names = Names::Name(second, 1, &one);
-                block_at(alloc, &names, false, BODY_FUEL, tokens)
+                let one = Names::Name(first, Meaning::Variable(0), names);
+                let two = Names::Name(second, Meaning::Variable(1), &one);
+                block_at(alloc, &two, false, BODY_FUEL, tokens)
             }
         },
     }
@@ -221,16 +213,17 @@ pub(crate) struct Named<'a> {
 /// A function, of which the first token is `fn`.
 fn function_at<'a>(
     alloc: Global,
+    names: &Names,
     known: &[Option<usize>],
     tokens: &'a [Token],
 ) -> Result<Named<'a>, ReadError>
-    ensures { Gives view_named result (function_at known.now tokens.entry.now) }
+    ensures { Gives view_named result (function_at (names_of names.now) known.now tokens.entry.now) }
 {
     let named = after_fn(tokens)?;
-    let name = function_name(known, named)?;
+    let name = function_name(names, known, named)?;
     let inside = after_open(after_first(named))?;
-    let (parameters, rest) = parameters_at(inside)?;
-    let (body, rest) = body_at(alloc, parameters, rest)?;
+    let (parameters, rest) = parameters_at(names, inside)?;
+    let (body, rest) = body_at(alloc, names, parameters, rest)?;
     let variables = larger(2, variables_of(&body));
     Ok(Named {
         name,
@@ -239,33 +232,18 @@ fn function_at<'a>(
     })
 }
 
-/// The same tokens, if a function may end before them.
-fn item_ended(tokens: &[Token]) -> Result<&[Token], ReadError>
-    ensures { Gives (λ ts. ts.now) result (item_ended tokens.now) }
-{
-    match tokens.split_first() {
-        Some((first, _)) => {
-            if is_line_end(first.kind) {
-                Ok(tokens)
-            } else {
-                Err(fault_at(tokens, Wrong::Unexpected))
-            }
-        }
-        None => Ok(tokens),
-    }
-}
-
-/// The functions, so many more at most, behind those that were read before.
+/// The functions, so many more at most, behind those that were read before. They see these constants.
 #[tactic(auto, using(crate::proofs::FunctionSteps::function_steps))]
 pub(crate) fn functions_from(
     alloc: Global,
     left: u8,
+    names: &Names,
     known: Vec<Option<usize>>,
     before: Vec<Function>,
     tokens: &[Token],
 ) -> Result<Vec<Function>, ReadError>
     ensures { Gives (λ v. map function_tree_of v.items) result
-        (functions_from left known.items (map function_tree_of before.items) tokens.now) }
+        (functions_from left (names_of names.now) known.items (map function_tree_of before.items) tokens.now) }
 {
     let lines = after_line_ends(tokens);
     let Some(_) = lines.split_first() else {
@@ -274,11 +252,11 @@ pub(crate) fn functions_from(
     if left == 0 {
         return Err(fault_at(lines, Wrong::TooManyFunctions));
     }
-    let named = function_at(alloc, known.as_slice(), lines)?;
+    let named = function_at(alloc, names, known.as_slice(), lines)?;
     let rest = item_ended(named.rest)?;
     let known = with_name(known, named.name)?;
     let before = with_function(before, named.function)?;
-    functions_from(alloc, left - 1, known, before, rest)
+    functions_from(alloc, left - 1, names, known, before, rest)
 }
 
 fn with_name(

@@ -57,7 +57,8 @@ pub(crate) fn test_in(value: Value) -> Test
     }
 }
 
-fn two(alloc: Global, op: Operator, a: Expr, b: Expr) -> Result<Expr, AllocError>
+/// An operation of two numbers.
+pub(crate) fn two(alloc: Global, op: Operator, a: Expr, b: Expr) -> Result<Expr, AllocError>
     ensures { IfOk result (λ e. tree_of e ≡ TwoTree op (tree_of a) (tree_of b)) }
 {
     Ok(Expr::Two(op, Box::new(alloc, a)?, Box::new(alloc, b)?))

@@ -3,8 +3,10 @@
 
 mod faults;
 mod functions;
+mod items;
 mod joining;
 mod lines;
+mod loops;
 mod names;
 mod places;
 mod simple;

@@ -1,9 +1,11 @@
 // The ends of statements and blocks, and signs inside statements.
 ghost use Rattle.std.specs.Prelude.{◌≡◌, option_map};
 ghost use Rattle.source_reader.specs.Faults.{Gives};
-ghost use Rattle.source_reader.specs.Lines.{after_begin, after_set, is_line_end, is_end, after_line_ends, ended, after_end, name_in, let_name};
+ghost use Rattle.source_reader.specs.Names.{names_of};
+ghost use Rattle.source_reader.specs.Lines.{after_begin, after_set, after_in, after_range, name_at, free_name, is_line_end, is_end, after_line_ends, ended, item_ended, after_end, name_in, let_name};
 
 use crate::faults::{ReadError, Wrong, fault_at};
+use crate::names::{Names, meaning_of};
 use source_tokens::{Kind, Token};
 
 /// What follows `{`.
@@ -29,6 +31,56 @@ pub(crate) fn after_set(tokens: &[Token]) -> Result<&[Token], ReadError>
             _ => Err(fault_at(tokens, Wrong::Unexpected)),
         },
         None => Err(fault_at(tokens, Wrong::Unexpected)),
+    }
+}
+
+/// What follows `in`.
+pub(crate) fn after_in(tokens: &[Token]) -> Result<&[Token], ReadError>
+    ensures { Gives (λ ts. ts.now) result (after_in tokens.now) }
+{
+    match tokens.split_first() {
+        Some((first, rest)) => match first.kind {
+            Kind::In => Ok(rest),
+            _ => Err(fault_at(tokens, Wrong::Unexpected)),
+        },
+        None => Err(fault_at(tokens, Wrong::Unexpected)),
+    }
+}
+
+/// What follows `..`.
+pub(crate) fn after_range(tokens: &[Token]) -> Result<&[Token], ReadError>
+    ensures { Gives (λ ts. ts.now) result (after_range tokens.now) }
+{
+    match tokens.split_first() {
+        Some((first, rest)) => match first.kind {
+            Kind::Range => Ok(rest),
+            _ => Err(fault_at(tokens, Wrong::Unexpected)),
+        },
+        None => Err(fault_at(tokens, Wrong::Unexpected)),
+    }
+}
+
+/// A name at the front.
+pub(crate) fn name_at(tokens: &[Token]) -> Result<usize, ReadError>
+    ensures { Gives (λ n. n) result (name_at tokens.now) }
+{
+    match tokens.split_first() {
+        Some((first, _)) => match first.kind {
+            Kind::Name(name) => Ok(name),
+            _ => Err(fault_at(tokens, Wrong::Unexpected)),
+        },
+        None => Err(fault_at(tokens, Wrong::Unexpected)),
+    }
+}
+
+/// A name at the front that stands for nothing yet.
+pub(crate) fn free_name(names: &Names, tokens: &[Token]) -> Result<usize, ReadError>
+    ensures { Gives (λ n. n) result (free_name (names_of names.now) tokens.now) }
+{
+    let name = name_at(tokens)?;
+    match meaning_of(name, names) {
+        Some(_) => Err(fault_at(tokens, Wrong::KnownName)),
+        None => Ok(name),
     }
 }
 
@@ -81,6 +133,22 @@ pub(crate) fn ended(tokens: &[Token]) -> Result<&[Token], ReadError>
             }
         }
         None => Err(fault_at(tokens, Wrong::Unexpected)),
+    }
+}
+
+/// The same tokens, if a function or a constant may end before them.
+pub(crate) fn item_ended(tokens: &[Token]) -> Result<&[Token], ReadError>
+    ensures { Gives (λ ts. ts.now) result (item_ended tokens.now) }
+{
+    match tokens.split_first() {
+        Some((first, _)) => {
+            if is_line_end(first.kind) {
+                Ok(tokens)
+            } else {
+                Err(fault_at(tokens, Wrong::Unexpected))
+            }
+        }
+        None => Ok(tokens),
     }
 }
 

@@ -2,13 +2,13 @@
 ghost use Rattle.std.specs.Prelude.{◌≡◌};
 ghost use Rattle.source_reader.specs.Faults.{Gives};
 ghost use Rattle.source_reader.specs.Trees.{stmt_tree_of, test_tree_of, value_tree_of};
-ghost use Rattle.source_reader.specs.Names.{names_of, variable_named, new_number};
-ghost use Rattle.source_reader.specs.Simple.{whole_value, condition_at, new_name, let_at, updated, assigned_at, return_at};
+ghost use Rattle.source_reader.specs.Names.{names_of, meaning_of, new_number};
+ghost use Rattle.source_reader.specs.Simple.{whole_value, condition_at, new_name, let_at, updated, assigned_to, assigned_at, return_at, view_count, count_at};
 
 use crate::faults::{ReadError, Wrong, fault_at};
 use crate::joining::{Value, arithmetic, test_in};
-use crate::lines::{after_set, is_end, is_line_end};
-use crate::names::{Names, new_number, variable_named};
+use crate::lines::{after_in, after_range, after_set, free_name, is_end, is_line_end};
+use crate::names::{Meaning, Names, meaning_of, new_number, number_behind};
 use crate::trees::{assigned, returned};
 use crate::values::{after_first, value_at};
 use source_language::{Expr, Stmt, Test};
@@ -50,7 +50,7 @@ pub(crate) fn new_name(names: &Names, tokens: &[Token]) -> Result<u8, ReadError>
 {
     match tokens.split_first() {
         Some((first, _)) => match first.kind {
-            Kind::Name(name) => match variable_named(name, names) {
+            Kind::Name(name) => match meaning_of(name, names) {
                 Some(_) => Err(fault_at(tokens, Wrong::KnownName)),
                 None => new_number(names, tokens),
             },
@@ -84,11 +84,29 @@ pub(crate) fn assigned_at<'a>(
     rest: &'a [Token],
 ) -> Result<(Stmt, &'a [Token]), ReadError>
     ensures { Gives (λ x. (stmt_tree_of x.0, x.1.now)) result
-        (assigned_at (names_of names.now) (variable_named name (names_of names.now)) tokens.now rest.entry.now) }
+        (assigned_at (names_of names.now) (meaning_of name (names_of names.now)) tokens.now rest.entry.now) }
 {
-    match variable_named(name, names) {
-        Some(number) => updated(alloc, names, number, rest),
+    match meaning_of(name, names) {
+        Some(meaning) => assigned_to(alloc, names, meaning, tokens, rest),
         None => Err(fault_at(tokens, Wrong::UnknownName)),
+    }
+}
+
+/// Only variables are assigned to. The first of the tokens is the name.
+fn assigned_to<'a>(
+    alloc: Global,
+    names: &Names,
+    meaning: Meaning,
+    tokens: &[Token],
+    rest: &'a [Token],
+) -> Result<(Stmt, &'a [Token]), ReadError>
+    ensures { Gives (λ x. (stmt_tree_of x.0, x.1.now)) result
+        (assigned_to (names_of names.now) meaning tokens.now rest.entry.now) }
+{
+    match meaning {
+        Meaning::Variable(number) => updated(alloc, names, number, rest),
+        Meaning::Counter(_) => Err(fault_at(tokens, Wrong::NotAssigned)),
+        Meaning::Constant(_) => Err(fault_at(tokens, Wrong::NotAssigned)),
     }
 }
 
@@ -136,4 +154,40 @@ pub(crate) fn return_at<'a>(
     }
     let (value, after) = whole_value(alloc, names, tokens)?;
     Ok((returned(alloc, value)?, after))
+}
+
+/// The head of a loop that counts: its index and that one's variable, the variable of the end, and both values.
+#[derive(Drop)]
+pub(crate) struct Count {
+    pub(crate) name: usize,
+    pub(crate) index: u8,
+    pub(crate) end: u8,
+    pub(crate) low: Value,
+    pub(crate) high: Value,
+}
+
+/// `i in a..b`, behind `for`.
+pub(crate) fn count_at<'a>(
+    alloc: Global,
+    names: &Names,
+    tokens: &'a [Token],
+) -> Result<(Count, &'a [Token]), ReadError>
+    ensures { Gives (λ x. (view_count x.0, x.1.now)) result
+        (count_at (names_of names.now) tokens.entry.now) }
+{
+    let name = free_name(names, tokens)?;
+    let index = new_number(names, tokens)?;
+    let end = number_behind(index, tokens)?;
+    let from = after_in(after_first(tokens))?;
+    let (low, rest) = whole_value(alloc, names, from)?;
+    let to = after_range(rest)?;
+    let (high, rest) = whole_value(alloc, names, to)?;
+    let count = Count {
+        name,
+        index,
+        end,
+        low,
+        high,
+    };
+    Ok((count, rest))
 }

@@ -7,7 +7,8 @@ ghost use Rattle.source_reader.specs.Places.{beginning, place_left, place_of};
 ghost use Rattle.source_reader.specs.Source.{read_tokens, some_functions, GivesSource, is_fn, nth_fn, function_place};
 
 use crate::faults::{Fault, ReadError, Wrong, fault_at};
-use crate::functions::functions_from;
+use crate::items::{CONSTANTS, items_from};
+use crate::names::Names;
 use crate::places::{Place, place_of};
 use source_language::Function;
 use source_tokens::{Kind, Token, tokens_in};
@@ -107,7 +108,7 @@ fn some_functions(functions: Vec<Function>) -> Result<Vec<Function>, ReadError>
 fn read_tokens(alloc: Global, tokens: &[Token]) -> Result<Vec<Function>, ReadError>
     ensures { Gives (λ v. map function_tree_of v.items) result (read_tokens tokens.now) }
 {
-    let functions = functions_from(alloc, 16, Vec::new(alloc), Vec::new(alloc), tokens)?;
+    let functions = items_from(alloc, CONSTANTS, &Names::Empty, tokens)?;
     some_functions(functions)
 }
 

@@ -3,12 +3,13 @@ ghost use Rattle.std.specs.Prelude.{◌≡◌, false};
 ghost use Rattle.source_reader.specs.Faults.{Gives};
 ghost use Rattle.source_reader.specs.Trees.{stmt_tree_of};
 ghost use Rattle.source_reader.specs.Names.{names_of};
-ghost use Rattle.source_reader.specs.Statements.{is_if, if_in_loop, stmt_at, Block, Rest, Line, Otherwise};
+ghost use Rattle.source_reader.specs.Statements.{is_if, if_in_loop, for_at, stmt_at, Block, Rest, Line, Otherwise};
 
 use crate::faults::{ReadError, Wrong, fault_at};
 use crate::lines::{after_begin, after_end, after_line_ends, ended, let_name};
-use crate::names::{Names, new_number};
-use crate::simple::{assigned_at, condition_at, let_at, return_at};
+use crate::loops::counting_loop;
+use crate::names::{Meaning, Names, new_number};
+use crate::simple::{Count, assigned_at, condition_at, count_at, let_at, return_at};
 use crate::trees::{choice, leaves, looped, then};
 use source_language::Stmt;
 use source_tokens::{Kind, Token};
@@ -96,7 +97,8 @@ fn rest_at<'a>(
             Ok((then(alloc, first, others)?, after))
         }
         Some(name) => {
-            let inner = Names::Name(name, new_number(names, lines)?, names);
+            let number = new_number(names, lines)?;
+            let inner = Names::Name(name, Meaning::Variable(number), names);
             let (others, after) = rest_at(alloc, &inner, in_loop, left, fuel - 1, rest)?;
             Ok((then(alloc, first, others)?, after))
         }
@@ -133,6 +135,7 @@ fn line_at<'a>(
             let (body, after) = block_at(alloc, names, true, fuel - 1, after)?;
             Ok((looped(alloc, condition, body)?, after))
         }
+        Kind::For => for_at(alloc, names, fuel - 1, rest),
         Kind::If => {
             let (condition, after) = condition_at(alloc, names, rest)?;
             let (then, after) = block_at(alloc, names, in_loop, fuel - 1, after)?;
@@ -141,6 +144,30 @@ fn line_at<'a>(
         }
         _ => Err(fault_at(tokens, Wrong::Unexpected)),
     }
+}
+
+/// A loop that counts, behind `for`.
+#[cycle(statements)]
+fn for_at<'a>(
+    alloc: Global,
+    names: &Names,
+    fuel: u16,
+    tokens: &'a [Token],
+) -> Result<(Stmt, &'a [Token]), ReadError>
+    ensures { Gives (λ x. (stmt_tree_of x.0, x.1.now)) result
+        (for_at (stmt_at fuel) (names_of names.now) tokens.entry.now) }
+{
+    let (count, rest) = count_at(alloc, names, tokens)?;
+    let Count {
+        name,
+        index,
+        end,
+        low,
+        high,
+    } = count;
+    let inner = Names::Name(name, Meaning::Counter(index), names);
+    let (body, after) = block_at(alloc, &inner, true, fuel, rest)?;
+    Ok((counting_loop(alloc, index, end, low, high, body)?, after))
 }
 
 /// What may follow the block of an `if`.

@@ -2,12 +2,12 @@
 ghost use Rattle.std.specs.Prelude.{◌≡◌, drop};
 ghost use Rattle.source_reader.specs.Faults.{Gives};
 ghost use Rattle.source_reader.specs.Trees.{tree_of, value_tree_of};
-ghost use Rattle.source_reader.specs.Names.{names_of, variable_named};
-ghost use Rattle.source_reader.specs.Values.{after_open, after_close, sign_at, named, without_arguments, value_at, Level, More, Single};
+ghost use Rattle.source_reader.specs.Names.{names_of, meaning_of};
+ghost use Rattle.source_reader.specs.Values.{after_open, after_close, sign_at, worth, named, without_arguments, value_at, Level, More, Single};
 
 use crate::faults::{ReadError, Wrong, fault_at};
 use crate::joining::{Value, joined, level_of, minus, opposite};
-use crate::names::{Names, variable_named};
+use crate::names::{Meaning, Names, meaning_of};
 use source_language::Expr;
 use source_tokens::{Kind, Sign, Token};
 use std::alloc::Global;
@@ -70,7 +70,18 @@ fn sign_at(level: u8, tokens: &[Token]) -> Option<Sign>
     }
 }
 
-/// The variable of that name, which is the first of the tokens.
+/// What a name is worth that stands for this.
+fn worth(meaning: Meaning) -> Expr
+    ensures { tree_of result ≡ worth meaning }
+{
+    match meaning {
+        Meaning::Variable(number) => Expr::Variable(number),
+        Meaning::Counter(number) => Expr::Variable(number),
+        Meaning::Constant(number) => Expr::Number(number),
+    }
+}
+
+/// The value of that name, which is the first of the tokens.
 fn named<'a>(
     name: usize,
     names: &Names,
@@ -78,10 +89,10 @@ fn named<'a>(
     rest: &'a [Token],
 ) -> Result<(Value, &'a [Token]), ReadError>
     ensures { Gives (λ x. (value_tree_of x.0, x.1.now)) result
-        (named (variable_named name (names_of names.now)) tokens.now rest.entry.now) }
+        (named (meaning_of name (names_of names.now)) tokens.now rest.entry.now) }
 {
-    match variable_named(name, names) {
-        Some(number) => Ok((Value::Number(Expr::Variable(number)), rest)),
+    match meaning_of(name, names) {
+        Some(meaning) => Ok((Value::Number(worth(meaning)), rest)),
         None => Err(fault_at(tokens, Wrong::UnknownName)),
     }
 }

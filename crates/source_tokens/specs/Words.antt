@@ -44,9 +44,27 @@ asking_word lexeme =
     else if bytes_eq lexeme (codes "call") then Some kind.Call
     else None
 
+-- `for` or `in`
+abbrev pub counting_word : List ℕ → Option Kind
+counting_word lexeme =
+    if bytes_eq lexeme (codes "for") then Some kind.For
+    else if bytes_eq lexeme (codes "in") then Some kind.In
+    else None
+
+-- `const` or `param`
+abbrev pub constant_word : List ℕ → Option Kind
+constant_word lexeme =
+    if bytes_eq lexeme (codes "const") then Some kind.Const
+    else if bytes_eq lexeme (codes "param") then Some kind.Const
+    else None
+
+-- a word of counting loops, or of constants
+abbrev pub later_word : List ℕ → Option Kind
+later_word lexeme = first_of (counting_word lexeme) (constant_word lexeme)
+
 -- a word that is taken
 abbrev pub word_named : List ℕ → Option Kind
-word_named lexeme = first_of (opening_word lexeme) (first_of (choice_word lexeme) (first_of (leaving_word lexeme) (asking_word lexeme)))
+word_named lexeme = first_of (opening_word lexeme) (first_of (choice_word lexeme) (first_of (leaving_word lexeme) (first_of (asking_word lexeme) (later_word lexeme))))
 
 -- a sign that is no operator
 abbrev pub mark_named : List ℕ → Option Kind
@@ -58,6 +76,7 @@ mark_named lexeme =
     else if bytes_eq lexeme (codes "{") then Some kind.Begin
     else if bytes_eq lexeme (codes "}") then Some kind.End
     else if bytes_eq lexeme (codes ",") then Some kind.Comma
+    else if bytes_eq lexeme (codes "..") then Some kind.Range
     else if bytes_eq lexeme (codes "=") then Some kind.Set
     else if bytes_eq lexeme (codes "!") then Some kind.Not
     else None
@@ -90,13 +109,6 @@ update_named lexeme =
     else if bytes_eq lexeme (codes "%=") then Some op.Remainder
     else None
 
--- a word of counting loops
-abbrev pub is_counting_word : List ℕ → Bool
-is_counting_word lexeme =
-    if bytes_eq lexeme (codes "for") then true
-    else if bytes_eq lexeme (codes "in") then true
-    else false
-
 -- a word of tasks
 abbrev pub is_task_word : List ℕ → Bool
 is_task_word lexeme =
@@ -118,8 +130,6 @@ is_waiting_word lexeme =
 abbrev pub is_item_word : List ℕ → Bool
 is_item_word lexeme =
     if bytes_eq lexeme (codes "inline") then true
-    else if bytes_eq lexeme (codes "const") then true
-    else if bytes_eq lexeme (codes "param") then true
     else if bytes_eq lexeme (codes "cell") then true
     else false
 
@@ -141,7 +151,7 @@ is_giving_word lexeme =
 
 -- a word of the language that is not taken
 abbrev pub is_other_word : List ℕ → Bool
-is_other_word lexeme = ((((is_counting_word lexeme || is_task_word lexeme) || is_waiting_word lexeme) || is_item_word lexeme) || is_gathering_word lexeme) || is_giving_word lexeme
+is_other_word lexeme = (((is_task_word lexeme || is_waiting_word lexeme) || is_item_word lexeme) || is_gathering_word lexeme) || is_giving_word lexeme
 
 abbrev pub update_kind : Option Operator → List ℕ → Option Kind
 update_kind (Some o) lexeme = Some (kind.Update o)

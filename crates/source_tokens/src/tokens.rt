@@ -41,6 +41,8 @@ pub enum Kind {
     /// `}`
     End,
     Comma,
+    /// `..`
+    Range,
     /// The end of a line, or `;`.
     LineEnd,
     Fn,
@@ -56,6 +58,10 @@ pub enum Kind {
     Slot,
     Width,
     Call,
+    For,
+    In,
+    /// `const` or `param`.
+    Const,
     /// A word or sign of the language that is not taken.
     Other,
 }

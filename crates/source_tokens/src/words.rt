@@ -1,7 +1,7 @@
 // Words and signs of the language.
 ghost use Rattle.std.specs.Prelude.{◌≡◌};
 ghost use Rattle.std.specs.Str.{bytes_eq};
-ghost use Rattle.source_tokens.specs.Words.{word_named, opening_word, choice_word, leaving_word, asking_word, mark_named, sign_named, update_named, is_other_word, is_counting_word, is_task_word, is_waiting_word, is_item_word, is_gathering_word, is_giving_word, sign_kind, kind_named};
+ghost use Rattle.source_tokens.specs.Words.{word_named, opening_word, choice_word, leaving_word, asking_word, counting_word, constant_word, later_word, mark_named, sign_named, update_named, is_other_word, is_task_word, is_waiting_word, is_item_word, is_gathering_word, is_giving_word, sign_kind, kind_named};
 
 use crate::tokens::{Kind, Sign};
 use source_language::Operator;
@@ -55,7 +55,10 @@ fn word_named(lexeme: &[u8]) -> Option<Kind>
             Some(kind) => Some(kind),
             None => match leaving_word(lexeme) {
                 Some(kind) => Some(kind),
-                None => asking_word(lexeme),
+                None => match asking_word(lexeme) {
+                    Some(kind) => Some(kind),
+                    None => later_word(lexeme),
+                },
             },
         },
     }
@@ -121,6 +124,42 @@ fn asking_word(lexeme: &[u8]) -> Option<Kind>
     }
 }
 
+/// `for` or `in`.
+fn counting_word(lexeme: &[u8]) -> Option<Kind>
+    ensures { result ≡ counting_word lexeme.now }
+{
+    if is(lexeme, b"for") {
+        Some(Kind::For)
+    } else if is(lexeme, b"in") {
+        Some(Kind::In)
+    } else {
+        None
+    }
+}
+
+/// `const` or `param`.
+fn constant_word(lexeme: &[u8]) -> Option<Kind>
+    ensures { result ≡ constant_word lexeme.now }
+{
+    if is(lexeme, b"const") {
+        Some(Kind::Const)
+    } else if is(lexeme, b"param") {
+        Some(Kind::Const)
+    } else {
+        None
+    }
+}
+
+/// A word of counting loops, or of constants.
+fn later_word(lexeme: &[u8]) -> Option<Kind>
+    ensures { result ≡ later_word lexeme.now }
+{
+    match counting_word(lexeme) {
+        Some(kind) => Some(kind),
+        None => constant_word(lexeme),
+    }
+}
+
 /// A sign that is no operator.
 fn mark_named(lexeme: &[u8]) -> Option<Kind>
     ensures { result ≡ mark_named lexeme.now }
@@ -133,6 +172,7 @@ fn mark_named(lexeme: &[u8]) -> Option<Kind>
         b"{" => Some(Kind::Begin),
         b"}" => Some(Kind::End),
         b"," => Some(Kind::Comma),
+        b".." => Some(Kind::Range),
         b"=" => Some(Kind::Set),
         b"!" => Some(Kind::Not),
         _ => None,
@@ -179,19 +219,11 @@ fn update_named(lexeme: &[u8]) -> Option<Operator>
 fn is_other_word(lexeme: &[u8]) -> bool
     ensures { result ≡ is_other_word lexeme.now }
 {
-    is_counting_word(lexeme)
-        || is_task_word(lexeme)
+    is_task_word(lexeme)
         || is_waiting_word(lexeme)
         || is_item_word(lexeme)
         || is_gathering_word(lexeme)
         || is_giving_word(lexeme)
-}
-
-/// A word of counting loops.
-fn is_counting_word(lexeme: &[u8]) -> bool
-    ensures { result ≡ is_counting_word lexeme.now }
-{
-    is(lexeme, b"for") || is(lexeme, b"in")
 }
 
 /// A word of tasks.
@@ -212,7 +244,7 @@ fn is_waiting_word(lexeme: &[u8]) -> bool
 fn is_item_word(lexeme: &[u8]) -> bool
     ensures { result ≡ is_item_word lexeme.now }
 {
-    is(lexeme, b"inline") || is(lexeme, b"const") || is(lexeme, b"param") || is(lexeme, b"cell")
+    is(lexeme, b"inline") || is(lexeme, b"cell")
 }
 
 /// A word of parallel sums.

@@ -1,13 +1,17 @@
+use Rattle.std.proofs.Common.{ℕ, ◌+◌, ◌*◌}
 use Rattle.source_reader.proofs.statements.+statements.Given as goal
 
 abbrev pub decreases-block_at : goal.decreases-block_at
-decreases-block_at l = l.fuel
+decreases-block_at l = 2 * l.fuel
 
 abbrev pub decreases-rest_at : goal.decreases-rest_at
-decreases-rest_at l = l.fuel
+decreases-rest_at l = 2 * l.fuel
 
 abbrev pub decreases-line_at : goal.decreases-line_at
-decreases-line_at l = l.fuel
+decreases-line_at l = 2 * l.fuel
+
+abbrev pub decreases-for_at : goal.decreases-for_at
+decreases-for_at l = 2 * l.fuel + 1
 
 abbrev pub decreases-otherwise_at : goal.decreases-otherwise_at
-decreases-otherwise_at l = l.fuel
+decreases-otherwise_at l = 2 * l.fuel

@@ -1,0 +1,25 @@
+"""Sources with loops that count, and with constants, at their edges; each with the arguments of its function."""
+
+COUNTING = (
+    ("fn main(n) { for i in 9223372036854775805..9223372036854775807 { n += 1 }; return n }\n", (0, 0)),
+    ("fn main(n) { for i in -9223372036854775807 - 1..-9223372036854775805 { n += 1 }; return n }\n", (0, 0)),
+    ("fn main(n) { for i in 9223372036854775807..-9223372036854775807 { n += 1 }; return n }\n", (0, 0)),
+    ("fn main(n) { for i in 3..3 { n += 1 }; for i in 5..-3 { n += 10 }; return n }\n", (0, 0)),
+    ("fn main(n) { let turns = 0; for i in 0..n { n -= 1; turns += 1 }; return turns * 100 + n }\n", (5, 0)),
+    ("fn main(n) { let sum = 0; for i in n..n + 3 { n = 100; sum += i }; return sum }\n", (5, 0)),
+    ("fn main(n) { for i in -3..-1 { n = n * 10 + i }; return n }\n", (1, 0)),
+    ("fn main(n) { for i in 0..10 { if i % 2 == 0 { continue }; n += i }; return n }\n", (5, 0)),
+    ("fn main(n) { for i in 0..10 { if i == 7 { break }; n += i }; return n }\n", (5, 0)),
+    ("fn main(n) { for i in 0..4 { for j in i..4 { if j == 2 { continue }; n += 10 * i + j } }; return n }\n", (5, 0)),
+    ("fn main(n) { for i in 0..3 { while 1 { n += 1; if n > 4 { break } }; if i == 1 { continue }; n += 10 }; return n }\n", (1, 0)),
+    ("fn main(n) { let turns = 0; for i in 0..n == 2 { turns += 1 }; return turns }\n", (2, 0)),
+    ("fn main(n) { let turns = 0; for i in !n..n && 1 { turns += 1 }; return turns }\n", (2, 0)),
+    ("fn main(n) { for i in 1 / n..3 { return i }; return 9 }\n", (0, 0)),
+    ("fn main(n) { for i in 5..3 / n { return i }; return 9 }\n", (0, 0)),
+    ("fn main(n) { for i in 0..5 { let twice = i * 2; n += twice }; let sum = n; return sum }\n", (0, 0)),
+    ("const N = 9223372036854775807\nfn main(n) { for i in N - 2..N { n += 1 }; return n }\n", (0, 0)),
+    ("const N = -9223372036854775807\nconst M = -N\nparam P = --M\nfn main(n) { return P - N }\n", (0, 0)),
+    ("const N = ((4));const M = N\nfn main() { let x = 1; return x + M }\n", (0, 0)),
+    ("const N = 3\nfn f(a) { return N / a }\nfn g(N2) { return 1 }\n", (0, 0)),
+    ("const A = 3\n\n# c\nparam B = A # x\nfn g(a, b) { let c = A; for i in B..a { let d = i; c += d * b }; return c }\n", (9, 2)),
+)

@@ -1,0 +1,95 @@
+// Constants, and the functions below them.
+ghost use Rattle.std.specs.Prelude.{◌≡◌, map};
+ghost use Rattle.source_reader.specs.Faults.{Gives};
+ghost use Rattle.source_reader.specs.Trees.{tree_of, value_tree_of, function_tree_of};
+ghost use Rattle.source_reader.specs.Names.{names_of};
+ghost use Rattle.source_reader.specs.Items.{constant_of, constant_in, constant_at, is_const, items_from};
+
+use crate::faults::{ReadError, Wrong, fault_at};
+use crate::functions::functions_from;
+use crate::joining::Value;
+use crate::lines::{after_line_ends, after_set, free_name, item_ended};
+use crate::names::{Meaning, Names};
+use crate::simple::whole_value;
+use crate::values::after_first;
+use source_language::{Expr, Function};
+use source_tokens::{Kind, Token};
+use std::alloc::Global;
+
+/// How many constants a source may have.
+pub const CONSTANTS: u8 = 100;
+
+/// How many functions a source may have.
+pub const FUNCTIONS: u8 = 16;
+
+fn constant_of(e: &Expr, tokens: &[Token]) -> Result<i64, ReadError>
+    ensures { Gives (λ n. n) result (constant_of (tree_of e.now) tokens.now) }
+{
+    match e {
+        Expr::Number(n) => Ok(*n),
+        _ => Err(fault_at(tokens, Wrong::NoConstant)),
+    }
+}
+
+/// A value that is written as a number.
+fn constant_in(value: &Value, tokens: &[Token]) -> Result<i64, ReadError>
+    ensures { Gives (λ n. n) result (constant_in (value_tree_of value.now) tokens.now) }
+{
+    match value {
+        Value::Number(e) => constant_of(e, tokens),
+        Value::Truth(_) => Err(fault_at(tokens, Wrong::NoConstant)),
+    }
+}
+
+/// `N = v`, behind `const` or `param`.
+pub(crate) fn constant_at<'a>(
+    alloc: Global,
+    names: &Names,
+    tokens: &'a [Token],
+) -> Result<(usize, (i64, &'a [Token])), ReadError>
+    ensures { Gives (λ d. (d.0, d.1.0, d.1.1.now)) result
+        (constant_at (names_of names.now) tokens.entry.now) }
+{
+    let name = free_name(names, tokens)?;
+    let from = after_set(after_first(tokens))?;
+    let (value, rest) = whole_value(alloc, names, from)?;
+    let number = constant_in(&value, from)?;
+    Ok((name, (number, rest)))
+}
+
+fn is_const(tokens: &[Token]) -> bool
+    ensures { result ≡ is_const tokens.now }
+{
+    match tokens.split_first() {
+        Some((first, _)) => match first.kind {
+            Kind::Const => true,
+            _ => false,
+        },
+        None => false,
+    }
+}
+
+/// So many constants at most, behind those of these names, and the functions below them.
+#[tactic(auto, using(crate::proofs::ItemSteps::item_steps))]
+pub(crate) fn items_from(
+    alloc: Global,
+    left: u8,
+    names: &Names,
+    tokens: &[Token],
+) -> Result<Vec<Function>, ReadError>
+    ensures { Gives (λ v. map function_tree_of v.items) result
+        (items_from left (names_of names.now) tokens.now) }
+{
+    let lines = after_line_ends(tokens);
+    if !is_const(lines) {
+        let known = Vec::new(alloc);
+        return functions_from(alloc, FUNCTIONS, names, known, Vec::new(alloc), lines);
+    }
+    if left == 0 {
+        return Err(fault_at(lines, Wrong::TooManyConstants));
+    }
+    let (name, (number, rest)) = constant_at(alloc, names, after_first(lines))?;
+    let rest = item_ended(rest)?;
+    let inner = Names::Name(name, Meaning::Constant(number), &*names);
+    items_from(alloc, left - 1, &inner, rest)
+}
