@@ -55,6 +55,7 @@ STEPS = (
     step("checks/evaluator/run.py", 0.4),
     step("checks/ranges/run.py", 0.1),
     step("checks/server/run.py", 0.7),
+    step("checks/schedules/run.py", 1),
     step("checks/host/run.py", 3),
     step("checks/failed_allocations/run.py", 2.5),
     step("checks/fuzz/run.py", 0.3),
