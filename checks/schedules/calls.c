@@ -15,6 +15,7 @@
 #include <sys/file.h>
 #include <sys/socket.h>
 #include <sys/syscall.h>
+#include <sys/uio.h>
 #include <unistd.h>
 
 static bool is_scheduled(void) { return world.is_on && self && !self->is_inside; }
@@ -265,6 +266,13 @@ ssize_t send(int file, const void *bytes, size_t size, int how) {
     return put(file, bytes, size, how, "send");
 }
 
+ssize_t writev(int file, const struct iovec *parts, int count) {
+    point("writev");
+    long written = raw(SYS_writev, file, (long)parts, count, 0, 0, 0);
+    files_are_new();
+    return told(written);
+}
+
 int accept4(int file, struct sockaddr *address, socklen_t *length, int how) {
     point("accept");
     for (;;) {
@@ -344,6 +352,7 @@ int mkdir(const char *path, mode_t mode) { return point_before("mkdir", SYS_mkdi
 static int find_code(struct dl_phdr_info *object, size_t size, void *unused) {
     (void)size;
     (void)unused;
+    world.base = object->dlpi_addr;
     for (int i = 0; i < object->dlpi_phnum; i++) {
         const ElfW(Phdr) *part = &object->dlpi_phdr[i];
         if (part->p_type == PT_LOAD && part->p_flags & PF_X) {
@@ -355,7 +364,7 @@ static int find_code(struct dl_phdr_info *object, size_t size, void *unused) {
 }
 
 // A program that is built with AddressSanitizer has its own of these calls, and comes here by them.
-__attribute__((constructor)) static void look_at_program(void) {
+void look_at_program(void) {
     dl_iterate_phdr(find_code, NULL);
     world.is_checked = is_own_code(dlsym(RTLD_DEFAULT, "pthread_create"));
 }

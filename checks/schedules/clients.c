@@ -2,6 +2,7 @@
 #define _GNU_SOURCE
 #include "schedule.h"
 #include <errno.h>
+#include <fcntl.h>
 #include <poll.h>
 #include <stdarg.h>
 #include <stdlib.h>
@@ -215,6 +216,12 @@ static void remove_path(struct client *me, const char *path) {
     note(me, done < 0 ? "gone before" : "removed");
 }
 
+static void make_file(struct client *me, const char *path) {
+    long file = raw(SYS_open, (long)path, O_CREAT | O_WRONLY | O_CLOEXEC, 0600, 0, 0, 0);
+    raw(SYS_close, file, 0, 0, 0, 0, 0);
+    note(me, "made");
+}
+
 static void play_act(struct client *me, const struct act *act) {
     point(act->what);
     if (!strcmp(act->what, "connect"))
@@ -226,13 +233,15 @@ static void play_act(struct client *me, const struct act *act) {
     else if (!strcmp(act->what, "rest"))
         read_lines(me, LONG_MAX);
     else if (!strcmp(act->what, "sleep"))
-        wait_at(ASLEEP, "client_sleep", world.now + act->number * (SECOND / 1000));
+        wait_at(ASLEEP, "client_sleep", world.now + act->number * 1000);
     else if (!strcmp(act->what, "close"))
         close_socket(me);
     else if (!strcmp(act->what, "await"))
         await_those_before(me);
     else if (!strcmp(act->what, "remove"))
         remove_path(me, act->text);
+    else if (!strcmp(act->what, "make"))
+        make_file(me, act->text);
     else if (!strcmp(act->what, "end"))
         raw(SYS_shutdown, me->socket, SHUT_WR, 0, 0, 0, 0), files_are_new();
     else

@@ -3,7 +3,7 @@ import json
 import random
 from dataclasses import dataclass, field
 
-from jobs import JOBS
+from jobs import JOBS, LONG
 
 NAMES = ("acme", "beta", "gamma")
 BAD_LINES = (('{"op":"dance"}', 3), ("{", 2), ('{"job":{"args":[0,0],"fuel":0,"procs":[[["ret",0]]]},"op":"submit"}', 4))
@@ -43,6 +43,8 @@ class Scenario:
     players: list[Player]
     is_stopped: bool
     """Whether a client removes the socket while others ask."""
+    words: list[str] = field(default_factory=list)
+    """What else the program is called with."""
 
 
 def draw_tenant(dice: random.Random, name: str) -> dict:
@@ -116,7 +118,35 @@ class Drawer:
         elif kind == "wait":
             self.wait(len(self.player.asks))
         else:
-            self.player.acts.append(f"sleep {self.dice.choice([1, 100, 400])}\n")
+            self.pause()
+
+    def pause(self) -> None:
+        """Waits for so many microseconds, each of which is a step while threads run."""
+        self.player.acts.append(f"sleep {self.dice.choice([1, 50, 300, 1000, 3000, 10_000, 300_000])}\n")
+
+    def goes(self, path: str) -> Player:
+        """A client that executes a job of several rows, and hangs up while it runs."""
+        job = self.dice.choice(LONG)
+        self.add(Ask("execute", json.dumps({"job": JOBS[job].sent, "op": "execute"}), job))
+        self.pause()
+        self.player.acts = [f"connect {path}\n", *self.player.acts, "close\n"]
+        self.player.hangs_up = True
+        return self.player
+
+    def crowds(self, path: str) -> Player:
+        """A client that submits a job of several rows, or none, and collects those that others may have made."""
+        if self.dice.random() < 0.6:
+            job = self.dice.choice(LONG)
+            self.add(Ask("submit", json.dumps({"job": JOBS[job].sent, "op": "submit"}), job))
+        for number in self.dice.sample(range(1, 4), 3):
+            self.add(Ask("collect", json.dumps({"job": number, "op": "collect"}), number))
+        self.player.acts = [f"connect {path}\n", *self.player.acts, "end\n", "rest\n", "close\n"]
+        return self.player
+
+    def one(self, path: str, theme: str) -> Player:
+        """A client of a run of that theme."""
+        kind = theme if self.dice.random() < 0.8 else "mixed"
+        return self.goes(path) if kind == "goes" else self.crowds(path) if kind == "crowds" else self.drawn(path)
 
     def drawn(self, path: str) -> Player:
         """The client with its end: most read all their replies, others hang up in the midst, and some never read."""
@@ -125,7 +155,7 @@ class Drawer:
         self.player.acts.insert(0, f"connect {path}\n")
         self.player.hangs_up = self.dice.random() < 0.3
         if self.dice.random() < 0.3:
-            self.player.acts.insert(0, f"sleep {self.dice.choice([1, 300])}\n")
+            self.player.acts.insert(0, f"sleep {self.dice.choice([1, 300, 300_000])}\n")
         self.player.acts += ["close\n"] if self.player.hangs_up else ["end\n", "rest\n", "close\n"]
         return self.player
 
@@ -143,9 +173,27 @@ def draw_scenario(seed: int, path: str) -> Scenario:
     """What a seed says. The last client removes the socket: when the others have ended, or sooner."""
     dice = random.Random(seed)
     tenants = [draw_tenant(dice, name) for name in NAMES[:dice.choice([1, 1, 2, 3])]]
-    players = [Drawer(dice, dice.choice(tenants)["name"]).drawn(path) for _ in range(dice.randrange(2, 7))]
+    theme = dice.choice(["mixed", "goes", "crowds"])
+    players = [Drawer(dice, dice.choice(tenants)["name"]).one(path, theme) for _ in range(dice.randrange(2, 7))]
     is_stopped = dice.random() < 0.25
-    stop = [f"sleep {dice.choice([0, 0, 1, 250])}\n"] if is_stopped else ["await\n"]
+    stop = [f"sleep {dice.choice([0, 1, 300, 2000, 300_000])}\n"] if is_stopped else ["await\n"]
     players += [auditor(path, players, it["name"]) for it in tenants if not is_stopped]
     players.append(Player("", [], [*stop, f"remove {path}\n"]))
     return Scenario(seed, {"tenants": tenants, "workers": dice.choice([1, 2, 2, 3, 4])}, players, is_stopped)
+
+
+def draw_host(seed: int, run: str) -> Scenario:
+    """What a seed says of a host: short histories, each of which is left for the next one once half of it is used, or when a client
+    says so."""
+    dice, path = random.Random(seed), f"{run}/socket"
+    tenants = [{**draw_tenant(dice, name), "steps": dice.choice([1500, 3000])} for name in NAMES[:dice.choice([1, 1, 2])]]
+    players = [Drawer(dice, dice.choice(tenants)["name"]).one(path, dice.choice(["mixed", "goes", "crowds"])) for _ in range(dice.randrange(2, 6))]
+    for _ in range(dice.randrange(3)):
+        name = dice.choice(["rotate", f"rotate.{dice.choice(tenants)['name']}"])
+        players.append(Player("", [], [f"sleep {dice.choice([1, 100, 1000, 50_000])}\n", f"make {run}/{name}\n"]))
+    is_stopped = dice.random() < 0.25
+    stop = [f"sleep {dice.choice([0, 1, 300, 2000, 300_000])}\n"] if is_stopped else ["await\n"]
+    players += [auditor(path, players, it["name"]) for it in tenants if not is_stopped]
+    players.append(Player("", [], [*stop, f"remove {path}\n"]))
+    words = ["--rotate-at", str(dice.choice([5, 20, 50])), "--keep", "1000", "--durable", dice.choice(["off", "write", "second", "reply"])]
+    return Scenario(seed, {"tenants": tenants, "workers": dice.choice([1, 2, 3])}, players, is_stopped, words)

@@ -13,7 +13,11 @@ CHAIN = [
     [["spawn", 0, 1, 0, 1], ["wait", 3, 4, 0], ["ret", 3]],
     [["spawn", 0, 2, 0, 1], ["wait", 3, 4, 0], ["ret", 3]],
     [["spawn", 0, 3, 0, 1], ["wait", 3, 4, 0], ["ret", 3]],
-    [["set", 2, 1], ["set", 3, 30], ["count", 4, 1], ["sub", 3, 3, 2], ["jz", 3, 6], ["jmp", 2], ["set", 2, 5], ["ret", 2]]]
+    [["set", 2, 1], ["set", 3, 40], ["count", 4, 1], ["sub", 3, 3, 2], ["jz", 3, 6], ["jmp", 2], ["set", 2, 5], ["ret", 2]]]
+
+# Two rows, each of which looks at a cell forty times, an entry each. Their maker looks too, before it waits for them: by
+# then workers may have taken both, and its own slot has nothing to run until they end.
+PAIR = [[["spawn", 0, 1, 0, 1], ["spawn", 0, 1, 0, 1], *[["count", 2, 1]] * 15, ["wait", 3, 4, 0], ["ret", 3]], CHAIN[3]]
 
 
 @dataclass(frozen=True)
@@ -36,6 +40,9 @@ JOBS = (
     completes(2500, COUNTING, 2500, 0),
     completes(5, ISOLATED, 0, 0),
     completes(5, CHAIN, 0, 0),
+    completes(10, PAIR, 0, 0),
     Job({"args": [0, 0], "fuel": 10, "procs": DIVIDING}, {"status": "fault", "fault": 1}),
     Job({"args": [0, 0], "fuel": 3000, "procs": [[["jmp", 0]]]}, {"status": "fault", "fault": 2}),
 )
+LONG = tuple(it for it, job in enumerate(JOBS) if job.sent["procs"] in (CHAIN, PAIR, FIB))
+"""Those of several rows, by their places."""

@@ -30,6 +30,7 @@ class Tenant:
     are_forgotten: bool = False
     firsts: set[int] = field(default_factory=set)
     epochs: set[int] = field(default_factory=set)
+    has_terms: bool = False
 
 
 def wants(condition: bool, *what: object) -> None:
@@ -48,13 +49,14 @@ def job_sent(sent: dict) -> Job:
 def tenants_of(scenario: Scenario, run: Run) -> dict[str, Tenant]:
     """The tenants, with the jobs that their dumps have by number. What each gives is not taken from there."""
     tenants = {it["name"]: Tenant(it) for it in scenario.config["tenants"]}
-    for name, tenant in tenants.items():
-        entries = [json.loads(line) for line in run.dumps.get(name, "").splitlines()[1:]]
-        tenant.is_full = len(entries) >= tenant.config["steps"]
+    for dump, text in run.dumps.items():
+        tenant = tenants[dump.split(".")[0]]
+        entries = [json.loads(line) for line in text.splitlines()[1:]]
+        tenant.is_full |= len(entries) >= tenant.config["steps"]
         for entry in entries:
             request, reply = entry.get("request", {}), entry.get("reply", {})
             if request.get("op") in ("submit", "execute") and "job" in reply:
-                wants(reply["job"] not in tenant.jobs, name, "has a number twice:", reply)
+                wants(reply["job"] not in tenant.jobs, dump, "has a number that came before:", reply)
                 tenant.jobs[reply["job"]] = job_sent(request["job"])
             if request.get("op") == "cancel":
                 tenant.are_canceled.add(request["job"])
@@ -120,7 +122,8 @@ def judge_other(tenant: Tenant, ask: Ask, number: int, reply: dict) -> None:
     elif ask.op == "release":
         wants(reply == {"released": number}, ask.text, "got", reply)
     elif ask.op == "retire":
-        wants(list(reply) == ["epoch"] and reply["epoch"] not in tenant.epochs, ask.text, "got", reply)
+        # Each term of a host counts its own.
+        wants(list(reply) == ["epoch"] and (tenant.has_terms or reply["epoch"] not in tenant.epochs), ask.text, "got", reply)
         tenant.epochs.add(reply["epoch"])
     elif ask.op == "cells":
         wants(reply == {"count": reply.get("count"), "key": 0, "sum": 5 * reply.get("count", 0)}, ask.text, "got", reply)
@@ -150,10 +153,27 @@ def judge_ends(scenario: Scenario, run: Run) -> None:
     # One that has told of its own end may be on its last steps.
     left = [it for it in run.waiting if "may run" not in it]
     wants(not left, "threads are left waiting:", left)
-    closed = [f"{it['name']}: closed, {len(run.dumps.get(it['name'], '').splitlines()) - 1} entries" for it in scenario.config["tenants"]]
-    wants(run.lines == ["listening", *closed], "it printed", run.lines)
-    wants((run.status, run.fault) == (0, ""), "status", run.status, run.fault)
+    lengths = {name: len(text.splitlines()) - 1 for name, text in run.dumps.items()}
+    if scenario.words:
+        judge_host(run, lengths)
+    else:
+        closed = [f"{it['name']}: closed, {lengths.get(it['name'], 0)} entries" for it in scenario.config["tenants"]]
+        wants(run.lines == ["listening", *closed], "it printed", run.lines)
+        wants((run.status, run.fault) == (0, ""), "status", run.status, run.fault)
     wants(not run.is_path_there, "the socket is still there")
+
+
+def judge_host(run: Run, lengths: dict[str, int]) -> None:
+    """A host reports no fault and no job that is lost, and closes each term that it opens."""
+    events = [json.loads(line) for line in run.fault.splitlines() if line.startswith("{")]
+    wants(len(events) == len(run.fault.splitlines()), "it said", run.fault)
+    wants(run.status == 0 and not [it for it in events if it["event"] == "fault" or it.get("lost")], "status", run.status, run.fault)
+    opened = sorted(f"{it['tenant']}.{it['term']:06}" for it in events if it["event"] == "opened")
+    wants(opened == sorted(f"{it['tenant']}.{it['term']:06}" for it in events if it["event"] == "closed"), "terms:", run.fault)
+    printed = sorted(f"{name}: closed, {length} entries" for name, length in lengths.items())
+    left = {f"{it['tenant']}.{it['term']:06}" for it in events if it.get("left")}
+    told = [it for it in run.lines[1:] if it.split(":")[0] not in left]
+    wants(run.lines[:1] == ["listening"] and sorted(told) == printed, "it printed", run.lines, "and left", printed)
 
 
 def judge_dumps(script: Path, run: Run) -> None:
@@ -170,8 +190,11 @@ def faults(scenario: Scenario, run: Run, script: Path | None) -> Iterator[str]:
         if script:
             judge_dumps(script, run)
         tenants = tenants_of(scenario, run)
+        for tenant in tenants.values():
+            tenant.has_terms = bool(scenario.words)
         removed = [it.step for it in run.clients[-1] if it.what == "removed"]
-        for player, seen in zip(scenario.players[:-1], run.clients, strict=False):
-            judge_client(tenants[player.tenant], player, seen, removed[0] if scenario.is_stopped and removed else None)
+        for player, seen in zip(scenario.players, run.clients, strict=True):
+            if player.asks:
+                judge_client(tenants[player.tenant], player, seen, removed[0] if scenario.is_stopped and removed else None)
     except Wrong as fault:
         yield str(fault)

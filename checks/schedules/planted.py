@@ -15,7 +15,7 @@ import time
 from dataclasses import dataclass
 
 from bench import Bench
-from running import build
+from running import build, find_stops
 
 SECONDS = 300
 """For how long a defect is looked for."""
@@ -73,7 +73,9 @@ def plant(name: str, folder: pathlib.Path) -> pathlib.Path:
 
 def is_found(name: str, program: pathlib.Path, library: pathlib.Path) -> bool:
     """Whether a defect is found, which is printed with its seed and the time that it took."""
-    bench = Bench(program, None, library, queue.SimpleQueue())
+    stops = library.with_name("stops")
+    find_stops(program, stops)
+    bench = Bench(program, None, library, stops, queue.SimpleQueue())
     bench.processors.put(min(os.sched_getaffinity(0)))
     began, seed = time.monotonic(), 0
     while time.monotonic() < began + SECONDS:

@@ -2,8 +2,9 @@
 """Runs arena-server as it was built under drawn schedules, with clients as threads of the same process, and judges what they saw.
 A seed gives the configuration, the clients and the schedule; the same seed gives the same run.
 
-usage: checks/schedules/run.py [--steps N | --seed S [--trace FILE]] [--program PATH] [--script PATH], at the top of the repository,
-after `rt ci`, or `rt run` in crates/server_program and crates/script_program. It needs `cc` on the path.
+usage: checks/schedules/run.py [--first S] [--steps N] | --seed S [--trace FILE] [--program PATH] [--script PATH], at the top of the
+repository: the seeds from S on until a million steps are taken, or N, or that seed alone; after `rt ci`, or `rt run` in
+crates/server_program and crates/script_program. It needs `cc` on the path, and `nm`, without which there are fewer points.
 """
 import argparse
 import math
@@ -15,7 +16,7 @@ import tempfile
 import time
 
 from bench import Bench, Outcome
-from running import build
+from running import build, find_stops
 
 PROGRAM = pathlib.Path("crates/server_program/out/server_program")
 SCRIPT = pathlib.Path("crates/script_program/out/script_program")
@@ -35,6 +36,8 @@ def main() -> None:
     parser = argparse.ArgumentParser()
     parser.add_argument("--steps", type=int)
     parser.add_argument("--seed", type=int)
+    parser.add_argument("--first", type=int, default=0)
+    parser.add_argument("--host", action="store_true")
     parser.add_argument("--trace", type=pathlib.Path)
     parser.add_argument("--program", type=pathlib.Path, default=PROGRAM)
     parser.add_argument("--script", type=pathlib.Path, default=SCRIPT)
@@ -44,13 +47,15 @@ def main() -> None:
         return
     with tempfile.TemporaryDirectory() as folder:
         script = words.script.resolve() if words.script.exists() else None
-        bench = Bench(words.program.resolve(), script, build(pathlib.Path(folder)), queue.SimpleQueue())
+        stops = pathlib.Path(folder) / "stops"
+        find_stops(words.program, stops)
+        bench = Bench(words.program.resolve(), script, build(pathlib.Path(folder)), stops, queue.SimpleQueue(), words.host)
         for processor in os.sched_getaffinity(0):
             bench.processors.put(processor)
         trace = words.trace.resolve() if words.trace else None
         began = time.monotonic()
         outcomes = []
-        for outcome in [bench.tried(words.seed, trace)] if words.seed is not None else bench.all_tried(words.steps or STEPS, math.inf if words.steps else SECONDS):
+        for outcome in [bench.tried(words.seed, trace)] if words.seed is not None else bench.all_tried(words.first, words.steps or STEPS, math.inf if words.steps else SECONDS):
             tell(outcome, words.program)
             outcomes.append(outcome)
     bad = sum(bool(it.faults) for it in outcomes)

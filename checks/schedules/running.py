@@ -6,11 +6,14 @@ import subprocess
 import tempfile
 from dataclasses import dataclass, field
 
-from drawing import Scenario, draw_scenario
+from drawing import Scenario, draw_host, draw_scenario
 
 HERE = pathlib.Path(__file__).parent
 SECONDS = 120
 """How long a run may take, by the clock on the wall: one that blocks where the library does not see it ends then."""
+
+CHECKED = "detect_leaks=0:detect_stack_use_after_return=0:quarantine_size_mb=1"
+"""How a build without proofs checks its memory: no more than takes little time."""
 
 
 @dataclass(frozen=True)
@@ -40,9 +43,23 @@ class Run:
 def build(folder: pathlib.Path) -> pathlib.Path:
     """The library, built into a folder."""
     made = folder / "schedule.so"
-    sources = [HERE / name for name in ("schedule.c", "calls.c", "clients.c")]
+    sources = [HERE / name for name in ("schedule.c", "calls.c", "clients.c", "stops.c")]
     subprocess.run(["cc", "-shared", "-fPIC", "-O2", "-o", made, *sources], check=True)
     return made
+
+
+STOPPED = ("tenant_lock", "worker_main", "server_doors", "call_queues", "nested_wait", "socket_server", "host_terms")
+"""The crates whose functions are points, where the program says where they begin."""
+
+
+def find_stops(program: pathlib.Path, file: pathlib.Path) -> None:
+    """Writes the addresses at which functions of these crates begin, by the names that the program has."""
+    try:
+        names = subprocess.run(["nm", program], capture_output=True, text=True, errors="replace").stdout
+    except FileNotFoundError:
+        names = ""
+    parts = (line.split(maxsplit=2) for line in names.splitlines())
+    file.write_text("".join(f"{it[0]}\n" for it in parts if len(it) == 3 and it[1] in "tT" and it[2].split("::")[0] in STOPPED))
 
 
 def read_report(text: str, run: Run) -> None:
@@ -68,25 +85,65 @@ def write_clients(scenario: Scenario, path: pathlib.Path) -> None:
     path.write_text("".join("client\n" + "".join(it.acts) for it in scenario.players))
 
 
-def run_server(program: pathlib.Path, library: pathlib.Path, seed: int, processor: int, trace: pathlib.Path | None = None) -> tuple[Scenario, Run]:
-    """Runs a server with the clients and the schedule of a seed, on one processor."""
-    with tempfile.TemporaryDirectory(dir="/dev/shm" if os.path.isdir("/dev/shm") else None) as name:
-        folder = pathlib.Path(name)
-        scenario = draw_scenario(seed, "s")
-        write_clients(scenario, folder / "clients")
-        (folder / "config").write_text(json.dumps(scenario.config))
-        (folder / "dumps").mkdir()
-        words = [program, "--config", "config", "--socket", "s", "--connections", str(len(scenario.players)), "--dump", "dumps"]
-        room = {"SEED": str(seed), "PROCESSOR": str(processor), "OUT": "out", "CLIENTS": "clients", "LD_PRELOAD": str(library), "ASAN_OPTIONS": "detect_leaks=0",
-                **({"TRACE": str(trace)} if trace else {})}
-        run = Run()
+@dataclass(frozen=True)
+class Place:
+    """Where a run is made: by which library, on which processor, and where its choices are told, if they are."""
+
+    library: pathlib.Path
+    stops: pathlib.Path
+    processor: int
+    trace: pathlib.Path | None = None
+
+
+def room_of(seed: int, place: Place) -> dict[str, str]:
+    """The environment of a run. The library finds its files in the run's own folder."""
+    told = {"TRACE": str(place.trace)} if place.trace else {}
+    return {**os.environ, "SEED": str(seed), "PROCESSOR": str(place.processor), "OUT": "out", "CLIENTS": "clients",
+            "LD_PRELOAD": str(place.library), "STOPS": str(place.stops), "ASAN_OPTIONS": CHECKED, **told}
+
+
+def run_words(words: list[str], scenario: Scenario, folder: pathlib.Path, place: Place) -> Run:
+    """Runs a program with the clients of a scenario. What it prints goes to files, which never make it wait."""
+    write_clients(scenario, folder / "clients")
+    (folder / "config").write_text(json.dumps(scenario.config))
+    run = Run()
+    with open(folder / "printed", "w") as printed, open(folder / "said", "w") as said:
         try:
-            done = subprocess.run(words, cwd=folder, env={**os.environ, **room}, capture_output=True, text=True, timeout=SECONDS)
-            run.status, run.lines, run.fault = done.returncode, done.stdout.splitlines(), done.stderr
+            done = subprocess.run(words, cwd=folder, env=room_of(scenario.seed, place), stdout=printed, stderr=said, timeout=SECONDS)
+            run.status = done.returncode
         except subprocess.TimeoutExpired:
             run.end = f"nothing, within {SECONDS} seconds: a thread blocks where the library does not see it"
-        if (folder / "out").exists():
-            read_report((folder / "out").read_text(), run)
+    run.lines, run.fault = (folder / "printed").read_text().splitlines(), (folder / "said").read_text()
+    if (folder / "out").exists():
+        read_report((folder / "out").read_text(), run)
+    return run
+
+
+def room() -> str | None:
+    """Where the folders of runs are: in memory, if that is there."""
+    return "/dev/shm" if os.path.isdir("/dev/shm") else None
+
+
+def run_server(program: pathlib.Path, seed: int, place: Place) -> tuple[Scenario, Run]:
+    """Runs a server with the clients and the schedule of a seed."""
+    with tempfile.TemporaryDirectory(dir=room()) as name:
+        folder = pathlib.Path(name)
+        scenario = draw_scenario(seed, "s")
+        (folder / "dumps").mkdir()
+        words = [str(program), "--config", "config", "--socket", "s", "--connections", str(len(scenario.players)), "--dump", "dumps"]
+        run = run_words(words, scenario, folder, place)
         run.is_path_there = (folder / "s").exists()
         run.dumps = {it.stem: it.read_text() for it in (folder / "dumps").iterdir()}
+    return scenario, run
+
+
+def run_host(program: pathlib.Path, seed: int, place: Place) -> tuple[Scenario, Run]:
+    """Runs a host with the clients and the schedule of a seed."""
+    with tempfile.TemporaryDirectory(dir=room()) as name:
+        folder = pathlib.Path(name)
+        scenario = draw_host(seed, "run")
+        (folder / "run").mkdir()
+        run = run_words([str(program), "--config", "config", "--run", "run", *scenario.words], scenario, folder, place)
+        run.is_path_there = (folder / "run/socket").exists()
+        run.dumps = {it.stem: it.read_text() for it in (folder / "run").glob("dumps/*.jsonl")}
     return scenario, run

@@ -356,7 +356,7 @@ static void seed_dice(const char *seed) {
     world.dice = strtoull(seed, NULL, 10);
     draw(2); // near seeds do not begin alike
     world.manner = (enum manner)draw(MANNERS);
-    world.change = world.manner == BY_RANK ? 3000 : world.manner == BY_RESTLESS_RANK ? 60 : 0;
+    world.change = world.manner == BY_RANK ? 20000 : world.manner == BY_RESTLESS_RANK ? 300 : 0;
     world.hash = 0xcbf29ce484222325;
 }
 
@@ -373,6 +373,9 @@ __attribute__((constructor)) static void begin(void) {
         return;
     if (word("PROCESSOR"))
         stay_on(word("PROCESSOR"));
+    look_at_program();
+    if (word("STOPS"))
+        put_stops(word("STOPS"));
     seed_dice(word("SEED"));
     world.out = word("OUT");
     if (word("CLIENTS"))

@@ -54,7 +54,7 @@ struct world {
     int count;
     bool are_files_new; // a file may have become ready since the last look
     pid_t leaving;      // a thread that has ended here, and may still be there for the system
-    uintptr_t code, code_end;
+    uintptr_t base, code, code_end; // of the program itself
     FILE *trace;
     const char *out;
 };
@@ -80,6 +80,11 @@ int make_thread(pthread_t *handle, const pthread_attr_t *how, void *(*start)(voi
 int join_thread(struct thread *other, void **result);
 void end_run(void);
 _Noreturn void fail(const char *why);
+
+// Points at the entries of functions whose addresses a file has.
+void put_stops(const char *path);
+// Finds the program's own code, and whether it is checked.
+void look_at_program(void);
 
 // The clients.
 void read_clients(const char *path);
