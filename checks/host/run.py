@@ -17,8 +17,9 @@ import losses
 import rotations
 import sharing
 import starts
+import together
 
-CHECKS = [check for module in (starts, clients, sharing, rotations, losses, forgetting, durable, limits, crowds, ends) for check in module.CHECKS]
+CHECKS = [check for module in (starts, clients, sharing, rotations, losses, forgetting, durable, together, limits, crowds, ends) for check in module.CHECKS]
 
 
 def main() -> None:

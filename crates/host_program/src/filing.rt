@@ -2,19 +2,19 @@
 ghost use Rattle.std.specs.Prelude.{◌≡◌, ◌||◌, ◌&&◌, not};
 ghost use Rattle.host_program.specs.Fates.{is_lost};
 
+mod files;
+
 use crate::clocks::{millis, seconds};
 use crate::ends::{Faults, event_dump_fault};
-use crate::files::put_text;
-use crate::results::outcomes_text;
 use crate::shelves::Shelves;
 use crate::site::Site;
 use crate::writing::{Done, Left, Work, Writer};
-use dump_files::{Broken, Whole, make_part};
+use dump_files::make_part;
 use dump_lines::DumpFault;
+use files::{closed_term, dump_path, keep_part, put_outcomes, remove_journal, tell_end};
 use host_status::{ClosedTerm, Event, Fault};
 use host_terms::TermEnd;
 use std::alloc::{AllocError, Global};
-use std::fs;
 use std::fs::{File, Files};
 use std::sync::Wait;
 use std::time::Clock;
@@ -283,126 +283,12 @@ impl Filing {
         ms: u64,
         fate: Fate,
     ) -> Result<(), AllocError> {
-        let named = end.tenant.tenant().name;
-        let (entries, fault) = match &end.end {
-            Some(Ok(closed)) => (closed.history.len(), None),
-            Some(Err(fault)) => (0, Some(fault.code())),
-            None => (0, None),
-        };
-        let shown = ClosedTerm {
-            tenant: String::from_str(alloc, named.as_str())?,
-            term: end.span.number,
-            began: end.began,
-            ended,
-            why: end.why,
-            base: end.span.base,
-            entries,
-            lost: end.lost(),
-            left: end.left_over(),
-            fault,
-            dumped: fate == Fate::Dumped,
-            ms,
-        };
+        let is_dumped = fate == Fate::Dumped;
+        let shown = closed_term(alloc, end, ended, ms, is_dumped)?;
         if self.closed.len() >= SHOWN {
             self.closed.remove(0);
         }
         self.closed.push(shown)?;
         Ok(())
     }
-}
-
-/// The path of a term's dump.
-fn dump_path<J: Naming>(
-    alloc: Global,
-    site: Site<'_, J>,
-    end: &TermEnd,
-) -> Result<String, AllocError> {
-    let named = end.tenant.tenant().name;
-    site.folder.dump(alloc, named.as_str(), end.span.number)
-}
-
-/// Lets a part that was written take its place, or removes it.
-fn keep_part<J: Naming, R>(
-    rt: &R,
-    alloc: Global,
-    site: Site<'_, J>,
-    end: &TermEnd,
-    written: Result<Whole<File>, Broken<File>>,
-) -> Result<(), DumpFault>
-where
-    R: Files<File = File>,
-{
-    match (written, dump_path(alloc, site, end)) {
-        (Ok(whole), Ok(path)) => {
-            let _kept = whole.keep(rt, path.as_str())?;
-            Ok(())
-        }
-        (Err(Broken { part, fault }), _) => {
-            // It is removed at the next start if it can't be now.
-            let _ = part.remove(rt);
-            Err(fault)
-        }
-        (Ok(whole), Err(_)) => {
-            // As above.
-            let _ = whole.into_part().remove(rt);
-            Err(DumpFault::Memory)
-        }
-    }
-}
-
-/// Writes the outcomes of a term's jobs to their file.
-fn put_outcomes<J: Naming, R>(
-    rt: &R,
-    alloc: Global,
-    site: Site<'_, J>,
-    end: &TermEnd,
-) -> Result<(), std::io::Error>
-where
-    R: Files<File = File>,
-{
-    let named = end.tenant.tenant().name;
-    let path = site.folder.result(alloc, named.as_str(), end.span.number)?;
-    let text = outcomes_text(alloc, end.outcomes.as_slice())?;
-    put_text(
-        rt,
-        alloc,
-        site.folder.results.as_str(),
-        path.as_str(),
-        text.as_slice(),
-    )
-}
-
-/// Removes a term's journal, if it has one, once its history and outcomes are in their files.
-fn remove_journal<J: Naming, R: Files<File = File>>(
-    rt: &R,
-    alloc: Global,
-    site: Site<'_, J>,
-    end: &TermEnd,
-) {
-    let named = end.tenant.tenant().name;
-    let (number, base) = (end.span.number, end.span.base);
-    if let Ok(path) = site.folder.journal(alloc, named.as_str(), number, base) {
-        // It is removed at the next start if it can't be now.
-        let _ = fs::remove_file(rt, path.as_str());
-    }
-}
-
-/// Prints how a term was closed.
-fn tell_end<J: Naming, R: Wait>(rt: &R, alloc: Global, site: Site<'_, J>, end: &TermEnd) {
-    let named = end.tenant.tenant().name;
-    let name = named.as_str();
-    let term = end.span.number;
-    let line = match &end.end {
-        Some(Ok(closed)) => {
-            let entries = closed.history.len();
-            format!(in alloc; "{name}.{term:06}: closed, {entries} entries").ok()
-        }
-        Some(Err(fault)) => {
-            let code = fault.code();
-            format!(in alloc; "{name}.{term:06}: close fault {code}").ok()
-        }
-        None => return,
-    };
-    // Whoever reads it learns the same from the status, so it may be lost.
-    site.outlet.print(rt, line);
 }

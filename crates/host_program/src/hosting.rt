@@ -3,7 +3,7 @@ ghost use Rattle.std.specs.Thread.{IsSend};
 ghost use Rattle.std.specs.Prelude.{◌≡◌, IfOk, length};
 
 use crate::accepting::accept_all;
-use crate::clocks::{millis, seconds};
+use crate::clocks::millis;
 use crate::configs::read_config;
 use crate::ends::end_of;
 use crate::filing::Filing;
@@ -12,7 +12,7 @@ use crate::forgetting::remove_old_notes;
 use crate::journaling::keep_journals;
 use crate::keeping::Keeper;
 use crate::recovering::recover_all;
-use crate::showing::show;
+use crate::shower::Shower;
 use crate::site::{Progress, Site};
 use crate::system::System;
 use crate::writing::{Writer, write_histories};
@@ -22,7 +22,6 @@ use mio::Waker;
 use program_words::HostWords;
 use server_io::{Access, Endpoint, ServerEnd, Watch};
 use std::alloc::{AllocError, Global};
-use std::fs::{File, Files};
 use std::io::ErrorKind;
 use std::marker::Brand;
 use std::net::Shutdown;
@@ -35,9 +34,6 @@ use tenant_book::{Naming, OpenedRegistry};
 
 /// How long the thread that looks after terms waits between two rounds, in milliseconds.
 const TICK: u64 = 10;
-
-/// How often the status is written, in milliseconds.
-const SECOND: u64 = 1000;
 
 /// How long a client has to take a reply once its session is to stop, in milliseconds.
 const LAST_REPLIES: u64 = 1000;
@@ -194,10 +190,7 @@ fn keep_hosting<J: Naming + Send + Sync, R: System>(
     listening: String,
 ) -> ServerEnd {
     let mut keeper = keeper;
-    let mut shower = Shower {
-        began: seconds(rt),
-        shown: 0,
-    };
+    let mut shower = Shower::new(rt);
     shower.show_now(rt, alloc, site, &keeper);
     site.outlet.print(rt, Some(listening));
     for _turn in rt.forever() {
@@ -271,43 +264,6 @@ fn shut_desks<J: Naming, R: Wait>(rt: &R, site: Site<'_, J>, how: Shutdown) {
 fn close_desks<J: Naming, R: Wait>(rt: &R, site: Site<'_, J>) {
     for desk in site.desks {
         desk.close(rt);
-    }
-}
-
-/// When the status was written.
-#[derive(Clone, Copy)]
-struct Shower {
-    /// When the host began, in seconds since 1970.
-    began: u64,
-    /// When the status was last written, in milliseconds of the monotonic clock.
-    shown: u64,
-}
-
-impl Shower {
-    /// Writes the status, once a second.
-    fn show<J: Naming, R: Files<File = File> + Wait + Clock + AllocGlobal>(
-        &mut self,
-        rt: &R,
-        alloc: Global,
-        site: Site<'_, J>,
-        keeper: &Keeper<J>,
-    ) {
-        if millis(rt).saturating_sub(self.shown) >= SECOND {
-            self.show_now(rt, alloc, site, keeper);
-        }
-    }
-
-    /// Writes the status. If that fails, the older one stays.
-    fn show_now<J: Naming, R: Files<File = File> + Wait + Clock + AllocGlobal>(
-        &mut self,
-        rt: &R,
-        alloc: Global,
-        site: Site<'_, J>,
-        keeper: &Keeper<J>,
-    ) {
-        self.shown = millis(rt);
-        // The next one is written within a second.
-        let _ = show(rt, alloc, site, self.began, keeper.filing().closed());
     }
 }
 

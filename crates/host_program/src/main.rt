@@ -17,6 +17,7 @@ mod numbers;
 mod recovering;
 mod results;
 mod shelves;
+mod shower;
 mod showing;
 mod site;
 mod system;

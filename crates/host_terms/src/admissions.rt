@@ -1,10 +1,8 @@
 // The connections that a tenant has.
 ghost use Rattle.std.specs.Prelude.{◌≡◌, ◌≤◌, ◌<◌, ◌+◌, MatchOption};
 
-use crate::tenancies::Tenancy;
 use std::sync::Arc;
 use std::sync::atomic::{AtomicU64, Ordering};
-use tenant_book::Naming;
 
 /// How many connections are bound to a tenant, and how many hellos were refused since it had as many as it may.
 #[derive(Drop)]
@@ -74,29 +72,34 @@ fn with_one_more(connected: u64, most: u64) -> Option<u64>
 }
 
 /// A connection's place at a tenant, which goes back when this is dropped, however the connection ended.
-pub(crate) struct Admission<J: Naming> {
-    tenancy: Arc<Tenancy<J>>,
+pub(crate) struct Admission {
+    admissions: Arc<Admissions>,
+    /// The tenant's number at the host.
+    tenant: usize,
 }
 
-impl<J: Naming> Admission<J> {
-    /// A place at a tenant. None if it has `most` connections.
-    pub(crate) fn of(tenancy: Arc<Tenancy<J>>, most: u64) -> Option<Admission<J>> {
-        if tenancy.admissions().admit(most) {
-            Some(Admission { tenancy })
+impl Admission {
+    /// A place at the tenant of a number. None if it has `most` connections.
+    pub(crate) fn of(admissions: Arc<Admissions>, tenant: usize, most: u64) -> Option<Admission> {
+        if admissions.admit(most) {
+            Some(Admission { admissions, tenant })
         } else {
             None
         }
     }
 
-    /// The tenant.
-    pub(crate) fn tenancy(&self) -> &Tenancy<J> {
-        &self.tenancy
+    /// The number of the tenant.
+    pub(crate) fn tenant(&self) -> usize {
+        self.tenant
     }
 }
 
-impl<J: Naming> Drop for Admission<J> {
+impl Drop for Admission {
     fn drop(self) {
-        self.tenancy.admissions().leave();
-        let Admission { tenancy: _tenancy } = self;
+        self.admissions.leave();
+        let Admission {
+            admissions: _admissions,
+            tenant: _tenant,
+        } = self;
     }
 }

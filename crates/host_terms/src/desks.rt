@@ -1,6 +1,8 @@
 // The places of a host's sessions, each of which serves one client after another.
 
 use crate::hosts::Host;
+use crate::journals::Kept;
+use crate::outbox::{Incoming, Outbox, Outgoing, lost};
 use crate::patience::{Overdue, Patience, Seen};
 use crate::sessions::HostDoors;
 use crate::terms::Booking;
@@ -8,6 +10,8 @@ use mio::Waker;
 use server_io::Watch;
 use session_core::serve;
 use std::alloc::Global;
+use std::io;
+use std::io::{Read, Write};
 use std::net::Shutdown;
 use std::os::unix::net::UnixStream;
 use std::sync::atomic::{AtomicBool, AtomicU64, Ordering};
@@ -46,6 +50,8 @@ pub struct Desk<J: Naming> {
     changed: Condvar,
     /// The session's place in the term that it asked last, while it asks nothing.
     booking: Mutex<Option<Booking<J>>>,
+    /// Where the session's replies go.
+    outbox: Outbox,
     /// Whether the session is bound to a tenant, and whether it is within a request.
     is_bound: AtomicBool,
     is_asking: AtomicBool,
@@ -65,6 +71,7 @@ impl<J: Naming> Desk<J> {
             }),
             changed: Condvar::new(),
             booking: Mutex::new(None),
+            outbox: Outbox::new(),
             is_bound: AtomicBool::new(false),
             is_asking: AtomicBool::new(false),
             asked: AtomicU64::new(0),
@@ -167,6 +174,11 @@ impl<J: Naming> Desk<J> {
         &self.is_gone
     }
 
+    /// Where the session's replies go.
+    pub(crate) fn outbox(&self) -> &Outbox {
+        &self.outbox
+    }
+
     /// The session's place in the term that it asked last.
     pub(crate) fn take_booking<R: Wait>(&self, rt: &R) -> Option<Booking<J>> {
         self.booking.lock(rt).take()
@@ -180,8 +192,39 @@ impl<J: Naming> Desk<J> {
         }
     }
 
+    /// Gives the session's place back to its term. What the term was asked is kept before, or no reply goes out any more.
+    pub(crate) fn give_back<R: Wait>(&self, rt: &R, alloc: Global, booking: Booking<J>) {
+        if self.outbox.is_owing() {
+            self.outbox.settle(booking.term().kept(rt, alloc));
+        }
+        booking.give_back(rt);
+    }
+
+    /// Lets all replies go out that wait, once what they tell is kept. If that can't be, none goes out any more.
+    pub(crate) fn let_out<R: Wait>(&self, rt: &R, alloc: Global) -> io::Result<()> {
+        if self.outbox.is_empty(rt) {
+            return Ok(());
+        }
+        match self.kept(rt, alloc) {
+            Some(kept) => self.outbox.send(rt, kept),
+            None => {
+                self.outbox.settle(None);
+                Err(lost())
+            }
+        }
+    }
+
+    /// Has kept what the replies tell that wait, if that can be. The session keeps its place in the term meanwhile.
+    fn kept<R: Wait>(&self, rt: &R, alloc: Global) -> Option<Kept> {
+        let booking = self.booking.lock(rt);
+        if !self.outbox.is_owing() {
+            return Some(Kept::of_nothing());
+        }
+        booking.as_ref()?.term().kept(rt, alloc)
+    }
+
     /// Gives the session's place back to its term, if that takes no new jobs.
-    pub(crate) fn give_back_left<R: Wait>(&self, rt: &R) {
+    pub(crate) fn give_back_left<R: Wait>(&self, rt: &R, alloc: Global) {
         let mut kept = self.booking.lock(rt);
         let is_left = match &*kept {
             Some(booking) => booking.term().is_left(),
@@ -189,7 +232,7 @@ impl<J: Naming> Desk<J> {
         };
         if is_left {
             if let Some(booking) = kept.take() {
-                booking.give_back(rt);
+                self.give_back(rt, alloc, booking);
             }
         }
     }
@@ -220,19 +263,58 @@ pub fn attend_desk<J: Naming, R: Wait + Clock>(
     desk: &Desk<J>,
     waker: &Waker,
 ) {
-    let mut doors = HostDoors::new(rt, alloc, host, desk);
     for _guest in rt.forever() {
         let Some(stream) = desk.next_guest(rt) else {
             return;
         };
-        let guest = &*stream;
         // However it ended, the next guest may come.
-        let _end = serve(alloc, &mut &*guest, &mut &*guest, &mut doors);
-        doors.leave();
+        serve_guest(rt, alloc, host, desk, &stream);
         // The client may have gone before.
-        let _ = guest.shutdown(Shutdown::Both);
+        let _ = stream.shutdown(Shutdown::Both);
         desk.free(rt);
         // If the waker fails, the next tick shows that the desk is free.
         let _ = waker.wake();
     }
+}
+
+/// Serves a guest until the connection ends, however it does. Without memory for its replies, it ends at once.
+fn serve_guest<J: Naming, R: Wait + Clock>(
+    rt: &R,
+    alloc: Global,
+    host: &Host<J>,
+    desk: &Desk<J>,
+    stream: &Arc<UnixStream>,
+) {
+    let Ok(sending) = Arc::try_clone(stream) else {
+        return;
+    };
+    if desk.outbox.open(rt, alloc, sending).is_err() {
+        return;
+    }
+    let mut incoming = Incoming {
+        rt,
+        alloc,
+        desk,
+        stream: &**stream,
+    };
+    let mut outgoing = Outgoing { rt, alloc, desk };
+    serve_lines(rt, alloc, host, desk, &mut incoming, &mut outgoing);
+    desk.outbox.close(rt);
+}
+
+/// Answers the lines of a reader at a desk, until that ends or fails, or the writer does.
+fn serve_lines<S: Read, W: Write, J: Naming, R: Wait + Clock>(
+    rt: &R,
+    alloc: Global,
+    host: &Host<J>,
+    desk: &Desk<J>,
+    reader: &mut S,
+    writer: &mut W,
+) {
+    let mut doors = HostDoors::new(rt, alloc, host, desk);
+    // However it ended, the client's connection ends.
+    let _end = serve(alloc, reader, writer, &mut doors);
+    // What was answered before goes out, if it can.
+    let _sent = desk.let_out(rt, alloc);
+    doors.leave();
 }

@@ -2,7 +2,7 @@
 ghost use Rattle.std.specs.Prelude.{IfErr};
 ghost use Rattle.host_terms.specs.Hellos.{IsRefusal};
 
-use crate::admissions::Admission;
+use crate::admissions::{Admission, Admissions};
 use crate::board::Board;
 use crate::desks::Desk;
 use crate::endings::Ending;
@@ -95,14 +95,20 @@ impl<J: Naming> Host<J> {
     }
 
     /// A place at the tenant of that number for one more connection. An error if it has as many connections as it may.
-    pub(crate) fn admit<R: Wait>(&self, rt: &R, tenant: usize) -> Result<Admission<J>, Error>
+    pub(crate) fn admit<R: Wait>(&self, rt: &R, tenant: usize) -> Result<Admission, Error>
         ensures { IfErr result IsRefusal }
     {
-        let Some(tenancy) = self.tenancy(rt, tenant) else {
-            // It is there, and too many handles on it are never out.
+        let Some(admissions) = self.admissions(rt, tenant) else {
+            // They are there, and too many handles on them are never out.
             return Err(Error::NoMemory);
         };
-        Admission::of(tenancy, u64::from(self.tenant_connections)).ok_or(Error::ConnectionLimit)
+        let most = u64::from(self.tenant_connections);
+        Admission::of(admissions, tenant, most).ok_or(Error::ConnectionLimit)
+    }
+
+    /// The connections that are bound to the tenant of that number.
+    fn admissions<R: Wait>(&self, rt: &R, tenant: usize) -> Option<Arc<Admissions>> {
+        self.tenants.lock(rt).get(tenant)?.admissions()
     }
 
     /// How many tenants there are.

@@ -60,14 +60,19 @@ pub struct Journal {
     is_broken: AtomicBool,
 }
 
-/// All that a term's tenant was asked up to a moment is where it outlives what it is to outlive. `bring_to_journal` alone
-/// makes one, and the reply that goes out with it ends it.
+/// All that a term's tenant was asked up to a moment is where it outlives what it is to outlive. `bring_to_journal` makes
+/// one, or `of_nothing` if no term was asked, and the replies that go out with it end it.
 pub(crate) struct Kept {
     _made_here: (),
 }
 
 impl Kept {
-    /// The reply goes out.
+    /// No term was asked for what the replies tell.
+    pub(crate) fn of_nothing() -> Kept {
+        Kept { _made_here: () }
+    }
+
+    /// The replies go out.
     pub(crate) fn end(self) {
         let Kept { _made_here: () } = self;
     }

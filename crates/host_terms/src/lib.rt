@@ -10,6 +10,7 @@ mod forgetting;
 mod hosts;
 mod journals;
 mod numbering;
+mod outbox;
 mod outcomes;
 mod outlet;
 mod patience;

@@ -1,7 +1,7 @@
 // What a session asks a term, and is told outside of it: there a job's number is moved by the term's base.
 ghost use Rattle.std.specs.Prelude.{◌≢◌};
 
-use crate::journals::Kept;
+use crate::outbox::Owed;
 use job_language::{Error, Reply, Request};
 use nested_wait::Attended;
 use server_house::Told;
@@ -47,9 +47,9 @@ pub(crate) fn at_once(reply: Reply) -> Reply
     }
 }
 
-/// What a session is told outside of a term whose jobs are numbered there after `base`, and which has kept it.
-pub(crate) fn acknowledged(told: Told, base: u64, kept: Kept) -> Reply {
-    kept.end();
+/// What a session is told outside of a term whose jobs are numbered there after `base`, and of which its outbox knows.
+pub(crate) fn told_outside(told: Told, base: u64, owed: Owed) -> Reply {
+    owed.told();
     if told.attended == Some(Attended::Full) {
         return Reply::Refused(Error::HistoryFull);
     }

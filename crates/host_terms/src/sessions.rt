@@ -4,12 +4,13 @@ ghost use Rattle.job_language.specs.Collecting.{IsCollect};
 ghost use Rattle.host_terms.specs.Hellos.{IsRefusal};
 
 mod forgetting;
+mod owners;
 
 use crate::admissions::Admission;
 use crate::desks::Desk;
 use crate::hosts::Host;
-use crate::numbering::{Served, acknowledged, at_once, brings_job, renumbered};
-use crate::tenancies::{Found, Tenancy};
+use crate::numbering::{Served, at_once, brings_job, told_outside};
+use crate::tenancies::Found;
 use crate::terms::Booking;
 use job_language::{Error, Moved, Reply, Request, TenantName};
 use job_step::{Segment, View};
@@ -17,7 +18,6 @@ use nested_wait::Door;
 use server_house::Told;
 use session_core::{Answered, Doors};
 use std::alloc::Global;
-use std::net::Shutdown;
 use std::sync::Wait;
 use std::time::Clock;
 use tenant_book::Naming;
@@ -34,7 +34,7 @@ pub(crate) struct HostDoors<'h, J: Naming, R: Wait + Clock> {
     host: &'h Host<J>,
     desk: &'h Desk<J>,
     /// Its place at the tenant that it is bound to.
-    admission: Option<Admission<J>>,
+    admission: Option<Admission>,
 }
 
 impl<'h, J: Naming, R: Wait + Clock> HostDoors<'h, J, R> {
@@ -53,34 +53,34 @@ impl<'h, J: Naming, R: Wait + Clock> HostDoors<'h, J, R> {
     pub(crate) fn leave(&mut self) {
         self.desk.unbind();
         if let Some(booking) = self.desk.take_booking(self.rt) {
-            booking.give_back(self.rt);
+            self.desk.give_back(self.rt, self.alloc, booking);
         }
         self.admission = None;
     }
 
     /// Asks the tenant that the session is bound to.
-    fn ask_bound(&self, tenancy: &Tenancy<J>, request: Request) -> Reply
+    fn ask_bound(&self, tenant: usize, request: Request) -> Reply
         ensures { result ≡ Reply.Pending → IsCollect request }
     {
         match request {
-            Request::Collect(job) | Request::Take(job) => self.ask_owner(tenancy, job, request),
+            Request::Collect(job) | Request::Take(job) => self.ask_owner(tenant, job, request),
             Request::Poll(job) | Request::Cancel(job) | Request::Release(job) => at_once(
-                self.ask_owner(tenancy, job, request),
+                self.ask_owner(tenant, job, request),
             ),
-            Request::Retire => self.retire(tenancy),
-            other => self.ask_serving(tenancy, other).reply,
+            Request::Retire => self.retire(tenant),
+            other => self.ask_serving(tenant, other).reply,
         }
     }
 
     /// Asks the term that serves, or the next one if its history is full.
-    fn ask_serving(&self, tenancy: &Tenancy<J>, request: Request) -> Served
+    fn ask_serving(&self, tenant: usize, request: Request) -> Served
         ensures { result.reply ≢ Reply.Pending }
     {
         let stop = self.desk.is_gone();
         let mut request = request;
         for _try in 0..TRIES {
-            let Some(booking) = self.book_for(tenancy, &request) else {
-                if tenancy.wait_for_next(self.rt, None, stop) {
+            let Some(booking) = self.book_for(tenant, &request) else {
+                if self.waits_for_next(tenant, None) {
                     continue;
                 }
                 return Served::by_none();
@@ -88,7 +88,7 @@ impl<'h, J: Naming, R: Wait + Clock> HostDoors<'h, J, R> {
             let span = booking.term().span();
             if booking.term().is_broken() {
                 self.desk.keep_booking(self.rt, booking);
-                if tenancy.wait_for_next(self.rt, Some(span.number), stop) {
+                if self.waits_for_next(tenant, Some(span.number)) {
                     continue;
                 }
                 return Served::by_none();
@@ -101,7 +101,7 @@ impl<'h, J: Naming, R: Wait + Clock> HostDoors<'h, J, R> {
             let Some(again) = spare else {
                 return Served::by(span.number, reply);
             };
-            if !is_full || !tenancy.wait_for_next(self.rt, Some(span.number), stop) {
+            if !is_full || !self.waits_for_next(tenant, Some(span.number)) {
                 return Served::by(span.number, reply);
             }
             request = again;
@@ -109,85 +109,57 @@ impl<'h, J: Naming, R: Wait + Clock> HostDoors<'h, J, R> {
         Served::by_none()
     }
 
-    /// What the session is told outside of the term where it was told that, once what the term was asked is kept. If that
-    /// can't be, the client is told nothing: its connection ends.
+    /// Waits until another term serves than the one of that number, as `Tenancy::wait_for_next` says. The replies to what
+    /// was asked before go out.
+    fn waits_for_next(&self, tenant: usize, number: Option<u64>) -> bool {
+        self.let_out();
+        match self.host.tenancy(self.rt, tenant) {
+            Some(tenancy) => tenancy.wait_for_next(self.rt, number, self.desk.is_gone()),
+            None => false,
+        }
+    }
+
+    /// Lets the replies go out to what was asked before, since the next one may take a while.
+    fn let_out(&self) {
+        // If they can't, the session finds it out when it goes on.
+        let _sent = self.desk.let_out(self.rt, self.alloc);
+    }
+
+    /// What the session is told outside of the term where it was told that. It goes out once what the term was asked is
+    /// kept.
     fn outside(&self, booking: &Booking<J>, told: Told) -> Reply {
         if told.reply == Reply::Pending {
             return Reply::Pending;
         }
-        match booking.term().kept(self.rt, self.alloc) {
-            Some(kept) => acknowledged(told, booking.term().span().base, kept),
-            None => {
-                self.desk.shut(self.rt, Shutdown::Both);
-                Reply::Refused(Error::HistoryFull)
-            }
-        }
+        let owed = self.desk.outbox().owe();
+        told_outside(told, booking.term().span().base, owed)
     }
 
     /// A place in the term that serves. One whose history is used so far that its jobs may need the rest begins no job, if
     /// another one can be opened.
-    fn book_for(&self, tenancy: &Tenancy<J>, request: &Request) -> Option<Booking<J>> {
-        let booking = self.book_serving(tenancy)?;
+    fn book_for(&self, tenant: usize, request: &Request) -> Option<Booking<J>> {
+        let booking = self.book_serving(tenant)?;
         if !brings_job(request) || !self.host.is_used(self.rt, booking.term()) {
             return Some(booking);
         }
         let number = booking.term().span().number;
         self.desk.keep_booking(self.rt, booking);
-        tenancy.wait_if_one_comes(self.rt, number, self.desk.is_gone());
-        self.book_serving(tenancy)
+        self.let_out();
+        if let Some(tenancy) = self.host.tenancy(self.rt, tenant) {
+            tenancy.wait_if_one_comes(self.rt, number, self.desk.is_gone());
+        }
+        self.book_serving(tenant)
     }
 
     /// A place in the term that serves.
-    fn book_serving(&self, tenancy: &Tenancy<J>) -> Option<Booking<J>> {
+    fn book_serving(&self, tenant: usize) -> Option<Booking<J>> {
         if let Some(booking) = self.desk.take_booking(self.rt) {
             if !booking.term().is_left() {
                 return Some(booking);
             }
-            booking.give_back(self.rt);
+            self.desk.give_back(self.rt, self.alloc, booking);
         }
-        tenancy.book_serving(self.rt)
-    }
-
-    /// A place in the term of a job, or the reply to a request about it.
-    fn find_owner(&self, tenancy: &Tenancy<J>, job: u64, request: &Request) -> Found<J> {
-        if let Some(booking) = self.desk.take_booking(self.rt) {
-            if booking.term().span().owns(job) && !booking.term().is_left() {
-                return Found::Live(booking);
-            }
-            booking.give_back(self.rt);
-        }
-        tenancy.find(self.rt, job, request)
-    }
-
-    /// Asks about a job, by its number outside.
-    fn ask_owner(&self, tenancy: &Tenancy<J>, job: u64, request: Request) -> Reply {
-        match self.find_owner(tenancy, job, &request) {
-            Found::Live(booking) => {
-                let base = booking.term().span().base;
-                let inner = renumbered(request, job.saturating_sub(base));
-                let (booking, told) = self.ask_there(booking, inner);
-                let reply = self.outside(&booking, told);
-                self.desk.keep_booking(self.rt, booking);
-                reply
-            }
-            Found::Answered(reply) => reply,
-            Found::Leaving => self.let_go(tenancy, job, &request),
-        }
-    }
-
-    /// Asks a term about a job, by its number there. One that was left is only looked at if that is enough: its history is
-    /// for the jobs that it has.
-    fn ask_there(&self, booking: Booking<J>, request: Request) -> (Booking<J>, Told) {
-        if booking.term().is_left() {
-            if let Some(reply) = booking.term().look_up(self.rt, &request) {
-                let told = Told {
-                    reply,
-                    attended: None,
-                };
-                return (booking, told);
-            }
-        }
-        booking.ask(self.rt, self.host.board(), self.desk.is_gone(), request)
+        self.host.tenancy(self.rt, tenant)?.book_serving(self.rt)
     }
 }
 
@@ -243,10 +215,13 @@ impl<'h, J: Naming, R: Wait + Clock> Doors for HostDoors<'h, J, R> {
     }
 
     fn ask(&mut self, request: Request) -> Answered {
+        if let Request::Execute(_) = &request {
+            self.let_out();
+        }
         self.desk.begin_asking();
         let reply = match &self.admission {
             None => Reply::Refused(Error::NoTenant),
-            Some(admission) => self.ask_bound(admission.tenancy(), request),
+            Some(admission) => self.ask_bound(admission.tenant(), request),
         };
         self.desk.end_asking();
         // A slot that a job is placed on was attended.
@@ -260,8 +235,9 @@ impl<'h, J: Naming, R: Wait + Clock> Doors for HostDoors<'h, J, R> {
         let Some(admission) = &self.admission else {
             return true;
         };
-        let tenancy = admission.tenancy();
-        match self.find_owner(tenancy, job, &Request::Collect(job)) {
+        let tenant = admission.tenant();
+        self.let_out();
+        match self.find_owner(tenant, job, &Request::Collect(job)) {
             Found::Live(booking) => {
                 self.desk.begin_asking();
                 let stops = booking.wait_for(self.rt, job, self.desk.is_gone());

@@ -2,12 +2,11 @@
 ghost use Rattle.std.specs.Prelude.{◌≤◌};
 ghost use Rattle.term_life.specs.declared.terms.TheConstants.{MOST_JOBS};
 
+mod leaving;
 mod notes;
 mod waits;
 
 use crate::admissions::Admissions;
-use crate::desks::Desk;
-use crate::endings::Ending;
 use crate::forgetting::Notes;
 use crate::outcomes::{Outcome, Outcomes};
 use crate::roster::Roster;
@@ -73,16 +72,22 @@ pub struct Tenancy<J: Naming> {
     /// Where it is noted what is forgotten of terms that are closed.
     notes: Mutex<Option<Notes>>,
     /// The connections that are bound to it.
-    admissions: Admissions,
+    admissions: Arc<Admissions>,
 }
 
 impl<J: Naming> Tenancy<J> {
     /// A tenant without a term. The first one will have that number, and its jobs are numbered after `base`. Of terms that
-    /// are closed the outcomes of the last `keep` are kept.
-    pub fn new(alloc: Global, name: TenantName, first: u64, base: u64, keep: usize) -> Tenancy<J>
+    /// are closed the outcomes of the last `keep` are kept. An error if an allocation fails.
+    pub fn new(
+        alloc: Global,
+        name: TenantName,
+        first: u64,
+        base: u64,
+        keep: usize,
+    ) -> Result<Tenancy<J>, AllocError>
         requires { base ≤ MOST_JOBS }
     {
-        Tenancy {
+        Ok(Tenancy {
             name,
             lives: Mutex::new(Lives {
                 terms: Terms::new(alloc, first, base),
@@ -96,8 +101,8 @@ impl<J: Naming> Tenancy<J> {
             }),
             changed: Condvar::new(),
             notes: Mutex::new(None),
-            admissions: Admissions::new(),
-        }
+            admissions: Arc::new(alloc, Admissions::new())?,
+        })
     }
 
     /// The tenant's name.
@@ -105,8 +110,9 @@ impl<J: Naming> Tenancy<J> {
         self.name
     }
 
-    pub(crate) fn admissions(&self) -> &Admissions {
-        &self.admissions
+    /// The connections that are bound to it. None if there are too many handles on them.
+    pub(crate) fn admissions(&self) -> Option<Arc<Admissions>> {
+        Arc::try_clone(&self.admissions).ok()
     }
 
     /// How many connections are bound to the tenant.
@@ -232,65 +238,6 @@ impl<J: Naming> Tenancy<J> {
         Ok(())
     }
 
-    /// Lets the term that serves, if one does, take no new jobs, for that reason.
-    pub fn leave<R: Wait>(&self, rt: &R, why: Why) {
-        let mut lives = self.lives.lock(rt);
-        lives.terms.leave(why);
-        lives.is_stopped |= why == Why::Stop;
-        if let Some(last) = lives.live.last() {
-            last.leave();
-        }
-    }
-
-    /// Takes a term out whose jobs have their outcomes and where no session is, if there is one: sessions come to it no
-    /// more, and get its outcomes. Places that sessions keep in terms that were left are given back before. If it is
-    /// forced, a term may have open jobs. If an allocation fails, the term stays, and can be taken out later.
-    pub(crate) fn next_ending<R: Wait>(
-        &self,
-        rt: &R,
-        alloc: Global,
-        roster: &Mutex<Roster<J>>,
-        tenant: usize,
-        desks: &[Desk<J>],
-        is_forced: bool,
-    ) -> Result<Option<Ending<J>>, AllocError> {
-        let mut lives = self.lives.lock(rt);
-        let Some(place) = lives.live.iter().position(|term| {
-            term.is_left() && (is_forced || term.is_quiet(rt))
-        })
-        else {
-            return Ok(None);
-        };
-        for desk in desks {
-            desk.give_back_left(rt);
-        }
-        if !lives.live[place].is_free_of_sessions(rt) {
-            return Ok(None);
-        }
-        let outcomes = lives.live[place].outcomes(rt, alloc)?;
-        let span = lives.live[place].span();
-        let mut kept = Vec::new(alloc);
-        if span.number >= lives.retired {
-            kept.extend_from_slice(outcomes.as_slice())?;
-        }
-        lives.outcomes.make_room()?;
-        // From now on they are told without its journal.
-        let _is_there = lives.live[place].catch_up(rt, alloc, false)?;
-        // No allocation from here on: else the term would be lost with what was taken out.
-        let term = lives.live.remove(place);
-        lives.terms.close(span.number);
-        roster.lock(rt).remove(tenant, span.number);
-        let why = lives
-            .terms
-            .all()
-            .iter()
-            .find(|known| known.number == span.number)
-            .and_then(|known| known.why);
-        // There is room for them.
-        let _kept = lives.outcomes.add(span, kept);
-        Ok(Some(Ending::new(term, why.unwrap_or(Why::Stop), outcomes)))
-    }
-
     /// Wakes all that wait in a term, each to look whether to go on.
     pub(crate) fn wake<R: Wait>(&self, rt: &R) {
         for term in &self.lives.lock(rt).live {
@@ -304,11 +251,6 @@ impl<J: Naming> Tenancy<J> {
         for term in &self.lives.lock(rt).live {
             term.stop(rt);
         }
-    }
-
-    /// The term of that number is closed.
-    pub fn end<R: Wait>(&self, rt: &R, number: u64) {
-        self.lives.lock(rt).terms.end(number);
     }
 
     /// Keeps the outcomes of a term that was closed before the host began.
@@ -348,17 +290,5 @@ impl<J: Naming> Tenancy<J> {
     /// released.
     pub(crate) fn answer_closed<R: Wait>(&self, rt: &R, job: u64, request: &Request) -> Reply {
         self.lives.lock(rt).outcomes.answer(job, request)
-    }
-
-    /// Whether a row is open in a term that was left.
-    pub(crate) fn is_busy_before<R: Wait>(&self, rt: &R) -> bool {
-        let lives = self.lives.lock(rt);
-        lives.live.iter().any(|term| {
-            term.is_left()
-                && match term.door() {
-                    Some(door) => door.tally(rt, &mut door.front()).open_rows > 0,
-                    None => false,
-                }
-        })
     }
 }

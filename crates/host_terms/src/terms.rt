@@ -2,13 +2,13 @@
 ghost use Rattle.std.specs.Prelude.{◌≤◌};
 
 mod bookings;
+mod looks;
 
 use crate::board::{Board, Calls, TermSignal};
 use crate::journals::{Journal, Kept, bring_to_journal};
-use crate::outcomes::Outcome;
 use crate::places::{Place, TermGate};
 pub(crate) use bookings::Booking;
-use job_language::{Config, Error, Level, Reply, Request, Status, TenantConfig};
+use job_language::{Config, Level, TenantConfig};
 use server_house::{ClientSeats, House, Lodging, OwnClient, OwnPost};
 use server_io::ServerEnd;
 use std::alloc::{AllocError, Global};
@@ -16,8 +16,6 @@ use std::sync::atomic::{AtomicBool, Ordering};
 use std::sync::{Arc, Mutex, Wait};
 use tenant_book::{Naming, Registry};
 use tenant_lock::{CloseFault, Closed, TenantDoor};
-use tenant_model::MAX_JOBS;
-use term_life::is_used;
 use worker_main::Visiting;
 
 /// Which term it is, and the numbers of its jobs.
@@ -203,47 +201,6 @@ impl<J: Naming> HostTerm<J> {
         self.posts.lock(rt).len() == self.workers
     }
 
-    /// Whether nothing is left that can be done: no row is open, and each job has its outcome; or the history is full; or
-    /// all rows that are open wait to be started, and the tenant has no slot for workers.
-    pub(crate) fn is_quiet<R: Wait>(&self, rt: &R) -> bool {
-        let Some(door) = self.door() else {
-            return true;
-        };
-        let tenant = self.tenant.tenant();
-        let mut me = door.front();
-        let tally = door.tally(rt, &mut me);
-        let has_no_slot = tenant.reserved >= tenant.slots;
-        (tally.open_rows == 0 && tally.jobs.running == 0)
-            || (has_no_slot && tally.open_rows == tally.waiting_rows)
-            || door.counts(rt, &mut me).entries >= tenant.steps
-    }
-
-    /// Whether its history has that many per cent of its steps.
-    pub fn is_used<R: Wait>(&self, rt: &R, percent: u32) -> bool {
-        match self.door() {
-            Some(door) => {
-                let entries = door.counts(rt, &mut door.front()).entries;
-                is_used(entries, self.tenant.tenant().steps, percent)
-            }
-            None => false,
-        }
-    }
-
-    /// The reply to a request about a job, by its number here, that a look is enough for: its history has no entry of it.
-    pub(crate) fn look_up<R: Wait>(&self, rt: &R, request: &Request) -> Option<Reply> {
-        let (job, waits) = match request {
-            Request::Poll(job) => (*job, false),
-            Request::Collect(job) => (*job, true),
-            _ => return None,
-        };
-        let door = self.door()?;
-        match door.status(rt, &mut door.front(), job) {
-            None => Some(Reply::Refused(Error::UnknownJob)),
-            Some(Status::Running) if waits => None,
-            Some(status) => Some(Reply::Job(job, status)),
-        }
-    }
-
     /// Wakes all that wait in it, each to look whether to go on.
     pub(crate) fn wake<R: Wait>(&self, rt: &R) {
         self.house.wake(rt);
@@ -252,32 +209,6 @@ impl<J: Naming> HostTerm<J> {
     /// Tells all that wait in it to stop.
     pub(crate) fn stop<R: Wait>(&self, rt: &R) {
         self.house.stop(rt);
-    }
-
-    /// How far its jobs are that are neither retired nor released, by rising numbers as they are known outside.
-    pub(crate) fn outcomes<R: Wait>(
-        &self,
-        rt: &R,
-        alloc: Global,
-    ) -> Result<Vec<Outcome>, AllocError> {
-        let mut outcomes = Vec::new(alloc);
-        let Some(door) = self.door() else {
-            return Ok(outcomes);
-        };
-        let mut last = 0;
-        for _job in 0..MAX_JOBS {
-            let Some(job) = door.next_job(rt, &mut door.front(), last) else {
-                return Ok(outcomes);
-            };
-            if let Some(status) = door.status(rt, &mut door.front(), job) {
-                outcomes.push(Outcome {
-                    job: self.span.base.saturating_add(job),
-                    status,
-                })?;
-            }
-            last = job;
-        }
-        Ok(outcomes)
     }
 
     /// Closes it, once nobody is there: its tenant's history, or what is wrong. The seats of its sessions are put where there

@@ -14,7 +14,11 @@ use tenant_book::Naming;
 
 impl<'h, J: Naming, R: Wait + Clock> HostDoors<'h, J, R> {
     /// Releases a job, by its number outside, whose term is closed, once that is noted.
-    pub(super) fn let_go(&self, tenancy: &Tenancy<J>, job: u64, request: &Request) -> Reply {
+    pub(super) fn let_go(&self, tenant: usize, job: u64, request: &Request) -> Reply {
+        let Some(tenancy) = self.host.tenancy(self.rt, tenant) else {
+            // It is there, and too many handles on it are never out.
+            return Reply::Refused(Error::NoMemory);
+        };
         match tenancy.note_release(self.rt, self.alloc, job) {
             Ok(()) => tenancy.answer_closed(self.rt, job, request),
             Err(fault) => self.unnoted(&fault),
@@ -34,15 +38,19 @@ impl<'h, J: Naming, R: Wait + Clock> HostDoors<'h, J, R> {
     }
 
     /// Retires all jobs of the tenant, if no row of any term is open.
-    pub(super) fn retire(&self, tenancy: &Tenancy<J>) -> Reply
+    pub(super) fn retire(&self, tenant: usize) -> Reply
         ensures { result ≢ Reply.Pending }
     {
+        let Some(tenancy) = self.host.tenancy(self.rt, tenant) else {
+            // As above.
+            return Reply::Refused(Error::NoMemory);
+        };
         if tenancy.is_busy_before(self.rt) {
             return Reply::Refused(Error::Busy);
         }
-        let Served { reply, term } = self.ask_serving(tenancy, Request::Retire);
+        let Served { reply, term } = self.ask_serving(tenant, Request::Retire);
         match reply {
-            Reply::Epoch(_) => self.retire_before(tenancy, term, reply),
+            Reply::Epoch(_) => self.retire_before(&tenancy, term, reply),
             other => other,
         }
     }

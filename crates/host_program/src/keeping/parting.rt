@@ -1,0 +1,93 @@
+// The thread that looks after terms closes those that are done.
+
+use super::{Keeper, Parting};
+use crate::clocks::millis;
+use crate::site::Site;
+use crate::writing::{Left, Writer};
+use std::alloc::{AllocError, Global};
+use std::fs::{File, Files};
+use std::sync::Wait;
+use std::time::Clock;
+use tenant_book::Naming;
+
+impl<J: Naming> Keeper<J> {
+    /// Takes out the terms that are done, closes those where nobody is any more, and goes on with their files. If it is
+    /// forced, each term that was left is done.
+    pub(crate) fn close_terms<R: Files<File = File> + Wait + Clock>(
+        &mut self,
+        rt: &R,
+        alloc: Global,
+        site: Site<'_, J>,
+        writer: &Writer,
+        is_forced: bool,
+    ) {
+        for tenant in 0..self.tended.len() {
+            // Without memory it is tried again.
+            let _ = self.part(rt, alloc, site, tenant, is_forced);
+        }
+        self.close_parted(rt, alloc, site);
+        self.filing.go_on(rt, alloc, site, writer);
+    }
+
+    /// Takes out a term of a tenant that is done.
+    fn part<R: Wait + Clock>(
+        &mut self,
+        rt: &R,
+        alloc: Global,
+        site: Site<'_, J>,
+        tenant: usize,
+        is_forced: bool,
+    ) -> Result<(), AllocError> {
+        self.parting.reserve(1)?;
+        let ending = site
+            .host
+            .next_ending(rt, alloc, tenant, site.desks, is_forced)?;
+        if let Some(ending) = ending {
+            self.parting.push_reserved(Parting {
+                tenant,
+                ending,
+                since: millis(rt),
+            });
+        }
+        Ok(())
+    }
+
+    /// Closes each of the terms that were taken out, if no worker is there any more and there is memory for it; else it
+    /// becomes the last.
+    fn close_parted<R: Wait + Clock>(&mut self, rt: &R, alloc: Global, site: Site<'_, J>) {
+        for _parting in 0..self.parting.len() {
+            // Without memory for it among the terms whose files are to be written, it is closed later.
+            if self.parting.is_empty() || self.filing.make_room().is_err() {
+                return;
+            }
+            let Parting {
+                tenant,
+                ending,
+                since,
+            } = self.parting.remove(0);
+            match ending.close(rt, alloc) {
+                Ok(end) => self.filing.add(
+                    rt,
+                    alloc,
+                    site,
+                    Left {
+                        tenant,
+                        end,
+                        since,
+                        until: None,
+                        rest: 0,
+                        is_told: false,
+                    },
+                ),
+                Err(ending) => {
+                    // There is room for it: it was there before.
+                    let _kept = self.parting.push(Parting {
+                        tenant,
+                        ending,
+                        since,
+                    });
+                }
+            }
+        }
+    }
+}

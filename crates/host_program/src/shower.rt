@@ -1,0 +1,59 @@
+// When the status of a host is written.
+
+use crate::clocks::{millis, seconds};
+use crate::keeping::Keeper;
+use crate::showing::show;
+use crate::site::Site;
+use std::alloc::Global;
+use std::fs::{File, Files};
+use std::sync::Wait;
+use std::time::Clock;
+use tenant_book::Naming;
+
+/// How often the status is written, in milliseconds.
+const SECOND: u64 = 1000;
+
+/// When the status was written.
+#[derive(Clone, Copy)]
+pub(crate) struct Shower {
+    /// When the host began, in seconds since 1970.
+    began: u64,
+    /// When the status was last written, in milliseconds of the monotonic clock.
+    shown: u64,
+}
+
+impl Shower {
+    /// The status of a host that begins now was not written yet.
+    pub(crate) fn new<R: Clock>(rt: &R) -> Shower {
+        Shower {
+            began: seconds(rt),
+            shown: 0,
+        }
+    }
+
+    /// Writes the status, once a second.
+    pub(crate) fn show<J: Naming, R: Files<File = File> + Wait + Clock + AllocGlobal>(
+        &mut self,
+        rt: &R,
+        alloc: Global,
+        site: Site<'_, J>,
+        keeper: &Keeper<J>,
+    ) {
+        if millis(rt).saturating_sub(self.shown) >= SECOND {
+            self.show_now(rt, alloc, site, keeper);
+        }
+    }
+
+    /// Writes the status. If that fails, the older one stays.
+    pub(crate) fn show_now<J: Naming, R: Files<File = File> + Wait + Clock + AllocGlobal>(
+        &mut self,
+        rt: &R,
+        alloc: Global,
+        site: Site<'_, J>,
+        keeper: &Keeper<J>,
+    ) {
+        self.shown = millis(rt);
+        // The next one is written within a second.
+        let _ = show(rt, alloc, site, self.began, keeper.filing().closed());
+    }
+}

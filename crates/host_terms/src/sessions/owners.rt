@@ -1,0 +1,59 @@
+// A session asks about a job, in the term that it belongs to.
+
+use super::HostDoors;
+use crate::numbering::renumbered;
+use crate::tenancies::Found;
+use crate::terms::Booking;
+use job_language::{Error, Reply, Request};
+use server_house::Told;
+use std::sync::Wait;
+use std::time::Clock;
+use tenant_book::Naming;
+
+impl<'h, J: Naming, R: Wait + Clock> HostDoors<'h, J, R> {
+    /// A place in the term of a job, or the reply to a request about it.
+    pub(super) fn find_owner(&self, tenant: usize, job: u64, request: &Request) -> Found<J> {
+        if let Some(booking) = self.desk.take_booking(self.rt) {
+            if booking.term().span().owns(job) && !booking.term().is_left() {
+                return Found::Live(booking);
+            }
+            self.desk.give_back(self.rt, self.alloc, booking);
+        }
+        match self.host.tenancy(self.rt, tenant) {
+            Some(tenancy) => tenancy.find(self.rt, job, request),
+            // It is there, and too many handles on it are never out.
+            None => Found::Answered(Reply::Refused(Error::NoMemory)),
+        }
+    }
+
+    /// Asks about a job, by its number outside.
+    pub(super) fn ask_owner(&self, tenant: usize, job: u64, request: Request) -> Reply {
+        match self.find_owner(tenant, job, &request) {
+            Found::Live(booking) => {
+                let base = booking.term().span().base;
+                let inner = renumbered(request, job.saturating_sub(base));
+                let (booking, told) = self.ask_there(booking, inner);
+                let reply = self.outside(&booking, told);
+                self.desk.keep_booking(self.rt, booking);
+                reply
+            }
+            Found::Answered(reply) => reply,
+            Found::Leaving => self.let_go(tenant, job, &request),
+        }
+    }
+
+    /// Asks a term about a job, by its number there. One that was left is only looked at if that is enough: its history is
+    /// for the jobs that it has.
+    fn ask_there(&self, booking: Booking<J>, request: Request) -> (Booking<J>, Told) {
+        if booking.term().is_left() {
+            if let Some(reply) = booking.term().look_up(self.rt, &request) {
+                let told = Told {
+                    reply,
+                    attended: None,
+                };
+                return (booking, told);
+            }
+        }
+        booking.ask(self.rt, self.host.board(), self.desk.is_gone(), request)
+    }
+}

@@ -1,0 +1,79 @@
+// How far a term is, and its jobs are.
+
+use super::HostTerm;
+use crate::outcomes::Outcome;
+use job_language::{Error, Reply, Request, Status};
+use std::alloc::{AllocError, Global};
+use std::sync::Wait;
+use tenant_book::Naming;
+use tenant_model::MAX_JOBS;
+use term_life::is_used;
+
+impl<J: Naming> HostTerm<J> {
+    /// Whether nothing is left that can be done: no row is open, and each job has its outcome; or the history is full; or
+    /// all rows that are open wait to be started, and the tenant has no slot for workers.
+    pub(crate) fn is_quiet<R: Wait>(&self, rt: &R) -> bool {
+        let Some(door) = self.door() else {
+            return true;
+        };
+        let tenant = self.tenant.tenant();
+        let mut me = door.front();
+        let tally = door.tally(rt, &mut me);
+        let has_no_slot = tenant.reserved >= tenant.slots;
+        (tally.open_rows == 0 && tally.jobs.running == 0)
+            || (has_no_slot && tally.open_rows == tally.waiting_rows)
+            || door.counts(rt, &mut me).entries >= tenant.steps
+    }
+
+    /// Whether its history has that many per cent of its steps.
+    pub fn is_used<R: Wait>(&self, rt: &R, percent: u32) -> bool {
+        match self.door() {
+            Some(door) => {
+                let entries = door.counts(rt, &mut door.front()).entries;
+                is_used(entries, self.tenant.tenant().steps, percent)
+            }
+            None => false,
+        }
+    }
+
+    /// The reply to a request about a job, by its number here, that a look is enough for: its history has no entry of it.
+    pub(crate) fn look_up<R: Wait>(&self, rt: &R, request: &Request) -> Option<Reply> {
+        let (job, waits) = match request {
+            Request::Poll(job) => (*job, false),
+            Request::Collect(job) => (*job, true),
+            _ => return None,
+        };
+        let door = self.door()?;
+        match door.status(rt, &mut door.front(), job) {
+            None => Some(Reply::Refused(Error::UnknownJob)),
+            Some(Status::Running) if waits => None,
+            Some(status) => Some(Reply::Job(job, status)),
+        }
+    }
+
+    /// How far its jobs are that are neither retired nor released, by rising numbers as they are known outside.
+    pub(crate) fn outcomes<R: Wait>(
+        &self,
+        rt: &R,
+        alloc: Global,
+    ) -> Result<Vec<Outcome>, AllocError> {
+        let mut outcomes = Vec::new(alloc);
+        let Some(door) = self.door() else {
+            return Ok(outcomes);
+        };
+        let mut last = 0;
+        for _job in 0..MAX_JOBS {
+            let Some(job) = door.next_job(rt, &mut door.front(), last) else {
+                return Ok(outcomes);
+            };
+            if let Some(status) = door.status(rt, &mut door.front(), job) {
+                outcomes.push(Outcome {
+                    job: self.span.base.saturating_add(job),
+                    status,
+                })?;
+            }
+            last = job;
+        }
+        Ok(outcomes)
+    }
+}
