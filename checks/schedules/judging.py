@@ -10,6 +10,8 @@ from jobs import JOBS, Job
 from running import Run, Saw
 
 FULL, UNKNOWN, BUSY = 8, 6, 12
+OUTLETS = ("thread 1:", "thread 2:")
+"""The threads of a host that print: they wait for lines until the process ends."""
 NAMING = ("poll", "collect", "cancel", "release", "execute")
 ERRORS = {1: "line_too_long", 2: "bad_json", 3: "bad_request", 4: "bad_program", 6: "unknown_job", 8: "history_full", 12: "busy"}
 
@@ -46,9 +48,15 @@ def job_sent(sent: dict) -> Job:
     return found[0]
 
 
+def bases_of(run: Run) -> dict[str, int]:
+    """After which number the jobs of each term of a host are numbered, by the name of its dump."""
+    events = [json.loads(line) for line in run.fault.splitlines() if line.startswith("{")]
+    return {f"{it['tenant']}.{it['term']:06}": it["base"] for it in events if it["event"] == "opened"}
+
+
 def tenants_of(scenario: Scenario, run: Run) -> dict[str, Tenant]:
     """The tenants, with the jobs that their dumps have by number. What each gives is not taken from there."""
-    tenants = {it["name"]: Tenant(it) for it in scenario.config["tenants"]}
+    tenants, bases = {it["name"]: Tenant(it) for it in scenario.config["tenants"]}, bases_of(run)
     for dump, text in run.dumps.items():
         tenant = tenants[dump.split(".")[0]]
         entries = [json.loads(line) for line in text.splitlines()[1:]]
@@ -56,10 +64,11 @@ def tenants_of(scenario: Scenario, run: Run) -> dict[str, Tenant]:
         for entry in entries:
             request, reply = entry.get("request", {}), entry.get("reply", {})
             if request.get("op") in ("submit", "execute") and "job" in reply:
-                wants(reply["job"] not in tenant.jobs, dump, "has a number that came before:", reply)
-                tenant.jobs[reply["job"]] = job_sent(request["job"])
+                number = bases.get(dump, 0) + reply["job"]
+                wants(number not in tenant.jobs, dump, "has a number that came before:", reply)
+                tenant.jobs[number] = job_sent(request["job"])
             if request.get("op") == "cancel":
-                tenant.are_canceled.add(request["job"])
+                tenant.are_canceled.add(bases.get(dump, 0) + request["job"])
             if request.get("op") in ("retire", "release") or request.get("release"):
                 tenant.are_forgotten = True
     return tenants
@@ -151,7 +160,7 @@ def judge_ends(scenario: Scenario, run: Run) -> None:
     """The server ended in order, and nobody was left waiting."""
     wants(run.end == "itself", f"it ended with: {run.end};", *[f"\n    {it}" for it in run.waiting])
     # One that has told of its own end may be on its last steps.
-    left = [it for it in run.waiting if "may run" not in it]
+    left = [it for it in run.waiting if "may run" not in it and not (scenario.words and it.startswith(OUTLETS))]
     wants(not left, "threads are left waiting:", left)
     lengths = {name: len(text.splitlines()) - 1 for name, text in run.dumps.items()}
     if scenario.words:
