@@ -6,6 +6,8 @@ from dataclasses import dataclass, field
 from jobs import JOBS, LONG
 
 NAMES = ("acme", "beta", "gamma")
+LATER = 2_000_000
+"""How many microseconds of the run's clock what was sent is answered within, also if its client has gone."""
 BAD_LINES = (('{"op":"dance"}', 3), ("{", 2), ('{"job":{"args":[0,0],"fuel":0,"procs":[[["ret",0]]]},"op":"submit"}', 4))
 
 
@@ -161,12 +163,12 @@ class Drawer:
 
 
 def auditor(path: str, players: list[Player], tenant: str) -> Player:
-    """A client that comes when all before it have ended: whoever made a job of the tenant, and whether or not it waited, the
-    job has its outcome in the end, and a new one is done too."""
+    """A client that comes when all before it have ended, and what they sent is answered: whoever made a job of the tenant, and
+    whether or not it waited, the job has its outcome in the end, and a new one is done too."""
     count = sum(ask.op in ("submit", "execute") for it in players if it.tenant == tenant for ask in it.asks)
     asks = [Ask("hello", json.dumps({"op": "hello", "tenant": tenant})), Ask("submit", json.dumps({"job": JOBS[0].sent, "op": "submit"}), 0)]
     asks += [Ask("collect", json.dumps({"job": number, "op": "collect"}), number, is_last=True) for number in range(1, count + 2)]
-    return Player(tenant, asks, ["await\n", f"connect {path}\n", *[act_of(it.text + "\n") for it in asks], "end\n", "rest\n", "close\n"])
+    return Player(tenant, asks, ["await\n", f"sleep {LATER}\n", f"connect {path}\n", *[act_of(it.text + "\n") for it in asks], "end\n", "rest\n", "close\n"])
 
 
 def draw_scenario(seed: int, path: str) -> Scenario:

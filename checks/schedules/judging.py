@@ -192,6 +192,16 @@ def judge_dumps(script: Path, run: Run) -> None:
         wants((done.stdout, done.stderr, done.returncode) == ("yes\n", "", 0), f"the dump of {name}:", done.stdout, done.stderr)
 
 
+def know_of_terms(scenario: Scenario, tenants: dict[str, Tenant]) -> None:
+    """In a host the jobs of a closed term are forgotten without an entry, and a request may find no history while it stops."""
+    for tenant in tenants.values():
+        tenant.has_terms = True
+        tenant.is_full |= scenario.is_stopped
+    for player in scenario.players:
+        if any(ask.op in ("retire", "release") or ask.release for ask in player.asks):
+            tenants[player.tenant].are_forgotten = True
+
+
 def faults(scenario: Scenario, run: Run, script: Path | None) -> Iterator[str]:
     """What was not as it must be: the first thing that is found."""
     try:
@@ -199,8 +209,8 @@ def faults(scenario: Scenario, run: Run, script: Path | None) -> Iterator[str]:
         if script:
             judge_dumps(script, run)
         tenants = tenants_of(scenario, run)
-        for tenant in tenants.values():
-            tenant.has_terms = bool(scenario.words)
+        if scenario.words:
+            know_of_terms(scenario, tenants)
         removed = [it.step for it in run.clients[-1] if it.what == "removed"]
         for player, seen in zip(scenario.players, run.clients, strict=True):
             if player.asks:
