@@ -1,9 +1,9 @@
 // The thread that looks after terms: it opens them, lets them be left, and closes them.
 
 mod adopting;
+mod closing;
 mod opening;
 mod orders;
-mod parting;
 
 use crate::clocks::millis;
 use crate::filing::Filing;
