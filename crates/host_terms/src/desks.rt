@@ -202,7 +202,7 @@ impl<J: Naming> Desk<J> {
 
     /// Lets all replies go out that wait, once what they tell is kept. If that can't be, none goes out any more.
     pub(crate) fn let_out<R: Wait>(&self, rt: &R, alloc: Global) -> io::Result<()> {
-        if self.outbox.is_empty(rt) {
+        if self.outbox.is_empty(rt) && !self.outbox.is_owing() {
             return Ok(());
         }
         match self.kept(rt, alloc) {
@@ -214,25 +214,29 @@ impl<J: Naming> Desk<J> {
         }
     }
 
-    /// Has kept what the replies tell that wait, if that can be. The session keeps its place in the term meanwhile.
+    /// Has kept what the replies tell that wait, if that can be. The session has its place in hand meanwhile, so nobody else
+    /// waits for the disk.
     fn kept<R: Wait>(&self, rt: &R, alloc: Global) -> Option<Kept> {
-        let booking = self.booking.lock(rt);
         if !self.outbox.is_owing() {
             return Some(Kept::of_nothing());
         }
-        booking.as_ref()?.term().kept(rt, alloc)
+        let booking = self.take_booking(rt)?;
+        let kept = booking.term().kept(rt, alloc);
+        self.keep_booking(rt, booking);
+        kept
     }
 
-    /// Gives the session's place back to its term, if that takes no new jobs.
-    pub(crate) fn give_back_left<R: Wait>(&self, rt: &R, alloc: Global) {
+    /// Gives the session's place back to its term, if that takes no new jobs. A session that has replies to let out, once
+    /// what they tell is kept, has its place until then.
+    pub(crate) fn give_back_left<R: Wait>(&self, rt: &R) {
         let mut kept = self.booking.lock(rt);
         let is_left = match &*kept {
             Some(booking) => booking.term().is_left(),
             None => false,
         };
-        if is_left {
+        if is_left && !self.outbox.is_owing() {
             if let Some(booking) = kept.take() {
-                self.give_back(rt, alloc, booking);
+                booking.give_back(rt);
             }
         }
     }

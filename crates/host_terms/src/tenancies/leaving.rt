@@ -40,7 +40,7 @@ impl<J: Naming> Tenancy<J> {
             return Ok(None);
         };
         for desk in desks {
-            desk.give_back_left(rt, alloc);
+            desk.give_back_left(rt);
         }
         if !lives.live[place].is_free_of_sessions(rt) {
             return Ok(None);
