@@ -5,7 +5,8 @@ ghost use Rattle.worker_main.specs.Rings.{next_ring};
 use crate::signal::Signal;
 use call_queues::Pushed;
 use std::sync::atomic::{AtomicBool, Ordering};
-use std::sync::{Condvar, Mutex, Wait};
+use std::sync::{Condvar, CondvarTimeouts, Mutex, Wait};
+use std::time::{Clock, Duration};
 
 /// A bell for workers. A thread that waits for it sleeps. Rings are counted, so one that comes
 /// between a failed pop and the wait is not lost, unless 2^64 come there.
@@ -82,6 +83,20 @@ impl Bell {
         self.has_told.store(true, Ordering::SeqCst);
         self.rung.lock(rt).stop();
         self.changed.notify_all();
+    }
+
+    /// Wakes one that waits, if one does, to look around, as a ring for a call does.
+    pub fn nudge<R: Wait>(&self, rt: &R) {
+        self.rung.lock(rt).ring();
+        self.changed.notify_one();
+    }
+
+    /// Waits as `wait_past`, but for that long at most.
+    pub fn wait_past_for<R: Wait + Clock>(&self, rt: &R, heard: u64, most: Duration) {
+        let rung = self.rung.lock(rt);
+        let _waited = self
+            .changed
+            .wait_timeout_while(rt, rung, most, |rung| rung.is_quiet_since(heard));
     }
 }
 
