@@ -1,9 +1,11 @@
 // Which calls wait, and what wakes the workers.
 
+use crate::crowd::Crowd;
 use call_queues::Pushed;
 use job_language::Level;
 use std::sync::Wait;
-use std::sync::atomic::{AtomicI64, Ordering};
+use std::sync::atomic::{AtomicBool, AtomicI64, AtomicU64, Ordering};
+use term_life::STRETCH;
 use worker_main::{Bell, Signal};
 
 /// How many calls wait at each level, in all terms together, and the bell that is rung for each.
@@ -13,6 +15,12 @@ pub(crate) struct Board {
     high: AtomicI64,
     normal: AtomicI64,
     low: AtomicI64,
+    /// How many calls are held back.
+    held: AtomicI64,
+    /// When somebody last looked at those, in microseconds of the monotonic clock.
+    looked: AtomicU64,
+    /// Whether a worker without a call looks at them from time to time.
+    is_watched: AtomicBool,
 }
 
 impl Board {
@@ -22,6 +30,9 @@ impl Board {
             high: AtomicI64::new(0),
             normal: AtomicI64::new(0),
             low: AtomicI64::new(0),
+            held: AtomicI64::new(0),
+            looked: AtomicU64::new(0),
+            is_watched: AtomicBool::new(false),
         }
     }
 
@@ -47,6 +58,39 @@ impl Board {
         }
     }
 
+    /// Whether a call is held back.
+    pub(crate) fn has_held(&self) -> bool {
+        self.held.load(Ordering::SeqCst) > 0
+    }
+
+    /// Whether it is time to look at the calls that are held back. It says so to one thread. Without a clock it always is.
+    pub(crate) fn is_to_look(&self, now: Option<u64>) -> bool {
+        let Some(now) = now else {
+            return true;
+        };
+        let looked = self.looked.load(Ordering::SeqCst);
+        now.saturating_sub(looked) >= STRETCH
+            && self
+                .looked
+                .compare_exchange(looked, now, Ordering::SeqCst, Ordering::SeqCst)
+                .is_ok()
+    }
+
+    /// Whether the worker that asks is the one to watch the calls that are held back.
+    pub(crate) fn begin_watch(&self) -> bool {
+        self.has_held() && !self.is_watched.swap(true, Ordering::SeqCst)
+    }
+
+    /// The worker that watched them does so no more.
+    pub(crate) fn end_watch(&self) {
+        self.is_watched.store(false, Ordering::SeqCst);
+    }
+
+    /// Whether calls are held back, and nobody watches them.
+    pub(crate) fn lacks_watch(&self) -> bool {
+        self.has_held() && !self.is_watched.load(Ordering::SeqCst)
+    }
+
     fn count(&self, level: Level) -> &AtomicI64 {
         match level {
             Level::High => &self.high,
@@ -56,12 +100,13 @@ impl Board {
     }
 }
 
-/// The calls of one term that wait. Each is noted here, and on the board, once it is in the term's queue, and claimed
-/// before it is taken out. So who has claimed one finds one.
+/// The calls of one term that wait, or are held back. Each is noted here, and on the board, once it is in the term's queue,
+/// and claimed before it is taken out. So who has claimed one finds one.
 #[derive(Drop)]
 pub(crate) struct Calls {
     level: Level,
     waiting: AtomicI64,
+    held: AtomicI64,
 }
 
 impl Calls {
@@ -69,6 +114,7 @@ impl Calls {
         Calls {
             level,
             waiting: AtomicI64::new(0),
+            held: AtomicI64::new(0),
         }
     }
 
@@ -86,6 +132,32 @@ impl Calls {
         board.count(self.level).fetch_sub(1, Ordering::SeqCst);
     }
 
+    /// Whether one is held back.
+    pub(crate) fn is_held(&self) -> bool {
+        self.held.load(Ordering::SeqCst) > 0
+    }
+
+    /// Holds back one that was claimed.
+    pub(crate) fn hold(&self, board: &Board) {
+        self.held.fetch_add(1, Ordering::SeqCst);
+        board.held.fetch_add(1, Ordering::SeqCst);
+    }
+
+    /// Lets one wait that was held back. One thread at a time may do so.
+    pub(crate) fn release(&self, board: &Board) {
+        self.held.fetch_sub(1, Ordering::SeqCst);
+        board.held.fetch_sub(1, Ordering::SeqCst);
+        self.note(board);
+    }
+
+    /// No worker comes any more.
+    pub(crate) fn withdraw(&self, board: &Board) {
+        let waiting = self.waiting.swap(0, Ordering::SeqCst);
+        board.count(self.level).fetch_sub(waiting, Ordering::SeqCst);
+        let held = self.held.swap(0, Ordering::SeqCst);
+        board.held.fetch_sub(held, Ordering::SeqCst);
+    }
+
     fn note(&self, board: &Board) {
         self.waiting.fetch_add(1, Ordering::SeqCst);
         board.count(self.level).fetch_add(1, Ordering::SeqCst);
@@ -97,6 +169,7 @@ impl Calls {
 pub(crate) struct TermSignal<'b, 'c> {
     pub(crate) board: &'b Board,
     pub(crate) calls: &'c Calls,
+    pub(crate) crowd: &'c Crowd,
 }
 
 impl<'b, 'c> Signal for TermSignal<'b, 'c> {
@@ -120,7 +193,7 @@ impl<'b, 'c> Signal for TermSignal<'b, 'c> {
     }
 
     fn is_awaited(&self) -> bool {
-        self.board.has_call_for(self.calls.level)
+        self.board.has_call_for(self.calls.level) || self.crowd.sheds()
     }
 
     fn wait_past<R: Wait>(&self, rt: &R, heard: u64) {

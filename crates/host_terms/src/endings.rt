@@ -1,5 +1,6 @@
 // A term that nobody asks any more.
 
+use crate::hosts::Host;
 use crate::outcomes::Outcome;
 use crate::terms::{HostTerm, Span};
 use job_language::{Status, TenantConfig};
@@ -53,7 +54,12 @@ impl<J: Naming> Ending<J> {
 
     /// Closes the term, if no worker is there any more, and brings its journal, if it has one, to the disk before. Otherwise
     /// it comes back, and so it does if an allocation fails: it can be closed later.
-    pub fn close<R: Wait>(self, rt: &R, alloc: Global) -> Result<TermEnd, Ending<J>> {
+    pub fn close<R: Wait>(
+        self,
+        rt: &R,
+        alloc: Global,
+        host: &Host<J>,
+    ) -> Result<TermEnd, Ending<J>> {
         let Some(Readied { room, is_journaled }) = self.readied(rt, alloc) else {
             return Err(self);
         };
@@ -71,7 +77,7 @@ impl<J: Naming> Ending<J> {
                 why,
                 outcomes,
                 is_journaled,
-                end: term.close(rt, alloc, room),
+                end: term.close(rt, alloc, host.board(), room),
             }),
             Err(term) => Err(Ending {
                 term,

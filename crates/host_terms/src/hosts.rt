@@ -2,11 +2,12 @@
 ghost use Rattle.std.specs.Prelude.{IfErr};
 ghost use Rattle.host_terms.specs.Hellos.{IsRefusal};
 
+mod working;
+
 use crate::admissions::{Admission, Admissions};
 use crate::board::Board;
 use crate::desks::Desk;
 use crate::endings::Ending;
-use crate::places::Place;
 use crate::roster::Roster;
 use crate::tenancies::Tenancy;
 use crate::terms::HostTerm;
@@ -147,23 +148,6 @@ impl<J: Naming> Host<J> {
         tenancy.next_ending(rt, alloc, &self.roster, tenant, desks, is_forced)
     }
 
-    /// Serves calls of all terms, as the worker of that place, until workers are told to stop.
-    pub fn work<R: Wait>(&self, rt: &R, place: &Place) {
-        for _turn in rt.forever() {
-            let Some(heard) = listen(rt, &self.board) else {
-                return;
-            };
-            let next = self.roster.lock(rt).next(&self.board);
-            match next {
-                Some((tenant, term)) => term.serve(rt, &self.board, tenant, place),
-                None => {
-                    place.leave();
-                    wait_past(rt, &self.board, heard);
-                }
-            }
-        }
-    }
-
     /// Brings the histories of all terms to their journals, and these to the disk if they are to be synced. Without memory
     /// for handles it is done the next time.
     pub fn catch_up<R: Wait>(&self, rt: &R, alloc: Global, syncs: bool) {
@@ -205,14 +189,4 @@ impl<J: Naming> Host<J> {
 
 fn shared<J: Naming>(alloc: Global, term: HostTerm<J>) -> Result<Arc<HostTerm<J>>, AllocError> {
     Ok(Arc::new(alloc, term)?)
-}
-
-fn listen<R: Wait>(rt: &R, board: &Board) -> Option<u64> {
-    use worker_main::Signal;
-    board.bell().listen(rt)
-}
-
-fn wait_past<R: Wait>(rt: &R, board: &Board, heard: u64) {
-    use worker_main::Signal;
-    board.bell().wait_past(rt, heard);
 }

@@ -4,6 +4,7 @@
 
 mod admissions;
 mod board;
+mod crowd;
 mod desks;
 mod endings;
 mod forgetting;

@@ -20,6 +20,11 @@ impl<J: Naming> Rota<J> {
     fn first(&self, level: Level) -> Option<&Arc<HostTerm<J>>> {
         self.terms.iter().find(|term| term.has_call_at(level))
     }
+
+    /// The first of its terms of which a call is held back.
+    fn first_held(&self) -> Option<&Arc<HostTerm<J>>> {
+        self.terms.iter().find(|term| term.has_held())
+    }
 }
 
 /// All terms that workers come to, by their tenants, and which tenant of each level had the last turn.
@@ -107,6 +112,16 @@ impl<J: Naming> Roster<J> {
         term.claim(board);
         self.note(level, tenant);
         Some((tenant, term))
+    }
+
+    /// Of the tenants from that number on, the first one of which a call is held back, and its oldest term with such a call.
+    pub(crate) fn next_held(&self, from: usize) -> Option<(usize, Arc<HostTerm<J>>)> {
+        for (tenant, entry) in self.entries.iter().enumerate().skip(from) {
+            if let Some(term) = entry.first_held() {
+                return Some((tenant, Arc::try_clone(term).ok()?));
+            }
+        }
+        None
     }
 
     /// The tenant that had the last turn at a level.

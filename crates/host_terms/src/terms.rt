@@ -2,9 +2,11 @@
 ghost use Rattle.std.specs.Prelude.{◌≤◌};
 
 mod bookings;
+mod crowding;
 mod looks;
 
 use crate::board::{Board, Calls, TermSignal};
+use crate::crowd::Crowd;
 use crate::journals::{Journal, Kept, bring_to_journal};
 use crate::places::{Place, TermGate};
 pub(crate) use bookings::Booking;
@@ -47,6 +49,7 @@ pub struct HostTerm<J: Naming> {
     /// Its tenant's history in a file, unless that is to end with the host.
     journal: Option<Journal>,
     calls: Calls,
+    crowd: Crowd,
     /// Whether it takes no new jobs.
     is_left: AtomicBool,
     /// The posts of workers that are not there, and how many posts there are in all.
@@ -94,6 +97,7 @@ impl<J: Naming> HostTerm<J> {
             house,
             journal,
             calls: Calls::new(tenant.tenant().priority),
+            crowd: Crowd::new(),
             is_left: AtomicBool::new(false),
             posts: Mutex::new(posts),
             workers,
@@ -151,9 +155,12 @@ impl<J: Naming> HostTerm<J> {
         let signal = TermSignal {
             board,
             calls: &self.calls,
+            crowd: &self.crowd,
         };
         let gate = TermGate { place, tenant };
+        self.crowd.enter();
         let (post, _is_called) = post.serve_call(rt, &signal, &gate, Visiting::Sharing);
+        self.crowd.leave();
         // There is room for it: it was there before.
         let _kept = self.posts.lock(rt).push(post);
     }
@@ -211,12 +218,13 @@ impl<J: Naming> HostTerm<J> {
         self.house.stop(rt);
     }
 
-    /// Closes it, once nobody is there: its tenant's history, or what is wrong. The seats of its sessions are put where there
-    /// is room for them. None if somebody still is there.
+    /// Closes it, once nobody is there: its tenant's history, or what is wrong. Its calls leave the board. The seats of its
+    /// sessions are put where there is room for them. None if somebody still is there.
     pub(crate) fn close<R: Wait>(
         self,
         rt: &R,
         alloc: Global,
+        board: &Board,
         room: ClientSeats,
     ) -> Option<Result<Closed, CloseFault>> {
         let HostTerm {
@@ -225,13 +233,15 @@ impl<J: Naming> HostTerm<J> {
             began: _began,
             house,
             journal,
-            calls: _calls,
+            calls,
+            crowd: _crowd,
             is_left: _is_left,
             posts,
             workers: _workers,
             clients,
             sessions: _sessions,
         } = self;
+        calls.withdraw(board);
         drop(journal);
         drop(posts);
         let mut seats = room;

@@ -1,3 +1,4 @@
 pub mod Dumps
 pub mod Lives
+pub mod Paces
 pub mod Turns

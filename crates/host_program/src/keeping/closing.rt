@@ -65,7 +65,7 @@ impl<J: Naming> Keeper<J> {
                 ending,
                 since,
             } = self.parting.remove(0);
-            match ending.close(rt, alloc) {
+            match ending.close(rt, alloc, site.host) {
                 Ok(end) => self.filing.add(
                     rt,
                     alloc,

@@ -39,8 +39,12 @@ impl<J: Naming> Booking<J> {
         let signal = TermSignal {
             board,
             calls: &term.calls,
+            crowd: &term.crowd,
         };
+        let is_executed = matches!(request, Request::Execute(_));
+        term.crowd.begin(&request);
         let (client, told) = client.ask(rt, &signal, stop, request);
+        term.crowd.end(is_executed, &told);
         (Booking { term, client }, told)
     }
 
