@@ -1,7 +1,8 @@
-"""A host's only worker between a noisy tenant and a quiet one."""
+"""A host's only worker between a noisy tenant and a quiet one, and several workers at one tenant."""
+import collections
 import json
 
-from hosts import Host, ask, hang_up, tenant
+from hosts import FIB, Host, ask, hang_up, tenant
 from servers import SEVEN
 
 # How many jobs the noisy tenant has, and how often it is tried in case they don't keep the worker for long enough.
@@ -9,6 +10,15 @@ JOBS = 100
 TRIES = 5
 # A job that spends all its fuel, which takes a thousand entries.
 SPINNING = {"args": [0, 0], "fuel": 1_000_000, "procs": [[["jmp", 0]]]}
+
+# A job of some 20,000 entries, each of which takes less than a microsecond, and one of four tasks that take 240 entries each,
+# of 1,000 instructions.
+SHORT_TASKS = {"args": [17, 0], "fuel": 1_000_000, "procs": FIB}
+LONG_TASKS = {"args": [0, 0], "fuel": 1_000_000, "procs": [
+    [["set", 2, 80_000], ["spawn", 0, 1, 2, 2], ["spawn", 0, 1, 2, 2], ["spawn", 0, 1, 2, 2], ["spawn", 0, 1, 2, 2],
+     ["wait", 3, 4, 0], ["ret", 3]],
+    [["set", 2, 1], ["jz", 0, 4], ["sub", 0, 0, 2], ["jmp", 1], ["ret", 0]]]}
+WORKERS = 4
 
 
 def is_quiet_served_first() -> bool | None:
@@ -34,4 +44,28 @@ def worker_leaves_a_noisy_tenant_after_a_row() -> None:
     assert any(is_quiet_served_first() for _ in range(TRIES))
 
 
-CHECKS = [worker_leaves_a_noisy_tenant_after_a_row]
+def share_of_busiest(job: dict) -> float:
+    """Which part of a job's advances the slot has that has most of them, where four workers may come."""
+    host = Host([tenant("acme", steps=100_000, slots=WORKERS, reserved=0)], workers=WORKERS)
+    acme = host.connect()
+    assert ask(acme, {"op": "submit", "job": job}) == {"job": 1}
+    assert ask(acme, {"op": "collect", "job": 1})["status"] == "complete"
+    hang_up(acme)
+    assert host.stop() == 0
+    with open(host.path("dumps", "acme.000000.jsonl")) as dump:
+        entries = [json.loads(line) for line in dump]
+    advances = collections.Counter(entry["slot"] for entry in entries if entry.get("step") == "advance")
+    return max(advances.values()) / advances.total()
+
+
+def a_job_of_short_tasks_is_left_to_one_worker() -> None:
+    """More would only wait for each other. One that loses its processor for a while gets help, so it is tried more than once."""
+    assert any(share_of_busiest(SHORT_TASKS) > 0.75 for _ in range(TRIES))
+
+
+def a_job_of_long_tasks_gets_more_workers() -> None:
+    """They come once its entries are seen to take long."""
+    assert any(share_of_busiest(LONG_TASKS) < 0.75 for _ in range(TRIES))
+
+
+CHECKS = [worker_leaves_a_noisy_tenant_after_a_row, a_job_of_short_tasks_is_left_to_one_worker, a_job_of_long_tasks_gets_more_workers]
