@@ -44,28 +44,34 @@ def worker_leaves_a_noisy_tenant_after_a_row() -> None:
     assert any(is_quiet_served_first() for _ in range(TRIES))
 
 
-def share_of_busiest(job: dict) -> float:
-    """Which part of a job's advances the slot has that has most of them, where four workers may come."""
-    host = Host([tenant("acme", steps=100_000, slots=WORKERS, reserved=0)], workers=WORKERS)
+def shares_of_busiest(job: dict, count: int) -> list[float]:
+    """Which part of the advances of each of so many jobs, one after another, the slot has that has most of them, where four
+    workers may come."""
+    host = Host([tenant("acme", steps=1_048_576, slots=WORKERS, reserved=0)], workers=WORKERS)
     acme = host.connect()
-    assert ask(acme, {"op": "submit", "job": job}) == {"job": 1}
-    assert ask(acme, {"op": "collect", "job": 1})["status"] == "complete"
+    for number in range(1, count + 1):
+        assert ask(acme, {"op": "submit", "job": job}) == {"job": number}
+        assert ask(acme, {"op": "collect", "job": number})["status"] == "complete"
     hang_up(acme)
     assert host.stop() == 0
+    slots = []
     with open(host.path("dumps", "acme.000000.jsonl")) as dump:
-        entries = [json.loads(line) for line in dump]
-    advances = collections.Counter(entry["slot"] for entry in entries if entry.get("step") == "advance")
-    return max(advances.values()) / advances.total()
+        for entry in map(json.loads, dump):
+            if entry.get("request", {}).get("op") == "submit":
+                slots.append(collections.Counter())
+            elif entry.get("step") == "advance":
+                slots[-1][entry["slot"]] += 1
+    return [max(it.values()) / it.total() for it in slots]
 
 
 def a_job_of_short_tasks_is_left_to_one_worker() -> None:
-    """More would only wait for each other. One that loses its processor for a while gets help, so it is tried more than once."""
-    assert any(share_of_busiest(SHORT_TASKS) > 0.75 for _ in range(TRIES))
+    """More would only wait for each other. A worker that loses its processor for a while gets help, so not all jobs count."""
+    assert max(shares_of_busiest(SHORT_TASKS, 8)) > 0.75
 
 
 def a_job_of_long_tasks_gets_more_workers() -> None:
-    """They come once its entries are seen to take long."""
-    assert any(share_of_busiest(LONG_TASKS) < 0.75 for _ in range(TRIES))
+    """They come once its entries are seen to take long, if a processor is free for them before the job is done."""
+    assert min(shares_of_busiest(LONG_TASKS, 100)) < 0.75
 
 
 CHECKS = [worker_leaves_a_noisy_tenant_after_a_row, a_job_of_short_tasks_is_left_to_one_worker, a_job_of_long_tasks_gets_more_workers]
