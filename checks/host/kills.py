@@ -9,15 +9,14 @@ other than 0 if something is wrong.
 """
 import collections
 import contextlib
-import json
 import os
-import pathlib
 import random
 import sys
 import threading
 import time
 
 from hosts import FIB, FULL, Host, ask, hang_up, tenant
+from outcomes import not_kept, outcomes
 
 TENANTS, CONNECTIONS, WORKERS = 64, 64, 32
 # Seconds between two kills.
@@ -97,16 +96,6 @@ def started(durable: str, after: Host | None = None) -> Host:
     return Host(tenants, "--connections", CONNECTIONS, "--keep", 999_999, "--durable", durable, workers=WORKERS, after=after)
 
 
-def outcomes(host: Host, name: str) -> dict[int, dict]:
-    """The outcomes of a tenant's jobs by all files of results, and a fault if a number is there twice."""
-    found: dict[int, dict] = {}
-    for path in pathlib.Path(host.path("results")).glob(f"{name}.*.jsonl"):
-        for line in map(json.loads, path.read_text().splitlines()):
-            assert line["job"] not in found, f"{name}: job {line['job']} twice"
-            found[line["job"]] = line
-    return found
-
-
 def main(minutes: float = 60, asks: float = 200, durable: str = "write") -> int:
     """Kills hosts, and compares; how many jobs have not the outcome that they must have."""
     os.environ["MALLOC_MMAP_THRESHOLD_"] = "16384"  # as docs/HOST.md says, Memory
@@ -123,10 +112,8 @@ def main(minutes: float = 60, asks: float = 200, durable: str = "write") -> int:
     status = host.stop()
     wrong = [(it.name, fault) for it in clients.all for fault in it.wrong]
     for it in clients.all:
-        told = outcomes(host, it.name)
-        wrong += [(it.name, job, told.get(job)) for job, n in it.told
-                  if told.get(job) != {"job": job, "status": "complete", "value": FIBONACCI[n]}]
-        wrong += [(it.name, "a number twice")] * (len({job for job, _ in it.told}) != len(it.told))
+        told = [(job, {"status": "complete", "value": FIBONACCI[n]}) for job, n in it.told]
+        wrong += [(it.name, fault) for fault in not_kept(told, outcomes(host.run, it.name))]
     seen = sum((it.seen for it in clients.all), collections.Counter())
     print(f"{sum(len(it.told) for it in clients.all)} jobs acknowledged, {dict(seen)}, {kills} kills, {recovered} jobs in journals at "
           f"starts; the last host ended with {status}; {len(wrong)} wrong: {wrong[:5]}")

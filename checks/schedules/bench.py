@@ -8,9 +8,9 @@ from concurrent.futures import ThreadPoolExecutor
 from dataclasses import dataclass
 
 from judging import faults
-from running import Place, run_host, run_server
+from running import KILLED, Place, run_host, run_server
 
-TWICE = 16
+TWICE = 15
 """Every how many seeds one is run twice."""
 
 
@@ -20,6 +20,7 @@ class Outcome:
 
     seed: int
     steps: int
+    kills: int
     faults: list[str]
 
 
@@ -39,13 +40,14 @@ class Bench:
         """Runs a seed, some of them twice, and judges it."""
         processor = self.processors.get()
         play = run_host if self.is_host else run_server
-        scenario, run = play(self.program, seed, Place(self.library, self.stops, processor, trace))
-        again = play(self.program, seed, Place(self.library, self.stops, processor))[1] if seed % TWICE == 0 else run
+        parts = play(self.program, seed, Place(self.library, self.stops, processor, trace))
+        again = play(self.program, seed, Place(self.library, self.stops, processor)) if seed % TWICE == 0 else parts
         self.processors.put(processor)
-        found = list(faults(scenario, run, self.script))
-        if (again.hash, again.steps) != (run.hash, run.steps):
-            found.append(f"the same seed gave another run: {run.steps} steps, and then {again.steps}")
-        return Outcome(seed, run.steps, found)
+        found = list(faults(parts, self.script))
+        choices, same = ([(it.run.steps, it.run.hash) for it in run] for run in (parts, again))
+        if choices != same:
+            found.append(f"the same seed gave another run: {choices}, and then {same}")
+        return Outcome(seed, sum(it.run.steps for it in parts), sum(it.run.end == KILLED for it in parts), found)
 
     def all_tried(self, first: int, steps: int, seconds: float) -> Iterator[Outcome]:
         """Runs one seed after another from that one on, on all processors, until so many steps are taken or the time is over."""

@@ -14,6 +14,7 @@
 #include <sys/epoll.h>
 #include <sys/file.h>
 #include <sys/socket.h>
+#include <sys/stat.h>
 #include <sys/syscall.h>
 #include <sys/uio.h>
 #include <unistd.h>
@@ -228,8 +229,10 @@ static ssize_t put(int file, const void *bytes, size_t size, int how, const char
         files_are_new();
         if (put == -ENOTSOCK)
             return told(raw(SYS_write, file, (long)bytes, (long)size, 0, 0, 0));
-        if (put > 0)
+        if (put > 0) {
             sent += (size_t)put;
+            note_reply();
+        }
         if (sent == size || (put < 0 && put != -EAGAIN) || how & MSG_DONTWAIT || !blocks(file))
             return sent ? (ssize_t)sent : told(put);
         wait_for_file(file, POLLOUT, what, NEVER);
@@ -252,7 +255,15 @@ static void note_listening(int file, const void *bytes, size_t size) {
         start_clients();
 }
 
+// Of a write that a kill ends, the system may have taken a part.
+static void write_before_end(int file, const void *bytes, size_t size) {
+    struct stat kind;
+    if (is_scheduled() && dies_next() && !raw(SYS_fstat, file, (long)&kind, 0, 0, 0, 0) && S_ISREG(kind.st_mode))
+        raw(SYS_write, file, (long)bytes, (long)draw(size + 1), 0, 0, 0);
+}
+
 ssize_t write(int file, const void *bytes, size_t size) {
+    write_before_end(file, bytes, size);
     point("write");
     if (!is_scheduled())
         return told(raw(SYS_write, file, (long)bytes, (long)size, 0, 0, 0));

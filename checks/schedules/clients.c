@@ -161,6 +161,20 @@ static void read_lines(struct client *me, long most) {
     }
 }
 
+// The clients get what was sent to them, though the program goes on no more.
+void read_what_is_left(void) {
+    char bytes[512];
+    for (int i = 0; i < clients.count; i++) {
+        struct client *me = clients.all[i];
+        while (me->socket >= 0 && !me->is_over) {
+            long count = raw(SYS_recvfrom, me->socket, (long)bytes, sizeof bytes, MSG_DONTWAIT, 0, 0);
+            if (count <= 0)
+                break;
+            keep_bytes(me, bytes, count);
+        }
+    }
+}
+
 // What is sent, with the jobs' numbers: $3 is the one of which the fourth reply told.
 static char *with_numbers(struct client *me, const char *text) {
     char *made = NULL;
@@ -266,6 +280,7 @@ void start_clients(void) {
             fail("a client has no thread");
         clients.all[i]->thread = &world.threads[first + i];
     }
+    world.playing = clients.count;
 }
 
 void await_clients(void) {

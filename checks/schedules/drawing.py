@@ -36,9 +36,18 @@ class Player:
     hangs_up: bool = False
 
 
+@dataclass(frozen=True)
+class Kill:
+    """When a process is killed: at that step, or as soon as so many writes of replies went out; soon after its last client has
+    gone in any case."""
+
+    step: int = 0
+    replies: int = 0
+
+
 @dataclass
 class Scenario:
-    """All that a run is made of but the schedule."""
+    """All that a process is made of but the schedule."""
 
     seed: int
     config: dict
@@ -47,6 +56,7 @@ class Scenario:
     """Whether a client removes the socket while others ask."""
     words: list[str] = field(default_factory=list)
     """What else the program is called with."""
+    kill: Kill | None = None
 
 
 def draw_tenant(dice: random.Random, name: str) -> dict:
@@ -64,9 +74,9 @@ def act_of(text: str) -> str:
 class Drawer:
     """Draws what one client asks, one request after another."""
 
-    def __init__(self, dice: random.Random, tenant: str) -> None:
-        """A client of a tenant that has asked nothing."""
-        self.dice, self.player, self.made = dice, Player(tenant), []
+    def __init__(self, dice: random.Random, tenant: str, forgets: bool = True) -> None:
+        """A client of a tenant that has asked nothing. Unless it forgets, it retires and releases no job."""
+        self.dice, self.player, self.made, self.forgets = dice, Player(tenant), [], forgets
         self.read = 0  # how many replies it has waited for
         self.add(Ask("hello", json.dumps({"op": "hello", "tenant": tenant})))
 
@@ -87,7 +97,7 @@ class Drawer:
     def name(self, op: str) -> None:
         """A request that names a job: one of its own, whose number it has read, or some number of the tenant's."""
         dice = self.dice
-        release = op == "collect" and dice.random() < 0.2
+        release = self.forgets and op == "collect" and dice.random() < 0.2
         more = {"release": True} if release else {}
         if self.made and dice.random() < 0.8:
             reply = dice.choice(self.made)
@@ -107,7 +117,7 @@ class Drawer:
     def step(self) -> None:
         """One request, or a pause."""
         kind = self.dice.choices(["make", "poll", "collect", "cancel", "cells", "arena", "retire", "release", "bad", "wait", "sleep"],
-                                 [40, 10, 25, 4, 3, 3, 2, 2, 2, 20, 6])[0]
+                                 [40, 10, 25, 4, 3, 3, 2 * self.forgets, 2 * self.forgets, 2, 20, 6])[0]
         if kind == "make":
             self.make()
         elif kind in ("poll", "collect", "cancel", "release"):
@@ -182,20 +192,3 @@ def draw_scenario(seed: int, path: str) -> Scenario:
     players += [auditor(path, players, it["name"]) for it in tenants if not is_stopped]
     players.append(Player("", [], [*stop, f"remove {path}\n"]))
     return Scenario(seed, {"tenants": tenants, "workers": dice.choice([1, 2, 2, 3, 4])}, players, is_stopped)
-
-
-def draw_host(seed: int, run: str) -> Scenario:
-    """What a seed says of a host: short histories, each of which is left for the next one once half of it is used, or when a client
-    says so."""
-    dice, path = random.Random(seed), f"{run}/socket"
-    tenants = [{**draw_tenant(dice, name), "steps": dice.choice([1500, 3000])} for name in NAMES[:dice.choice([1, 1, 2])]]
-    players = [Drawer(dice, dice.choice(tenants)["name"]).one(path, dice.choice(["mixed", "goes", "crowds"])) for _ in range(dice.randrange(2, 6))]
-    for _ in range(dice.randrange(3)):
-        name = dice.choice(["rotate", f"rotate.{dice.choice(tenants)['name']}"])
-        players.append(Player("", [], [f"sleep {dice.choice([1, 100, 1000, 50_000])}\n", f"make {run}/{name}\n"]))
-    is_stopped = dice.random() < 0.25
-    stop = [f"sleep {dice.choice([0, 1, 300, 2000, 300_000])}\n"] if is_stopped else ["await\n"]
-    players += [auditor(path, players, it["name"]) for it in tenants if not is_stopped]
-    players.append(Player("", [], [*stop, f"remove {path}\n"]))
-    words = ["--rotate-at", str(dice.choice([5, 20, 50])), "--keep", "1000", "--durable", dice.choice(["off", "write", "second", "reply"])]
-    return Scenario(seed, {"tenants": tenants, "workers": dice.choice([1, 2, 3])}, players, is_stopped, words)

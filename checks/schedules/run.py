@@ -74,7 +74,8 @@ def try_program(words: argparse.Namespace, program: pathlib.Path, is_host: bool)
         outcomes.append(outcome)
     bad, steps = sum(bool(it.faults) for it in outcomes), sum(it.steps for it in outcomes)
     name = "arena-host" if is_host else "arena-server"
-    print(f"{name}: {len(outcomes)} schedules of {steps} steps in {time.monotonic() - began:.0f} s: {bad} with faults")
+    kills = f", {sum(it.kills for it in outcomes)} kills" if is_host else ""
+    print(f"{name}: {len(outcomes)} schedules of {steps} steps{kills} in {time.monotonic() - began:.0f} s: {bad} with faults")
     return not bad
 
 

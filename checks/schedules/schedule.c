@@ -70,7 +70,7 @@ static void tell(const char *end) {
     FILE *out = world.out ? fopen(world.out, "w") : NULL;
     if (!out)
         return;
-    fprintf(out, "end %s\nsteps %ld\nhash %016lx\nseconds %.6f\n", end, world.steps, world.hash, (double)world.now / SECOND);
+    fprintf(out, "end %s\nsteps %ld\nhash %016lx\nclock %ld\ndice %lu\n", end, world.steps, world.hash, world.now, world.dice);
     tell_threads(out);
     tell_clients(out);
     fclose(out);
@@ -83,6 +83,37 @@ void fail(const char *why) {
         fclose(world.trace);
     raw(SYS_exit_group, 97, 0, 0, 0, 0, 0);
     __builtin_unreachable();
+}
+
+// Ends the process as a kill does: nothing of it goes on, and what it has given to the system stays. So clients still get the
+// replies that had gone out.
+static _Noreturn void die(void) {
+    read_what_is_left();
+    self->is_inside = true;
+    tell("a kill");
+    if (world.trace) {
+        fprintf(world.trace, "%ld %.6f killed\n", world.steps, (double)world.now / SECOND);
+        fclose(world.trace);
+    }
+    raw(SYS_kill, raw(SYS_getpid, 0, 0, 0, 0, 0, 0), SIGKILL, 0, 0, 0, 0);
+    for (;;)
+        raw(SYS_pause, 0, 0, 0, 0, 0, 0);
+}
+
+bool dies_next(void) { return world.kill && world.steps + 1 >= world.kill; }
+
+void note_reply(void) {
+    if (++world.replies == world.kill_reply)
+        world.kill = world.steps + 1;
+}
+
+// A process that is to be killed has nothing to wait for once its last client is gone.
+static void note_last_client(void) {
+    if (!--world.playing && (world.kill || world.kill_reply)) {
+        long soon = world.steps + 1 + (long)draw(SOON);
+        if (!world.kill || soon < world.kill)
+            world.kill = soon;
+    }
 }
 
 void has_moved(void) { world.idle = 0; }
@@ -228,6 +259,8 @@ static struct thread *choose(const char *what) {
     me->is_inside = true;
     world.steps++;
     world.now += 1000; // a microsecond for each step
+    if (world.kill && world.steps >= world.kill)
+        die();
     if (world.steps > MOST_STEPS)
         fail("no end after so many steps");
     if (world.change && draw(world.change) == 0)
@@ -290,8 +323,10 @@ static void end_thread(struct thread *me) {
     for (int i = 0; i < world.count; i++)
         if (world.threads[i].state == AT_END_OF && world.threads[i].other == me)
             world.threads[i].state = READY;
-    if (me->client)
+    if (me->client) {
         has_moved();
+        note_last_client();
+    }
     struct thread *next = choose("end");
     world.leaving = me->id;
     self = NULL;
@@ -360,6 +395,11 @@ static void seed_dice(const char *seed) {
     world.hash = 0xcbf29ce484222325;
 }
 
+static int64_t number(const char *name) {
+    const char *value = word(name);
+    return value ? strtoll(value, NULL, 10) : 0;
+}
+
 // One thread runs at a time, and on one processor it takes over from the last one sooner.
 static void stay_on(const char *processor) {
     unsigned long set[16] = {0};
@@ -377,11 +417,14 @@ __attribute__((constructor)) static void begin(void) {
     if (word("STOPS"))
         put_stops(word("STOPS"));
     seed_dice(word("SEED"));
+    world.now = number("CLOCK");
+    world.kill = number("KILL_STEP");
+    world.kill_reply = number("KILL_REPLY");
     world.out = word("OUT");
     if (word("CLIENTS"))
         read_clients(word("CLIENTS"));
     if (word("TRACE"))
-        world.trace = fopen(word("TRACE"), "w");
+        world.trace = fopen(word("TRACE"), "a");
     unsetenv("LD_PRELOAD");
     self = new_thread();
     self->id = getpid();

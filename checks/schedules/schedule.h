@@ -14,6 +14,8 @@ enum { MOST_THREADS = 256, MOST_STEPS = 3000000 };
 #define SECOND 1000000000LL
 // How long nothing may move, by the clock of the run, until it counts as a hang.
 #define PATIENCE (60 * SECOND)
+// How many steps after its last client's a process is killed at the latest, if it is to be.
+#define SOON 1000
 
 enum state { READY, AT_FUTEX, AT_FILE, ASLEEP, AT_END_OF, ENDED };
 
@@ -50,6 +52,10 @@ struct world {
     uint32_t change; // one in so many steps drops the rank of the thread that runs
     int64_t lowest, now, idle;
     long steps;
+    long kill;        // the step at which the process is killed; 0: never
+    long replies;     // how many parts of replies went out
+    long kill_reply;  // after which of these it is killed, from 1 on
+    int playing;      // clients that have not come to their ends
     struct thread threads[MOST_THREADS];
     int count;
     bool are_files_new; // a file may have become ready since the last look
@@ -76,6 +82,9 @@ void wait_for_file(int file, short events, const char *what, int64_t deadline);
 void wait_for_end_of(struct thread *other);
 void has_moved(void);
 void files_are_new(void);
+// Whether the process is killed at the next point.
+bool dies_next(void);
+void note_reply(void);
 int make_thread(pthread_t *handle, const pthread_attr_t *how, void *(*start)(void *), void *argument, struct client *client);
 int join_thread(struct thread *other, void **result);
 void end_run(void);
@@ -90,5 +99,6 @@ void look_at_program(void);
 void read_clients(const char *path);
 void start_clients(void);
 void await_clients(void);
+void read_what_is_left(void);
 void tell_clients(FILE *out);
 const char *client_name(const struct thread *thread, char *room, size_t size);
