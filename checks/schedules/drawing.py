@@ -155,10 +155,18 @@ class Drawer:
         self.player.acts = [f"connect {path}\n", *self.player.acts, "end\n", "rest\n", "close\n"]
         return self.player
 
+    def brings(self, path: str) -> Player:
+        """A client that brings one job after another, and reads each reply before the next."""
+        for _ in range(self.dice.randrange(3, 9)):
+            self.make()
+            self.wait(len(self.player.asks))
+        self.player.acts = [f"connect {path}\n", *self.player.acts, "end\n", "rest\n", "close\n"]
+        return self.player
+
     def one(self, path: str, theme: str) -> Player:
         """A client of a run of that theme."""
-        kind = theme if self.dice.random() < 0.8 else "mixed"
-        return self.goes(path) if kind == "goes" else self.crowds(path) if kind == "crowds" else self.drawn(path)
+        kinds = {"goes": self.goes, "crowds": self.crowds, "brings": self.brings}
+        return kinds.get(theme if self.dice.random() < 0.8 else "mixed", self.drawn)(path)
 
     def drawn(self, path: str) -> Player:
         """The client with its end: most read all their replies, others hang up in the midst, and some never read."""

@@ -16,6 +16,7 @@ class Plan:
     words: list[str]
     run: str
     """The folder in which it works."""
+    themes: tuple[str, ...]
     forgets: bool
     """Whether clients retire and release jobs."""
 
@@ -27,7 +28,7 @@ class Plan:
 
 def draw_kill(dice: random.Random) -> Kill:
     """A kill while the host starts, at some step of its life, or when a reply has just gone out."""
-    return dice.choices([Kill(step=dice.randrange(1, 1500)), Kill(step=dice.randrange(900, 9000)), Kill(replies=dice.randrange(1, 12))], [1, 3, 4])[0]
+    return dice.choices([Kill(step=dice.randrange(1, 1500)), Kill(step=dice.randrange(900, 9000)), Kill(replies=dice.randrange(1, 20))], [1, 3, 4])[0]
 
 
 def draw_plan(dice: random.Random, seed: int, run: str, is_killed: bool) -> Plan:
@@ -36,14 +37,16 @@ def draw_plan(dice: random.Random, seed: int, run: str, is_killed: bool) -> Plan
     tenants = [{**draw_tenant(dice, name), "steps": dice.choice([1500, 3000])} for name in NAMES[:dice.choice([1, 1, 2])]]
     durable = dice.choice(["write", "write", "reply", "second"] if is_killed else ["off", "write", "second", "reply"])
     words = ["--rotate-at", str(dice.choice([5, 20, 50])), "--keep", "1000", "--durable", durable]
-    return Plan(seed, {"tenants": tenants, "workers": dice.choice([1, 2, 3])}, words, run, not is_killed or dice.random() < 0.25)
+    themes = ("mixed", "goes", "crowds", *["brings"] * (3 * is_killed))
+    forgets = not is_killed or dice.random() < 0.25
+    return Plan(seed, {"tenants": tenants, "workers": dice.choice([1, 2, 3])}, words, run, themes, forgets)
 
 
 def draw_part(dice: random.Random, plan: Plan, kill: Kill | None) -> Scenario:
     """One process: clients, some of which ask for the next terms. The last one removes the socket, when the others have ended or
     sooner; a process that is to be killed goes on without that, most often."""
     tenants = [it["name"] for it in plan.config["tenants"]]
-    players = [Drawer(dice, dice.choice(tenants), plan.forgets).one(plan.socket, dice.choice(["mixed", "goes", "crowds"]))
+    players = [Drawer(dice, dice.choice(tenants), plan.forgets).one(plan.socket, dice.choice(plan.themes))
                for _ in range(dice.randrange(2, 6))]
     for _ in range(dice.randrange(3)):
         name = dice.choice(["rotate", f"rotate.{dice.choice(tenants)}"])

@@ -127,7 +127,7 @@ def judge_reply(tenant: Tenant, ask: Ask, replies: list[dict], reply: dict) -> N
         wants(reply == {"tenant": tenant.config["name"]}, ask.text, "got", reply)
     elif ask.op in ("submit", "execute"):
         made = reply.get("job", 0)
-        wants(made in tenant.jobs, "job", made, "was acknowledged to", ask.op, "and is in no history")
+        wants(made in tenant.jobs, f"job {made} was acknowledged by the reply to {ask.op}, and no history has it")
         wants(ask.job is not None and tenant.jobs[made] == JOBS[ask.job], ask.text, "got", reply)
         wants(made not in tenant.acknowledged, "job", made, "was acknowledged twice")
         tenant.acknowledged.add(made)

@@ -58,6 +58,8 @@ def outcomes_of(words: argparse.Namespace, program: pathlib.Path, is_host: bool)
         for processor in os.sched_getaffinity(0):
             bench.processors.put(processor)
         if words.seed is not None:
+            if words.trace:
+                words.trace.unlink(missing_ok=True)  # each process of the schedule adds to it
             yield bench.tried(words.seed, words.trace.resolve() if words.trace else None)
         else:
             yield from bench.all_tried(words.first, words.steps or STEPS, math.inf if words.steps else SECONDS)
