@@ -180,8 +180,9 @@ def judge_client(tenant: Tenant, player: Player, seen: list[Saw], stopped_at: in
     wants(bool(lost) and stopped_at is not None and lost[0].step > stopped_at, len(replies), "replies to", len(player.asks), "requests, and then", lost)
 
 
-def judge_end(part: Part, lengths: dict[str, int]) -> None:
-    """A process ended in order, and nobody was left waiting, or it was killed as it was to be. So long are the dumps in the end."""
+def judge_end(part: Part, lengths: dict[str, int], is_alone: bool) -> None:
+    """A process ended in order, and nobody was left waiting, or it was killed as it was to be. So long are the dumps in the end, which
+    are its own if it is alone."""
     run, scenario = part.run, part.scenario
     if scenario.kill and run.end == KILLED:
         wants(run.status == -signal.SIGKILL, "status", run.status, run.fault)
@@ -193,7 +194,7 @@ def judge_end(part: Part, lengths: dict[str, int]) -> None:
     if scenario.words:
         wants(run.status == 0, "status", run.status, run.fault)
         judge_host(run, lengths)
-        judge_terms(run, lengths)
+        judge_terms(run, lengths, is_alone)
     else:
         closed = [f"{it['name']}: closed, {lengths.get(it['name'], 0)} entries" for it in scenario.config["tenants"]]
         wants(run.lines == ["listening", *closed], "it printed", run.lines)
@@ -222,15 +223,17 @@ def judge_host(run: Run, lengths: dict[str, int]) -> None:
     wants(closed.issuperset(it for it in printed[1:] if it.split(":")[0] not in left), "it printed", printed, "and left", closed)
 
 
-def judge_terms(run: Run, lengths: dict[str, int]) -> None:
-    """A host that ended in order has closed each term that it opened, and printed each one that has its dump."""
+def judge_terms(run: Run, lengths: dict[str, int], is_alone: bool) -> None:
+    """A host that ended in order has closed each term that it opened, and each has its dump and its line, but for those that it left
+    to a next start."""
     events = events_of(run)
     opened = sorted(named(it) for it in events if it["event"] == "opened")
     wants(opened == sorted(named(it) for it in events if it["event"] == "closed"), "terms:", run.fault)
     left = {named(it) for it in events if it.get("left")}
-    told = sorted(it.split(":")[0] for it in run.lines[1:])
-    wants(run.lines[:1] == ["listening"] and told == opened, "it printed", run.lines, "and opened", opened)
-    wants(all(it in lengths for it in opened if it not in left), "it left", sorted(lengths), "and opened", opened)
+    dumped = [it for it in opened if it not in left]
+    printed = sorted(it.split(":")[0] for it in run.lines[1:] if it.split(":")[0] not in left)
+    wants(run.lines[:1] == ["listening"] and printed == dumped, "it printed", run.lines, "and opened", opened)
+    wants(sorted(lengths) == dumped if is_alone else lengths.keys() >= set(dumped), "it left", sorted(lengths), "and opened", opened)
 
 
 def judge_dumps(script: Path, run: Run) -> None:
@@ -256,6 +259,8 @@ def judge_part(part: Part, tenants: dict[str, Tenant]) -> None:
     scenario, run = part.scenario, part.run
     if scenario.words:
         know_of_terms(scenario, tenants)
+        for opened in (it for it in events_of(run) if it["event"] == "opened"):
+            wants(opened["base"] == base_of(named(opened), tenants[opened["tenant"]]), "the numbers of a term:", opened)
     removed = [it.step for it in run.clients[-1] if it.what == "removed"]
     for player, seen in zip(scenario.players, run.clients, strict=True):
         if player.asks:
@@ -283,7 +288,7 @@ def faults(parts: list[Part], script: Path | None) -> Iterator[str]:
     try:
         lengths = {name: len(text.splitlines()) - 1 for name, text in end.run.dumps.items()}
         for part in parts:
-            judge_end(part, lengths)
+            judge_end(part, lengths, len(parts) == 1)
         if script:
             judge_dumps(script, end.run)
         tenants = tenants_of(end.scenario, end.run)
