@@ -1,6 +1,7 @@
 """The outcomes that the folder of a host has, beside the jobs that clients were told of."""
 import json
 import pathlib
+from collections import Counter
 from collections.abc import Iterable, Iterator
 
 
@@ -12,8 +13,7 @@ def outcomes(run: str | pathlib.Path, name: str) -> list[dict]:
 
 def given_twice(jobs: Iterable[int]) -> list[int]:
     """The numbers that are there more than once."""
-    seen: set[int] = set()
-    return [job for job in jobs if job in seen or seen.add(job)]
+    return [job for job, times in Counter(jobs).items() if times > 1]
 
 
 def not_kept(told: list[tuple[int, dict]], kept: list[dict]) -> Iterator[str]:

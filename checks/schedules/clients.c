@@ -161,7 +161,6 @@ static void read_lines(struct client *me, long most) {
     }
 }
 
-// The clients get what was sent to them, though the program goes on no more.
 void read_what_is_left(void) {
     char bytes[512];
     for (int i = 0; i < clients.count; i++) {

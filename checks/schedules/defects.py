@@ -19,6 +19,16 @@ class Defect:
     edits: tuple[Edit, ...]
 
 
+def in_server(*edits: Edit) -> Defect:
+    """A defect of the server."""
+    return Defect("arena-server", edits)
+
+
+def in_host(*edits: Edit) -> Defect:
+    """A defect of the host."""
+    return Defect("arena-host", edits)
+
+
 DOORS, NEWS, BELL = "crates/tenant_lock/src/doors.rt", "crates/tenant_lock/src/news.rt", "crates/worker_main/src/bell.rt"
 PAUSE = """
     pub fn pause_until<R: Wait>(&self, rt: &R, pass: &Pass, stop: &StopFlag) -> bool
@@ -62,21 +72,23 @@ RINGS_FIRST = """        self.board.bell.ring(rt, pushed);
 """
 PLANTED = {
     # A session's pause at its own slot ends when its client has gone, and the slot goes home with rows on it.
-    "gone": Defect("arena-server", (
+    "gone": in_server(
         Edit("crates/server_doors/src/slots.rt", "doors[pass.tenant()].pause(rt, pass)", "doors[pass.tenant()].pause_until(rt, pass, self.stop)"),
         Edit(DOORS, "    /// How many wait at the tenant's slots, and how often they were woken.\n    pub fn waits", PAUSE + "    pub fn waits"),
         Edit(DOORS, "if held.may_leave(pass) {\n                return held;\n            }\n            drop(held);\n            yield_now();", "return held;"),
-    )),
+    ),
     # Of those who wait for jobs only one is woken.
-    "outcome": Defect("arena-server", (Edit(NEWS, "outcomes.notify_all();", "outcomes.notify_one();"),)),
+    "outcome": in_server(Edit(NEWS, "outcomes.notify_all();", "outcomes.notify_one();")),
     # A ring is not counted, so one between a failed pop and the wait is lost.
-    "bell": Defect("arena-server", (Edit(BELL, "        self.rung.lock(rt).ring();\n        self.changed.notify_one();", "        self.changed.notify_one();"),)),
+    "bell": in_server(
+        Edit(BELL, "        self.rung.lock(rt).ring();\n        self.changed.notify_one();", "        self.changed.notify_one();"),
+    ),
     # Replies go out before the journal has what they tell.
-    "early": Defect("arena-host", (Edit(DESKS, KEEPS_FIRST, SENDS_FIRST),)),
+    "early": in_host(Edit(DESKS, KEEPS_FIRST, SENDS_FIRST)),
     # The first term after a start begins with the job of number 1 again.
-    "numbers": Defect("arena-host", (Edit(FOLDERS, "base: base.saturating_add(room),", "base: 0,"),)),
+    "numbers": in_host(Edit(FOLDERS, "base: base.saturating_add(room),", "base: 0,")),
     # No worker is woken for a call that is noted.
-    "ring": Defect("arena-host", (Edit(BOARD, "        self.board.bell.ring(rt, pushed);", "        pushed.rung();"),)),
+    "ring": in_host(Edit(BOARD, "        self.board.bell.ring(rt, pushed);", "        pushed.rung();")),
     # A worker is woken before the call is noted, and may look for it before it is there, and wait.
-    "noted": Defect("arena-host", (Edit(BOARD, RINGS_LAST, RINGS_FIRST),)),
+    "noted": in_host(Edit(BOARD, RINGS_LAST, RINGS_FIRST)),
 }

@@ -28,7 +28,8 @@ class Plan:
 
 def draw_kill(dice: random.Random) -> Kill:
     """A kill while the host starts, at some step of its life, or when a reply has just gone out."""
-    return dice.choices([Kill(step=dice.randrange(1, 1500)), Kill(step=dice.randrange(900, 9000)), Kill(replies=dice.randrange(1, 20))], [1, 3, 4])[0]
+    kills = [Kill(step=dice.randrange(1, 1500)), Kill(step=dice.randrange(900, 9000)), Kill(replies=dice.randrange(1, 20))]
+    return dice.choices(kills, [1, 3, 4])[0]
 
 
 def draw_plan(dice: random.Random, seed: int, run: str, is_killed: bool) -> Plan:

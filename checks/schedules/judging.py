@@ -270,10 +270,8 @@ def judge_part(part: Part, tenants: dict[str, Tenant]) -> None:
 
 def judge_kept(parts: list[Part], tenants: dict[str, Tenant]) -> None:
     """Each job that was acknowledged has its outcome in the folder of a host that has ended: the one that was told, if it was. Jobs
-    that are forgotten need none, nor do those of terms that are left to a next start."""
+    that are forgotten need none."""
     run = parts[-1].run
-    if any(it.get("left") for it in events_of(run)):
-        return
     for name, tenant in tenants.items():
         canceled = {it["job"] for it in run.kept[name] if it["status"] == "canceled" and it["job"] in tenant.are_canceled}
         told = [(job, {"status": "canceled"} if job in canceled else tenant.jobs[job].outcome) for job in acknowledged(parts, name)]
@@ -291,6 +289,9 @@ def faults(parts: list[Part], script: Path | None) -> Iterator[str]:
             judge_end(part, lengths, len(parts) == 1)
         if script:
             judge_dumps(script, end.run)
+        if end.scenario.words:
+            left = [it for it in events_of(end.run) if it.get("left")]
+            wants(not left, "jobs had no outcome when nothing else was to be done:", left)
         tenants = tenants_of(end.scenario, end.run)
         for part in parts:
             judge_part(part, tenants)

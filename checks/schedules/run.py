@@ -1,6 +1,7 @@
 #!/usr/bin/env python3
 """Runs arena-server and arena-host as they were built under drawn schedules, with clients as threads of the same process, and
-judges what they saw. A seed gives the configuration, the clients and the schedule; the same seed gives the same run.
+judges what they saw. A seed gives the configuration, the clients and the schedule, and by each second one the host is killed and started
+again; the same seed gives the same run.
 
 usage: checks/schedules/run.py [--first S] [--steps N] [--host], at the top of the repository: the seeds from S on until a million
 steps are taken, or N, of the server and then of the host, or of the host alone; or

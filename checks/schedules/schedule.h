@@ -84,6 +84,7 @@ void has_moved(void);
 void files_are_new(void);
 // Whether the process is killed at the next point.
 bool dies_next(void);
+// A part of a reply has gone out.
 void note_reply(void);
 int make_thread(pthread_t *handle, const pthread_attr_t *how, void *(*start)(void *), void *argument, struct client *client);
 int join_thread(struct thread *other, void **result);
@@ -99,6 +100,7 @@ void look_at_program(void);
 void read_clients(const char *path);
 void start_clients(void);
 void await_clients(void);
+// They get what was sent to them, though the program goes on no more.
 void read_what_is_left(void);
 void tell_clients(FILE *out);
 const char *client_name(const struct thread *thread, char *room, size_t size);
