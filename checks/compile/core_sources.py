@@ -7,6 +7,14 @@ COMPARISONS = ("==", "!=", "<", "<=", ">", ">=")
 MOST_DEPTH = 3
 
 
+@dataclass(frozen=True)
+class Called:
+    """A function that others call."""
+
+    name: str
+    parameters: int
+
+
 @dataclass
 class Sources:
     """Draws sources."""
@@ -15,15 +23,25 @@ class Sources:
     count: int = 0
     names: list[str] = field(default_factory=list)
     constants: list[str] = field(default_factory=list)
+    callees: list[Called] = field(default_factory=list)
 
     def source(self) -> str:
-        """A source with a main of two parameters, behind constants."""
-        self.count, self.names, self.constants = 0, ["a", "b"], []
+        """A source with a main of two parameters, behind constants, and functions below it. Each calls only later ones."""
+        self.constants = []
         items = "".join(self.constant() for _ in range(self.draws.choice((0, 0, 1, 2))))
-        body = self.block(1, MOST_DEPTH, in_loop=False)
-        last = "" if self.draws.random() < 0.2 else f"    return {self.value(2)}\n"
+        below = [Called(f"f{number}", self.draws.randint(0, 2)) for number in range(self.draws.choice((0, 1, 1, 2)))]
+        functions = self.function(Called("main", 2), below, MOST_DEPTH)
+        functions += "".join(self.function(it, below[number:], 1) for number, it in enumerate(below, 1))
         comment = "# drawn\n" if self.draws.random() < 0.3 else ""
-        return f"{comment}{items}fn main(a, b) {{\n{body}{last}}}\n"
+        return f"{comment}{items}{functions}"
+
+    def function(self, head: Called, callees: list[Called], depth: int) -> str:
+        """A function that calls some of these."""
+        self.count, self.names, self.callees = 0, ["a", "b"][:head.parameters], callees
+        parameters = ", ".join(self.names)
+        body = self.block(1, depth, in_loop=False)
+        last = "" if self.draws.random() < 0.2 else f"    return {self.returned(2)}\n"
+        return f"fn {head.name}({parameters}) {{\n{body}{last}}}\n"
 
     def constant(self) -> str:
         """A constant: a number, or one of those above."""
@@ -35,8 +53,8 @@ class Sources:
         """The lines of a block, without its braces. No statement in it but the last one leaves."""
         alive = len(self.names)
         lines = [self.statement(indent, depth, in_loop) for _ in range(self.draws.randint(1, 3))]
-        if depth < MOST_DEPTH and self.draws.random() < 0.25:
-            leaving = [f"return {self.value(1)}", *(["break", "continue"] if in_loop else [])]
+        if indent > 1 and self.draws.random() < 0.25:
+            leaving = [f"return {self.returned(1)}", *(["break", "continue"] if in_loop else [])]
             lines.append("    " * indent + self.draws.choice(leaving) + "\n")
         del self.names[alive:]
         return "".join(lines)
@@ -45,8 +63,10 @@ class Sources:
         """A statement, with the spaces before it."""
         room = "    " * indent
         kind = self.draws.choice(("let", "set", "update", "if", "while") if depth else ("let", "set", "update"))
-        if kind == "let" and len(self.names) < 6:
-            value = self.any_value()
+        if self.callees and self.draws.random() < 0.1:
+            return f"{room}{self.call()}\n"
+        if not self.names or kind == "let" and len(self.names) < 6:
+            value = self.given()
             self.count += 1
             self.names.append(f"v{self.count}")
             return f"{room}let {self.names[-1]} = {value}\n"
@@ -57,7 +77,20 @@ class Sources:
         name = self.draws.choice(self.names)
         if kind == "update":
             return f"{room}{name} {self.draws.choice(ARITHMETIC)}= {self.value(1)}\n"
-        return f"{room}{name} = {self.any_value()}\n"
+        return f"{room}{name} = {self.given()}\n"
+
+    def call(self) -> str:
+        """A call of one of the functions that are called."""
+        called = self.draws.choice(self.callees)
+        return f"call {called.name}({', '.join(self.value(1) for _ in range(called.parameters))})"
+
+    def given(self) -> str:
+        """What a variable may be given: a value, or that of a call."""
+        return self.call() if self.callees and self.draws.random() < 0.3 else self.any_value()
+
+    def returned(self, depth: int) -> str:
+        """What may be returned: a number, or that of a call."""
+        return self.call() if self.callees and self.draws.random() < 0.3 else self.value(depth)
 
     def choice(self, indent: int, depth: int, in_loop: bool) -> str:
         """An `if`, with the spaces before it."""
@@ -97,7 +130,8 @@ class Sources:
     def value(self, depth: int) -> str:
         """A number."""
         if not depth or self.draws.random() < 0.3:
-            return self.draws.choice((self.draws.choice([*self.names, *self.constants]), str(self.draws.randint(-3, 12))))
+            known = [*self.names, *self.constants]
+            return self.draws.choice((*([self.draws.choice(known)] if known else []), str(self.draws.randint(-3, 12))))
         operator = self.draws.choice((*ARITHMETIC, "<"))
         both = f"{self.value(depth - 1)} {operator} {self.value(depth - 1)}"
         return self.draws.choice((f"({both})", f"({both})", f"-({both})"))

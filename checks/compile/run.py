@@ -1,7 +1,7 @@
 #!/usr/bin/env python3
 """Compares arena-compile with the compiler in Python, and both with the interpreter of checks/python, which was written from
-docs/LANGUAGE.md alone, on drawn sources, and on some with loops that count and constants, at their edges: what both make is
-rehearsed on drawn schedules, and what `arena-compile --serial` prints must be the line of the interpreter's value. Sources with
+docs/LANGUAGE.md alone, on drawn sources, and on some with loops that count, constants and calls, at their edges: what both make
+is rehearsed on drawn schedules, and what `arena-compile --serial` prints must be the line of the interpreter's value. Sources with
 faults must be refused at the first one. The last line says how many.
 
 usage: checks/compile/run.py [SEED [PROGRAMS]], at the top of the repository; the seed is 1, and 400 programs are drawn, if none
@@ -17,6 +17,7 @@ from collections import Counter
 TOP = pathlib.Path(__file__).resolve().parents[2]
 sys.path[:0] = [str(TOP / "checks" / "python"), str(TOP / "checks" / "build"), str(TOP / "python")]
 
+from calling_sources import CALLING  # noqa: E402
 from core_sources import Sources  # noqa: E402
 from counting_sources import COUNTING  # noqa: E402
 from arena.language import SourceFault, compile_source  # noqa: E402
@@ -36,6 +37,8 @@ REPLIES = (
     ("fn main(n) { for i in 0..n { n += i }; return n }\n", ("--serial", 5), 0, ('{"job":1,"status":"complete","value":15}\n', "")),
     ("fn main(n) { for i in 0..9 { if i < n { continue }; return i } }\n", ("--serial", 3), 0, ('{"job":1,"status":"complete","value":3}\n', "")),
     ("const N = -7\nparam M = N\nfn main(n) { return n * M }\n", ("--serial", 6), 0, ('{"job":1,"status":"complete","value":-42}\n', "")),
+    ("fn main(n) { return call f(n, 3) }\nfn f(a, b) { return a - b }\n", ("--serial", 5), 0, ('{"job":1,"status":"complete","value":2}\n', "")),
+    ("fn main(n) { call f(n); return 3 }\nfn f(n) { return 1 / n }\n", ("--serial",), 0, ('{"fault":1,"job":1,"status":"fault"}\n', "")),
     ("fn main() { while 1 { } }\n", ("--serial",), 0, ('{"fault":2,"job":1,"status":"fault"}\n', "")),
     ("fn main() { return slot() }\n", ("--serial",), 1, ("", "1:1")),
     ("fn main(n) { return m }\n", ("--serial", 12), 1, ("", "1:21")),
@@ -88,8 +91,8 @@ def difference(program: str, source: str, arguments: tuple[int, int], draws: ran
         seen["too long"] += 1
         return ""
     status, output, said = compiled(program, source, *arguments)
-    head = next(number for number, line in enumerate(source.splitlines(), 1) if line.startswith("fn "))
-    limit = next((kind for words, kind in LIMITS.items() if status == 1 and said == f"{head}:1: {words}\n"), "")
+    heads = [number for number, line in enumerate(source.splitlines(), 1) if line.startswith("fn ")]
+    limit = next((kind for head in heads for words, kind in LIMITS.items() if status == 1 and said == f"{head}:1: {words}\n"), "")
     if limit:
         seen[limit] += 1
         return ""
@@ -129,7 +132,7 @@ def main(seed: int = 1, programs: int = 400) -> list[str]:
         source, arguments = sources.source(), (draws.randint(-5, 9), draws.randint(-5, 9))
         said = difference(program, source, arguments, draws, seen)
         found += [said] if said else []
-    found += [said for source, arguments in COUNTING if (said := difference(program, source, arguments, draws, Counter()))]
+    found += [said for source, arguments in (*COUNTING, *CALLING) if (said := difference(program, source, arguments, draws, Counter()))]
     found += [said for source, place in REFUSED if (said := refused_difference(program, source, place))]
     found += wrong_replies(program)
     for it in found[:3]:
@@ -138,7 +141,8 @@ def main(seed: int = 1, programs: int = 400) -> list[str]:
     if rare:
         print(f"too few programs are {', '.join(rare)}")
     shown = ", ".join(f"{count} {kind}" for kind, count in sorted(seen.items()))
-    print(f"{programs} sources by two compilers ({shown}), {len(COUNTING)} that count, {len(REFUSED)} refused: {len(found)} differences")
+    print(f"{programs} sources by two compilers ({shown}), {len(COUNTING)} that count, {len(CALLING)} that call, "
+          f"{len(REFUSED)} refused: {len(found)} differences")
     return found or rare
 
 

@@ -70,6 +70,7 @@ RINGS_LAST = """        self.calls.note(self.board);
 RINGS_FIRST = """        self.board.bell.ring(rt, pushed);
         self.calls.note(self.board);
 """
+RING = "    fn ring<R: Wait>(&self, rt: &R, pushed: Pushed) {\n"
 PLANTED = {
     # A session's pause at its own slot ends when its client has gone, and the slot goes home with rows on it.
     "gone": in_server(
@@ -81,7 +82,7 @@ PLANTED = {
     "outcome": in_server(Edit(NEWS, "outcomes.notify_all();", "outcomes.notify_one();")),
     # A ring is not counted, so one between a failed pop and the wait is lost.
     "bell": in_server(
-        Edit(BELL, "        self.rung.lock(rt).ring();\n        self.changed.notify_one();", "        self.changed.notify_one();"),
+        Edit(BELL, f"{RING}        self.rung.lock(rt).ring();\n", RING),
     ),
     # Replies go out before the journal has what they tell.
     "early": in_host(Edit(DESKS, KEEPS_FIRST, SENDS_FIRST)),

@@ -68,6 +68,8 @@ fn words_of(wrong: Wrong) -> &'static str {
         Wrong::NoLoop => "there is no loop around this",
         Wrong::KnownFunction =>
             "a function of this name is there already, or `main` is not the first one",
+        Wrong::UnknownFunction => "no function of this name is there",
+        Wrong::ArgumentCount => "a function is called with as many arguments as it has parameters",
         Wrong::TooManyFunctions => "a job has at most 16 functions",
         Wrong::NoFunction => "there is no fn: write `fn main(x, y) { .. }`",
     }

@@ -11,15 +11,19 @@ use Rattle.source_reader.specs.declared.functions.TheConstants.{BODY_FUEL}
 use Rattle.source_reader.specs.Faults.{◌>>=◌, fault_at}
 use Rattle.source_reader.specs.Trees.{StmtTree, FunctionTree, function_tree_of, SkipTree, ThenTree, AssignTree, IfTree, LoopTree, RepeatTree, BreakTree, ContinueTree, ReturnTree, MakeTree, WaitTree, CancelTree, ReadTree, StoreTree}
 use Rattle.source_reader.specs.Values.{unexpected, after_open, after_close}
-use Rattle.source_reader.specs.declared.names.Meaning.{Meaning}
 use Rattle.source_reader.specs.declared.names.Meaning.TheVariants as meaning
-use Rattle.source_reader.specs.Names.{number_after}
-use Rattle.source_reader.specs.Lines.{after_line_ends, free_name, item_ended}
+use Rattle.source_reader.specs.Names.{Scope, WithName, number_after}
+use Rattle.source_reader.specs.Lines.{after_comma, is_close, after_line_ends, free_name, item_ended}
 use Rattle.source_reader.specs.Simple.{ReadStmt}
 use Rattle.source_reader.specs.Statements.{Block, stmt_at}
 
 abbrev pub larger : ℕ → ℕ → ℕ
 larger a b = if nat_lt a b then b else a
+
+-- with what is given a value, if something is
+abbrev pub given : Option ℕ → ℕ
+given None = 0
+given (Some x) = number_after x
 
 -- how many variables a statement needs that was read
 abbrev pub variables_of : StmtTree → ℕ
@@ -33,7 +37,7 @@ variables_of (BreakTree k) = 0
 variables_of (ContinueTree k) = 0
 variables_of (ReturnTree e) = 0
 variables_of (MakeTree m p a b) = 0
-variables_of (WaitTree d e g) = 0
+variables_of (WaitTree d e g) = larger (given d) (given e)
 variables_of (CancelTree g) = 0
 variables_of (ReadTree d q) = 0
 variables_of (StoreTree k e) = 0
@@ -48,22 +52,6 @@ abbrev pub after_fn : List Token → Result (List Token) Fault
 after_fn [] = unexpected []
 after_fn (t ∷ ts) = after_fn_of t.kind ts (t ∷ ts)
 
-abbrev pub after_comma_of : Kind → List Token → List Token → Result (List Token) Fault
-after_comma_of kind.Comma rest ts = Ok rest
-after_comma_of k rest ts = unexpected ts
-
-abbrev pub after_comma : List Token → Result (List Token) Fault
-after_comma [] = unexpected []
-after_comma (t ∷ ts) = after_comma_of t.kind ts (t ∷ ts)
-
-abbrev pub is_close_of : Kind → Bool
-is_close_of kind.Close = true
-is_close_of k = false
-
-abbrev pub is_close : List Token → Bool
-is_close [] = false
-is_close (t ∷ ts) = is_close_of t.kind
-
 abbrev pub is_this : ℕ → Option ℕ → Bool
 is_this x None = false
 is_this x (Some y) = y == x
@@ -77,46 +65,46 @@ main_first [] ts = Ok None
 main_first (first ∷ others) ts = Err (fault_at ts wrong.KnownFunction)
 
 -- the name of a function, which no other function has, and no constant
-abbrev pub new_function : (is_there : Bool) → List (ℕ × Meaning) → List Token → Result (Option ℕ) Fault
+abbrev pub new_function : (is_there : Bool) → Scope → List Token → Result (Option ℕ) Fault
 new_function true names ts = Err (fault_at ts wrong.KnownFunction)
 new_function false names ts = free_name names ts >>= λ x. Ok (Some x)
 
 -- A name is no number for `main`, which only the first function may be called.
-abbrev pub function_name_of : Kind → List (ℕ × Meaning) → List (Option ℕ) → List Token → Result (Option ℕ) Fault
+abbrev pub function_name_of : Kind → Scope → List (Option ℕ) → List Token → Result (Option ℕ) Fault
 function_name_of kind.Main names known ts = main_first known ts
 function_name_of (kind.Name x) names known ts = new_function (is_known x known) names ts
 function_name_of k names known ts = unexpected ts
 
-abbrev pub function_name : List (ℕ × Meaning) → List (Option ℕ) → List Token → Result (Option ℕ) Fault
+abbrev pub function_name : Scope → List (Option ℕ) → List Token → Result (Option ℕ) Fault
 function_name names known [] = unexpected []
 function_name names known (t ∷ ts) = function_name_of t.kind names known (t ∷ ts)
 
-abbrev pub second_name : ℕ → List (ℕ × Meaning) → List Token → Result ℕ Fault
+abbrev pub second_name : ℕ → Scope → List Token → Result ℕ Fault
 second_name x names ts = free_name names ts >>= λ y. if y == x then Err (fault_at ts wrong.KnownName) else Ok y
 
-abbrev pub second_parameter : ℕ → List (ℕ × Meaning) → List Token → Result (Parameters × List Token) Fault
+abbrev pub second_parameter : ℕ → Scope → List Token → Result (Parameters × List Token) Fault
 second_parameter x names ts = do
   rest ← after_comma ts
   y ← second_name x names rest
   after ← after_close (drop 1 rest)
   Ok (record { first = Some x; second = Some y }, after)
 
-abbrev pub first_parameter : List (ℕ × Meaning) → List Token → Result (Parameters × List Token) Fault
+abbrev pub first_parameter : Scope → List Token → Result (Parameters × List Token) Fault
 first_parameter names ts = free_name names ts >>= λ x. if is_close (drop 1 ts) then Ok (record { first = Some x; second = None }, drop 1 (drop 1 ts)) else second_parameter x names (drop 1 ts)
 
 -- behind `(`, with what follows `)`
-abbrev pub parameters_at : List (ℕ × Meaning) → List Token → Result (Parameters × List Token) Fault
+abbrev pub parameters_at : Scope → List Token → Result (Parameters × List Token) Fault
 parameters_at names ts = if is_close ts then Ok (record { first = None; second = None }, drop 1 ts) else first_parameter names ts
 
-abbrev pub second_of : ℕ → Option ℕ → List (ℕ × Meaning) → List (ℕ × Meaning)
-second_of x None names = (x, meaning.Variable 0) ∷ names
-second_of x (Some y) names = (y, meaning.Variable 1) ∷ (x, meaning.Variable 0) ∷ names
+abbrev pub second_of : ℕ → Option ℕ → Scope → Scope
+second_of x None names = WithName x (meaning.Variable 0) names
+second_of x (Some y) names = WithName y (meaning.Variable 1) (WithName x (meaning.Variable 0) names)
 
-abbrev pub names_in : Option ℕ → Option ℕ → List (ℕ × Meaning) → List (ℕ × Meaning)
+abbrev pub names_in : Option ℕ → Option ℕ → Scope → Scope
 names_in None second names = names
 names_in (Some x) second names = second_of x second names
 
-abbrev pub body_at : List (ℕ × Meaning) → Parameters → List Token → ReadStmt
+abbrev pub body_at : Scope → Parameters → List Token → ReadStmt
 body_at names p ts = stmt_at BODY_FUEL (names_in p.first p.second names) (Block false) ts
 
 -- a function, its name, and what follows it
@@ -128,7 +116,7 @@ pub record NamedTree : Type 0 where
 abbrev pub view_named : Named → NamedTree
 view_named n = record { name = n.name; function = function_tree_of n.function; rest = n.rest.now }
 
-abbrev pub function_at : List (ℕ × Meaning) → List (Option ℕ) → List Token → Result NamedTree Fault
+abbrev pub function_at : Scope → List (Option ℕ) → List Token → Result NamedTree Fault
 function_at names known ts = do
   named ← after_fn ts
   name ← function_name names known named
@@ -140,7 +128,7 @@ function_at names known ts = do
 abbrev pub Items : Type 0
 Items = List (Option ℕ) → List FunctionTree → List Token → Result (List FunctionTree) Fault
 
-abbrev pub one_more : Items → List (ℕ × Meaning) → Items
+abbrev pub one_more : Items → Scope → Items
 one_more next names known before [] = Ok before
 one_more next names known before (t ∷ ts) = do
   f ← function_at names known (t ∷ ts)
@@ -152,6 +140,6 @@ no_more before [] = Ok before
 no_more before (t ∷ ts) = Err (fault_at (t ∷ ts) wrong.TooManyFunctions)
 
 -- so many functions at most, behind those before, which see these constants
-unfoldable pub functions_from : ℕ → List (ℕ × Meaning) → Items
+unfoldable pub functions_from : ℕ → Scope → Items
 functions_from zero names known before ts = no_more before (after_line_ends ts)
 functions_from (suc n) names known before ts = one_more (functions_from n names) names known before (after_line_ends ts)

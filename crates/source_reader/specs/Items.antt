@@ -5,13 +5,13 @@ use Rattle.source_tokens.specs.declared.tokens.Kind.TheVariants as kind
 use Rattle.source_tokens.specs.declared.tokens.Token.{Token}
 use Rattle.source_reader.specs.declared.faults.Fault.{Fault}
 use Rattle.source_reader.specs.declared.faults.Wrong.TheVariants as wrong
-use Rattle.source_reader.specs.declared.names.Meaning.{Meaning}
 use Rattle.source_reader.specs.declared.names.Meaning.TheVariants as meaning
 use Rattle.source_reader.specs.declared.items.TheConstants.{FUNCTIONS}
 use Rattle.source_reader.specs.Faults.{◌>>=◌, fault_at}
 use Rattle.source_reader.specs.Trees.{FunctionTree, ExprTree, ValueTree, Constant, Variable, SlotTree, WidthTree, TwoTree, NumberTree, TruthTree}
+use Rattle.source_reader.specs.Names.{Scope, WithName}
+use Rattle.source_reader.specs.Values.{whole_value}
 use Rattle.source_reader.specs.Lines.{after_set, after_line_ends, item_ended, free_name}
-use Rattle.source_reader.specs.Simple.{whole_value}
 use Rattle.source_reader.specs.Functions.{functions_from}
 
 abbrev pub constant_of : ExprTree → List Token → Result ℤ Fault
@@ -27,7 +27,7 @@ constant_in (NumberTree e) ts = constant_of e ts
 constant_in (TruthTree t) ts = Err (fault_at ts wrong.NoConstant)
 
 -- behind `const` or `param`: the name, its value, and the tokens after it
-abbrev pub constant_at : List (ℕ × Meaning) → List Token → Result (ℕ × ℤ × List Token) Fault
+abbrev pub constant_at : Scope → List Token → Result (ℕ × ℤ × List Token) Fault
 constant_at names ts = do
   x ← free_name names ts
   from ← after_set (drop 1 ts)
@@ -45,14 +45,14 @@ is_const (t ∷ ts) = is_const_of t.kind
 
 -- reads all functions, behind constants with these names and meanings, the last one first
 abbrev pub ItemReader : Type 0
-ItemReader = List (ℕ × Meaning) → List Token → Result (List FunctionTree) Fault
+ItemReader = Scope → List Token → Result (List FunctionTree) Fault
 
 -- one constant more, whose word is at the front
 abbrev pub one_constant : ItemReader → ItemReader
 one_constant next names ts = do
   c ← constant_at names (drop 1 ts)
   rest ← item_ended c.2
-  next ((c.0, meaning.Constant c.1) ∷ names) rest
+  next (WithName c.0 (meaning.Constant c.1) names) rest
 
 abbrev pub no_constant : ItemReader
 no_constant names ts = Err (fault_at ts wrong.TooManyConstants)

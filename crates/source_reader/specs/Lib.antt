@@ -4,6 +4,8 @@ pub mod Names
 pub mod Joining
 pub mod Values
 pub mod Lines
+pub mod Headers
+pub mod Calls
 pub mod Simple
 pub mod Statements
 pub mod Functions

@@ -8,7 +8,7 @@ use Rattle.source_reader.specs.Trees.{ValueTree, StmtTree, Constant, NumberTree,
 use Rattle.source_reader.specs.declared.faults.Wrong.TheVariants as wrong
 use Rattle.source_reader.specs.declared.names.Meaning.{Meaning}
 use Rattle.source_reader.specs.Faults.{◌>>=◌, fault_at}
-use Rattle.source_reader.specs.Names.{meaning_of}
+use Rattle.source_reader.specs.Names.{Scope, meaning_of}
 use Rattle.source_reader.specs.Values.{unexpected}
 
 -- A comparison is 1 or 0.
@@ -69,6 +69,22 @@ abbrev pub after_range : List Token → Result (List Token) Fault
 after_range [] = unexpected []
 after_range (t ∷ ts) = after_range_of t.kind ts (t ∷ ts)
 
+abbrev pub after_comma_of : Kind → List Token → List Token → Result (List Token) Fault
+after_comma_of kind.Comma rest ts = Ok rest
+after_comma_of k rest ts = unexpected ts
+
+abbrev pub after_comma : List Token → Result (List Token) Fault
+after_comma [] = unexpected []
+after_comma (t ∷ ts) = after_comma_of t.kind ts (t ∷ ts)
+
+abbrev pub is_close_of : Kind → Bool
+is_close_of kind.Close = true
+is_close_of k = false
+
+abbrev pub is_close : List Token → Bool
+is_close [] = false
+is_close (t ∷ ts) = is_close_of t.kind
+
 abbrev pub name_at_of : Kind → List Token → Result ℕ Fault
 name_at_of (kind.Name x) ts = Ok x
 name_at_of k ts = unexpected ts
@@ -82,7 +98,7 @@ unless_known (Some m) x ts = Err (fault_at ts wrong.KnownName)
 unless_known None x ts = Ok x
 
 -- a name at the front that stands for nothing yet
-abbrev pub free_name : List (ℕ × Meaning) → List Token → Result ℕ Fault
+abbrev pub free_name : Scope → List Token → Result ℕ Fault
 free_name names ts = name_at ts >>= λ x. unless_known (meaning_of x names) x ts
 
 abbrev pub is_line_end : Kind → Bool

@@ -1,5 +1,5 @@
--- What names stand for at a place: names with their meanings, the last one first.
-use Rattle.std.specs.Prelude.{ℕ, List, [], ◌∷◌, Option, Some, None, Result, Ok, Err, ◌+◌, ◌==◌, nat_lt, if◌then◌else◌}
+-- What a place sees: names with their meanings, the last one first, and the functions of the source.
+use Rattle.std.specs.Prelude.{ℕ, List, Option, Some, None, Result, Ok, Err, ◌+◌, ◌==◌, nat_lt, if◌then◌else◌}
 use Rattle.source_tokens.specs.declared.tokens.Token.{Token}
 use Rattle.source_reader.specs.declared.faults.Fault.{Fault}
 use Rattle.source_reader.specs.declared.faults.Wrong.TheVariants as wrong
@@ -8,14 +8,24 @@ use Rattle.source_reader.specs.declared.names.Meaning.{Meaning}
 use Rattle.source_reader.specs.declared.names.Meaning.TheVariants as meaning
 use Rattle.source_reader.specs.declared.names.Names.{Names}
 use Rattle.source_reader.specs.declared.names.Names.TheVariants as names
+use Rattle.source_reader.specs.declared.headers.Header.{Header}
 
-abbrev pub names_of : Names → List (ℕ × Meaning)
-names_of names.Empty = []
-names_of (names.Name' x m p others) = (x, m) ∷ names_of others
+pub data Scope : Type 0 where
+  Functions : List Header → Scope
+  WithName : ℕ → Meaning → Scope → Scope
 
-abbrev pub meaning_of : ℕ → List (ℕ × Meaning) → Option Meaning
-meaning_of x [] = None
-meaning_of x (first ∷ others) = if first.0 == x then Some first.1 else meaning_of x others
+abbrev pub names_of : Names → Scope
+names_of (names.Functions hs) = Functions hs.now
+names_of (names.Name' x m p others) = WithName x m (names_of others)
+
+abbrev pub meaning_of : ℕ → Scope → Option Meaning
+meaning_of x (Functions hs) = None
+meaning_of x (WithName y m others) = if y == x then Some m else meaning_of x others
+
+-- the functions of the source, in its order
+abbrev pub functions_in : Scope → List Header
+functions_in (Functions hs) = hs
+functions_in (WithName x m others) = functions_in others
 
 abbrev pub number_after : ℕ → ℕ
 number_after x = if nat_lt x 255 then x + 1 else 255
@@ -31,6 +41,6 @@ number_next (meaning.Counter v) ts = number_behind (number_after v) ts
 number_next (meaning.Constant z) ts = Ok 0
 
 -- the number of one more variable
-abbrev pub new_number : List (ℕ × Meaning) → List Token → Result ℕ Fault
-new_number [] ts = Ok 0
-new_number (first ∷ others) ts = number_next first.1 ts
+abbrev pub new_number : Scope → List Token → Result ℕ Fault
+new_number (Functions hs) ts = Ok 0
+new_number (WithName x m others) ts = number_next m ts

@@ -1,26 +1,22 @@
 -- Statements without blocks.
 use Rattle.std.specs.Prelude.{ℕ, pos, ◌||◌, List, [], ◌∷◌, drop, Option, Some, None, Result, Ok, Err, if◌then◌else◌}
-use Rattle.source_reader.specs.declared.simple.TheConstants.{VALUE_FUEL}
 use Rattle.source_tokens.specs.declared.tokens.Kind.{Kind}
 use Rattle.source_tokens.specs.declared.tokens.Kind.TheVariants as kind
 use Rattle.source_tokens.specs.declared.tokens.Token.{Token}
 use Rattle.source_reader.specs.declared.faults.Fault.{Fault}
 use Rattle.source_reader.specs.declared.faults.Wrong.TheVariants as wrong
 use Rattle.source_reader.specs.Faults.{◌>>=◌, fault_at}
-use Rattle.source_reader.specs.Trees.{value_tree_of, TestTree, ValueTree, StmtTree, Constant, Variable, NumberTree, ReturnTree}
+use Rattle.source_reader.specs.Trees.{value_tree_of, TestTree, ValueTree, StmtTree, Constant, Variable, NumberTree, ThenTree, ReturnTree}
 use Rattle.source_reader.specs.declared.names.Meaning.{Meaning}
 use Rattle.source_reader.specs.declared.names.Meaning.TheVariants as meaning
 use Rattle.source_reader.specs.declared.simple.Count.{Count}
-use Rattle.source_reader.specs.Names.{meaning_of, new_number, number_behind}
+use Rattle.source_reader.specs.Names.{Scope, meaning_of, new_number, number_behind}
 use Rattle.source_reader.specs.Joining.{test_in, operation, a_number}
-use Rattle.source_reader.specs.Values.{unexpected, Level, value_at}
+use Rattle.source_reader.specs.Values.{unexpected, whole_value}
+use Rattle.source_reader.specs.Calls.{is_call, call_at}
 use Rattle.source_reader.specs.Lines.{assigned, returned, after_set, after_in, after_range, free_name, is_line_end, is_end}
 
--- a value, and the tokens after it
-unfoldable pub whole_value : List (ℕ × Meaning) → List Token → Result (ValueTree × List Token) Fault
-whole_value names ts = value_at VALUE_FUEL names (Level 0) ts
-
-abbrev pub condition_at : List (ℕ × Meaning) → List Token → Result (TestTree × List Token) Fault
+abbrev pub condition_at : Scope → List Token → Result (TestTree × List Token) Fault
 condition_at names ts = do
   v ← whole_value names ts
   Ok (test_in v.0, v.1)
@@ -29,34 +25,37 @@ condition_at names ts = do
 abbrev pub ReadStmt : Type 0
 ReadStmt = Result (StmtTree × List Token) Fault
 
-abbrev pub new_unless : Option Meaning → List (ℕ × Meaning) → List Token → Result ℕ Fault
+abbrev pub new_unless : Option Meaning → Scope → List Token → Result ℕ Fault
 new_unless (Some m) names ts = Err (fault_at ts wrong.KnownName)
 new_unless None names ts = new_number names ts
 
-abbrev pub new_name_of : Kind → List (ℕ × Meaning) → List Token → Result ℕ Fault
+abbrev pub new_name_of : Kind → Scope → List Token → Result ℕ Fault
 new_name_of (kind.Name x) names ts = new_unless (meaning_of x names) names ts
 new_name_of k names ts = unexpected ts
 
 -- the number of a new variable with the name at the front, if no other has it
-abbrev pub new_name : List (ℕ × Meaning) → List Token → Result ℕ Fault
+abbrev pub new_name : Scope → List Token → Result ℕ Fault
 new_name names [] = unexpected []
 new_name names (t ∷ ts) = new_name_of t.kind names (t ∷ ts)
 
--- behind `let`
-abbrev pub let_at : List (ℕ × Meaning) → List Token → ReadStmt
-let_at names ts = do
-  n ← new_name names ts
-  rest ← after_set (drop 1 ts)
-  v ← whole_value names rest
-  Ok (assigned n v.0, v.1)
-
-abbrev pub set_at : List (ℕ × Meaning) → ℕ → List Token → ReadStmt
+abbrev pub set_at : Scope → ℕ → List Token → ReadStmt
 set_at names x rest = do
   v ← whole_value names rest
   Ok (assigned x v.0, v.1)
 
-abbrev pub updated_of : Kind → List (ℕ × Meaning) → ℕ → List Token → List Token → ReadStmt
-updated_of kind.Set names x rest ts = set_at names x rest
+-- Behind `=`: what is given to a variable.
+abbrev pub given_at : Scope → ℕ → List Token → ReadStmt
+given_at names x ts = if is_call ts then call_at names (Some x) (drop 1 ts) else set_at names x ts
+
+-- behind `let`
+abbrev pub let_at : Scope → List Token → ReadStmt
+let_at names ts = do
+  n ← new_name names ts
+  rest ← after_set (drop 1 ts)
+  given_at names n rest
+
+abbrev pub updated_of : Kind → Scope → ℕ → List Token → List Token → ReadStmt
+updated_of kind.Set names x rest ts = given_at names x rest
 updated_of (kind.Update op) names x rest ts = do
   v ← whole_value names rest
   e ← a_number (operation op (NumberTree (Variable x)) v.0 ts)
@@ -64,29 +63,39 @@ updated_of (kind.Update op) names x rest ts = do
 updated_of k names x rest ts = unexpected ts
 
 -- behind the name of a variable
-abbrev pub updated : List (ℕ × Meaning) → ℕ → List Token → ReadStmt
+abbrev pub updated : Scope → ℕ → List Token → ReadStmt
 updated names x [] = unexpected []
 updated names x (t ∷ ts) = updated_of t.kind names x ts (t ∷ ts)
 
 -- Only variables are assigned to. The name is the first of the tokens.
-abbrev pub assigned_to : List (ℕ × Meaning) → Meaning → List Token → List Token → ReadStmt
+abbrev pub assigned_to : Scope → Meaning → List Token → List Token → ReadStmt
 assigned_to names (meaning.Variable v) ts rest = updated names v rest
 assigned_to names (meaning.Counter v) ts rest = Err (fault_at ts wrong.NotAssigned)
 assigned_to names (meaning.Constant z) ts rest = Err (fault_at ts wrong.NotAssigned)
 
-abbrev pub assigned_at : List (ℕ × Meaning) → Option Meaning → List Token → List Token → ReadStmt
+abbrev pub assigned_at : Scope → Option Meaning → List Token → List Token → ReadStmt
 assigned_at names None ts rest = Err (fault_at ts wrong.UnknownName)
 assigned_at names (Some m) ts rest = assigned_to names m ts rest
 
-abbrev pub value_returned : List (ℕ × Meaning) → List Token → ReadStmt
+abbrev pub value_returned : Scope → List Token → ReadStmt
 value_returned names ts = do
   v ← whole_value names ts
   Ok (returned v.0, v.1)
 
+-- Behind `call`: the value is that of one more variable.
+abbrev pub call_returned : Scope → List Token → ReadStmt
+call_returned names ts = do
+  n ← new_number names ts
+  c ← call_at names (Some n) ts
+  Ok (ThenTree c.0 (ReturnTree (Variable n)), c.1)
+
+abbrev pub something_returned : Scope → List Token → ReadStmt
+something_returned names ts = if is_call ts then call_returned names (drop 1 ts) else value_returned names ts
+
 -- behind `return`
-abbrev pub return_at : List (ℕ × Meaning) → List Token → ReadStmt
+abbrev pub return_at : Scope → List Token → ReadStmt
 return_at names [] = unexpected []
-return_at names (t ∷ ts) = if is_line_end t.kind || is_end t.kind then Ok (ReturnTree (Constant (pos 0)), t ∷ ts) else value_returned names (t ∷ ts)
+return_at names (t ∷ ts) = if is_line_end t.kind || is_end t.kind then Ok (ReturnTree (Constant (pos 0)), t ∷ ts) else something_returned names (t ∷ ts)
 
 -- the head of a loop that counts: its index and that one's variable, the variable of the end, and both values
 pub record CountTree : Type 0 where
@@ -100,7 +109,7 @@ abbrev pub view_count : Count → CountTree
 view_count c = record { name = c.name; index = c.index; end = c.end; low = value_tree_of c.low; high = value_tree_of c.high }
 
 -- Behind `for`: neither value sees the index.
-abbrev pub count_at : List (ℕ × Meaning) → List Token → Result (CountTree × List Token) Fault
+abbrev pub count_at : Scope → List Token → Result (CountTree × List Token) Fault
 count_at names ts = do
   x ← free_name names ts
   i ← new_number names ts

@@ -1,10 +1,8 @@
 -- What a text says.
-use Rattle.std.specs.Prelude.{◌≡◌, ◌==◌, ◌-◌, ℕ, Bool, true, false, List, [], ◌∷◌, length, map, Result, Ok, Err, if◌then◌else◌}
+use Rattle.std.specs.Prelude.{◌≡◌, ◌==◌, ◌-◌, ℕ, List, [], ◌∷◌, length, map, Result, Ok, Err, if◌then◌else◌}
 use Rattle.std.specs.Global.{Vec}
 use Rattle.source_language.specs.declared.syntax.Function.{Function}
 use Rattle.source_tokens.specs.declared.tokens.Token.{Token}
-use Rattle.source_tokens.specs.declared.tokens.Kind.{Kind}
-use Rattle.source_tokens.specs.declared.tokens.Kind.TheVariants as kind
 use Rattle.source_tokens.specs.Tokens.{tokens_of}
 use Rattle.source_reader.specs.declared.faults.Fault.{Fault}
 use Rattle.source_reader.specs.declared.faults.Wrong.TheVariants as wrong
@@ -15,6 +13,8 @@ use Rattle.source_reader.specs.declared.source.SourceError.TheVariants as errors
 use Rattle.source_reader.specs.Faults.{◌>>=◌, fault_at}
 use Rattle.source_reader.specs.declared.items.TheConstants.{CONSTANTS}
 use Rattle.source_reader.specs.Trees.{FunctionTree, function_tree_of}
+use Rattle.source_reader.specs.Names.{Functions}
+use Rattle.source_reader.specs.Headers.{is_fn, headers_of}
 use Rattle.source_reader.specs.Items.{items_from}
 use Rattle.source_reader.specs.Places.{place_of, place_left}
 
@@ -23,7 +23,7 @@ some_functions [] = Err (fault_at [] wrong.NoFunction)
 some_functions (f ∷ fs) = Ok (f ∷ fs)
 
 abbrev pub read_tokens : List Token → Result (List FunctionTree) Fault
-read_tokens ts = items_from CONSTANTS [] ts >>= some_functions
+read_tokens ts = items_from CONSTANTS (Functions (headers_of ts)) ts >>= some_functions
 
 -- The text says these functions.
 abbrev pub Says : List ℕ → List FunctionTree → Type 0
@@ -40,10 +40,6 @@ GivesError text (errors.Fault fault) = HasFault text fault
 abbrev pub GivesSource : List ℕ → Result (Vec Function) SourceError → Type 0
 GivesSource text (Ok v) = Says text (map function_tree_of v.items)
 GivesSource text (Err e) = GivesError text e
-
-abbrev pub is_fn : Kind → Bool
-is_fn kind.Fn = true
-is_fn k = false
 
 -- where the function of that number begins, or else the end
 abbrev pub nth_fn : List Token → (number end : ℕ) → ℕ

@@ -8,11 +8,11 @@ use Rattle.source_reader.specs.declared.faults.Fault.{Fault}
 use Rattle.source_reader.specs.declared.faults.Wrong.TheVariants as wrong
 use Rattle.source_reader.specs.Faults.{◌>>=◌, fault_at}
 use Rattle.source_reader.specs.Trees.{ValueTree, StmtTree, Constant, Variable, TwoTree, HoldsTree, SkipTree, ThenTree, AssignTree, IfTree, LoopTree, BreakTree, ContinueTree}
-use Rattle.source_reader.specs.declared.names.Meaning.{Meaning}
 use Rattle.source_reader.specs.declared.names.Meaning.TheVariants as meaning
-use Rattle.source_reader.specs.Names.{meaning_of, new_number}
+use Rattle.source_reader.specs.Names.{Scope, WithName, meaning_of, new_number}
 use Rattle.source_reader.specs.Values.{unexpected}
 use Rattle.source_reader.specs.Lines.{assigned, leaves, after_begin, after_line_ends, ended, after_end, let_name}
+use Rattle.source_reader.specs.Calls.{call_at}
 use Rattle.source_reader.specs.Simple.{ReadStmt, condition_at, count_at, let_at, assigned_at, return_at}
 
 -- What is read: `{ .. }`; what follows `{`, where what comes may never be reached; a statement; or what may follow the block of an `if`. Each says whether there is a loop around it.
@@ -23,16 +23,16 @@ pub data Part : Type 0 where
   Otherwise : (in_loop : Bool) → Part
 
 abbrev pub Reader : Type 0
-Reader = List (ℕ × Meaning) → Part → List Token → ReadStmt
+Reader = Scope → Part → List Token → ReadStmt
 
 -- the names behind a statement
-abbrev pub with_name : Option ℕ → List (ℕ × Meaning) → List Token → Result (List (ℕ × Meaning)) Fault
+abbrev pub with_name : Option ℕ → Scope → List Token → Result Scope Fault
 with_name None names ts = Ok names
 with_name (Some x) names ts = do
   n ← new_number names ts
-  Ok ((x, meaning.Variable n) ∷ names)
+  Ok (WithName x (meaning.Variable n) names)
 
-abbrev pub line_and_rest : Reader → List (ℕ × Meaning) → Bool → List Token → ReadStmt
+abbrev pub line_and_rest : Reader → Scope → Bool → List Token → ReadStmt
 line_and_rest next names in_loop ts = do
   first ← next names (Line in_loop) ts
   rest ← ended first.1
@@ -40,12 +40,12 @@ line_and_rest next names in_loop ts = do
   others ← next inner (Rest in_loop (leaves first.0)) rest
   Ok (ThenTree first.0 others.0, others.1)
 
-abbrev pub rest_of : Reader → List (ℕ × Meaning) → (in_loop left : Bool) → Option (List Token) → List Token → ReadStmt
+abbrev pub rest_of : Reader → Scope → (in_loop left : Bool) → Option (List Token) → List Token → ReadStmt
 rest_of next names in_loop left (Some after) ts = Ok (SkipTree, after)
 rest_of next names in_loop true None ts = Err (fault_at ts wrong.NeverReached)
 rest_of next names in_loop false None ts = line_and_rest next names in_loop ts
 
-abbrev pub while_at : Reader → List (ℕ × Meaning) → List Token → ReadStmt
+abbrev pub while_at : Reader → Scope → List Token → ReadStmt
 while_at next names ts = do
   c ← condition_at names ts
   b ← next names (Block true) c.1
@@ -60,13 +60,13 @@ abbrev pub counting_loop : (index end : ℕ) → (low high : ValueTree) → Stmt
 counting_loop i h low high body = ThenTree (assigned i low) (ThenTree (assigned h high) (turns i h body))
 
 -- behind `for`
-abbrev pub for_at : Reader → List (ℕ × Meaning) → List Token → ReadStmt
+abbrev pub for_at : Reader → Scope → List Token → ReadStmt
 for_at next names ts = do
   c ← count_at names ts
-  b ← next ((c.0.name, meaning.Counter c.0.index) ∷ names) (Block true) c.1
+  b ← next (WithName c.0.name (meaning.Counter c.0.index) names) (Block true) c.1
   Ok (counting_loop c.0.index c.0.end c.0.low c.0.high b.0, b.1)
 
-abbrev pub if_at : Reader → List (ℕ × Meaning) → Bool → List Token → ReadStmt
+abbrev pub if_at : Reader → Scope → Bool → List Token → ReadStmt
 if_at next names in_loop ts = do
   c ← condition_at names ts
   a ← next names (Block in_loop) c.1
@@ -77,10 +77,11 @@ abbrev pub if_in_loop : Bool → StmtTree → List Token → List Token → Read
 if_in_loop true s rest ts = Ok (s, rest)
 if_in_loop false s rest ts = Err (fault_at ts wrong.NoLoop)
 
-abbrev pub line_of : Reader → List (ℕ × Meaning) → Bool → Kind → List Token → List Token → ReadStmt
+abbrev pub line_of : Reader → Scope → Bool → Kind → List Token → List Token → ReadStmt
 line_of next names in_loop kind.Let rest ts = let_at names rest
 line_of next names in_loop (kind.Name x) rest ts = assigned_at names (meaning_of x names) ts rest
 line_of next names in_loop kind.Return rest ts = return_at names rest
+line_of next names in_loop kind.Call rest ts = call_at names None rest
 line_of next names in_loop kind.Break rest ts = if_in_loop in_loop (BreakTree 0) rest ts
 line_of next names in_loop kind.Continue rest ts = if_in_loop in_loop (ContinueTree 0) rest ts
 line_of next names in_loop kind.While rest ts = while_at next names rest
@@ -88,7 +89,7 @@ line_of next names in_loop kind.For rest ts = for_at next names rest
 line_of next names in_loop kind.If rest ts = if_at next names in_loop rest
 line_of next names in_loop k rest ts = unexpected ts
 
-abbrev pub line_at : Reader → List (ℕ × Meaning) → Bool → List Token → ReadStmt
+abbrev pub line_at : Reader → Scope → Bool → List Token → ReadStmt
 line_at next names in_loop [] = unexpected []
 line_at next names in_loop (t ∷ ts) = line_of next names in_loop t.kind ts (t ∷ ts)
 
@@ -101,18 +102,18 @@ is_if [] = false
 is_if (t ∷ ts) = is_if_of t.kind
 
 -- behind `else`
-abbrev pub else_at : Reader → List (ℕ × Meaning) → Bool → List Token → ReadStmt
+abbrev pub else_at : Reader → Scope → Bool → List Token → ReadStmt
 else_at next names in_loop ts = if is_if ts then next names (Line in_loop) ts else next names (Block in_loop) ts
 
-abbrev pub otherwise_of : Reader → List (ℕ × Meaning) → Bool → Kind → List Token → List Token → ReadStmt
+abbrev pub otherwise_of : Reader → Scope → Bool → Kind → List Token → List Token → ReadStmt
 otherwise_of next names in_loop kind.Else rest ts = else_at next names in_loop rest
 otherwise_of next names in_loop k rest ts = Ok (SkipTree, ts)
 
-abbrev pub otherwise_at : Reader → List (ℕ × Meaning) → Bool → List Token → ReadStmt
+abbrev pub otherwise_at : Reader → Scope → Bool → List Token → ReadStmt
 otherwise_at next names in_loop [] = Ok (SkipTree, [])
 otherwise_at next names in_loop (t ∷ ts) = otherwise_of next names in_loop t.kind ts (t ∷ ts)
 
-abbrev pub stmt_step : Reader → List (ℕ × Meaning) → Part → List Token → ReadStmt
+abbrev pub stmt_step : Reader → Scope → Part → List Token → ReadStmt
 stmt_step next names (Block in_loop) ts = after_begin ts >>= λ inside. next names (Rest in_loop false) inside
 stmt_step next names (Rest in_loop left) ts = rest_of next names in_loop left (after_end (after_line_ends ts)) (after_line_ends ts)
 stmt_step next names (Line in_loop) ts = line_at next names in_loop ts

@@ -7,11 +7,12 @@ use Rattle.source_tokens.specs.declared.tokens.Kind.TheVariants as kind
 use Rattle.source_tokens.specs.declared.tokens.Token.{Token}
 use Rattle.source_reader.specs.declared.faults.Fault.{Fault}
 use Rattle.source_reader.specs.declared.faults.Wrong.TheVariants as wrong
+use Rattle.source_reader.specs.declared.values.TheConstants.{VALUE_FUEL}
 use Rattle.source_reader.specs.Faults.{◌>>=◌, fault_at}
 use Rattle.source_reader.specs.Trees.{ExprTree, ValueTree, Constant, Variable, SlotTree, WidthTree, NumberTree, TruthTree, NotTree}
 use Rattle.source_reader.specs.declared.names.Meaning.{Meaning}
 use Rattle.source_reader.specs.declared.names.Meaning.TheVariants as meaning
-use Rattle.source_reader.specs.Names.{meaning_of}
+use Rattle.source_reader.specs.Names.{Scope, meaning_of}
 use Rattle.source_reader.specs.Joining.{level_of, test_in, minus, joined}
 
 abbrev pub unexpected : {A : Type 0} → List Token → Result A Fault
@@ -88,7 +89,7 @@ without_arguments e rest = do
   after ← after_close inside
   Ok (NumberTree e, after)
 
-abbrev pub single_of : (Wanted → List Token → Read) → List (ℕ × Meaning) → Kind → List Token → List Token → Read
+abbrev pub single_of : (Wanted → List Token → Read) → Scope → Kind → List Token → List Token → Read
 single_of next names (kind.Number n) ts rest = Ok (NumberTree (Constant n), rest)
 single_of next names (kind.Name x) ts rest = named (meaning_of x names) ts rest
 single_of next names (kind.Sign sign.Minus) ts rest = negative next ts rest
@@ -98,16 +99,20 @@ single_of next names kind.Slot ts rest = without_arguments SlotTree rest
 single_of next names kind.Width ts rest = without_arguments WidthTree rest
 single_of next names k ts rest = unexpected ts
 
-abbrev pub single : (Wanted → List Token → Read) → List (ℕ × Meaning) → List Token → Read
+abbrev pub single : (Wanted → List Token → Read) → Scope → List Token → Read
 single next names [] = unexpected []
 single next names (t ∷ ts) = single_of next names t.kind (t ∷ ts) ts
 
-abbrev pub step : (Wanted → List Token → Read) → List (ℕ × Meaning) → Wanted → List Token → Read
+abbrev pub step : (Wanted → List Token → Read) → Scope → Wanted → List Token → Read
 step next names (Level l) ts = if nat_lt l 5 then (next (Level (l + 1)) ts >>= λ first. next (More l first.0) first.1) else next Single ts
 step next names (More l left) ts = more next l left (sign_at l ts) ts
 step next names Single ts = single next names ts
 
 -- The number bounds how deep values are nested and how many operators there are.
-unfoldable pub value_at : ℕ → List (ℕ × Meaning) → Wanted → List Token → Read
+unfoldable pub value_at : ℕ → Scope → Wanted → List Token → Read
 value_at zero names w ts = Err (fault_at ts wrong.TooLong)
 value_at (suc n) names w ts = step (value_at n names) names w ts
+
+-- a value, and the tokens after it
+unfoldable pub whole_value : Scope → List Token → Read
+whole_value names ts = value_at VALUE_FUEL names (Level 0) ts

@@ -35,6 +35,10 @@ pub enum Wrong {
     NoLoop,
     /// A function of this name is there already, or it is `main` and not the first one.
     KnownFunction,
+    /// No function of this name is there.
+    UnknownFunction,
+    /// A function is called with more or fewer arguments than it has parameters.
+    ArgumentCount,
     /// More functions than a job may have.
     TooManyFunctions,
     /// There is no function.

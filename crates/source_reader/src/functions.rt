@@ -3,10 +3,10 @@ ghost use Rattle.std.specs.Prelude.{◌≡◌, ◌++◌, ◌∷◌, [], Ok, map}
 ghost use Rattle.source_reader.specs.Faults.{Gives};
 ghost use Rattle.source_reader.specs.Trees.{stmt_tree_of, function_tree_of};
 ghost use Rattle.source_reader.specs.Names.{names_of};
-ghost use Rattle.source_reader.specs.Functions.{larger, variables_of, after_fn, after_comma, is_close, is_this, is_known, function_name, second_name, parameters_at, body_at, view_named, function_at, functions_from};
+ghost use Rattle.source_reader.specs.Functions.{larger, given, variables_of, after_fn, is_this, is_known, function_name, second_name, parameters_at, body_at, view_named, function_at, functions_from};
 
 use crate::faults::{ReadError, Wrong, fault_at};
-use crate::lines::{after_line_ends, free_name, item_ended};
+use crate::lines::{after_comma, after_line_ends, free_name, is_close, item_ended};
 use crate::names::{Meaning, Names, number_after};
 use crate::statements::block_at;
 use crate::values::{after_close, after_first, after_open};
@@ -27,7 +27,18 @@ fn variables_of(s: &Stmt) -> u8
         Stmt::Loop(_, a, b) => larger(variables_of(a), variables_of(b)),
         Stmt::Repeat(_, a, b) => larger(variables_of(a), variables_of(b)),
         Stmt::Assign(x, _) => number_after(*x),
+        Stmt::Wait(x, y, _) => larger(given(*x), given(*y)),
         _ => 0,
+    }
+}
+
+/// How many variables there are with that one, if there is one.
+fn given(variable: Option<u8>) -> u8
+    ensures { result ≡ given variable }
+{
+    match variable {
+        Some(number) => number_after(number),
+        None => 0,
     }
 }
 
@@ -48,30 +59,6 @@ fn after_fn(tokens: &[Token]) -> Result<&[Token], ReadError>
             _ => Err(fault_at(tokens, Wrong::Unexpected)),
         },
         None => Err(fault_at(tokens, Wrong::Unexpected)),
-    }
-}
-
-fn after_comma(tokens: &[Token]) -> Result<&[Token], ReadError>
-    ensures { Gives (λ ts. ts.now) result (after_comma tokens.now) }
-{
-    match tokens.split_first() {
-        Some((first, rest)) => match first.kind {
-            Kind::Comma => Ok(rest),
-            _ => Err(fault_at(tokens, Wrong::Unexpected)),
-        },
-        None => Err(fault_at(tokens, Wrong::Unexpected)),
-    }
-}
-
-fn is_close(tokens: &[Token]) -> bool
-    ensures { result ≡ is_close tokens.now }
-{
-    match tokens.split_first() {
-        Some((first, _)) => match first.kind {
-            Kind::Close => true,
-            _ => false,
-        },
-        None => false,
     }
 }
 

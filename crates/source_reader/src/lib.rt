@@ -1,8 +1,10 @@
 //! Sources of the job language, read as trees of its core.
 #![tactic(auto)]
 
+mod calls;
 mod faults;
 mod functions;
+mod headers;
 mod items;
 mod joining;
 mod lines;

@@ -2,7 +2,7 @@
 ghost use Rattle.std.specs.Prelude.{◌≡◌, option_map};
 ghost use Rattle.source_reader.specs.Faults.{Gives};
 ghost use Rattle.source_reader.specs.Names.{names_of};
-ghost use Rattle.source_reader.specs.Lines.{after_begin, after_set, after_in, after_range, name_at, free_name, is_line_end, is_end, after_line_ends, ended, item_ended, after_end, name_in, let_name};
+ghost use Rattle.source_reader.specs.Lines.{after_begin, after_set, after_in, after_range, after_comma, is_close, name_at, free_name, is_line_end, is_end, after_line_ends, ended, item_ended, after_end, name_in, let_name};
 
 use crate::faults::{ReadError, Wrong, fault_at};
 use crate::names::{Names, meaning_of};
@@ -57,6 +57,32 @@ pub(crate) fn after_range(tokens: &[Token]) -> Result<&[Token], ReadError>
             _ => Err(fault_at(tokens, Wrong::Unexpected)),
         },
         None => Err(fault_at(tokens, Wrong::Unexpected)),
+    }
+}
+
+/// What follows `,`.
+pub(crate) fn after_comma(tokens: &[Token]) -> Result<&[Token], ReadError>
+    ensures { Gives (λ ts. ts.now) result (after_comma tokens.now) }
+{
+    match tokens.split_first() {
+        Some((first, rest)) => match first.kind {
+            Kind::Comma => Ok(rest),
+            _ => Err(fault_at(tokens, Wrong::Unexpected)),
+        },
+        None => Err(fault_at(tokens, Wrong::Unexpected)),
+    }
+}
+
+/// Whether there is a `)` at the front.
+pub(crate) fn is_close(tokens: &[Token]) -> bool
+    ensures { result ≡ is_close tokens.now }
+{
+    match tokens.split_first() {
+        Some((first, _)) => match first.kind {
+            Kind::Close => true,
+            _ => false,
+        },
+        None => false,
     }
 }
 

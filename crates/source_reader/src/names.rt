@@ -4,6 +4,7 @@ ghost use Rattle.source_reader.specs.Faults.{Gives};
 ghost use Rattle.source_reader.specs.Names.{names_of, meaning_of, number_after, number_behind, number_next, new_number};
 
 use crate::faults::{ReadError, Wrong, fault_at};
+use crate::headers::Header;
 use source_tokens::Token;
 
 /// What a name stands for.
@@ -15,10 +16,12 @@ pub(crate) enum Meaning {
     Constant(i64),
 }
 
-/// The names that a place sees, the last one first. Constants are declared before all variables.
+/// The names that a place sees, the last one first, and the functions of the source. Constants are declared before all
+/// variables.
 #[derive(Drop)]
 pub(crate) enum Names<'a> {
-    Empty,
+    /// The functions of the source.
+    Functions(&'a [Header]),
     Name(usize, Meaning, &'a Names<'a>),
 }
 
@@ -27,7 +30,7 @@ pub(crate) fn meaning_of(name: usize, names: &Names) -> Option<Meaning>
     ensures { result ≡ meaning_of name (names_of names.now) }
 {
     match names {
-        Names::Empty => None,
+        Names::Functions(_) => None,
         Names::Name(first, meaning, others) => {
             if *first == name {
                 Some(*meaning)
@@ -72,7 +75,7 @@ pub(crate) fn new_number(names: &Names, tokens: &[Token]) -> Result<u8, ReadErro
     ensures { Gives (λ n. n) result (new_number (names_of names.now) tokens.now) }
 {
     match names {
-        Names::Empty => Ok(0),
+        Names::Functions(_) => Ok(0),
         Names::Name(_, meaning, _) => number_next(*meaning, tokens),
     }
 }

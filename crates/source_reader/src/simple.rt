@@ -3,33 +3,18 @@ ghost use Rattle.std.specs.Prelude.{◌≡◌};
 ghost use Rattle.source_reader.specs.Faults.{Gives};
 ghost use Rattle.source_reader.specs.Trees.{stmt_tree_of, test_tree_of, value_tree_of};
 ghost use Rattle.source_reader.specs.Names.{names_of, meaning_of, new_number};
-ghost use Rattle.source_reader.specs.Simple.{whole_value, condition_at, new_name, let_at, updated, assigned_to, assigned_at, return_at, view_count, count_at};
+ghost use Rattle.source_reader.specs.Simple.{condition_at, new_name, given_at, let_at, updated, assigned_to, assigned_at, call_returned, something_returned, return_at, view_count, count_at};
 
+use crate::calls::{call_at, is_call};
 use crate::faults::{ReadError, Wrong, fault_at};
 use crate::joining::{Value, arithmetic, test_in};
 use crate::lines::{after_in, after_range, after_set, free_name, is_end, is_line_end};
 use crate::names::{Meaning, Names, meaning_of, new_number, number_behind};
-use crate::trees::{assigned, returned};
-use crate::values::{after_first, value_at};
+use crate::trees::{assigned, returned, then};
+use crate::values::{after_first, whole_value};
 use source_language::{Expr, Stmt, Test};
 use source_tokens::{Kind, Token};
 use std::alloc::Global;
-
-/// How long a value may be.
-pub const VALUE_FUEL: u16 = 400;
-
-/// A value, and the tokens after it.
-#[tactic(auto, unfolding(crate::specs::Simple::whole_value))]
-pub(crate) fn whole_value<'a>(
-    alloc: Global,
-    names: &Names,
-    tokens: &'a [Token],
-) -> Result<(Value, &'a [Token]), ReadError>
-    ensures { Gives (λ x. (value_tree_of x.0, x.1.now)) result
-        (whole_value (names_of names.now) tokens.entry.now) }
-{
-    value_at(alloc, names, VALUE_FUEL, 0, tokens)
-}
 
 /// A condition, and the tokens after it.
 pub(crate) fn condition_at<'a>(
@@ -60,6 +45,23 @@ pub(crate) fn new_name(names: &Names, tokens: &[Token]) -> Result<u8, ReadError>
     }
 }
 
+/// What is given to a variable, behind `=`.
+fn given_at<'a>(
+    alloc: Global,
+    names: &Names,
+    number: u8,
+    tokens: &'a [Token],
+) -> Result<(Stmt, &'a [Token]), ReadError>
+    ensures { Gives (λ x. (stmt_tree_of x.0, x.1.now)) result
+        (given_at (names_of names.now) number tokens.entry.now) }
+{
+    if is_call(tokens) {
+        return call_at(alloc, names, Some(number), after_first(tokens));
+    }
+    let (value, after) = whole_value(alloc, names, tokens)?;
+    Ok((assigned(alloc, number, value)?, after))
+}
+
 /// `let x = v`, behind `let`.
 pub(crate) fn let_at<'a>(
     alloc: Global,
@@ -71,8 +73,7 @@ pub(crate) fn let_at<'a>(
 {
     let number = new_name(names, tokens)?;
     let rest = after_set(after_first(tokens))?;
-    let (value, after) = whole_value(alloc, names, rest)?;
-    Ok((assigned(alloc, number, value)?, after))
+    given_at(alloc, names, number, rest)
 }
 
 /// `x = v`, `x += v` and the like, of which the first token is a variable's name.
@@ -123,10 +124,7 @@ fn updated<'a>(
         return Err(fault_at(tokens, Wrong::Unexpected));
     };
     match sign.kind {
-        Kind::Set => {
-            let (value, after) = whole_value(alloc, names, rest)?;
-            Ok((assigned(alloc, number, value)?, after))
-        }
+        Kind::Set => given_at(alloc, names, number, rest),
         Kind::Update(op) => {
             let (value, after) = whole_value(alloc, names, rest)?;
             let before = Value::Number(Expr::Variable(number));
@@ -152,8 +150,37 @@ pub(crate) fn return_at<'a>(
     if is_line_end(first.kind) || is_end(first.kind) {
         return Ok((Stmt::Return(Expr::Number(0)), tokens));
     }
+    something_returned(alloc, names, tokens)
+}
+
+fn something_returned<'a>(
+    alloc: Global,
+    names: &Names,
+    tokens: &'a [Token],
+) -> Result<(Stmt, &'a [Token]), ReadError>
+    ensures { Gives (λ x. (stmt_tree_of x.0, x.1.now)) result
+        (something_returned (names_of names.now) tokens.entry.now) }
+{
+    if is_call(tokens) {
+        return call_returned(alloc, names, after_first(tokens));
+    }
     let (value, after) = whole_value(alloc, names, tokens)?;
     Ok((returned(alloc, value)?, after))
+}
+
+/// `return call f(v, w)`, behind `call`: one more variable has the value.
+fn call_returned<'a>(
+    alloc: Global,
+    names: &Names,
+    tokens: &'a [Token],
+) -> Result<(Stmt, &'a [Token]), ReadError>
+    ensures { Gives (λ x. (stmt_tree_of x.0, x.1.now)) result
+        (call_returned (names_of names.now) tokens.entry.now) }
+{
+    let number = new_number(names, tokens)?;
+    let (call, after) = call_at(alloc, names, Some(number), tokens)?;
+    let value = Stmt::Return(Expr::Variable(number));
+    Ok((then(alloc, call, value)?, after))
 }
 
 /// The head of a loop that counts: its index and that one's variable, the variable of the end, and both values.

@@ -4,14 +4,15 @@ ghost use Rattle.source_tokens.specs.Tokens.{tokens_of};
 ghost use Rattle.source_reader.specs.Faults.{Gives};
 ghost use Rattle.source_reader.specs.Trees.{function_tree_of};
 ghost use Rattle.source_reader.specs.Places.{beginning, place_left, place_of};
-ghost use Rattle.source_reader.specs.Source.{read_tokens, some_functions, GivesSource, is_fn, nth_fn, function_place};
+ghost use Rattle.source_reader.specs.Source.{read_tokens, some_functions, GivesSource, nth_fn, function_place};
 
 use crate::faults::{Fault, ReadError, Wrong, fault_at};
+use crate::headers::{headers_in, is_fn};
 use crate::items::{CONSTANTS, items_from};
 use crate::names::Names;
 use crate::places::{Place, place_of};
 use source_language::Function;
-use source_tokens::{Kind, Token, tokens_in};
+use source_tokens::{Token, tokens_in};
 use std::alloc::{AllocError, Global};
 
 /// The first fault of a source, and its place.
@@ -58,15 +59,6 @@ fn place_left(tokens: &[Token], text: &[u8], left: usize) -> Place
     place_of(text, beginning(behind(tokens, gone), text))
 }
 
-fn is_fn(kind: Kind) -> bool
-    ensures { result ≡ is_fn kind }
-{
-    match kind {
-        Kind::Fn => true,
-        _ => false,
-    }
-}
-
 /// Where the function of that number begins, or else the end.
 fn nth_fn(tokens: &[Token], number: usize, end: usize) -> usize
     ensures { result ≡ nth_fn tokens.now number end }
@@ -108,7 +100,9 @@ fn some_functions(functions: Vec<Function>) -> Result<Vec<Function>, ReadError>
 fn read_tokens(alloc: Global, tokens: &[Token]) -> Result<Vec<Function>, ReadError>
     ensures { Gives (λ v. map function_tree_of v.items) result (read_tokens tokens.now) }
 {
-    let functions = items_from(alloc, CONSTANTS, &Names::Empty, tokens)?;
+    let headers = headers_in(alloc, tokens)?;
+    let names = Names::Functions(headers.as_slice());
+    let functions = items_from(alloc, CONSTANTS, &names, tokens)?;
     some_functions(functions)
 }
 

@@ -5,6 +5,7 @@ ghost use Rattle.source_reader.specs.Trees.{stmt_tree_of};
 ghost use Rattle.source_reader.specs.Names.{names_of};
 ghost use Rattle.source_reader.specs.Statements.{is_if, if_in_loop, for_at, stmt_at, Block, Rest, Line, Otherwise};
 
+use crate::calls::call_at;
 use crate::faults::{ReadError, Wrong, fault_at};
 use crate::lines::{after_begin, after_end, after_line_ends, ended, let_name};
 use crate::loops::counting_loop;
@@ -128,6 +129,7 @@ fn line_at<'a>(
         Kind::Let => let_at(alloc, names, rest),
         Kind::Name(name) => assigned_at(alloc, names, name, tokens, rest),
         Kind::Return => return_at(alloc, names, rest),
+        Kind::Call => call_at(alloc, names, None, rest),
         Kind::Break => if_in_loop(in_loop, Stmt::Break(0), rest, tokens),
         Kind::Continue => if_in_loop(in_loop, Stmt::Continue(0), rest, tokens),
         Kind::While => {

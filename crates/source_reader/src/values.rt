@@ -3,7 +3,7 @@ ghost use Rattle.std.specs.Prelude.{◌≡◌, drop};
 ghost use Rattle.source_reader.specs.Faults.{Gives};
 ghost use Rattle.source_reader.specs.Trees.{tree_of, value_tree_of};
 ghost use Rattle.source_reader.specs.Names.{names_of, meaning_of};
-ghost use Rattle.source_reader.specs.Values.{after_open, after_close, sign_at, worth, named, without_arguments, value_at, Level, More, Single};
+ghost use Rattle.source_reader.specs.Values.{after_open, after_close, sign_at, worth, named, without_arguments, value_at, whole_value, Level, More, Single};
 
 use crate::faults::{ReadError, Wrong, fault_at};
 use crate::joining::{Value, joined, level_of, minus, opposite};
@@ -11,6 +11,9 @@ use crate::names::{Meaning, Names, meaning_of};
 use source_language::Expr;
 use source_tokens::{Kind, Sign, Token};
 use std::alloc::Global;
+
+/// How long a value may be.
+pub const VALUE_FUEL: u16 = 400;
 
 /// The level above the tightest operators.
 const LEVELS: u8 = 5;
@@ -194,4 +197,17 @@ fn single_at<'a>(
         }
         _ => Err(fault_at(tokens, Wrong::Unexpected)),
     }
+}
+
+/// A value, and the tokens after it.
+#[tactic(auto, unfolding(crate::specs::Values::whole_value))]
+pub(crate) fn whole_value<'a>(
+    alloc: Global,
+    names: &Names,
+    tokens: &'a [Token],
+) -> Result<(Value, &'a [Token]), ReadError>
+    ensures { Gives (λ x. (value_tree_of x.0, x.1.now)) result
+        (whole_value (names_of names.now) tokens.entry.now) }
+{
+    value_at(alloc, names, VALUE_FUEL, 0, tokens)
 }

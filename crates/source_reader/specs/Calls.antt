@@ -1,0 +1,121 @@
+-- Calls of functions: a task that is waited for at once.
+use Rattle.std.specs.Prelude.{ℕ, pos, ◌==◌, Bool, true, false, List, [], ◌∷◌, drop, Option, Some, None, Result, Ok, Err, if◌then◌else◌}
+use Rattle.source_language.specs.declared.syntax.Maker.TheVariants as maker
+use Rattle.source_tokens.specs.declared.tokens.Kind.{Kind}
+use Rattle.source_tokens.specs.declared.tokens.Kind.TheVariants as kind
+use Rattle.source_tokens.specs.declared.tokens.Token.{Token}
+use Rattle.source_reader.specs.declared.calls.Arguments.{Arguments}
+use Rattle.source_reader.specs.declared.calls.TheConstants.{CALLS}
+use Rattle.source_reader.specs.declared.faults.Fault.{Fault}
+use Rattle.source_reader.specs.declared.faults.Wrong.TheVariants as wrong
+use Rattle.source_reader.specs.declared.headers.Callee.{Callee}
+use Rattle.source_reader.specs.declared.headers.Header.{Header}
+use Rattle.source_reader.specs.declared.headers.Title.{Title}
+use Rattle.source_reader.specs.declared.headers.Title.TheVariants as title
+use Rattle.source_reader.specs.Faults.{◌>>=◌, fault_at}
+use Rattle.source_reader.specs.Headers.{title_at, callee_in}
+use Rattle.source_reader.specs.Joining.{number_in}
+use Rattle.source_reader.specs.Lines.{is_close}
+use Rattle.source_reader.specs.Names.{Scope, functions_in}
+use Rattle.source_reader.specs.Trees.{tree_of, ExprTree, StmtTree, Constant, ThenTree, MakeTree, WaitTree}
+use Rattle.source_reader.specs.Values.{unexpected, after_open, whole_value}
+
+abbrev pub found : Option Callee → List Token → Result Callee Fault
+found None ts = Err (fault_at ts wrong.UnknownFunction)
+found (Some f) ts = Ok f
+
+abbrev pub callee_titled : Title → Scope → List Token → Result Callee Fault
+callee_titled title.Missing names ts = unexpected ts
+callee_titled title.Main names ts = found (callee_in title.Main (functions_in names) 0) ts
+callee_titled (title.Name x) names ts = found (callee_in (title.Name x) (functions_in names) 0) ts
+
+-- the function whose name is at the front
+abbrev pub callee_at : Scope → List Token → Result Callee Fault
+callee_at names ts = callee_titled (title_at ts) names ts
+
+-- A condition is no argument.
+abbrev pub argument_at : Scope → List Token → Result (ExprTree × List Token) Fault
+argument_at names ts = do
+  v ← whole_value names ts
+  e ← number_in v.0 ts
+  Ok (e, v.1)
+
+-- A function has as many arguments as parameters. Otherwise the fault is at its name, which is the first of the tokens `called`.
+abbrev pub wrong_count : {A : Type 0} → (called : List Token) → Result A Fault
+wrong_count called = Err (fault_at called wrong.ArgumentCount)
+
+abbrev pub after_last_of : Kind → (called rest ts : List Token) → Result (List Token) Fault
+after_last_of kind.Close called rest ts = Ok rest
+after_last_of kind.Comma called rest ts = wrong_count called
+after_last_of k called rest ts = unexpected ts
+
+-- behind the last argument
+abbrev pub after_last : (called ts : List Token) → Result (List Token) Fault
+after_last called [] = unexpected []
+after_last called (t ∷ ts) = after_last_of t.kind called ts (t ∷ ts)
+
+abbrev pub before_next_of : Kind → (called rest ts : List Token) → Result (List Token) Fault
+before_next_of kind.Comma called rest ts = Ok rest
+before_next_of kind.Close called rest ts = wrong_count called
+before_next_of k called rest ts = unexpected ts
+
+-- behind an argument, where another one is wanted
+abbrev pub before_next : (called ts : List Token) → Result (List Token) Fault
+before_next called [] = unexpected []
+before_next called (t ∷ ts) = before_next_of t.kind called ts (t ∷ ts)
+
+-- the two numbers that a task gets
+pub record ArgumentTrees : Type 0 where
+  pub first : ExprTree
+  pub second : ExprTree
+
+abbrev pub view_arguments : Arguments → ArgumentTrees
+view_arguments a = record { first = tree_of a.first; second = tree_of a.second }
+
+abbrev pub ReadArguments : Type 0
+ReadArguments = Result (ArgumentTrees × List Token) Fault
+
+abbrev pub no_argument : (called ts : List Token) → ReadArguments
+no_argument called ts = if is_close ts then Ok (record { first = Constant (pos 0); second = Constant (pos 0) }, drop 1 ts) else wrong_count called
+
+abbrev pub one_argument : Scope → (called ts : List Token) → ReadArguments
+one_argument names called ts = do
+  a ← argument_at names ts
+  after ← after_last called a.1
+  Ok (record { first = a.0; second = Constant (pos 0) }, after)
+
+abbrev pub two_arguments : Scope → (called ts : List Token) → ReadArguments
+two_arguments names called ts = do
+  a ← argument_at names ts
+  rest ← before_next called a.1
+  b ← argument_at names rest
+  after ← after_last called b.1
+  Ok (record { first = a.0; second = b.0 }, after)
+
+-- so many arguments, of which there is one at least
+abbrev pub some_arguments : Scope → (count : ℕ) → (called ts : List Token) → ReadArguments
+some_arguments names n called ts = if is_close ts then wrong_count called else (if n == 1 then one_argument names called ts else two_arguments names called ts)
+
+-- Behind `(`. What a function has no parameter for is 0.
+abbrev pub arguments_at : Scope → (count : ℕ) → (called ts : List Token) → ReadArguments
+arguments_at names n called ts = if n == 0 then no_argument called ts else some_arguments names n called ts
+
+-- A task is made in a group that nothing else uses, and waited for.
+abbrev pub called : Option ℕ → (number : ℕ) → ArgumentTrees → StmtTree
+called d f a = ThenTree (MakeTree (maker.Spawn CALLS) f a.first a.second) (WaitTree d None CALLS)
+
+-- Behind `call`. The value goes to the variable, if there is one.
+abbrev pub call_at : Scope → Option ℕ → List Token → Result (StmtTree × List Token) Fault
+call_at names d ts = do
+  f ← callee_at names ts
+  inside ← after_open (drop 1 ts)
+  a ← arguments_at names f.parameters ts inside
+  Ok (called d f.number a.0, a.1)
+
+abbrev pub is_call_of : Kind → Bool
+is_call_of kind.Call = true
+is_call_of k = false
+
+abbrev pub is_call : List Token → Bool
+is_call [] = false
+is_call (t ∷ ts) = is_call_of t.kind

@@ -1,0 +1,46 @@
+-- The functions that tokens declare, in order.
+use Rattle.std.specs.Prelude.{ℕ, ◌==◌, Bool, true, false, List, [], ◌∷◌, drop, Option, Some, None, if◌then◌else◌}
+use Rattle.source_tokens.specs.declared.tokens.Kind.{Kind}
+use Rattle.source_tokens.specs.declared.tokens.Kind.TheVariants as kind
+use Rattle.source_tokens.specs.declared.tokens.Token.{Token}
+use Rattle.source_reader.specs.declared.headers.Title.{Title}
+use Rattle.source_reader.specs.declared.headers.Title.TheVariants as title
+use Rattle.source_reader.specs.declared.headers.Header.{Header}
+use Rattle.source_reader.specs.declared.headers.Callee.{Callee}
+use Rattle.source_reader.specs.Lines.{is_close}
+use Rattle.source_reader.specs.Names.{number_after}
+
+abbrev pub is_fn : Kind → Bool
+is_fn kind.Fn = true
+is_fn k = false
+
+abbrev pub title_of : Kind → Title
+title_of kind.Main = title.Main
+title_of (kind.Name x) = title.Name x
+title_of k = title.Missing
+
+abbrev pub title_at : List Token → Title
+title_at [] = title.Missing
+title_at (t ∷ ts) = title_of t.kind
+
+-- Behind `(` there is `)`, or a name and then `)`, or else there are two names.
+abbrev pub parameters_in : List Token → ℕ
+parameters_in ts = if is_close ts then 0 else (if is_close (drop 1 ts) then 1 else 2)
+
+-- behind `fn`
+abbrev pub header_of : List Token → Header
+header_of ts = record { title = title_at ts; parameters = parameters_in (drop 1 (drop 1 ts)) }
+
+abbrev pub headers_of : List Token → List Header
+headers_of [] = []
+headers_of (t ∷ ts) = if is_fn t.kind then header_of ts ∷ headers_of ts else headers_of ts
+
+abbrev pub is_same : Title → Title → Bool
+is_same title.Main title.Main = true
+is_same (title.Name x) (title.Name y) = x == y
+is_same s t = false
+
+-- the first function of that title, if the first of all has that number
+abbrev pub callee_in : Title → List Header → (number : ℕ) → Option Callee
+callee_in t [] n = None
+callee_in t (h ∷ hs) n = if is_same t h.title then Some (record { number = n; parameters = h.parameters }) else callee_in t hs (number_after n)

@@ -1,0 +1,225 @@
+// Calls of functions: a task that is waited for at once.
+ghost use Rattle.std.specs.Prelude.{◌≡◌, IfOk};
+ghost use Rattle.source_reader.specs.Calls.{found, callee_at, argument_at, after_last, before_next, view_arguments, no_argument, one_argument, two_arguments, arguments_at, called, call_at, is_call};
+ghost use Rattle.source_reader.specs.Faults.{Gives};
+ghost use Rattle.source_reader.specs.Headers.{callee_in};
+ghost use Rattle.source_reader.specs.Names.{names_of, functions_in};
+ghost use Rattle.source_reader.specs.Trees.{tree_of, stmt_tree_of};
+
+use crate::faults::{ReadError, Wrong, fault_at};
+use crate::headers::{Callee, Title, callee_in, title_at};
+use crate::joining::number_in;
+use crate::lines::is_close;
+use crate::names::Names;
+use crate::trees::then;
+use crate::values::{after_first, after_open, whole_value};
+use job_language::Group;
+use source_language::{Expr, Maker, Stmt};
+use source_tokens::{Kind, Token};
+use std::alloc::{AllocError, Global};
+
+/// The group of tasks that are called, which is free wherever a statement begins.
+pub const CALLS: u64 = 0;
+
+/// The function of that name.
+fn callee_of(title: Title, names: &Names) -> Option<Callee>
+    ensures { result ≡ callee_in title (functions_in (names_of names.now)) 0 }
+{
+    match names {
+        Names::Functions(functions) => callee_in(title, functions, 0),
+        Names::Name(_, _, others) => callee_of(title, others),
+    }
+}
+
+fn found(callee: Option<Callee>, tokens: &[Token]) -> Result<Callee, ReadError>
+    ensures { Gives (λ f. f) result (found callee tokens.now) }
+{
+    match callee {
+        Some(callee) => Ok(callee),
+        None => Err(fault_at(tokens, Wrong::UnknownFunction)),
+    }
+}
+
+/// The function whose name is at the front.
+fn callee_at(names: &Names, tokens: &[Token]) -> Result<Callee, ReadError>
+    ensures { Gives (λ f. f) result (callee_at (names_of names.now) tokens.now) }
+{
+    let title = title_at(tokens);
+    match title {
+        Title::Missing => Err(fault_at(tokens, Wrong::Unexpected)),
+        Title::Main => found(callee_of(title, names), tokens),
+        Title::Name(_) => found(callee_of(title, names), tokens),
+    }
+}
+
+/// An argument, and the tokens after it.
+fn argument_at<'a>(
+    alloc: Global,
+    names: &Names,
+    tokens: &'a [Token],
+) -> Result<(Expr, &'a [Token]), ReadError>
+    ensures { Gives (λ x. (tree_of x.0, x.1.now)) result
+        (argument_at (names_of names.now) tokens.entry.now) }
+{
+    let (value, rest) = whole_value(alloc, names, tokens)?;
+    let number = number_in(value, tokens)?;
+    Ok((number, rest))
+}
+
+/// What follows the last argument and `)`.
+fn after_last<'a>(called: &[Token], tokens: &'a [Token]) -> Result<&'a [Token], ReadError>
+    ensures { Gives (λ ts. ts.now) result (after_last called.now tokens.entry.now) }
+{
+    match tokens.split_first() {
+        Some((first, rest)) => match first.kind {
+            Kind::Close => Ok(rest),
+            Kind::Comma => Err(fault_at(called, Wrong::ArgumentCount)),
+            _ => Err(fault_at(tokens, Wrong::Unexpected)),
+        },
+        None => Err(fault_at(tokens, Wrong::Unexpected)),
+    }
+}
+
+/// What follows an argument and `,`.
+fn before_next<'a>(called: &[Token], tokens: &'a [Token]) -> Result<&'a [Token], ReadError>
+    ensures { Gives (λ ts. ts.now) result (before_next called.now tokens.entry.now) }
+{
+    match tokens.split_first() {
+        Some((first, rest)) => match first.kind {
+            Kind::Comma => Ok(rest),
+            Kind::Close => Err(fault_at(called, Wrong::ArgumentCount)),
+            _ => Err(fault_at(tokens, Wrong::Unexpected)),
+        },
+        None => Err(fault_at(tokens, Wrong::Unexpected)),
+    }
+}
+
+/// The two numbers that a task gets.
+#[derive(Drop)]
+pub(crate) struct Arguments {
+    first: Expr,
+    second: Expr,
+}
+
+fn no_argument<'a>(
+    called: &[Token],
+    tokens: &'a [Token],
+) -> Result<(Arguments, &'a [Token]), ReadError>
+    ensures { Gives (λ x. (view_arguments x.0, x.1.now)) result
+        (no_argument called.now tokens.entry.now) }
+{
+    if !is_close(tokens) {
+        return Err(fault_at(called, Wrong::ArgumentCount));
+    }
+    let arguments = Arguments {
+        first: Expr::Number(0),
+        second: Expr::Number(0),
+    };
+    Ok((arguments, after_first(tokens)))
+}
+
+fn one_argument<'a>(
+    alloc: Global,
+    names: &Names,
+    called: &[Token],
+    tokens: &'a [Token],
+) -> Result<(Arguments, &'a [Token]), ReadError>
+    ensures { Gives (λ x. (view_arguments x.0, x.1.now)) result
+        (one_argument (names_of names.now) called.now tokens.entry.now) }
+{
+    let (first, rest) = argument_at(alloc, names, tokens)?;
+    let after = after_last(called, rest)?;
+    let arguments = Arguments {
+        first,
+        second: Expr::Number(0),
+    };
+    Ok((arguments, after))
+}
+
+fn two_arguments<'a>(
+    alloc: Global,
+    names: &Names,
+    called: &[Token],
+    tokens: &'a [Token],
+) -> Result<(Arguments, &'a [Token]), ReadError>
+    ensures { Gives (λ x. (view_arguments x.0, x.1.now)) result
+        (two_arguments (names_of names.now) called.now tokens.entry.now) }
+{
+    let (first, rest) = argument_at(alloc, names, tokens)?;
+    let next = before_next(called, rest)?;
+    let (second, rest) = argument_at(alloc, names, next)?;
+    let after = after_last(called, rest)?;
+    Ok((Arguments { first, second }, after))
+}
+
+/// So many arguments, behind `(`, and the tokens after `)`. The name of the function is the first of those that are
+/// `called`.
+fn arguments_at<'a>(
+    alloc: Global,
+    names: &Names,
+    count: u8,
+    called: &[Token],
+    tokens: &'a [Token],
+) -> Result<(Arguments, &'a [Token]), ReadError>
+    ensures { Gives (λ x. (view_arguments x.0, x.1.now)) result
+        (arguments_at (names_of names.now) count called.now tokens.entry.now) }
+{
+    if count == 0 {
+        no_argument(called, tokens)
+    } else if is_close(tokens) {
+        Err(fault_at(called, Wrong::ArgumentCount))
+    } else if count == 1 {
+        one_argument(alloc, names, called, tokens)
+    } else {
+        two_arguments(alloc, names, called, tokens)
+    }
+}
+
+fn calls() -> Group
+    ensures { result ≡ CALLS }
+{
+    Group::new(CALLS).unwrap()
+}
+
+/// A task of the function of that number, and a wait for it.
+fn called(
+    alloc: Global,
+    value: Option<u8>,
+    number: u8,
+    arguments: Arguments,
+) -> Result<Stmt, AllocError>
+    ensures { IfOk result (λ s. stmt_tree_of s ≡ called value number (view_arguments arguments)) }
+{
+    let Arguments { first, second } = arguments;
+    let made = Stmt::Make(Maker::Spawn(calls()), number, first, second);
+    then(alloc, made, Stmt::Wait(value, None, calls()))
+}
+
+/// `f(v, w)`, behind `call`. Its value goes to the variable, if there is one.
+pub(crate) fn call_at<'a>(
+    alloc: Global,
+    names: &Names,
+    value: Option<u8>,
+    tokens: &'a [Token],
+) -> Result<(Stmt, &'a [Token]), ReadError>
+    ensures { Gives (λ x. (stmt_tree_of x.0, x.1.now)) result
+        (call_at (names_of names.now) value tokens.entry.now) }
+{
+    let callee = callee_at(names, tokens)?;
+    let inside = after_open(after_first(tokens))?;
+    let (arguments, rest) = arguments_at(alloc, names, callee.parameters, tokens, inside)?;
+    Ok((called(alloc, value, callee.number, arguments)?, rest))
+}
+
+/// Whether there is a `call` at the front.
+pub(crate) fn is_call(tokens: &[Token]) -> bool
+    ensures { result ≡ is_call tokens.now }
+{
+    match tokens.split_first() {
+        Some((first, _)) => match first.kind {
+            Kind::Call => true,
+            _ => false,
+        },
+        None => false,
+    }
+}

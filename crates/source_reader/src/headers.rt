@@ -1,0 +1,126 @@
+// The functions that a source declares: a body may call them before they are read.
+ghost use Rattle.std.specs.Prelude.{◌≡◌, IfOk};
+ghost use Rattle.source_reader.specs.Headers.{is_fn, title_of, title_at, parameters_in, header_of, headers_of, is_same, callee_in};
+
+use crate::lines::is_close;
+use crate::names::number_after;
+use crate::values::after_first;
+use source_tokens::{Kind, Token};
+use std::alloc::{AllocError, Global};
+
+/// What a function is called.
+#[derive(Clone, Copy)]
+pub(crate) enum Title {
+    Main,
+    Name(usize),
+    /// There is no name.
+    Missing,
+}
+
+/// What the others know of a function: its name, and how many parameters it has.
+#[derive(Clone, Copy)]
+pub(crate) struct Header {
+    pub(crate) title: Title,
+    pub(crate) parameters: u8,
+}
+
+/// A function that is called: its number, and how many parameters it has.
+#[derive(Clone, Copy)]
+pub(crate) struct Callee {
+    pub(crate) number: u8,
+    pub(crate) parameters: u8,
+}
+
+pub(crate) fn is_fn(kind: Kind) -> bool
+    ensures { result ≡ is_fn kind }
+{
+    match kind {
+        Kind::Fn => true,
+        _ => false,
+    }
+}
+
+fn title_of(kind: Kind) -> Title
+    ensures { result ≡ title_of kind }
+{
+    match kind {
+        Kind::Main => Title::Main,
+        Kind::Name(name) => Title::Name(name),
+        _ => Title::Missing,
+    }
+}
+
+/// The name of a function at the front.
+pub(crate) fn title_at(tokens: &[Token]) -> Title
+    ensures { result ≡ title_at tokens.now }
+{
+    match tokens.split_first() {
+        Some((first, _)) => title_of(first.kind),
+        None => Title::Missing,
+    }
+}
+
+/// How many parameters there are behind `(`.
+fn parameters_in(tokens: &[Token]) -> u8
+    ensures { result ≡ parameters_in tokens.now }
+{
+    if is_close(tokens) {
+        0
+    } else if is_close(after_first(tokens)) {
+        1
+    } else {
+        2
+    }
+}
+
+/// The function that is declared here, behind `fn`.
+fn header_of(tokens: &[Token]) -> Header
+    ensures { result ≡ header_of tokens.now }
+{
+    Header {
+        title: title_at(tokens),
+        parameters: parameters_in(after_first(after_first(tokens))),
+    }
+}
+
+/// The functions that are declared, in order.
+pub(crate) fn headers_in(alloc: Global, tokens: &[Token]) -> Result<Vec<Header>, AllocError>
+    ensures { IfOk result (λ v. v.items ≡ headers_of tokens.now) }
+{
+    let mut headers = Vec::new(alloc);
+    let mut left = tokens;
+    while let [first, rest @ ..] = left {
+        left = rest;
+        if is_fn(first.kind) {
+            headers.push(header_of(rest))?;
+        }
+    }
+    Ok(headers)
+}
+
+fn is_same(a: Title, b: Title) -> bool
+    ensures { result ≡ is_same a b }
+{
+    match (a, b) {
+        (Title::Main, Title::Main) => true,
+        (Title::Name(name), Title::Name(other)) => name == other,
+        _ => false,
+    }
+}
+
+/// The first function of that name, if the first of all has that number.
+pub(crate) fn callee_in(title: Title, headers: &[Header], number: u8) -> Option<Callee>
+    ensures { result ≡ callee_in title headers.now number }
+{
+    match headers.split_first() {
+        Some((first, others)) => {
+            if is_same(title, first.title) {
+                let parameters = first.parameters;
+                Some(Callee { number, parameters })
+            } else {
+                callee_in(title, others, number_after(number))
+            }
+        }
+        None => None,
+    }
+}
