@@ -71,6 +71,7 @@ RINGS_FIRST = """        self.board.bell.ring(rt, pushed);
         self.calls.note(self.board);
 """
 RING = "    fn ring<R: Wait>(&self, rt: &R, pushed: Pushed) {\n"
+WORKING = "crates/host_terms/src/hosts/working.rt"
 PLANTED = {
     # A session's pause at its own slot ends when its client has gone, and the slot goes home with rows on it.
     "gone": in_server(
@@ -81,9 +82,7 @@ PLANTED = {
     # Of those who wait for jobs only one is woken.
     "outcome": in_server(Edit(NEWS, "outcomes.notify_all();", "outcomes.notify_one();")),
     # A ring is not counted, so one between a failed pop and the wait is lost.
-    "bell": in_server(
-        Edit(BELL, f"{RING}        self.rung.lock(rt).ring();\n", RING),
-    ),
+    "bell": in_server(Edit(BELL, f"{RING}        self.rung.lock(rt).ring();\n", RING)),
     # Replies go out before the journal has what they tell.
     "early": in_host(Edit(DESKS, KEEPS_FIRST, SENDS_FIRST)),
     # The first term after a start begins with the job of number 1 again.
@@ -92,4 +91,6 @@ PLANTED = {
     "ring": in_host(Edit(BOARD, "        self.board.bell.ring(rt, pushed);", "        pushed.rung();")),
     # A worker is woken before the call is noted, and may look for it before it is there, and wait.
     "noted": in_host(Edit(BOARD, RINGS_LAST, RINGS_FIRST)),
+    # A call that is held back is not looked at any more.
+    "held": in_host(Edit(WORKING, "                self.look_at_held(rt);\n", "")),
 }
