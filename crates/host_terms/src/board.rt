@@ -143,11 +143,13 @@ impl Calls {
         board.held.fetch_add(1, Ordering::SeqCst);
     }
 
-    /// Lets one wait that was held back. One thread at a time may do so.
-    pub(crate) fn release(&self, board: &Board) {
-        self.held.fetch_sub(1, Ordering::SeqCst);
-        board.held.fetch_sub(1, Ordering::SeqCst);
-        self.note(board);
+    /// Lets all wait that were held back, and gives how many there are.
+    pub(crate) fn release(&self, board: &Board) -> i64 {
+        let held = self.held.swap(0, Ordering::SeqCst);
+        board.held.fetch_sub(held, Ordering::SeqCst);
+        self.waiting.fetch_add(held, Ordering::SeqCst);
+        board.count(self.level).fetch_add(held, Ordering::SeqCst);
+        held
     }
 
     /// No worker comes any more.

@@ -105,9 +105,9 @@ impl Crowd {
         self.pace.lock(rt).take_grant()
     }
 
-    /// Lets one more worker come, whatever it sees.
-    pub(crate) fn grant<R: Wait>(&self, rt: &R) {
-        self.pace.lock(rt).grant();
+    /// Lets so many more workers come, whatever they see.
+    pub(crate) fn grant<R: Wait>(&self, rt: &R, count: u64) {
+        self.pace.lock(rt).grant(count);
     }
 
     /// No call is held back any more.

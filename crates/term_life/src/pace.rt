@@ -197,9 +197,9 @@ impl Pace {
         self.held = None;
     }
 
-    /// Lets one more worker come, whatever is seen then.
-    pub fn grant(&mut self) {
-        self.granted = self.granted.saturating_add(1);
+    /// Lets so many more workers come, whatever is seen then.
+    pub fn grant(&mut self, count: u64) {
+        self.granted = self.granted.saturating_add(count);
     }
 
     /// Takes what lets a worker come, if one may.

@@ -25,14 +25,18 @@ impl<J: Naming> HostTerm<J> {
         comes
     }
 
-    /// Lets a worker come for one of its calls that are held back, if one is to come by now.
+    /// Lets workers come for its calls that are held back, if one is to come by now: for all of them, since threads that are
+    /// in each other's way leave again.
     pub(crate) fn look_at_held<R: Wait + Clock>(&self, rt: &R, board: &Board) {
         let Some(door) = self.door() else {
             return;
         };
         if self.crowd.admits(rt, door) {
-            self.crowd.grant(rt);
-            self.calls.release(board);
+            let count = self.calls.release(board);
+            self.crowd.grant(rt, u64::try_from(count).unwrap_or(0));
+            for _call in 0..count {
+                board.bell().nudge(rt);
+            }
         }
     }
 
