@@ -16,6 +16,7 @@ OUTLETS = ("thread 1:", "thread 2:")
 """The threads of a host that print: they wait for lines until the process ends."""
 NAMING = ("poll", "collect", "cancel", "release", "execute")
 ERRORS = {1: "line_too_long", 2: "bad_json", 3: "bad_request", 4: "bad_program", 6: "unknown_job", 8: "history_full", 12: "busy"}
+BAD_LINE = {"code": 2, "error": "bad_json"}
 
 
 class Wrong(Exception):
@@ -165,11 +166,13 @@ def judge_other(tenant: Tenant, ask: Ask, number: int, reply: dict) -> None:
 
 def judge_client(tenant: Tenant, player: Player, seen: list[Saw], stopped_at: int | None, is_killed: bool) -> None:
     """Each reply answers the request of its place, and all came that had to: if the process was killed, those of which the client saw
-    no end."""
+    no end. The last one may answer the beginning of a line whose end came after the order to stop."""
     replies: list[dict] = []
-    for line in (it.what[2:] for it in seen if it.what.startswith("< ")):
-        wants(len(replies) < len(player.asks), "a reply too many:", line)
-        reply = json.loads(line)
+    came = [json.loads(it.what[2:]) for it in seen if it.what.startswith("< ")]
+    if stopped_at is not None and came[-1:] == [BAD_LINE] and any(it.what == "broken" for it in seen):
+        came.pop()
+    for reply in came:
+        wants(len(replies) < len(player.asks), "a reply too many:", reply)
         judge_reply(tenant, player.asks[len(replies)], replies, reply)
         replies.append(reply)
     if player.hangs_up or tenant.is_full or tenant.is_stopped or len(replies) == len(player.asks):
@@ -186,14 +189,14 @@ def judge_end(part: Part, lengths: dict[str, int], is_alone: bool) -> None:
     run, scenario = part.run, part.scenario
     if scenario.kill and run.end == KILLED:
         wants(run.status == -signal.SIGKILL, "status", run.status, run.fault)
-        return judge_host(run, lengths)
+        return judge_host(scenario, run, lengths)
     wants(run.end == OWN_END, f"it ended with: {run.end};", *[f"\n    {it}" for it in run.waiting])
     # One that has told of its own end may be on its last steps.
     left = [it for it in run.waiting if "may run" not in it and not (scenario.words and it.startswith(OUTLETS))]
     wants(not left, "threads are left waiting:", left)
     if scenario.words:
         wants(run.status == 0, "status", run.status, run.fault)
-        judge_host(run, lengths)
+        judge_host(scenario, run, lengths)
         judge_terms(run, lengths, is_alone)
     else:
         closed = [f"{it['name']}: closed, {lengths.get(it['name'], 0)} entries" for it in scenario.config["tenants"]]
@@ -212,10 +215,13 @@ def events_of(run: Run) -> list[dict]:
     return [json.loads(line) for line in (run.fault.splitlines() if run.end == OWN_END else run.fault.split("\n")[:-1])]
 
 
-def judge_host(run: Run, lengths: dict[str, int]) -> None:
-    """A host reports no fault and no job that is lost, as far as it came, and prints how long each history is."""
+def judge_host(scenario: Scenario, run: Run, lengths: dict[str, int]) -> None:
+    """A host reports no fault, and no job that is lost in a history which is not full, as far as it came, and prints how long each
+    history is."""
     wants(all(line.startswith("{") for line in run.fault.splitlines()), "it said", run.fault)
-    wants(not [it for it in events_of(run) if it["event"] == "fault" or it.get("lost")], "it said", run.fault)
+    steps = {it["name"]: it["steps"] for it in scenario.config["tenants"]}
+    lost = [it for it in events_of(run) if it.get("lost") and lengths.get(named(it), 0) < steps[it["tenant"]]]
+    wants(not lost and not [it for it in events_of(run) if it["event"] == "fault"], "it said", run.fault)
     printed = run.lines if run.end == OWN_END else run.lines[:-1]
     closed = {f"{name}: closed, {length} entries" for name, length in lengths.items()}
     left = {named(it) for it in events_of(run) if it.get("left")}
@@ -270,13 +276,13 @@ def judge_part(part: Part, tenants: dict[str, Tenant]) -> None:
 
 def judge_kept(parts: list[Part], tenants: dict[str, Tenant]) -> None:
     """Each job that was acknowledged has its outcome in the folder of a host that has ended: the one that was told, if it was. Jobs
-    that are forgotten need none."""
+    that are forgotten need none, nor does a tenant of which a history is full."""
     run = parts[-1].run
     for name, tenant in tenants.items():
         canceled = {it["job"] for it in run.kept[name] if it["status"] == "canceled" and it["job"] in tenant.are_canceled}
         told = [(job, {"status": "canceled"} if job in canceled else tenant.jobs[job].outcome) for job in acknowledged(parts, name)]
         told = [(job, tenant.outcomes.get(job, outcome)) for job, outcome in told]
-        for fault in not_kept([] if tenant.are_forgotten else told, run.kept[name]):
+        for fault in not_kept([] if tenant.are_forgotten or tenant.is_full else told, run.kept[name]):
             wants(False, f"{name}:", fault)
 
 
