@@ -16,10 +16,11 @@ import limits
 import losses
 import rotations
 import sharing
+import spelling
 import starts
 import together
 
-CHECKS = [check for module in (starts, clients, sharing, rotations, losses, forgetting, durable, together, limits, crowds, ends) for check in module.CHECKS]
+CHECKS = [check for module in (starts, clients, sharing, rotations, losses, forgetting, durable, spelling, together, limits, crowds, ends) for check in module.CHECKS]
 
 
 def main() -> None:

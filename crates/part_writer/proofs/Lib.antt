@@ -3,3 +3,6 @@ mod Lines
 mod Moments
 mod Written
 mod MoveTexts
+mod Added
+mod AskTexts
+mod JobTexts

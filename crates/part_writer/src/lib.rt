@@ -1,7 +1,11 @@
 //! Writing a tenant's history to a part as it is made, so that a crash at any moment loses nothing that is on the disk.
 #![tactic(auto)]
 
+mod adding;
+mod asks;
 mod files;
+mod instructions;
+mod jobs;
 mod journals;
 mod moves;
 mod parts;

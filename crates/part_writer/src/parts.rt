@@ -4,6 +4,7 @@ ghost use Rattle.std.specs.Io.KnownBytes.{Appends};
 ghost use Rattle.dump_lines.specs.Dumps.{HasLine, NamesItself, entries_text, entry_text, first_text};
 ghost use Rattle.dump_lines.specs.Parts.{AppendsPart};
 
+use crate::asks::add_ask;
 use crate::files::PartFault;
 use crate::moves::add_move;
 use crate::texts::{add_line, add_text};
@@ -80,7 +81,7 @@ fn add_entry(alloc: Global, text: &mut Vec<u8>, entry: &Entry) -> Result<(), Par
     ensures text { OnOk result (text.new.items ≡ text.old.items ++ entry_text entry.now) }
     ensures line { OnOk result (HasLine entry.now) }
 {
-    if add_move(text, entry)? {
+    if add_move(text, entry)? || add_ask(text, entry)? {
         return Ok(());
     }
     let mut line = String::new(alloc);

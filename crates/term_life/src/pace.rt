@@ -12,10 +12,10 @@ pub const STRETCH: u64 = 50;
 
 /// From how many half microseconds an entry on the tenant's lock is free for most of the time, so that one more thread makes
 /// it faster. Below that the lock would go from processor to processor, which takes longer than the entries.
-pub const SLOW: u128 = 4;
+pub const SLOW: u128 = 2;
 
 /// Up to how many half microseconds an entry the threads that are there are in each other's way.
-pub const THICK: u128 = 3;
+pub const THICK: u128 = 1;
 
 /// How many stretches in a row have to be slow. One may be so because a thread lost its processor for a while.
 const SLOW_STRETCHES: u8 = 2;
