@@ -5,7 +5,7 @@ from arena.command.sources import SourceWrong
 from arena.command.words import Status
 from arena.host.orders import NoHost, NotYet
 from arena.host.parent import Taken
-from arena.host.status import StatusFault
+from arena.host.reading import StatusFault
 from arena.pool.faults import Final
 from arena.queue.base import all_faults
 from arena.queue.model import QueueError
