@@ -3,7 +3,7 @@
 use crate::clocks::millis;
 use crate::site::Site;
 use host_status::{Event, Fault, Refusal};
-use host_terms::{Cuts, Patience, Reception, Tenancy};
+use host_terms::{Cuts, Reception, Tenancy};
 use server_io::Endpoint;
 use std::alloc::Global;
 use std::sync::Wait;
@@ -11,6 +11,7 @@ use std::sync::atomic::Ordering;
 use std::thread;
 use std::time::{Clock, Duration};
 use tenant_book::Naming;
+use term_life::Patience;
 
 /// How long to wait if the system can't be asked what happens, in milliseconds.
 const PAUSE: u64 = 20;

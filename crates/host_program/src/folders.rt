@@ -5,13 +5,13 @@ use crate::listing::{end_of, is_part, journal_in, listed, parts_of};
 use crate::numbers::{span_in, span_line};
 use crate::results::outcomes_in;
 use crate::shelves::Shelves;
-use host_terms::{Outcome, Span};
 use job_language::TenantName;
 use server_io::ServerEnd;
 use std::alloc::{AllocError, Global};
 use std::fs::{DirBuilder, File, Files};
 use std::os::unix::fs::DirBuilderExt;
 use std::{fs, io};
+use term_life::{Outcome, Span};
 
 /// The numbers of terms that a host counts in the names of files lie below this one: it has not that many, even if it opens
 /// one each microsecond for thirty years.

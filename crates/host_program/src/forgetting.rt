@@ -5,7 +5,7 @@ use crate::files::{bytes_of, sync_folder};
 use crate::listing::{end_of, listed, parts_of};
 use crate::shelves::Shelves;
 use crate::site::Site;
-use host_terms::{Notes, Outcome};
+use host_terms::Notes;
 use program_words::Durable;
 use server_io::ServerEnd;
 use std::alloc::{AllocError, Global};
@@ -13,6 +13,7 @@ use std::fs::{File, Files, OpenOptions};
 use std::os::unix::fs::OpenOptionsExt;
 use std::{fs, str};
 use tenant_book::Naming;
+use term_life::Outcome;
 
 /// What is noted of a tenant.
 #[derive(Drop)]

@@ -4,7 +4,7 @@ use crate::clocks::millis;
 use crate::ends::part_end;
 use crate::files::sync_folder;
 use crate::site::Site;
-use host_terms::{Journal, Span};
+use host_terms::Journal;
 use job_language::TenantConfig;
 use program_words::Durable;
 use server_io::ServerEnd;
@@ -16,6 +16,7 @@ use std::sync::atomic::Ordering;
 use std::thread;
 use std::time::{Clock, Duration};
 use tenant_book::Naming;
+use term_life::Span;
 
 /// How often histories are brought to their journals, in milliseconds.
 const SECOND: u64 = 1000;

@@ -1,9 +1,8 @@
 // The numbers of a tenant's terms and jobs, on the disk.
 
-use host_terms::Span;
 use std::alloc::{AllocError, Global};
 use std::str;
-use term_life::MOST_JOBS;
+use term_life::{MOST_JOBS, Span};
 
 /// The line that says which is the newest term, after which number its jobs are numbered, and how many it may have.
 pub(crate) fn span_line(alloc: Global, span: Span) -> Result<String, AllocError> {

@@ -10,7 +10,6 @@ use crate::site::Site;
 use crate::system::System;
 use dump_files::dump_history;
 use host_status::{Event, Fault};
-use host_terms::Outcome;
 use job_language::{Entry, Status, TenantConfig};
 use job_outcomes::JobOutcomes;
 use part_lines::{PartRead, read_part};
@@ -23,6 +22,7 @@ use std::time::Clock;
 use tenant_book::Naming;
 use tenant_finish::{Recovered, finish_tenant, recover_tenant};
 use tenant_record::Replay;
+use term_life::{Outcome, running};
 
 /// What a term was finished to.
 #[derive(Drop)]
@@ -121,7 +121,7 @@ fn say_recovered<J: Naming, R: Wait + Clock>(
             tenant: journal.name.as_str(),
             term: journal.term,
             jobs: outcomes.len(),
-            lost: lost_among(outcomes),
+            lost: running(outcomes),
             ms: millis(rt).saturating_sub(began),
         },
     );
@@ -191,14 +191,6 @@ fn outcomes_of(alloc: Global, replay: &Replay, base: u64) -> Result<Vec<Outcome>
         })?;
     }
     Ok(outcomes)
-}
-
-/// How many of them are those of jobs without an outcome.
-fn lost_among(outcomes: &[Outcome]) -> usize {
-    outcomes
-        .iter()
-        .filter(|outcome| outcome.status == Status::Running)
-        .count()
 }
 
 /// Writes the history of a term that is finished.

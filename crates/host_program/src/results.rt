@@ -1,10 +1,10 @@
 // The outcomes of a term's jobs, as its file has them: a line for each, with the bytes of the reply to a poll.
 
-use host_terms::Outcome;
 use job_language::{JobFault, Reply, Status};
 use reply_writer::reply_line;
 use std::alloc::{AllocError, Global};
 use std::str;
+use term_life::Outcome;
 
 /// The text of the outcomes.
 pub(crate) fn outcomes_text(alloc: Global, outcomes: &[Outcome]) -> Result<Vec<u8>, AllocError> {

@@ -3,7 +3,6 @@
 use crate::hosts::Host;
 use crate::journals::Kept;
 use crate::outbox::{Incoming, Outbox, Outgoing, lost};
-use crate::patience::{Overdue, Patience, Seen};
 use crate::sessions::HostDoors;
 use crate::terms::Booking;
 use mio::Waker;
@@ -19,6 +18,7 @@ use std::sync::{Arc, Condvar, Mutex, Wait};
 use std::time::Clock;
 use tenant_book::Naming;
 use tenant_lock::StopFlag;
+use term_life::{Overdue, Patience, Seen};
 
 /// A client at a desk.
 #[derive(Drop)]

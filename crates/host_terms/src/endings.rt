@@ -1,15 +1,14 @@
 // A term that nobody asks any more.
 
 use crate::hosts::Host;
-use crate::outcomes::Outcome;
-use crate::terms::{HostTerm, Span};
-use job_language::{Status, TenantConfig};
+use crate::terms::HostTerm;
+use job_language::TenantConfig;
 use server_house::ClientSeats;
 use std::alloc::Global;
 use std::sync::{Arc, Wait};
 use tenant_book::Naming;
 use tenant_lock::{CloseFault, Closed};
-use term_life::Why;
+use term_life::{Outcome, Span, Why, running};
 
 /// A term that sessions come to no more, and new workers neither.
 #[derive(Drop)]
@@ -104,14 +103,14 @@ impl TermEnd {
         if self.is_left_over() {
             0
         } else {
-            self.running()
+            running(self.outcomes.as_slice())
         }
     }
 
     /// How many jobs have no outcome, and get theirs at the host's next start.
     pub fn left_over(&self) -> usize {
         if self.is_left_over() {
-            self.running()
+            running(self.outcomes.as_slice())
         } else {
             0
         }
@@ -125,13 +124,9 @@ impl TermEnd {
             Some(Ok(closed)) => closed.history.len() < tenant.steps,
             _ => false,
         };
-        self.is_journaled && has_room && tenant.reserved < tenant.slots && self.running() > 0
-    }
-
-    fn running(&self) -> usize {
-        self.outcomes
-            .iter()
-            .filter(|outcome| outcome.status == Status::Running)
-            .count()
+        self.is_journaled
+            && has_room
+            && tenant.reserved < tenant.slots
+            && running(self.outcomes.as_slice()) > 0
     }
 }

@@ -1,10 +1,14 @@
-// What a session asks a term, and is told outside of it: there a job's number is moved by the term's base.
-ghost use Rattle.std.specs.Prelude.{◌≢◌};
+// What a session is told of what a term answered.
+ghost use Rattle.std.specs.Prelude.{◌≡◌, ◌≢◌, ◌⊎◌, true};
+ghost use Rattle.job_language.specs.Collecting.{IsCollect};
+ghost use Rattle.job_language.specs.declared.errors.Error.TheVariants.{HistoryFull, NoMemory};
+ghost use Rattle.host_terms.specs.Answers.{brings_job, job_named, told_outside};
 
 use crate::outbox::Owed;
 use job_language::{Error, Reply, Request};
 use nested_wait::Attended;
 use server_house::Told;
+use term_life::Span;
 
 /// What a request was answered that the term that serves was asked.
 #[derive(Clone, Copy, Debug, PartialEq, Eq)]
@@ -17,7 +21,8 @@ pub(crate) struct Served {
 impl Served {
     /// The term of that number has answered.
     pub(crate) fn by(term: u64, reply: Reply) -> Served
-        ensures { result.reply ≢ Reply.Pending }
+        ensures reply { (result.reply ≡ reply) ⊎ (result.reply ≡ Reply.Refused NoMemory) }
+        ensures at_once { result.reply ≢ Reply.Pending }
     {
         Served {
             reply: at_once(reply),
@@ -27,7 +32,8 @@ impl Served {
 
     /// No term could be asked.
     pub(crate) fn by_none() -> Served
-        ensures { result.reply ≢ Reply.Pending }
+        ensures reply { result.reply ≡ Reply.Refused HistoryFull }
+        ensures at_once { result.reply ≢ Reply.Pending }
     {
         Served {
             reply: Reply::Refused(Error::HistoryFull),
@@ -38,7 +44,8 @@ impl Served {
 
 /// A reply that nobody has to wait for.
 pub(crate) fn at_once(reply: Reply) -> Reply
-    ensures { result ≢ Reply.Pending }
+    ensures reply { (result ≡ reply) ⊎ (result ≡ Reply.Refused NoMemory) }
+    ensures at_once { result ≢ Reply.Pending }
 {
     match reply {
         // No request but a collect is pending.
@@ -47,35 +54,42 @@ pub(crate) fn at_once(reply: Reply) -> Reply
     }
 }
 
-/// What a session is told outside of a term whose jobs are numbered there after `base`, and of which its outbox knows.
-pub(crate) fn told_outside(told: Told, base: u64, owed: Owed) -> Reply {
+/// What a session is told of a term's answer, of which its outbox knows. A slot whose history was full before the job on it
+/// had its outcome says so of the job.
+pub(crate) fn told_outside(told: Told, span: Span, owed: Owed) -> Reply
+    ensures { result ≡ told_outside span told }
+{
     owed.told();
     if told.attended == Some(Attended::Full) {
         return Reply::Refused(Error::HistoryFull);
     }
-    match told.reply {
-        Reply::Made(job) => Reply::Made(base.saturating_add(job)),
-        Reply::Placed(job, slot) => Reply::Placed(base.saturating_add(job), slot),
-        Reply::Job(job, status) => Reply::Job(base.saturating_add(job), status),
-        Reply::Cancelled(job, is_first) => Reply::Cancelled(base.saturating_add(job), is_first),
-        Reply::Released(job) => Reply::Released(base.saturating_add(job)),
-        other => other,
-    }
+    span.reply_outside(told.reply)
 }
 
 /// Whether a request brings a job.
-pub(crate) fn brings_job(request: &Request) -> bool {
+pub(crate) fn brings_job(request: &Request) -> bool
+    ensures { result ≡ brings_job request.now }
+{
     matches!(request, Request::Submit(_) | Request::Execute(_))
 }
 
-/// The same request about the job of another number.
-pub(crate) fn renumbered(request: Request, job: u64) -> Request {
+/// The job that a request names.
+pub(crate) fn job_named(request: &Request) -> Option<u64>
+    ensures { result ≡ job_named request.now }
+{
     match request {
-        Request::Poll(_) => Request::Poll(job),
-        Request::Collect(_) => Request::Collect(job),
-        Request::Take(_) => Request::Take(job),
-        Request::Cancel(_) => Request::Cancel(job),
-        Request::Release(_) => Request::Release(job),
-        other => other,
+        Request::Poll(job)
+        | Request::Collect(job)
+        | Request::Take(job)
+        | Request::Cancel(job)
+        | Request::Release(job) => Some(*job),
+        _ => None,
     }
+}
+
+/// Whether a request waits for an outcome.
+pub(crate) fn is_collect(request: &Request) -> bool
+    ensures { result ≡ true → IsCollect request.now }
+{
+    matches!(request, Request::Collect(_) | Request::Take(_))
 }

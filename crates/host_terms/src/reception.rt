@@ -1,7 +1,6 @@
 // The thread that accepts a host's connections, and looks after them.
 
 use crate::desks::Desk;
-use crate::patience::{Overdue, Patience};
 use server_io::{Endpoint, Watch};
 use std::alloc::Global;
 use std::io;
@@ -10,6 +9,7 @@ use std::os::unix::net::UnixStream;
 use std::sync::{Arc, Wait};
 use std::time::Duration;
 use tenant_book::Naming;
+use term_life::{Overdue, Patience};
 
 /// How long a wait takes at most, in milliseconds.
 const TICK: u64 = 20;

@@ -1,6 +1,8 @@
 // A session's ways to the tenants of a host.
-ghost use Rattle.std.specs.Prelude.{◌≡◌, ◌≢◌, IfErr};
+ghost use Rattle.std.specs.Prelude.{◌≡◌, ◌≢◌, IfErr, None};
 ghost use Rattle.job_language.specs.Collecting.{IsCollect};
+ghost use Rattle.std.specs.Arc.{arc_value};
+ghost use Rattle.host_terms.specs.Answers.{IsAnswer, IsServed, job_named, told_of};
 ghost use Rattle.host_terms.specs.Hellos.{IsRefusal};
 
 mod forgetting;
@@ -9,7 +11,7 @@ mod owners;
 use crate::admissions::Admission;
 use crate::desks::Desk;
 use crate::hosts::Host;
-use crate::numbering::{Served, at_once, brings_job, told_outside};
+use crate::numbering::{Served, at_once, brings_job, is_collect, job_named, told_outside};
 use crate::tenancies::Found;
 use crate::terms::Booking;
 use job_language::{Error, Moved, Reply, Request, TenantName};
@@ -58,15 +60,37 @@ impl<'h, J: Naming, R: Wait + Clock> HostDoors<'h, J, R> {
         self.admission = None;
     }
 
-    /// Asks the tenant that the session is bound to.
+    /// Asks the tenant that the session is bound to, if it is.
+    fn ask_admitted(&self, request: Request) -> Reply
+        ensures answer { IsAnswer request result }
+        ensures pending { result ≡ Reply.Pending → IsCollect request }
+    {
+        match &self.admission {
+            None => Reply::Refused(Error::NoTenant),
+            Some(admission) => self.ask_bound(admission.tenant(), request),
+        }
+    }
+
+    /// Asks that tenant: about a job, the term that the job belongs to.
     fn ask_bound(&self, tenant: usize, request: Request) -> Reply
-        ensures { result ≡ Reply.Pending → IsCollect request }
+        ensures answer { IsAnswer request result }
+        ensures pending { result ≡ Reply.Pending → IsCollect request }
+    {
+        let Some(job) = job_named(&request) else {
+            return self.ask_newest(tenant, request);
+        };
+        let may_wait = is_collect(&request);
+        let reply = self.ask_owner(tenant, job, request);
+        if may_wait { reply } else { at_once(reply) }
+    }
+
+    /// Asks the term that serves, or all of the tenant's terms to retire.
+    fn ask_newest(&self, tenant: usize, request: Request) -> Reply
+        requires { job_named request ≡ None }
+        ensures answer { IsServed request result }
+        ensures at_once { result ≢ Reply.Pending }
     {
         match request {
-            Request::Collect(job) | Request::Take(job) => self.ask_owner(tenant, job, request),
-            Request::Poll(job) | Request::Cancel(job) | Request::Release(job) => at_once(
-                self.ask_owner(tenant, job, request),
-            ),
             Request::Retire => self.retire(tenant),
             other => self.ask_serving(tenant, other).reply,
         }
@@ -74,7 +98,8 @@ impl<'h, J: Naming, R: Wait + Clock> HostDoors<'h, J, R> {
 
     /// Asks the term that serves, or the next one if its history is full.
     fn ask_serving(&self, tenant: usize, request: Request) -> Served
-        ensures { result.reply ≢ Reply.Pending }
+        ensures answer { IsServed request result.reply }
+        ensures at_once { result.reply ≢ Reply.Pending }
     {
         let stop = self.desk.is_gone();
         let mut request = request;
@@ -127,12 +152,14 @@ impl<'h, J: Naming, R: Wait + Clock> HostDoors<'h, J, R> {
 
     /// What the session is told outside of the term where it was told that. It goes out once what the term was asked is
     /// kept.
-    fn outside(&self, booking: &Booking<J>, told: Told) -> Reply {
+    fn outside(&self, booking: &Booking<J>, told: Told) -> Reply
+        ensures { result ≡ told_of (arc_value booking.now.term).span told }
+    {
         if told.reply == Reply::Pending {
             return Reply::Pending;
         }
         let owed = self.desk.outbox().owe();
-        told_outside(told, booking.term().span().base, owed)
+        told_outside(told, booking.term().span(), owed)
     }
 
     /// A place in the term that serves. One whose history is used so far that its jobs may need the rest begins no job, if
@@ -200,7 +227,7 @@ impl<'h, J: Naming, R: Wait + Clock> Doors for HostDoors<'h, J, R> {
 
     ghost binds = { λ _ _ answer _. IfErr answer IsRefusal };
 
-    ghost asks = { λ _ _ _ _. Unit {0} };
+    ghost asks = { λ _ request answered _. IsAnswer request answered.reply };
 
     ghost waits = { λ _ _ _ _. Unit {0} };
 
@@ -219,10 +246,7 @@ impl<'h, J: Naming, R: Wait + Clock> Doors for HostDoors<'h, J, R> {
             self.let_out();
         }
         self.desk.begin_asking();
-        let reply = match &self.admission {
-            None => Reply::Refused(Error::NoTenant),
-            Some(admission) => self.ask_bound(admission.tenant(), request),
-        };
+        let reply = self.ask_admitted(request);
         self.desk.end_asking();
         // A slot that a job is placed on was attended.
         Answered {

@@ -1,5 +1,9 @@
 // A tenant at a host: its terms, one of which serves at most, and the outcomes of those that are closed.
-ghost use Rattle.std.specs.Prelude.{◌≤◌};
+ghost use Rattle.std.specs.Prelude.{◌≡◌, ◌≤◌, true, IfSome};
+ghost use Rattle.std.specs.Arc.{arc_value};
+ghost use Rattle.host_terms.specs.Answers.{IsKeptAnswer};
+ghost use Rattle.host_terms.specs.Found.{IsFound};
+ghost use Rattle.term_life.specs.Spans.{has_job};
 ghost use Rattle.term_life.specs.declared.terms.TheConstants.{MOST_JOBS};
 
 mod leaving;
@@ -8,15 +12,14 @@ mod waits;
 
 use crate::admissions::Admissions;
 use crate::forgetting::Notes;
-use crate::outcomes::{Outcome, Outcomes};
 use crate::roster::Roster;
-use crate::terms::{Booking, HostTerm, Span};
+use crate::terms::{Booking, HostTerm};
 use job_language::{Error, Reply, Request, TenantName};
 use server_io::ServerEnd;
 use std::alloc::{AllocError, Global};
 use std::sync::{Arc, Condvar, Mutex, Wait};
 use tenant_book::Naming;
-use term_life::{Term, Terms, Why};
+use term_life::{Outcome, Outcomes, Span, Term, Terms, Why};
 
 /// What is kept under the lock.
 #[derive(Drop)]
@@ -46,7 +49,9 @@ impl<J: Naming> Lives<J> {
     }
 
     /// The live term to which a job belongs, by its number outside.
-    fn owner(&self, job: u64) -> Option<&Arc<HostTerm<J>>> {
+    fn owner(&self, job: u64) -> Option<&Arc<HostTerm<J>>>
+        ensures { IfSome result (λ term. has_job job (arc_value term.now).span ≡ true) }
+    {
         self.live.iter().find(|term| term.span().owns(job))
     }
 }
@@ -270,7 +275,9 @@ impl<J: Naming> Tenancy<J> {
     }
 
     /// Where a job is to be asked for, by its number outside.
-    pub(crate) fn find<R: Wait>(&self, rt: &R, job: u64, request: &Request) -> Found<J> {
+    pub(crate) fn find<R: Wait>(&self, rt: &R, job: u64, request: &Request) -> Found<J>
+        ensures { IsFound job request.now result }
+    {
         let mut lives = self.lives.lock(rt);
         let retired = lives.retired;
         let booked = match lives.owner(job) {
@@ -288,7 +295,9 @@ impl<J: Naming> Tenancy<J> {
 
     /// The reply to a request about a job, by its number outside, whose term is closed, once it is noted if the job is
     /// released.
-    pub(crate) fn answer_closed<R: Wait>(&self, rt: &R, job: u64, request: &Request) -> Reply {
+    pub(crate) fn answer_closed<R: Wait>(&self, rt: &R, job: u64, request: &Request) -> Reply
+        ensures { IsKeptAnswer request.now job result }
+    {
         self.lives.lock(rt).outcomes.answer(job, request)
     }
 }

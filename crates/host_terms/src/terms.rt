@@ -1,5 +1,5 @@
 // A term of a tenant: a house of this tenant alone, and the places of all threads in it.
-ghost use Rattle.std.specs.Prelude.{◌≤◌};
+ghost use Rattle.std.specs.Prelude.{◌≡◌, ◌≤◌};
 
 mod bookings;
 mod crowding;
@@ -18,25 +18,8 @@ use std::sync::atomic::{AtomicBool, Ordering};
 use std::sync::{Arc, Mutex, Wait};
 use tenant_book::{Naming, Registry};
 use tenant_lock::{CloseFault, Closed, TenantDoor};
+use term_life::Span;
 use worker_main::Visiting;
-
-/// Which term it is, and the numbers of its jobs.
-#[derive(Clone, Copy, Debug, PartialEq, Eq)]
-pub struct Span {
-    /// The term's number among those of its tenant, from 0 on.
-    pub number: u64,
-    /// Its job of number n, from 1 on, has the number `base` + n outside.
-    pub base: u64,
-    /// How many jobs it may have.
-    pub room: u64,
-}
-
-impl Span {
-    /// Whether that is the number of one of its jobs, outside.
-    pub(crate) fn owns(&self, job: u64) -> bool {
-        self.base < job && job - self.base <= self.room
-    }
-}
 
 /// A term that is not closed.
 #[derive(Drop)]
@@ -107,7 +90,9 @@ impl<J: Naming> HostTerm<J> {
     }
 
     /// Which term it is, and the numbers of its jobs.
-    pub fn span(&self) -> Span {
+    pub fn span(&self) -> Span
+        ensures { result ≡ self.now.span }
+    {
         self.span
     }
 

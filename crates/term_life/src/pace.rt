@@ -1,5 +1,5 @@
 // Whether one more worker is to come to a term at whose slots others are.
-ghost use Rattle.std.specs.Prelude.{◌≡◌, ◌≢◌, ◌≤◌, ◌<◌, ◌+◌, IfNone, IfSome, Some, None, true, false, ◌-◌, nat_lt, option_map};
+ghost use Rattle.std.specs.Prelude.{◌≡◌, ◌≢◌, ◌≤◌, ◌<◌, ◌+◌, IfNone, IfSome, Some, None, true, false, ◌-◌, ◌^◌, nat_lt, option_map};
 ghost use Rattle.term_life.specs.Paces.{made, since, took, IsQuick, IsThick};
 ghost use Rattle.term_life.specs.declared.pace.Stretch.TheVariants as stretch;
 ghost use Rattle.term_life.specs.declared.pace.Verdict.TheVariants as verdict;
@@ -185,27 +185,32 @@ impl Pace {
 
     /// A worker comes at which nobody looks, when so many jobs have been submitted.
     pub fn heed(&mut self, submitted: u64)
-        ensures { self.new.submitted ≡ submitted }
+        ensures { self.new ≡ record self.old { submitted = submitted } }
     {
         self.submitted = submitted;
     }
 
     /// No call is held back any more.
     pub fn forget(&mut self)
-        ensures { self.new.held ≡ None }
+        ensures { self.new ≡ record self.old { held = None } }
     {
         self.held = None;
     }
 
     /// Lets so many more workers come, whatever is seen then.
-    pub fn grant(&mut self, count: u64) {
+    pub fn grant(&mut self, count: u64)
+        ensures held { self.new.held ≡ self.old.held }
+        ensures submitted { self.new.submitted ≡ self.old.submitted }
+        ensures more { self.old.granted ≤ self.new.granted }
+        ensures granted { self.old.granted + count < 2 ^ 64 → self.new.granted ≡ self.old.granted + count }
+    {
         self.granted = self.granted.saturating_add(count);
     }
 
     /// Takes what lets a worker come, if one may.
     pub fn take_grant(&mut self) -> bool
         ensures may { result ≡ nat_lt 0 self.old.granted }
-        ensures taken { self.new.granted ≡ self.old.granted - 1 }
+        ensures taken { self.new ≡ record self.old { granted = self.old.granted - 1 } }
     {
         let may = self.granted > 0;
         self.granted = self.granted.saturating_sub(1);

@@ -5,13 +5,13 @@ use crate::folders::Begin;
 use crate::forgetting::{begin_notes, read_notes};
 use crate::site::Site;
 use crate::system::System;
-use host_terms::{Outcome, Span, Tenancy};
+use host_terms::Tenancy;
 use job_language::{Config, TenantConfig};
 use server_io::ServerEnd;
 use std::alloc::{AllocError, Global};
 use std::sync::{Arc, Wait};
 use tenant_book::Naming;
-use term_life::{MOST_JOBS, Why};
+use term_life::{MOST_JOBS, Outcome, Span, Why};
 
 impl<J: Naming> Keeper<J> {
     /// Takes the tenants of a configuration: those that are new are known from now on, and those whose term serves by

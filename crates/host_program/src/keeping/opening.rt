@@ -9,7 +9,7 @@ use crate::journaling::begin_journal;
 use crate::site::Site;
 use crate::system::System;
 use host_status::{Event, Fault};
-use host_terms::{HostTerm, Span, Tenancy};
+use host_terms::{HostTerm, Tenancy};
 use job_language::{Config, TenantConfig};
 use server_io::ServerEnd;
 use std::alloc::Global;
@@ -17,7 +17,7 @@ use std::fs::{File, Files};
 use std::sync::Wait;
 use std::time::Clock;
 use tenant_book::Naming;
-use term_life::{MOST_JOBS, Why};
+use term_life::{MOST_JOBS, Span, Why};
 
 /// How long a tenant rests whose term could not be opened, in milliseconds.
 const REST: u64 = 1000;

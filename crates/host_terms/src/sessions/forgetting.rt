@@ -1,5 +1,6 @@
 // What a session has its tenant forget of closed terms.
-ghost use Rattle.std.specs.Prelude.{◌≢◌};
+ghost use Rattle.std.specs.Prelude.{◌≡◌, ◌≢◌, ◌⊎◌};
+ghost use Rattle.host_terms.specs.Answers.{IsKeptAnswer, IsRefusedHere, IsServed};
 
 use super::HostDoors;
 use crate::numbering::Served;
@@ -14,7 +15,9 @@ use tenant_book::Naming;
 
 impl<'h, J: Naming, R: Wait + Clock> HostDoors<'h, J, R> {
     /// Releases a job, by its number outside, whose term is closed, once that is noted.
-    pub(super) fn let_go(&self, tenant: usize, job: u64, request: &Request) -> Reply {
+    pub(super) fn let_go(&self, tenant: usize, job: u64, request: &Request) -> Reply
+        ensures { IsKeptAnswer request.now job result ⊎ IsRefusedHere result }
+    {
         let Some(tenancy) = self.host.tenancy(self.rt, tenant) else {
             // It is there, and too many handles on it are never out.
             return Reply::Refused(Error::NoMemory);
@@ -28,7 +31,8 @@ impl<'h, J: Naming, R: Wait + Clock> HostDoors<'h, J, R> {
     /// What the session is told if it could not be noted what is forgotten. Unless that was for lack of memory, the client
     /// is told nothing: its connection ends.
     fn unnoted(&self, fault: &io::Error) -> Reply
-        ensures { result ≢ Reply.Pending }
+        ensures refused { IsRefusedHere result }
+        ensures at_once { result ≢ Reply.Pending }
     {
         if fault.kind() == ErrorKind::OutOfMemory {
             return Reply::Refused(Error::NoMemory);
@@ -39,7 +43,8 @@ impl<'h, J: Naming, R: Wait + Clock> HostDoors<'h, J, R> {
 
     /// Retires all jobs of the tenant, if no row of any term is open.
     pub(super) fn retire(&self, tenant: usize) -> Reply
-        ensures { result ≢ Reply.Pending }
+        ensures answer { IsServed Request.Retire result }
+        ensures at_once { result ≢ Reply.Pending }
     {
         let Some(tenancy) = self.host.tenancy(self.rt, tenant) else {
             // As above.
@@ -59,7 +64,8 @@ impl<'h, J: Naming, R: Wait + Clock> HostDoors<'h, J, R> {
     /// that is noted.
     fn retire_before(&self, tenancy: &Tenancy<J>, term: u64, reply: Reply) -> Reply
         requires { reply ≢ Reply.Pending }
-        ensures { result ≢ Reply.Pending }
+        ensures answer { (result ≡ reply) ⊎ IsRefusedHere result }
+        ensures at_once { result ≢ Reply.Pending }
     {
         if tenancy.has_jobs_before(self.rt, term) {
             if let Err(fault) = tenancy.note_retired(self.rt, self.alloc, term) {

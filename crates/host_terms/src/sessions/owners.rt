@@ -1,7 +1,10 @@
 // A session asks about a job, in the term that it belongs to.
+ghost use Rattle.std.specs.Prelude.{◌≡◌, ◌⊎◌, Some};
+ghost use Rattle.std.specs.Arc.{arc_value};
+ghost use Rattle.host_terms.specs.Answers.{IsAnswer, IsAsked, IsLooked, job_named};
+ghost use Rattle.host_terms.specs.Found.{IsFound};
 
 use super::HostDoors;
-use crate::numbering::renumbered;
 use crate::tenancies::Found;
 use crate::terms::Booking;
 use job_language::{Error, Reply, Request};
@@ -12,7 +15,9 @@ use tenant_book::Naming;
 
 impl<'h, J: Naming, R: Wait + Clock> HostDoors<'h, J, R> {
     /// A place in the term of a job, or the reply to a request about it.
-    pub(super) fn find_owner(&self, tenant: usize, job: u64, request: &Request) -> Found<J> {
+    pub(super) fn find_owner(&self, tenant: usize, job: u64, request: &Request) -> Found<J>
+        ensures { IsFound job request.now result }
+    {
         if let Some(booking) = self.desk.take_booking(self.rt) {
             if booking.term().span().owns(job) && !booking.term().is_left() {
                 return Found::Live(booking);
@@ -27,11 +32,13 @@ impl<'h, J: Naming, R: Wait + Clock> HostDoors<'h, J, R> {
     }
 
     /// Asks about a job, by its number outside.
-    pub(super) fn ask_owner(&self, tenant: usize, job: u64, request: Request) -> Reply {
+    pub(super) fn ask_owner(&self, tenant: usize, job: u64, request: Request) -> Reply
+        requires { job_named request ≡ Some job }
+        ensures { IsAnswer request result }
+    {
         match self.find_owner(tenant, job, &request) {
             Found::Live(booking) => {
-                let base = booking.term().span().base;
-                let inner = renumbered(request, job.saturating_sub(base));
+                let inner = booking.term().span().request_inside(request);
                 let (booking, told) = self.ask_there(booking, inner);
                 let reply = self.outside(&booking, told);
                 self.desk.keep_booking(self.rt, booking);
@@ -44,13 +51,12 @@ impl<'h, J: Naming, R: Wait + Clock> HostDoors<'h, J, R> {
 
     /// Asks a term about a job, by its number there. One that was left is only looked at if that is enough: its history is
     /// for the jobs that it has.
-    fn ask_there(&self, booking: Booking<J>, request: Request) -> (Booking<J>, Told) {
+    fn ask_there(&self, booking: Booking<J>, request: Request) -> (Booking<J>, Told)
+        ensures term { arc_value result.0.term ≡ arc_value booking.term }
+        ensures asked { IsAsked request result.1 ⊎ IsLooked request result.1 }
+    {
         if booking.term().is_left() {
-            if let Some(reply) = booking.term().look_up(self.rt, &request) {
-                let told = Told {
-                    reply,
-                    attended: None,
-                };
+            if let Some(told) = booking.term().look_up(self.rt, &request) {
                 return (booking, told);
             }
         }

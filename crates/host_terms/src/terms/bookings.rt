@@ -1,4 +1,7 @@
 // The places of sessions in a term.
+ghost use Rattle.std.specs.Prelude.{◌≡◌, IfSome};
+ghost use Rattle.std.specs.Arc.{arc_value};
+ghost use Rattle.server_house.specs.Owned.{AsksThere};
 
 use super::HostTerm;
 use crate::board::{Board, TermSignal};
@@ -17,13 +20,17 @@ pub(crate) struct Booking<J: Naming> {
 
 impl<J: Naming> Booking<J> {
     /// A place in a term. None if all are taken, or too many handles on the term are out.
-    pub(crate) fn of<R: Wait>(rt: &R, term: &Arc<HostTerm<J>>) -> Option<Booking<J>> {
+    pub(crate) fn of<R: Wait>(rt: &R, term: &Arc<HostTerm<J>>) -> Option<Booking<J>>
+        ensures { IfSome result (λ b. arc_value b.term ≡ arc_value term.now) }
+    {
         let term = Arc::try_clone(term).ok()?;
         let client = term.clients.lock(rt).pop()?;
         Some(Booking { term, client })
     }
 
-    pub(crate) fn term(&self) -> &HostTerm<J> {
+    pub(crate) fn term(&self) -> &HostTerm<J>
+        ensures { result.now ≡ arc_value self.now.term }
+    {
         &self.term
     }
 
@@ -34,7 +41,10 @@ impl<J: Naming> Booking<J> {
         board: &Board,
         stop: &StopFlag,
         request: Request,
-    ) -> (Booking<J>, Told) {
+    ) -> (Booking<J>, Told)
+        ensures term { arc_value result.0.term ≡ arc_value self.term }
+        ensures asks { AsksThere self.client request result.1 result.0.client }
+    {
         let Booking { term, client } = self;
         let signal = TermSignal {
             board,
@@ -50,8 +60,7 @@ impl<J: Naming> Booking<J> {
 
     /// Waits while a job, by its number outside, has no outcome, and says whether to stop.
     pub(crate) fn wait_for<R: Wait>(&self, rt: &R, job: u64, stop: &StopFlag) -> bool {
-        let job = job.saturating_sub(self.term.span.base);
-        self.client.wait_for(rt, job, stop)
+        self.client.wait_for(rt, self.term.span.inside(job), stop)
     }
 
     /// Gives the place back to its term.

@@ -1,13 +1,15 @@
 // How far a term is, and its jobs are.
+ghost use Rattle.std.specs.Prelude.{IfSome};
+ghost use Rattle.host_terms.specs.Answers.{IsLooked};
 
 use super::HostTerm;
-use crate::outcomes::Outcome;
 use job_language::{Error, Reply, Request, Status};
+use server_house::Told;
 use std::alloc::{AllocError, Global};
 use std::sync::Wait;
 use tenant_book::Naming;
 use tenant_model::MAX_JOBS;
-use term_life::is_used;
+use term_life::{Outcome, is_used};
 
 impl<J: Naming> HostTerm<J> {
     /// Whether nothing is left that can be done: no row is open, and each job has its outcome; or the history is full; or
@@ -37,18 +39,24 @@ impl<J: Naming> HostTerm<J> {
     }
 
     /// The reply to a request about a job, by its number here, that a look is enough for: its history has no entry of it.
-    pub(crate) fn look_up<R: Wait>(&self, rt: &R, request: &Request) -> Option<Reply> {
+    pub(crate) fn look_up<R: Wait>(&self, rt: &R, request: &Request) -> Option<Told>
+        ensures { IfSome result (IsLooked request.now) }
+    {
         let (job, waits) = match request {
             Request::Poll(job) => (*job, false),
             Request::Collect(job) => (*job, true),
             _ => return None,
         };
         let door = self.door()?;
-        match door.status(rt, &mut door.front(), job) {
-            None => Some(Reply::Refused(Error::UnknownJob)),
-            Some(Status::Running) if waits => None,
-            Some(status) => Some(Reply::Job(job, status)),
-        }
+        let reply = match door.status(rt, &mut door.front(), job) {
+            None => Reply::Refused(Error::UnknownJob),
+            Some(Status::Running) if waits => return None,
+            Some(status) => Reply::Job(job, status),
+        };
+        Some(Told {
+            reply,
+            attended: None,
+        })
     }
 
     /// How far its jobs are that are neither retired nor released, by rising numbers as they are known outside.
@@ -68,7 +76,7 @@ impl<J: Naming> HostTerm<J> {
             };
             if let Some(status) = door.status(rt, &mut door.front(), job) {
                 outcomes.push(Outcome {
-                    job: self.span.base.saturating_add(job),
+                    job: self.span.outside(job),
                     status,
                 })?;
             }

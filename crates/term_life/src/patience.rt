@@ -1,5 +1,6 @@
 // How long a connection may do nothing.
-ghost use Rattle.std.specs.Prelude.{◌≤◌, ◌+◌, ◌<◌, ◌↔◌, IsTrue};
+ghost use Rattle.std.specs.Prelude.{◌≡◌};
+ghost use Rattle.term_life.specs.Patiences.{is_over, looked, overdue};
 
 /// How long a connection may do nothing, in milliseconds; 0 stands for any time.
 #[derive(Clone, Copy, Debug, PartialEq, Eq)]
@@ -10,9 +11,9 @@ pub struct Patience {
     pub idle: u64,
 }
 
-/// Why the host ended a connection.
+/// Why the host ends a connection.
 #[derive(Clone, Copy, Debug, PartialEq, Eq)]
-pub(crate) enum Overdue {
+pub enum Overdue {
     /// It said no hello.
     Hello,
     /// It asked nothing.
@@ -21,7 +22,7 @@ pub(crate) enum Overdue {
 
 /// What the host knows of a connection, with times of the monotonic clock in milliseconds.
 #[derive(Clone, Copy, Debug, PartialEq, Eq)]
-pub(crate) struct Seen {
+pub struct Seen {
     /// When it began.
     came: u64,
     /// When it was last seen to have asked something.
@@ -32,7 +33,9 @@ pub(crate) struct Seen {
 
 impl Seen {
     /// A connection that begins now, at a desk that has seen so many requests.
-    pub(crate) fn new(now: u64, asked: u64) -> Seen {
+    pub fn new(now: u64, asked: u64) -> Seen
+        ensures { result ≡ record { came = now; active = now; asked = asked } }
+    {
         Seen {
             came: now,
             active: now,
@@ -41,7 +44,9 @@ impl Seen {
     }
 
     /// Looks at the connection: so many requests were seen by now.
-    pub(crate) fn look(&mut self, now: u64, asked: u64) {
+    pub fn look(&mut self, now: u64, asked: u64)
+        ensures { self.new ≡ looked now asked self.old }
+    {
         if asked != self.asked {
             self.asked = asked;
             self.active = now;
@@ -49,18 +54,28 @@ impl Seen {
     }
 
     /// What the connection has not done in time, whose hello was answered or not.
-    pub(crate) fn overdue(&self, now: u64, is_bound: bool, patience: Patience) -> Option<Overdue> {
+    pub fn overdue(&self, now: u64, is_bound: bool, patience: Patience) -> Option<Overdue>
+        ensures { result ≡ overdue is_bound patience now self.now }
+    {
         if is_bound {
-            is_over(patience.idle, self.active, now).then_some(Overdue::Idle)
+            if is_over(patience.idle, self.active, now) {
+                Some(Overdue::Idle)
+            } else {
+                None
+            }
         } else {
-            is_over(patience.hello, self.came, now).then_some(Overdue::Hello)
+            if is_over(patience.hello, self.came, now) {
+                Some(Overdue::Hello)
+            } else {
+                None
+            }
         }
     }
 }
 
 /// Whether that long has passed since then; never if it is 0.
 fn is_over(most: u64, since: u64, now: u64) -> bool
-    ensures { IsTrue result ↔ ((0 < most) × (since + most ≤ now)) }
+    ensures { result ≡ is_over most since now }
 {
     most > 0 && now.saturating_sub(since) >= most
 }

@@ -1,0 +1,119 @@
+-- What a session of a host is answered, and by whom.
+use Rattle.std.specs.Prelude.{ℕ, ◌≡◌, ◌≢◌, ◌⊎◌, Bool, true, false, Option, Some, None, if◌then◌else◌}
+use Rattle.job_language.specs.declared.answers.Reply.{Reply}
+use Rattle.job_language.specs.declared.answers.Reply.TheVariants.{Refused, Pending, Job}
+use Rattle.job_language.specs.declared.answers.Status.{Status}
+use Rattle.job_language.specs.declared.answers.Status.TheVariants.{Running}
+use Rattle.job_language.specs.declared.errors.Error.{Error}
+use Rattle.job_language.specs.declared.errors.Error.TheVariants.{Busy, HistoryFull, NoMemory, NoTenant, UnknownJob}
+use Rattle.job_language.specs.declared.requests.Request.{Request}
+use Rattle.job_language.specs.declared.requests.Request.TheVariants.{Poll, Collect, Take, Cancel, Release, Submit, Execute}
+use Rattle.nested_wait.specs.declared.attending.Attended.{Attended}
+use Rattle.nested_wait.specs.declared.attending.Attended.TheVariants.{Full}
+use Rattle.server_house.specs.declared.owned.Told.{Told}
+use Rattle.server_house.specs.Owned.{AsksThere}
+use Rattle.server_house.specs.Posts.{ClientSeen}
+use Rattle.tenant_book.specs.Fronts.{FrontData}
+use Rattle.tenant_lock.specs.Under.{IsStatus, WasThere}
+use Rattle.term_life.specs.declared.spans.Span.{Span}
+use Rattle.term_life.specs.Outcomes.{Kept, answered, status_of}
+use Rattle.term_life.specs.Spans.{has_job, reply_outside, request_inside}
+
+abbrev pub brings_job : Request → Bool
+brings_job (Submit job) = true
+brings_job (Execute job) = true
+brings_job request = false
+
+abbrev pub is_full : Option Attended → Bool
+is_full (Some Full) = true
+is_full how = false
+
+-- what is told outside of a term that has answered so
+abbrev pub told_outside : Span → Told → Reply
+told_outside s told = if is_full told.attended then Refused HistoryFull else reply_outside s told.reply
+
+abbrev pub unless_pending : Reply → Reply → Reply
+unless_pending Pending told = Pending
+unless_pending reply told = told
+
+-- the same, where the answer may be that an outcome has to be waited for
+abbrev pub told_of : Span → Told → Reply
+told_of s told = unless_pending told.reply (told_outside s told)
+
+-- the job that a request names
+abbrev pub job_named : Request → Option ℕ
+job_named (Poll job) = Some job
+job_named (Collect job) = Some job
+job_named (Take job) = Some job
+job_named (Cancel job) = Some job
+job_named (Release job) = Some job
+job_named request = None
+
+-- A session's place in a term asked the term's tenant, and noted the request with what it was told.
+pub record IsAsked (request : Request) (told : Told) : Type 0 where
+  pub before : ClientSeen
+  pub after : ClientSeen
+  pub asks : AsksThere before request told after
+
+abbrev pub looked : (job : ℕ) → Option Status → Reply
+looked job None = Refused UnknownJob
+looked job (Some s) = Job job s
+
+-- A look at the term's tenant was enough: it knew so much of the job, and nothing was noted.
+pub record IsLooked (request : Request) (told : Told) : Type 0 where
+  pub job : ℕ
+  pub status : Option Status
+  pub tenant : ℕ
+  pub seen : FrontData
+  pub now : FrontData
+  pub was : WasThere tenant seen now (IsStatus job status)
+  pub asks : (request ≡ Poll job) ⊎ ((request ≡ Collect job) × (status ≢ Some Running))
+  pub is : told.reply ≡ looked job status
+  pub attended : told.attended ≡ None
+
+-- The tenant of a term with these numbers was asked, and this is told of its answer.
+pub record IsToldBy (span : Span) (request : Request) (reply : Reply) : Type 0 where
+  pub told : Told
+  pub asked : IsAsked request told ⊎ IsLooked request told
+  pub is : reply ≡ told_of span told
+
+-- The request names a job. The term was asked whose job it is, about its number there.
+pub record IsFromOwner (request : Request) (reply : Reply) : Type 0 where
+  pub job : ℕ
+  pub named : job_named request ≡ Some job
+  pub span : Span
+  pub owns : has_job job span ≡ true
+  pub told : IsToldBy span (request_inside span request) reply
+
+-- The tenant of some term was asked.
+pub record IsFromTerm (request : Request) (reply : Reply) : Type 0 where
+  pub span : Span
+  pub told : IsToldBy span request reply
+
+-- What was kept of closed terms answers the request about a job.
+pub record IsKeptAnswer (request : Request) (job : ℕ) (reply : Reply) : Type 0 where
+  pub kept : Kept
+  pub is : reply ≡ answered request job (status_of job kept)
+
+-- The request names a job. What was kept of closed terms answers it.
+pub record IsFromClosed (request : Request) (reply : Reply) : Type 0 where
+  pub job : ℕ
+  pub named : job_named request ≡ Some job
+  pub answer : IsKeptAnswer request job reply
+
+-- the host's own refusals
+abbrev pub IsRefusedHere : Reply → Type 0
+IsRefusedHere reply = (reply ≡ Refused NoTenant) ⊎ ((reply ≡ Refused NoMemory) ⊎ ((reply ≡ Refused HistoryFull) ⊎ (reply ≡ Refused Busy)))
+
+-- how the terms that serve one after another answer a request
+abbrev pub IsServed : Request → Reply → Type 0
+IsServed request reply = IsFromTerm request reply ⊎ IsRefusedHere reply
+
+-- The request names no job, and goes to a term that serves.
+pub record IsFromServing (request : Request) (reply : Reply) : Type 0 where
+  pub named : job_named request ≡ None
+  pub served : IsServed request reply
+
+-- how a session of a host is answered
+abbrev pub IsAnswer : Request → Reply → Type 0
+IsAnswer request reply = IsFromOwner request reply ⊎ (IsFromServing request reply ⊎ (IsFromClosed request reply ⊎ IsRefusedHere reply))
