@@ -8,9 +8,11 @@ import re
 import tempfile
 import threading
 import time
-from collections.abc import Callable, Iterable
+from collections.abc import Callable, Iterable, Sequence
 from typing import TYPE_CHECKING, Self, TextIO
 from unittest import mock
+
+from calls import Calls
 
 if TYPE_CHECKING:
     from arena.host import Reading
@@ -173,3 +175,16 @@ class FakeHost(Folder):
         self.open = []
         self.tell()
         self.ended.set()
+
+
+def run_checks(what: str, called: Iterable[Callable[[Calls, "Folder"], None]], others: Sequence[Callable[[], None]]) -> bool:
+    """Runs checks that call the command beside a folder, and others. Prints how many there were; whether a call ended otherwise
+    than is wanted."""
+    with Folder() as folder:
+        it = Calls(folder.path)
+        for check in called:
+            check(it, folder)
+    for check in others:
+        check()
+    print(f"{it.count} {what}: {it.differ} ended otherwise than is wanted; {len(others)} more checks")
+    return bool(it.differ)

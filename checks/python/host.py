@@ -15,8 +15,7 @@ from unittest import mock
 
 sys.path.insert(0, os.path.abspath("python"))
 
-from calls import Calls
-from fake_host import Folder, closed, example, reading, slept, term
+from fake_host import Folder, closed, example, reading, run_checks, slept, term
 from serving import arena_process
 
 from arena.host import RunFolder, StatusFault, parse_status, read_status
@@ -186,15 +185,4 @@ CALLED = [example_is_shown, status_of_now_is_done, missing_ones_are_said, locks_
 CHECKS = [every_member_is_looked_at, each_cut_is_refused, times_are_as_fine_as_the_file_tells, five_seconds_are_fresh]
 
 
-def main():
-    with Folder() as folder:
-        it = Calls(folder.path)
-        for check in CALLED:
-            check(it, folder)
-    for check in CHECKS:
-        check()
-    print(f"{it.count} calls that watch a host: {it.differ} ended otherwise than is wanted; {len(CHECKS)} more checks")
-    return bool(it.differ)
-
-
-sys.exit(main())
+sys.exit(run_checks("calls that watch a host", CALLED, CHECKS))

@@ -14,8 +14,8 @@ import time
 
 sys.path.insert(0, os.path.abspath("python"))
 
-from calls import Calls, by_keyboard
-from fake_host import FakeHost, Folder, closed, reading, slept, term
+from calls import by_keyboard
+from fake_host import FakeHost, closed, reading, run_checks, slept, term
 from serving import PACKAGE, PATIENCE
 
 from arena.host.rates import Rates, Watch, rates_between
@@ -156,15 +156,4 @@ CHECKS = [rates_are_those_of_the_time_between, numbers_are_shown, top_ends_with_
           top_stays_in_place_on_a_terminal]
 
 
-def main():
-    with Folder() as folder:
-        it = Calls(folder.path)
-        for check in CALLED:
-            check(it, folder)
-    for check in CHECKS:
-        check()
-    print(f"{it.count} calls of `arena top`: {it.differ} ended otherwise than is wanted; {len(CHECKS)} more checks")
-    return bool(it.differ)
-
-
-sys.exit(main())
+sys.exit(run_checks("calls of `arena top`", CALLED, CHECKS))

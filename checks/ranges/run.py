@@ -10,10 +10,9 @@ import subprocess
 import sys
 from collections.abc import Iterable, Iterator, Sequence
 
-ROOT = pathlib.Path(__file__).resolve().parents[2]
-PROGRAM = ROOT / "crates/script_program/out/script_program"
-# How long a script may take at most, in seconds.
-PATIENCE = 60
+sys.path.append(str(pathlib.Path(__file__).resolve().parents[1] / "scripts"))
+
+from script import PATIENCE, PROGRAM, build
 
 LEAST, GREATEST = -(2**63), 2**63 - 1
 NONE = {"serial": "none"}
@@ -208,15 +207,6 @@ CONFIGURATIONS = [
     ({"workers": 1}, False),
     ([], False),
 ]
-
-
-def build() -> None:
-    """Builds the program unless it is newer than every source."""
-    if PROGRAM.exists():
-        built = PROGRAM.stat().st_mtime
-        if all(it.stat().st_mtime <= built for it in ROOT.glob("crates/*/src/**/*.rt")):
-            return
-    subprocess.run(["make", "-s", "build"], cwd=ROOT, check=True)
 
 
 def script(word: str, text: str) -> tuple[int, str, str]:

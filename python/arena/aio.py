@@ -14,7 +14,7 @@ from typing import Any, Self, TYPE_CHECKING, TypeVar
 
 from arena import requests
 from arena.made import JobsMade
-from arena.places import MadeSocket, Place, place_of
+from arena.places import MadeSocket, Place, Placed, place_of
 from arena.replies import Cells, ConnectionLost, InUse, Limits, Outcome, Refused, Status, StrangeReply, TimedOut
 from arena.requests import JobLike, Request
 
@@ -38,7 +38,7 @@ class Waiting:
     reply: asyncio.Future[bytes]
 
 
-class Client:
+class Client(Placed):
     """A connection to the server at a path, or another place (`arena.tls.Tls`), which is bound to a tenant unless that is
     left out. It connects when the `async with` block begins, or by `connect`. It belongs to the event loop in which it connects.
 
@@ -64,16 +64,6 @@ class Client:
         """A client over a connected socket, which does not speak TLS and is the client's from then on. It can't
         reconnect."""
         return cls(MadeSocket(made), tenant, timeout=timeout)
-
-    @property
-    def path(self) -> str:
-        """The path of the server's socket, or the name of another place. A new one is for the next `reconnect`."""
-        return self._place.name
-
-    @path.setter
-    def path(self, path: str | os.PathLike[str] | Place) -> None:
-        """Says where the next `reconnect` leads."""
-        self._place = place_of(path)
 
     async def __aenter__(self) -> Self:
         await self.connect()

@@ -18,7 +18,7 @@ from arena import requests
 from arena.connection import Connection
 from arena.made import JobsMade
 from arena.pipeline import Pipeline
-from arena.places import Deadline, DeadlineOver, MadeSocket, Place, place_of
+from arena.places import Deadline, DeadlineOver, MadeSocket, Place, Placed, place_of
 from arena.replies import Cells, InUse, Limits, Outcome, Refused, Status, StrangeReply, TimedOut
 from arena.requests import JobLike, Request
 
@@ -44,7 +44,7 @@ class Reply:
         return self.answer if isinstance(self.answer, Refused) else None
 
 
-class Client:
+class Client(Placed):
     """A connection to the server at a path, or another place (`arena.tls.Tls`), which is bound to a tenant unless that is
     left out.
 
@@ -72,16 +72,6 @@ class Client:
         """A client over a connected socket, plain or of the module ssl, which is the client's from then on. It can't
         reconnect."""
         return cls(MadeSocket(made), tenant, timeout=timeout)
-
-    @property
-    def path(self) -> str:
-        """The path of the server's socket, or the name of another place. A new one is for the next `reconnect`."""
-        return self._place.name
-
-    @path.setter
-    def path(self, path: str | os.PathLike[str] | Place) -> None:
-        """Says where the next `reconnect` leads."""
-        self._place = place_of(path)
 
     def _connect(self, tenant: str | None) -> None:
         deadline = Deadline(self.timeout)

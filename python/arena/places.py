@@ -186,3 +186,19 @@ def stream_over(made: socket.socket) -> Stream:
 def place_of(where: "str | os.PathLike[str] | Place") -> Place:
     """A place, by its path if it is none yet."""
     return UnixPlace(where) if isinstance(where, (str, os.PathLike)) else where
+
+
+class Placed:
+    """What is reached at a place, which may be another one the next time."""
+
+    _place: Place
+
+    @property
+    def path(self) -> str:
+        """The path of the server's socket, or the name of another place. A new one is for the next `reconnect`."""
+        return self._place.name
+
+    @path.setter
+    def path(self, path: str | os.PathLike[str] | Place) -> None:
+        """Says where the next `reconnect` leads."""
+        self._place = place_of(path)
