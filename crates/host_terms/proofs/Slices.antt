@@ -8,7 +8,10 @@ use Rattle.host_terms.specs.declared.journals.TheConstants.{SLICE}
 use Rattle.host_terms.specs.Journals.{AreSlices}
 use Rattle.term_life.specs.Spans.{capped}
 
-pub one_more : (n tenant count from all : ℕ) (before es : List Entry) (seen now : FrontData) → AreSlices n tenant count before → from ≡ capped (count + length before) → WasThere tenant seen now (λ c. AreCopied from SLICE before es c × (all ≡ length c.history)) → AreSlices (suc n) tenant count es
+pub one_more : (n tenant count from all : ℕ) (before es : List Entry) (seen now : FrontData)
+    → AreSlices n tenant count before → from ≡ capped (count + length before)
+    → WasThere tenant seen now (λ c. AreCopied from SLICE before es c × (all ≡ length c.history))
+    → AreSlices (suc n) tenant count es
 one_more n tenant count from all before es seen now are place was = (
   before,
   (
