@@ -6,7 +6,7 @@
 EXAMPLE ?= first_job
 
 help: ## lists the targets
-	@sed -n 's/^\([a-z-]*\):[^#]*## */    make \1|/p' Makefile | awk -F'|' '{ printf "%-20s %s\n", $$1, $$2 }'
+	@sed -n 's/^\([a-z-]*\):[^#]*## */    make \1|/p' Makefile | awk -F'|' '{ printf "%-24s %s\n", $$1, $$2 }'
 
 run: ## runs an example within a minute or two, unproved unless it is built: make run EXAMPLE=isolated_waiter
 	@python3 examples/show.py $(EXAMPLE)
@@ -72,7 +72,7 @@ test: ## passes the gate: each proof, wrong body, test and program, and all chec
 	@mkdir -p out
 	@checks/run.py
 
-try: ## passes what needs no proof, by programs that are built without: some eight minutes
+try: ## passes what needs no proof, by programs that are built without: pages, examples, compiler, installing, Python, queue; some six minutes
 	@checks/run.py --try
 
 test-python: ## runs the tests of the Python package that need no built program, within seconds

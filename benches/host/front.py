@@ -21,7 +21,7 @@ from dataclasses import dataclass
 TOP = pathlib.Path(__file__).resolve().parents[2]
 sys.path.insert(0, str(TOP / "checks/haproxy"))
 import shards  # noqa: E402  it says where the other modules' imports are
-from front import FRONT, Front, free_port, is_open, replaced, wait_for  # noqa: E402
+from front import FRONT, Front, is_open, replaced, wait_for  # noqa: E402
 from shards import EXAMPLES, Shard  # noqa: E402
 
 SECONDS = int(sys.argv[1]) if len(sys.argv) > 1 else 5

@@ -9,7 +9,6 @@ from concurrent.futures import ThreadPoolExecutor
 from dataclasses import dataclass
 
 from building import program
-from callgrind import Failed
 from fixed import FIXED, Fixed
 from kept import Kept, Verdict, verdict, write
 

@@ -14,13 +14,15 @@ import ends
 import forgetting
 import limits
 import losses
+import reports
 import rotations
 import sharing
 import spelling
 import starts
 import together
 
-CHECKS = [check for module in (starts, clients, sharing, rotations, losses, forgetting, durable, spelling, together, limits, crowds, ends) for check in module.CHECKS]
+MODULES = (starts, clients, sharing, rotations, losses, reports, forgetting, durable, spelling, together, limits, crowds, ends)
+CHECKS = [check for module in MODULES for check in module.CHECKS]
 
 
 def main() -> None:

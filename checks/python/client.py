@@ -15,7 +15,7 @@ import threading
 
 sys.path.insert(0, os.path.abspath("python"))
 
-from serving import COUNT, DIVIDES, FIB, INVALID, PATIENCE, SEVEN, SPIN, Server, job, tenant
+from serving import DIVIDES, FIB, INVALID, PATIENCE, SEVEN, SPIN, Server, job, tenant
 
 import arena
 import arena.aio

@@ -1,4 +1,5 @@
 """A host for tests, by docs/HOST.md: it holds the lock of its folder, writes its status, and takes the two orders."""
+import contextlib
 import fcntl
 import functools
 import json
@@ -7,8 +8,12 @@ import re
 import tempfile
 import threading
 import time
-from collections.abc import Iterable
-from typing import Self, TextIO
+from collections.abc import Callable, Iterable
+from typing import TYPE_CHECKING, Self, TextIO
+from unittest import mock
+
+if TYPE_CHECKING:
+    from arena.host import Reading
 
 PAUSE = 0.01
 """How long it waits from one look at its folder to the next, in seconds; a real host takes a second."""
@@ -39,6 +44,19 @@ def closed(number: int, tenant: str = "acme", why: str = "history", began: int =
     """A term that was closed."""
     return {"tenant": tenant, "term": number, "began": began, "ended": ended, "why": why, "base": 0, "entries": entries,
             "lost": lost, "left": left, "fault": fault, "dumped": dumped, "ms": ms}
+
+
+def slept(*then: Callable[[float], object]) -> contextlib.AbstractContextManager:
+    """Lets each sleep of `arena top` do the next of these, rather than take time."""
+    todo = list(then)
+    return mock.patch("arena.command.host.time.sleep", lambda seconds: todo.pop(0)(seconds))
+
+
+def reading(at: float, *terms: dict, closed: Iterable[dict] = (), began: int = 1) -> "Reading":
+    """A reading of a status that was written then."""
+    from arena.host import Reading, parse_status
+    value = {**example(), "time": int(at), "began": began, "terms": [*terms], "closed": [*closed]}
+    return Reading(parse_status(json.dumps(value).encode())[0], value, at)
 
 
 class Folder:

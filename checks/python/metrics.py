@@ -1,23 +1,18 @@
 #!/usr/bin/env python3
-"""Asks `arena metrics` for everything that it serves: metrics, which a strict parser reads, health, and the page, which
-is opened in headless Chromium, if that is installed. What is wanted comes from docs/HOST.md.
+"""Asks `arena metrics` for everything that it serves but its page: metrics, which a strict parser reads, and health. What is
+wanted comes from docs/HOST.md.
 
 usage: checks/python/metrics.py, at the top of the repository. It needs no built program.
 """
-import base64
 import contextlib
-import hashlib
 import http.client
 import json
 import os
 import re
-import shutil
 import signal
 import socket
 import subprocess
 import sys
-import tempfile
-import threading
 import time
 from unittest import mock
 
@@ -26,14 +21,11 @@ sys.path.insert(0, os.path.abspath("python"))
 from calls import Calls, by_keyboard
 from exposition import parsed
 from fake_host import FakeHost, Folder, closed, example, term
+from metrics_served import asked, served
 from serving import PACKAGE, PATIENCE
 
-from arena.host import RunFolder, parse_status
-from arena.host.address import Address
+from arena.host import parse_status
 from arena.host.prometheus import Family, Kind, Sample, exposition, families_of
-from arena.host.web import MetricsServer, Watcher
-
-BROWSERS = ("chromium", "chromium-browser", "google-chrome", "chrome")
 
 # The samples of the example of docs/HOST.md, by their labels.
 SAMPLES = {
@@ -146,29 +138,6 @@ def counters_never_go_back():
     assert len(seen) == 8, seen
 
 
-@contextlib.contextmanager
-def served(folder, clock=None, **limits):
-    """A server of a folder on a thread, at a port that is free."""
-    watcher = Watcher(RunFolder(folder.path), clock) if clock else Watcher(RunFolder(folder.path))
-    with MetricsServer(Address.parse("127.0.0.1:0"), watcher, **limits) as server:
-        thread = threading.Thread(target=server.serve_forever, args=(0.01,))
-        thread.start()
-        try:
-            yield server
-        finally:
-            server.shutdown()
-            thread.join()
-
-
-def asked(server, path, method="GET"):
-    """The status, the headers and the text of an answer."""
-    connection = http.client.HTTPConnection("127.0.0.1", server.server_port, timeout=PATIENCE)
-    with contextlib.closing(connection):
-        connection.request(method, path)
-        reply = connection.getresponse()
-        return reply.status, dict(reply.getheaders()), reply.read().decode()
-
-
 def health_is_told():
     now = example()["time"]
     for age, status, text in ((0, 200, "ok\n"), (5, 200, "ok\n"), (-5, 200, "ok\n"),
@@ -236,55 +205,6 @@ def no_client_keeps_it_busy():
             it.close()
 
 
-def page_is_safe():
-    """The page names nothing elsewhere, runs its own script alone, and shows names as text."""
-    with Folder() as folder, served(folder) as server:
-        folder.write(folder.status(term(1, '<b>"&'), term(1, "@SCRIPT@")))
-        _, head, text = asked(server, "/")
-        part = asked(server, "/status")[2]
-    assert '<td class="left">&lt;b&gt;&quot;&amp;</td>' in part and "<b>" not in text and part in text, text
-    assert text.count("@SCRIPT@") == 1 and not re.search(r"(src|href|url|import)\s*[=(]|//[a-z]", text), text
-    policy = head["Content-Security-Policy"]
-    assert policy.startswith("default-src 'none'; connect-src 'self'; ") and "unsafe" not in policy, policy
-    for tag in ("script", "style"):
-        inside = re.findall(f"<{tag}>(.*?)</{tag}>", text, re.S)
-        digest = base64.b64encode(hashlib.sha256(inside[0].encode()).digest()).decode()
-        assert len(inside) == text.count(f"<{tag}") == 1 and f"{tag}-src 'sha256-{digest}'" in policy, tag
-
-
-def page_keeps_up():
-    """The page shows the status that was there when it was opened, and then by itself the one that came after."""
-    browser = next(filter(None, map(shutil.which, BROWSERS)), None)
-    if browser is None:
-        return f"skipped: none of {', '.join(BROWSERS)} is installed, so the page was not opened"
-    with Folder() as folder, served(folder) as server:
-        first, asked_for = server.watcher.page, []
-
-        def page():
-            """The page, after which the status is another one."""
-            answer = first()
-            asked_for.append(answer.text)
-            folder.write(folder.status(term(8, "later", entries=4321)))
-            return answer
-
-        server.watcher.paths["/"] = page
-        folder.write(folder.status(term(7, "sooner", entries=1234)))
-        document = opened(browser, server.url)
-    assert len(asked_for) == 1 and "1,234" in asked_for[0], asked_for
-    assert "<td class=\"left\">later</td>" in document and "4,321" in document and "1,234" not in document, document
-    return f"the page was opened by {os.path.basename(browser)}, and put the next status into itself"
-
-
-def opened(browser, url):
-    """The document of a page after the time in which it asks twice."""
-    with tempfile.TemporaryDirectory() as folder:
-        done = subprocess.run([browser, "--headless", "--no-sandbox", "--disable-gpu", f"--user-data-dir={folder}",
-                               "--virtual-time-budget=5000", "--dump-dom", url], capture_output=True, text=True,
-                              timeout=PATIENCE)
-    assert done.returncode == 0, done.stderr
-    return done.stdout
-
-
 def command_serves():
     """The command prints where it listens, answers, and ends with the keyboard."""
     with FakeHost() as host:
@@ -338,7 +258,7 @@ def others_are_let_in_by_request_alone(it):
 
 CHECKS = [example_has_its_samples, each_term_has_a_sample, texts_are_escaped,
           counters_never_go_back, health_is_told, answers_have_their_heads,
-          no_client_keeps_it_busy, page_is_safe, command_serves]
+          no_client_keeps_it_busy, command_serves]
 
 
 def main():
@@ -346,7 +266,6 @@ def main():
         check()
     it = Calls("/nowhere")
     others_are_let_in_by_request_alone(it)
-    print(page_keeps_up())
     print(f"{len(CHECKS)} checks of the metrics passed; {it.count} calls: {it.differ} ended otherwise than is wanted")
     return bool(it.differ)
 

@@ -12,8 +12,8 @@ from collections.abc import Sequence
 from concurrent.futures import ThreadPoolExecutor
 
 CHECKS = ("language", "faults", "assembler", "trace", "page", "commands", "fuel", "lint", "refusals", "damaged", "worked",
-          "client", "completions", "host", "metrics", "orders", "advise", "lost_jobs",
-          "interrupts", "unproved_builds", "drawn_ranges",
+          "client", "completions", "host", "top", "metrics", "metrics_page", "orders", "advise", "lost_jobs",
+          "interrupts", "interrupted_commands", "awaited_calls", "strange_replies", "unproved_builds", "drawn_ranges",
           "damaged_dumps", "unit", "nested", "customers", "types_of_package")
 FOLDER = os.path.dirname(os.path.abspath(__file__))
 

@@ -1,5 +1,6 @@
 """Dumps with their verdicts."""
-from whole import *
+from script import HISTORY_FULL, limits, line_of
+from whole import BAD_LINE, DONE, MAX_SCRIPT_LINE, SEVEN, TENANT
 
 
 def asked(reply: dict, request: dict) -> str:

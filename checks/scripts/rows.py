@@ -2,7 +2,11 @@
 hand from the rules, and not taken from a run."""
 import json
 
-from script import *
+from script import (
+    ARENA, BAD_PROGRAM, BAD_REQUEST, BUSY, FREED, FULL, HISTORY_FULL, IDLE, JOB_LIMIT, LEFT, NOTHING, PENDING, RAN,
+    RETIRE, ROOT, TASK_LIMIT, UNKNOWN_JOB, advance, arrive, arrived, ask, cancel, canceled, cell, cells, collect,
+    complete, epoch, execute, fault, first, limits, line_of, made, nested, placed, poll, release, released, running,
+    submit, take, tenant, worked_jobs)
 
 JOBS = worked_jobs()
 FIRST, FIB, UNUSED, CANCEL_THEN_WAIT, CLASSIC, NINE = (

@@ -1,7 +1,9 @@
 """Whole scripts with what they print, how they end, and what is said on standard error."""
 import json
 
-from script import *
+from script import (
+    ARENA, BAD_JSON, BAD_PROGRAM, BAD_STEP, LINE_TOO_LONG, NOTHING, RAN, advance, arrive, arrived, complete, limits,
+    line_of, made, poll, submit, tenant)
 
 MAX_SCRIPT_LINE = 1_048_576
 

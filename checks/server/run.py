@@ -17,11 +17,11 @@ import busy
 import dumps
 import endings
 import gone
+import killed
 import levels
 import releases
 import requests
 import starts
-from requests import job
 from servers import FIB, HELLO, PATIENCE, SEVEN, Server, side_by_side, tenant
 
 
@@ -277,7 +277,8 @@ CHECKS = [job_is_executed_and_polled, workers_share_a_job, tenants_do_not_see_ea
           client_that_never_reads, client_that_sends_without_end, clients_that_say_nothing, many_clients_at_once,
           jobs_are_retired_round_after_round, jobs_are_retired_beside_clients_that_run_them,
           waiting_ends_at_a_full_history, executes_end_at_a_full_history, socket_may_be_gone_at_the_end,
-          *dumps.CHECKS, *starts.CHECKS, *releases.CHECKS, *binding.CHECKS, *levels.CHECKS, *endings.CHECKS, *gone.CHECKS, *busy.CHECKS]
+          *dumps.CHECKS, *starts.CHECKS, *releases.CHECKS, *binding.CHECKS, *levels.CHECKS, *endings.CHECKS, *killed.CHECKS,
+          *gone.CHECKS, *busy.CHECKS]
 
 
 def main() -> None:

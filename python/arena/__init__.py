@@ -14,7 +14,8 @@ from typing import TYPE_CHECKING
 from arena.version import VERSION as __version__
 
 if TYPE_CHECKING:
-    from arena.client import Client, Pipeline, Reply
+    from arena.client import Client, Reply
+    from arena.pipeline import Pipeline
     from arena.prepared import Prepared
     from arena.replies import (
         ArenaError, BadJson, BadProgram, BadRequest, Busy, Canceled, Cells, Complete, ConnectionLimit, ConnectionLost, Fault,
@@ -27,7 +28,7 @@ __all__ = [
     "LineTooLong", "LostJob", "NoMemory", "NoTenant", "Outcome", "Pipeline", "Prepared", "Refused", "Reply", "Running",
     "Status", "StrangeReply", "TaskLimit", "TimedOut", "UnknownJob", "UnknownTenant"]
 
-_MODULES = {"Client": "arena.client", "Pipeline": "arena.client", "Reply": "arena.client", "Prepared": "arena.prepared"}
+_MODULES = {"Client": "arena.client", "Pipeline": "arena.pipeline", "Reply": "arena.client", "Prepared": "arena.prepared"}
 """Where the names are that are not in `arena.replies`."""
 
 

@@ -9,8 +9,8 @@ from contextlib import ExitStack
 from arena.queue import KeyTaken, NewJob, State
 from arena.queue.model import Ending, GiveBack, LeaseLost, Wants
 from arena.queue.turns import Turns
-from tests import postgres_server, test_dispatcher, test_queue
-from tests.test_queue import ANY, ONE, SOON, TWO
+from tests import postgres_server, test_dispatcher, test_queue, test_queue_ends, with_queue
+from tests.with_queue import ANY, ONE, SOON, TWO
 
 SERVER: postgres_server.Server
 NUMBERS = iter(range(1, 10_000))
@@ -41,7 +41,7 @@ def url() -> str:
     return f"{SERVER.url}&options=-csearch_path%3D{name}"
 
 
-class OnPostgres(test_queue.WithQueue):
+class OnPostgres(with_queue.WithQueue):
     """Each test has a queue in a schema of its own."""
 
     def where(self) -> str:
@@ -84,7 +84,7 @@ class Claiming(OnPostgres, test_queue.Claiming):
         self.assertEqual(sorted(claimed), jobs)
 
 
-class Ends(OnPostgres, test_queue.Ends):
+class Ends(OnPostgres, test_queue_ends.Ends):
     """Outcomes, and attempts without one."""
 
     test_a_lease_of_another_start_of_the_machine = test_what_is_not_committed_is_undone = None  # type: ignore[assignment]
@@ -123,7 +123,7 @@ class Ends(OnPostgres, test_queue.Ends):
             self.assertEqual(other.job(job).state, State.CANCELED)
 
 
-class Keeps(OnPostgres, test_queue.Keeps):
+class Keeps(OnPostgres, test_queue_ends.Keeps):
     """What is kept, reused and counted."""
 
     test_queries_use_their_indexes = None  # type: ignore[assignment]

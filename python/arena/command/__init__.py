@@ -5,7 +5,7 @@ import os
 import sys
 from collections.abc import Callable, Sequence
 
-from arena.command.call import Call, WordsFault
+from arena.command.call import Call
 from arena.command.words import COMMON, Command, Parser, Status, parser_of
 
 ABOUT = ("Runs jobs on arena-server, looks after them, and shows what happened to them. The server's socket and the "
@@ -73,52 +73,9 @@ def guarded(call: Call, run: Callable[[Call], int]) -> int:
         os.dup2(os.open(os.devnull, os.O_WRONLY), sys.stdout.fileno())  # whoever read has read enough
         return Status.DONE
     except Exception as fault:
+        from arena.command.faults import described  # which loads the modules of all faults
         found = described(fault)
         if found is None:
             raise
         call.output.complain(f"arena: {found[1]}")
         return found[0]
-
-
-def described(fault: Exception) -> tuple[int, str] | None:
-    """The exit status and the text of what went wrong; None for what should not happen."""
-    from arena.command.script import ProgramFault
-    from arena.command.sources import SourceWrong
-    from arena.host.orders import NoHost, NotYet
-    from arena.host.parent import Taken
-    from arena.host.status import StatusFault
-    from arena.pool.faults import Final
-    from arena.queue.base import all_faults
-    from arena.queue.model import QueueError
-    from arena.queue.programs import NoProgram
-    from arena.replies import ArenaError, Refused, TimedOut
-    from arena.trace import DumpFault
-    match fault:
-        case Refused():
-            return Status.REFUSED + fault.code, str(fault)
-        case Final():
-            return Status.REFUSED + fault.fault.code, str(fault)
-        case QueueError():
-            return Status.QUEUE, str(fault)
-        case Exception() if isinstance(fault, all_faults()):
-            return Status.QUEUE, str(fault).strip()
-        case NoProgram():
-            return Status.SOURCE, str(fault)
-        case TimedOut() | NotYet():
-            return Status.TIMEOUT, str(fault)
-        case ArenaError():
-            return Status.CONNECTION, str(fault)
-        case WordsFault():
-            return Status.WORDS, str(fault)
-        case SourceWrong():
-            return Status.SOURCE, str(fault)
-        case DumpFault():
-            return Status.DUMP, str(fault)
-        case ProgramFault():
-            return Status.PROGRAM, str(fault)
-        case StatusFault() | NoHost() | Taken():
-            return Status.HOST, str(fault)
-        case OSError():
-            name = getattr(fault, "filename", None) or "file"
-            return Status.FILE, f"{name}: {getattr(fault, 'strerror', None) or fault}"
-    return None

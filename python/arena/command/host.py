@@ -12,7 +12,8 @@ from arena.host.folder import RunFolder
 from arena.host.orders import NoHost
 from arena.host.rates import Rates, Recent, Watch
 from arena.host.report import sections_of, to_text
-from arena.host.status import HostStatus, host_runs, read_status
+from arena.host.reading import host_runs, read_status
+from arena.host.status import HostStatus
 
 CLEAR, HOME, TO_END, TO_END_OF_LINE = "\033[2J", "\033[H", "\033[J", "\033[K"
 HIDE_CURSOR, SHOW_CURSOR = "\033[?25l", "\033[?25h"

@@ -1,5 +1,5 @@
 """`arena queue`: its commands and their words."""
-from arena.command import queueing
+from arena.command import queue_looks, queueing
 from arena.command.words import JOB_WORDS, Command, Completes, option, positional, seconds
 
 STATES = ("scheduled", "ready", "running", "complete", "fault", "canceled", "dead")
@@ -51,17 +51,17 @@ INNER = (
                     metavar="N"), SYNCHRONOUS)),
     Command("wait", "wait until jobs have ended, and print their values",
             "Waits until all of these jobs have ended, and prints what came of each as `run` does. The status is that of the worst "
-            "one, or 7 if --timeout is over before.", "arena queue wait 17 --timeout 60", queueing.wait, (NUMBERS, QUEUE)),
+            "one, or 7 if --timeout is over before.", "arena queue wait 17 --timeout 60", queue_looks.wait, (NUMBERS, QUEUE)),
     Command("result", "print the values of jobs, or how far they are",
             "Prints what came of each job as `run` does, or how far it is; the status is then 4.", "arena queue result 17 --json",
-            queueing.result, (NUMBERS, QUEUE)),
+            queue_looks.result, (NUMBERS, QUEUE)),
     Command("list", "print jobs, the newest first", "Prints jobs, the newest first, a line each.",
-            "arena queue list --state dead", queueing.listing,
+            "arena queue list --state dead", queue_looks.listing,
             (QUEUE, option("--state", help="only those in this state", choices=STATES),
              option("--limit", help="how many; 50, unless this says otherwise", type=int, default=50, metavar="N"),
              option("--before", help="only those whose number is lower", type=int, metavar="JOB"))),
     Command("show", "print a job, and what happened to it", "Prints all that is known of a job, and what happened to it out of the "
-            "ordinary: each time that it was lost, and why.", "arena queue show 17", queueing.show, (NUMBER, QUEUE)),
+            "ordinary: each time that it was lost, and why.", "arena queue show 17", queue_looks.show, (NUMBER, QUEUE)),
     Command("cancel", "cancel jobs",
             "Cancels jobs that are not running. One that is running is not run again, and its host is told if it can still be; its "
             "outcome says what came of it. The status is 1 if one had ended before.", "arena queue cancel 17", queueing.cancel,
@@ -77,7 +77,7 @@ INNER = (
              option("--state", help="only those in this state; may be given several times", choices=ENDED, action="append"))),
     Command("stats", "print how many jobs there are, and who runs them",
             "Prints how many jobs of each tenant are in each state, how long the oldest ready one waits, and the dispatchers that "
-            "live.", "arena queue stats --json", queueing.stats, (QUEUE,)),
+            "live.", "arena queue stats --json", queue_looks.stats, (QUEUE,)),
     Command("token", "make a token with which one may ask over HTTP for a tenant",
             "Makes a token for a tenant and prints it; the queue keeps only its hash. --revoke makes all tokens of the tenant "
             "worthless, within 10 seconds where one is in use.", "arena queue token -t acme --note shop", queueing.token,

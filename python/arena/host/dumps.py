@@ -7,7 +7,8 @@ from collections.abc import Iterator
 from dataclasses import dataclass
 
 from arena.host.folder import RunFolder
-from arena.host.status import ClosedTerm, StatusFault, host_runs, read_status
+from arena.host.reading import StatusFault, host_runs, read_status
+from arena.host.status import ClosedTerm
 
 NAME = re.compile(r"([a-z0-9-]{1,32})\.([0-9]{6}|[1-9][0-9]{6,17})\.jsonl(\.part)?")
 """The name of a dump: the tenant, the term, and whether it is a part."""

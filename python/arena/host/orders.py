@@ -6,7 +6,7 @@ from collections.abc import Callable
 from dataclasses import dataclass
 
 from arena.host.folder import RunFolder
-from arena.host.status import StatusFault, read_status
+from arena.host.reading import StatusFault, read_status
 
 POLL_SECONDS = 0.05
 """How long is waited between two looks at the folder, in seconds."""

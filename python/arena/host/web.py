@@ -15,7 +15,8 @@ from arena.host import page, prometheus
 from arena.host.address import Address
 from arena.host.folder import RunFolder
 from arena.host.report import sections_of
-from arena.host.status import Reading, StatusFault, read_status
+from arena.host.reading import StatusFault, read_status
+from arena.host.status import Reading
 
 SECONDS_OF_A_REQUEST = 10.0
 """How long a client may take to send its whole request, in seconds, and then to take the answer."""
