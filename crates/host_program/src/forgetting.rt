@@ -1,5 +1,8 @@
 // What tenants have forgotten of their closed terms, in files of notes: one for each term, of what was noted while it was the
 // newest one of its tenant.
+ghost use Rattle.std.specs.Prelude.{◌≡◌, ◌==◌, filter, nat_lt};
+ghost use Rattle.std.specs.List.{list_any};
+ghost use Rattle.host_program.specs.Results.{is_kept};
 
 use crate::files::{bytes_of, sync_folder};
 use crate::listing::{end_of, listed, parts_of};
@@ -24,6 +27,13 @@ pub(crate) struct Forgotten {
     retired: u64,
 }
 
+/// Whether a job is one of them.
+fn is_among(jobs: &[u64], job: u64) -> bool
+    ensures { result ≡ list_any (λ other. other == job) jobs.now }
+{
+    jobs.iter().any(|other| *other == job)
+}
+
 impl Forgotten {
     fn new(alloc: Global) -> Forgotten {
         Forgotten {
@@ -33,13 +43,17 @@ impl Forgotten {
     }
 
     /// Whether all jobs of a term are retired.
-    pub(crate) fn has_retired(&self, term: u64) -> bool {
+    pub(crate) fn has_retired(&self, term: u64) -> bool
+        ensures { result ≡ nat_lt term self.now.retired }
+    {
         term < self.retired
     }
 
     /// Takes those outcomes away whose jobs were released.
-    pub(crate) fn leave_out_of(&self, outcomes: &mut Vec<Outcome>) {
-        outcomes.retain(|outcome| !self.released.contains(&outcome.job));
+    pub(crate) fn leave_out_of(&self, outcomes: &mut Vec<Outcome>)
+        ensures { outcomes.new.items ≡ filter (is_kept self.now) outcomes.old.items }
+    {
+        outcomes.retain(|outcome| !is_among(self.released.as_slice(), outcome.job));
     }
 
     /// Adds what a text notes. Lines that note nothing are passed over.

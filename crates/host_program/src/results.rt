@@ -1,4 +1,6 @@
 // The outcomes of a term's jobs, as its file has them: a line for each, with the bytes of the reply to a poll.
+ghost use Rattle.std.specs.Prelude.{◌≡◌, true, IfSome};
+ghost use Rattle.host_program.specs.Results.{outcome_line};
 
 use job_language::{JobFault, Reply, Status};
 use reply_writer::reply_line;
@@ -29,8 +31,28 @@ pub(crate) fn outcomes_in(alloc: Global, text: &[u8]) -> Result<Vec<Outcome>, Al
     Ok(outcomes)
 }
 
-/// The outcome that a line says.
-fn outcome_in(line: &str) -> Option<Outcome> {
+/// The outcome that a line says: the one whose line it is, byte for byte.
+fn outcome_in(line: &str) -> Option<Outcome>
+    ensures { IfSome result (λ o. outcome_line o ≡ line.now) }
+{
+    let outcome = guess_in(line)?;
+    if says(outcome, line) {
+        Some(outcome)
+    } else {
+        None
+    }
+}
+
+/// Whether that is the line of the outcome.
+fn says(outcome: Outcome, line: &str) -> bool
+    ensures { result ≡ true → outcome_line outcome ≡ line.now }
+{
+    let whole = reply_line(&Reply::Job(outcome.job, outcome.status));
+    whole.text() == line.as_bytes()
+}
+
+/// The outcome that a line may say.
+fn guess_in(line: &str) -> Option<Outcome> {
     if let Some(rest) = line.strip_prefix("{\"fault\":") {
         return fault_in(rest);
     }

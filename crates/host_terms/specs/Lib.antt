@@ -1,3 +1,6 @@
 pub mod Answers
+pub mod Endings
 pub mod Found
 pub mod Hellos
+pub mod Journals
+pub mod Turns

@@ -1,4 +1,6 @@
 // A term that nobody asks any more.
+ghost use Rattle.std.specs.Prelude.{◌≡◌};
+ghost use Rattle.host_terms.specs.Endings.{is_left_over, left_over, lost};
 
 use crate::hosts::Host;
 use crate::terms::HostTerm;
@@ -99,7 +101,9 @@ impl<J: Naming> Ending<J> {
 
 impl TermEnd {
     /// How many jobs have no outcome, and get none.
-    pub fn lost(&self) -> usize {
+    pub fn lost(&self) -> usize
+        ensures { result ≡ lost self.now }
+    {
         if self.is_left_over() {
             0
         } else {
@@ -108,7 +112,9 @@ impl TermEnd {
     }
 
     /// How many jobs have no outcome, and get theirs at the host's next start.
-    pub fn left_over(&self) -> usize {
+    pub fn left_over(&self) -> usize
+        ensures { result ≡ left_over self.now }
+    {
         if self.is_left_over() {
             running(self.outcomes.as_slice())
         } else {
@@ -118,7 +124,9 @@ impl TermEnd {
 
     /// Whether its journal is to be finished at the host's next start: some jobs have no outcome, its tenant has a slot for
     /// workers, and its history, all of which the journal has, has room for more.
-    pub fn is_left_over(&self) -> bool {
+    pub fn is_left_over(&self) -> bool
+        ensures { result ≡ is_left_over self.now }
+    {
         let tenant = self.tenant.tenant();
         let has_room = match &self.end {
             Some(Ok(closed)) => closed.history.len() < tenant.steps,

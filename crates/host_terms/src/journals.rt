@@ -1,4 +1,6 @@
 // A term's journal: its tenant's history in a file, as it is made.
+ghost use Rattle.std.specs.Prelude.{OnOk};
+ghost use Rattle.host_terms.specs.Journals.{AreNext, AreWritten};
 
 use job_language::{Entry, TenantConfig};
 use part_writer::{LivePart, PartFault};
@@ -247,12 +249,14 @@ impl Written {
         rt: &R,
         alloc: Global,
         door: &TenantDoor<J>,
-    ) -> Result<(), PartFault> {
+    ) -> Result<(), PartFault>
+        ensures { OnOk result (AreWritten door.now.tenant self.old self.new) }
+    {
         self.copy_more(rt, door)?;
         if !self.next.is_empty() {
             self.part.add(alloc, self.next.as_slice())?;
-            self.count = self.count.saturating_add(self.next.len());
         }
+        self.count = self.count.saturating_add(self.next.len());
         Ok(())
     }
 
@@ -261,7 +265,9 @@ impl Written {
         &mut self,
         rt: &R,
         door: &TenantDoor<J>,
-    ) -> Result<(), PartFault> {
+    ) -> Result<(), PartFault>
+        ensures { OnOk result (AreNext door.now.tenant self.old self.new) }
+    {
         self.next.clear();
         for _slice in 0..SLICES {
             let from = self.count.saturating_add(self.next.len());

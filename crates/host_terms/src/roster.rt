@@ -1,5 +1,6 @@
 // Which term a worker is to come to.
-ghost use Rattle.std.specs.Prelude.{◌≡◌, ◌<◌, length};
+ghost use Rattle.std.specs.Prelude.{◌≡◌, ◌<◌, IfSome, length};
+ghost use Rattle.host_terms.specs.Turns.{HasTurn, last_at};
 
 use crate::board::Board;
 use crate::terms::HostTerm;
@@ -98,7 +99,9 @@ impl<J: Naming> Roster<J> {
     }
 
     /// The same of the tenants of one level.
-    fn next_at(&mut self, board: &Board, level: Level) -> Option<(usize, Arc<HostTerm<J>>)> {
+    fn next_at(&mut self, board: &Board, level: Level) -> Option<(usize, Arc<HostTerm<J>>)>
+        ensures { IfSome result (λ next. HasTurn level next.0 self.old self.new) }
+    {
         for (waits, entry) in self.waits.iter_mut().zip(&self.entries) {
             *waits = entry.first(level).is_some();
         }
@@ -125,7 +128,9 @@ impl<J: Naming> Roster<J> {
     }
 
     /// The tenant that had the last turn at a level.
-    fn last(&self, level: Level) -> usize {
+    fn last(&self, level: Level) -> usize
+        ensures { result ≡ last_at level self.now }
+    {
         match level {
             Level::High => self.high,
             Level::Normal => self.normal,
@@ -133,7 +138,10 @@ impl<J: Naming> Roster<J> {
         }
     }
 
-    fn note(&mut self, level: Level, tenant: usize) {
+    fn note(&mut self, level: Level, tenant: usize)
+        ensures noted { last_at level self.new ≡ tenant }
+        ensures waits { self.new.waits ≡ self.old.waits }
+    {
         match level {
             Level::High => self.high = tenant,
             Level::Normal => self.normal = tenant,

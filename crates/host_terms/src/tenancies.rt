@@ -1,7 +1,6 @@
 // A tenant at a host: its terms, one of which serves at most, and the outcomes of those that are closed.
 ghost use Rattle.std.specs.Prelude.{◌≡◌, ◌≤◌, true, IfSome};
 ghost use Rattle.std.specs.Arc.{arc_value};
-ghost use Rattle.host_terms.specs.Answers.{IsKeptAnswer};
 ghost use Rattle.host_terms.specs.Found.{IsFound};
 ghost use Rattle.term_life.specs.Spans.{has_job};
 ghost use Rattle.term_life.specs.declared.terms.TheConstants.{MOST_JOBS};
@@ -179,7 +178,7 @@ impl<J: Naming> Tenancy<J> {
         self.lives.lock(rt).wish
     }
 
-    /// No term can be opened now: nobody waits for one any longer. What was wished is forgotten.
+    /// The same as `refuse_waits`, and what was wished is forgotten.
     pub fn refuse<R: Wait>(&self, rt: &R) {
         self.lives.lock(rt).wish = None;
         self.refuse_waits(rt);
@@ -291,13 +290,5 @@ impl<J: Naming> Tenancy<J> {
             None if lives.outcomes.is_released_by(job, request) => Found::Leaving,
             None => Found::Answered(lives.outcomes.answer(job, request)),
         }
-    }
-
-    /// The reply to a request about a job, by its number outside, whose term is closed, once it is noted if the job is
-    /// released.
-    pub(crate) fn answer_closed<R: Wait>(&self, rt: &R, job: u64, request: &Request) -> Reply
-        ensures { IsKeptAnswer request.now job result }
-    {
-        self.lives.lock(rt).outcomes.answer(job, request)
     }
 }

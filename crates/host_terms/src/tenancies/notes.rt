@@ -1,7 +1,9 @@
-// What a tenant forgets of its closed terms, and where that is noted.
+// What a tenant answers of its closed terms, what it forgets of them, and where that is noted.
+ghost use Rattle.host_terms.specs.Answers.{IsKeptAnswer};
 
 use super::Tenancy;
 use crate::forgetting::Notes;
+use job_language::{Reply, Request};
 use std::alloc::Global;
 use std::io;
 use std::io::ErrorKind;
@@ -9,6 +11,14 @@ use std::sync::Wait;
 use tenant_book::Naming;
 
 impl<J: Naming> Tenancy<J> {
+    /// The reply to a request about a job, by its number outside, whose term is closed, once it is noted if the job is
+    /// released.
+    pub(crate) fn answer_closed<R: Wait>(&self, rt: &R, job: u64, request: &Request) -> Reply
+        ensures { IsKeptAnswer request.now job result }
+    {
+        self.lives.lock(rt).outcomes.answer(job, request)
+    }
+
     /// What is forgotten of terms that are closed is noted there from now on.
     pub fn note_in<R: Wait>(&self, rt: &R, notes: Notes) {
         *self.notes.lock(rt) = Some(notes);

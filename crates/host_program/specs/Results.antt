@@ -1,0 +1,15 @@
+-- The outcomes of a term's jobs in a file.
+use Rattle.std.specs.Prelude.{ℕ, ◌==◌, Bool, not, List}
+use Rattle.std.specs.List.{list_any}
+use Rattle.job_language.specs.declared.answers.Reply.TheVariants.{Job}
+use Rattle.reply_writer.specs.ReplyText.{reply_text}
+use Rattle.term_life.specs.declared.outcomes.Outcome.{Outcome}
+use Rattle.host_program.specs.declared.forgetting.Forgotten.{Forgotten}
+
+-- the line of an outcome, without its end: what a poll of the job is answered
+abbrev pub outcome_line : Outcome → List ℕ
+outcome_line o = reply_text (Job o.job o.status)
+
+-- It is not noted that the job was released.
+abbrev pub is_kept : Forgotten → Outcome → Bool
+is_kept f o = not (list_any (λ job. job == o.job) f.released.items)

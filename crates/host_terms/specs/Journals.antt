@@ -1,0 +1,27 @@
+-- What a journal is given of its tenant's history.
+use Rattle.std.specs.Prelude.{ℕ, zero, suc, ◌≡◌, ◌+◌, List, [], length}
+use Rattle.job_language.specs.declared.steps.Entry.{Entry}
+use Rattle.tenant_book.specs.Fronts.{FrontData}
+use Rattle.tenant_lock.specs.Under.{AreCopied, WasThere}
+use Rattle.term_life.specs.Spans.{capped}
+use Rattle.host_terms.specs.declared.journals.TheConstants.{SLICE}
+use Rattle.host_terms.specs.declared.journals.Written.{Written}
+
+-- To entries, those were added that follow in the tenant's history at some moment from that place on, as many as a slice has.
+pub record IsSlice (tenant from : ℕ) (old new : List Entry) : Type 0 where
+  pub seen : FrontData
+  pub now : FrontData
+  pub was : WasThere tenant seen now (AreCopied from SLICE old new)
+
+-- so many slices, one behind the other, the first of them behind that many entries
+abbrev pub AreSlices : (slices tenant count : ℕ) → List Entry → Type 0
+AreSlices zero tenant count es = es ≡ []
+AreSlices (suc n) tenant count es = (before : List Entry) × (AreSlices n tenant count before × IsSlice tenant (capped (count + length before)) before es)
+
+-- Slices were copied that follow those that the file has.
+abbrev pub AreNext : (tenant : ℕ) → Written → Written → Type 0
+AreNext tenant old new = ((slices : ℕ) × AreSlices slices tenant old.count new.next.items) × (new.count ≡ old.count)
+
+-- The file was given the slices that follow those that it had, and is known to have so many more.
+abbrev pub AreWritten : (tenant : ℕ) → Written → Written → Type 0
+AreWritten tenant old new = ((slices : ℕ) × AreSlices slices tenant old.count new.next.items) × (new.count ≡ capped (old.count + length new.next.items))
