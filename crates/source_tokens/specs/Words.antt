@@ -58,9 +58,17 @@ constant_word lexeme =
     else if bytes_eq lexeme (codes "param") then Some kind.Const
     else None
 
--- a word of counting loops, or of constants
+-- `spawn`, `wait` or `sync`
+abbrev pub waiting_word : List ℕ → Option Kind
+waiting_word lexeme =
+    if bytes_eq lexeme (codes "spawn") then Some kind.Spawn
+    else if bytes_eq lexeme (codes "wait") then Some kind.Wait
+    else if bytes_eq lexeme (codes "sync") then Some kind.Sync
+    else None
+
+-- a word of counting loops, of constants, or of tasks that are waited for
 abbrev pub later_word : List ℕ → Option Kind
-later_word lexeme = first_of (counting_word lexeme) (constant_word lexeme)
+later_word lexeme = first_of (counting_word lexeme) (first_of (constant_word lexeme) (waiting_word lexeme))
 
 -- a word that is taken
 abbrev pub word_named : List ℕ → Option Kind
@@ -113,16 +121,13 @@ update_named lexeme =
 abbrev pub is_task_word : List ℕ → Bool
 is_task_word lexeme =
     if bytes_eq lexeme (codes "group") then true
-    else if bytes_eq lexeme (codes "spawn") then true
     else if bytes_eq lexeme (codes "post") then true
     else false
 
--- a word of waiting
-abbrev pub is_waiting_word : List ℕ → Bool
-is_waiting_word lexeme =
-    if bytes_eq lexeme (codes "wait") then true
-    else if bytes_eq lexeme (codes "sync") then true
-    else if bytes_eq lexeme (codes "cancel") then true
+-- a word of cancelling
+abbrev pub is_cancelling_word : List ℕ → Bool
+is_cancelling_word lexeme =
+    if bytes_eq lexeme (codes "cancel") then true
     else if bytes_eq lexeme (codes "cancelled") then true
     else false
 
@@ -151,7 +156,7 @@ is_giving_word lexeme =
 
 -- a word of the language that is not taken
 abbrev pub is_other_word : List ℕ → Bool
-is_other_word lexeme = (((is_task_word lexeme || is_waiting_word lexeme) || is_item_word lexeme) || is_gathering_word lexeme) || is_giving_word lexeme
+is_other_word lexeme = (((is_task_word lexeme || is_cancelling_word lexeme) || is_item_word lexeme) || is_gathering_word lexeme) || is_giving_word lexeme
 
 abbrev pub update_kind : Option Operator → List ℕ → Option Kind
 update_kind (Some o) lexeme = Some (kind.Update o)

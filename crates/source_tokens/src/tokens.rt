@@ -58,6 +58,9 @@ pub enum Kind {
     Slot,
     Width,
     Call,
+    Spawn,
+    Wait,
+    Sync,
     For,
     In,
     /// `const` or `param`.

@@ -1,7 +1,7 @@
 // Words and signs of the language.
 ghost use Rattle.std.specs.Prelude.{◌≡◌};
 ghost use Rattle.std.specs.Str.{bytes_eq};
-ghost use Rattle.source_tokens.specs.Words.{word_named, opening_word, choice_word, leaving_word, asking_word, counting_word, constant_word, later_word, mark_named, sign_named, update_named, is_other_word, is_task_word, is_waiting_word, is_item_word, is_gathering_word, is_giving_word, sign_kind, kind_named};
+ghost use Rattle.source_tokens.specs.Words.{word_named, opening_word, choice_word, leaving_word, asking_word, counting_word, constant_word, waiting_word, later_word, mark_named, sign_named, update_named, is_other_word, is_task_word, is_cancelling_word, is_item_word, is_gathering_word, is_giving_word, sign_kind, kind_named};
 
 use crate::tokens::{Kind, Sign};
 use source_language::Operator;
@@ -150,13 +150,31 @@ fn constant_word(lexeme: &[u8]) -> Option<Kind>
     }
 }
 
-/// A word of counting loops, or of constants.
+/// `spawn`, `wait` or `sync`.
+fn waiting_word(lexeme: &[u8]) -> Option<Kind>
+    ensures { result ≡ waiting_word lexeme.now }
+{
+    if is(lexeme, b"spawn") {
+        Some(Kind::Spawn)
+    } else if is(lexeme, b"wait") {
+        Some(Kind::Wait)
+    } else if is(lexeme, b"sync") {
+        Some(Kind::Sync)
+    } else {
+        None
+    }
+}
+
+/// A word of counting loops, of constants, or of tasks that are waited for.
 fn later_word(lexeme: &[u8]) -> Option<Kind>
     ensures { result ≡ later_word lexeme.now }
 {
     match counting_word(lexeme) {
         Some(kind) => Some(kind),
-        None => constant_word(lexeme),
+        None => match constant_word(lexeme) {
+            Some(kind) => Some(kind),
+            None => waiting_word(lexeme),
+        },
     }
 }
 
@@ -220,7 +238,7 @@ fn is_other_word(lexeme: &[u8]) -> bool
     ensures { result ≡ is_other_word lexeme.now }
 {
     is_task_word(lexeme)
-        || is_waiting_word(lexeme)
+        || is_cancelling_word(lexeme)
         || is_item_word(lexeme)
         || is_gathering_word(lexeme)
         || is_giving_word(lexeme)
@@ -230,14 +248,14 @@ fn is_other_word(lexeme: &[u8]) -> bool
 fn is_task_word(lexeme: &[u8]) -> bool
     ensures { result ≡ is_task_word lexeme.now }
 {
-    is(lexeme, b"group") || is(lexeme, b"spawn") || is(lexeme, b"post")
+    is(lexeme, b"group") || is(lexeme, b"post")
 }
 
-/// A word of waiting.
-fn is_waiting_word(lexeme: &[u8]) -> bool
-    ensures { result ≡ is_waiting_word lexeme.now }
+/// A word of cancelling.
+fn is_cancelling_word(lexeme: &[u8]) -> bool
+    ensures { result ≡ is_cancelling_word lexeme.now }
 {
-    is(lexeme, b"wait") || is(lexeme, b"sync") || is(lexeme, b"cancel") || is(lexeme, b"cancelled")
+    is(lexeme, b"cancel") || is(lexeme, b"cancelled")
 }
 
 /// A word of items.
