@@ -5,6 +5,8 @@ from dataclasses import dataclass, field
 ARITHMETIC = ("+", "-", "*", "/", "%")
 COMPARISONS = ("==", "!=", "<", "<=", ">", ">=")
 MOST_DEPTH = 3
+MOST_PENDING = 3
+"""How many tasks a function may have that were not waited for."""
 
 
 @dataclass(frozen=True)
@@ -24,6 +26,9 @@ class Sources:
     names: list[str] = field(default_factory=list)
     constants: list[str] = field(default_factory=list)
     callees: list[Called] = field(default_factory=list)
+    pending: list[str] = field(default_factory=list)
+    further_out: int = 0
+    """The tasks of the innermost block that were not waited for, and how many there are in the blocks around it."""
 
     def source(self) -> str:
         """A source with a main of two parameters, behind constants, and functions below it. Each calls only later ones."""
@@ -51,11 +56,15 @@ class Sources:
 
     def block(self, indent: int, depth: int, in_loop: bool) -> str:
         """The lines of a block, without its braces. No statement in it but the last one leaves."""
-        alive = len(self.names)
+        alive, around = len(self.names), self.pending
+        self.pending, self.further_out = [], self.further_out + len(around)
         lines = [self.statement(indent, depth, in_loop) for _ in range(self.draws.randint(1, 3))]
         if indent > 1 and self.draws.random() < 0.25:
             leaving = [f"return {self.returned(1)}", *(["break", "continue"] if in_loop else [])]
             lines.append("    " * indent + self.draws.choice(leaving) + "\n")
+        elif indent > 1:
+            lines += [f"{'    ' * indent}wait {it}\n" for it in self.pending]
+        self.pending, self.further_out = around, self.further_out - len(around)
         del self.names[alive:]
         return "".join(lines)
 
@@ -65,11 +74,12 @@ class Sources:
         kind = self.draws.choice(("let", "set", "update", "if", "while") if depth else ("let", "set", "update"))
         if self.callees and self.draws.random() < 0.1:
             return f"{room}{self.call()}\n"
+        if self.callees and self.further_out + len(self.pending) < MOST_PENDING and self.draws.random() < 0.2:
+            return self.task(room)
+        if self.pending and self.draws.random() < 0.4:
+            return self.wait(room)
         if not self.names or kind == "let" and len(self.names) < 6:
-            value = self.given()
-            self.count += 1
-            self.names.append(f"v{self.count}")
-            return f"{room}let {self.names[-1]} = {value}\n"
+            return self.declared(room, self.given())
         if kind == "if":
             return self.choice(indent, depth, in_loop)
         if kind == "while":
@@ -81,8 +91,42 @@ class Sources:
 
     def call(self) -> str:
         """A call of one of the functions that are called."""
+        return f"call {self.application()}"
+
+    def application(self) -> str:
+        """One of the functions that are called, with its arguments."""
         called = self.draws.choice(self.callees)
-        return f"call {called.name}({', '.join(self.value(1) for _ in range(called.parameters))})"
+        return f"{called.name}({', '.join(self.value(1) for _ in range(called.parameters))})"
+
+    def task(self, room: str) -> str:
+        """A task, which is not waited for yet."""
+        made = self.application()
+        self.count += 1
+        self.pending.append(f"v{self.count}")
+        return f"{room}let {self.pending[-1]} = spawn {made}\n"
+
+    def wait(self, room: str) -> str:
+        """A wait for a task, or for all of them, which are variables from there on."""
+        if not self.further_out and self.draws.random() < 0.3:
+            self.names += self.pending
+            self.pending = []
+            return f"{room}sync\n"
+        task = self.pending.pop(self.draws.randrange(len(self.pending)))
+        value = self.draws.choice((f"wait {task}", f"{self.value(1)} {self.draws.choice(ARITHMETIC)} wait {task}", f"(wait {task}) % 7 + {task}"))
+        given = self.draws.choice(self.names) if self.names else ""
+        self.names.append(task)
+        kind = self.draws.choice(("wait", "let", "set", "if"))
+        if kind == "set" and given:
+            return f"{room}{given} = {value}\n"
+        if kind == "if":
+            return f"{room}if {value} {{\n{room}    {task} += 1\n{room}}}\n"
+        return self.declared(room, value) if kind == "let" else f"{room}wait {task}\n"
+
+    def declared(self, room: str, value: str) -> str:
+        """A new variable with this value."""
+        self.count += 1
+        self.names.append(f"v{self.count}")
+        return f"{room}let {self.names[-1]} = {value}\n"
 
     def given(self) -> str:
         """What a variable may be given: a value, or that of a call."""

@@ -1,6 +1,6 @@
 #!/usr/bin/env python3
 """Compares arena-compile with the compiler in Python, and both with the interpreter of checks/python, which was written from
-docs/LANGUAGE.md alone, on drawn sources, and on some with loops that count, constants and calls, at their edges: what both make
+docs/LANGUAGE.md alone, on drawn sources, and on some with loops that count, constants, calls and tasks, at their edges: what both make
 is rehearsed on drawn schedules, and what `arena-compile --serial` prints must be the line of the interpreter's value. Sources with
 faults must be refused at the first one. The last line says how many.
 
@@ -10,6 +10,7 @@ is said. It runs what `rt ci` or `rt run` left in crates/compile_program, or els
 import json
 import pathlib
 import random
+import re
 import subprocess
 import sys
 from collections import Counter
@@ -26,6 +27,7 @@ from arena.trace.rehearsal import rehearse  # noqa: E402
 from reference import TooLong, interpreted  # noqa: E402
 from refused_places import REFUSED  # noqa: E402
 from unproved import built  # noqa: E402
+from waiting_sources import WAITING  # noqa: E402
 
 LIMITS = {"this function needs more than 8 registers": "registers", "this function is too long for a procedure": "instructions",
           "needs more than 8 registers": "registers", "a procedure has at most": "instructions"}
@@ -46,6 +48,9 @@ REPLIES = (
     ("fn main(n) { return n }\n", (12, "--serial"), 2, ("", "arena-compile")),
 )
 """Sources, the words for arena-compile, its status, its output, and standard error up to a colon and a space."""
+
+EXAMPLES = ("fib", "serial")
+"""Those of examples/jobs that arena-compile takes."""
 
 FEWEST = {"complete": 0.4, "fault": 0.01}
 """Which share of the programs is at least so."""
@@ -122,6 +127,18 @@ def wrong_replies(program: str) -> list[str]:
             if (*found[:2], found[2].split(": ")[0]) != (status, *output)]
 
 
+def wrong_examples(program: str) -> list[str]:
+    """What is wrong with the examples that arena-compile takes, by the tests in their comments."""
+    found = []
+    for name in EXAMPLES:
+        source = (TOP / "examples" / "jobs" / f"{name}.job").read_text()
+        tests = re.findall(r"^# test (-?\d+) (-?\d+) -> (-?\d+)$", source, re.MULTILINE)
+        said = [compiled(program, source, "--serial", *test[:2]) for test in tests]
+        if not tests or said != [(0, reply_of(int(test[2])), "") for test in tests]:
+            found.append(f"{said} for {name}.job, and not {tests}")
+    return found
+
+
 def main(seed: int = 1, programs: int = 400) -> list[str]:
     """Compares programs, and returns what differs."""
     proved = TOP / "crates" / "compile_program" / "out" / "compile_program"
@@ -132,16 +149,17 @@ def main(seed: int = 1, programs: int = 400) -> list[str]:
         source, arguments = sources.source(), (draws.randint(-5, 9), draws.randint(-5, 9))
         said = difference(program, source, arguments, draws, seen)
         found += [said] if said else []
-    found += [said for source, arguments in (*COUNTING, *CALLING) if (said := difference(program, source, arguments, draws, Counter()))]
+    found += [said for source, arguments in (*COUNTING, *CALLING, *WAITING) if (said := difference(program, source, arguments, draws, Counter()))]
     found += [said for source, place in REFUSED if (said := refused_difference(program, source, place))]
     found += wrong_replies(program)
+    found += wrong_examples(program)
     for it in found[:3]:
         print(it)
     rare = [it for it, share in FEWEST.items() if seen[it] < share * programs]
     if rare:
         print(f"too few programs are {', '.join(rare)}")
     shown = ", ".join(f"{count} {kind}" for kind, count in sorted(seen.items()))
-    print(f"{programs} sources by two compilers ({shown}), {len(COUNTING)} that count, {len(CALLING)} that call, "
+    print(f"{programs} sources by two compilers ({shown}), {len(COUNTING)} that count, {len(CALLING)} that call, {len(WAITING)} that wait, "
           f"{len(REFUSED)} refused: {len(found)} differences")
     return found or rare
 

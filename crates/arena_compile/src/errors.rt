@@ -70,6 +70,14 @@ fn words_of(wrong: Wrong) -> &'static str {
             "a function of this name is there already, or `main` is not the first one",
         Wrong::UnknownFunction => "no function of this name is there",
         Wrong::ArgumentCount => "a function is called with as many arguments as it has parameters",
+        Wrong::NotWaited =>
+            "this is a task that was not waited for: write `wait` or `sync` before its value is read",
+        Wrong::WaitSkipped =>
+            "a task is waited for in its own block, and not where that may be skipped or done again",
+        Wrong::NoTask => "only a task that `let a = spawn f(x)` declares is waited for",
+        Wrong::TaskLeft => "a task of this block is not waited for before the block ends",
+        Wrong::NoGroup =>
+            "no group is left: wait for a task before, since 3 at most may be there that were not waited for",
         Wrong::TooManyFunctions => "a job has at most 16 functions",
         Wrong::NoFunction => "there is no fn: write `fn main(x, y) { .. }`",
     }

@@ -1,4 +1,4 @@
--- Calls of functions: a task that is waited for at once.
+-- Calls of functions: a task that is waited for at once, or later.
 use Rattle.std.specs.Prelude.{ℕ, pos, ◌==◌, Bool, true, false, List, [], ◌∷◌, drop, Option, Some, None, Result, Ok, Err, if◌then◌else◌}
 use Rattle.source_language.specs.declared.syntax.Maker.TheVariants as maker
 use Rattle.source_tokens.specs.declared.tokens.Kind.{Kind}
@@ -17,6 +17,7 @@ use Rattle.source_reader.specs.Headers.{title_at, callee_in}
 use Rattle.source_reader.specs.Joining.{number_in}
 use Rattle.source_reader.specs.Lines.{is_close}
 use Rattle.source_reader.specs.Names.{Scope, functions_in}
+use Rattle.source_reader.specs.Tasks.{group_number, free_group}
 use Rattle.source_reader.specs.Trees.{tree_of, ExprTree, StmtTree, Constant, ThenTree, MakeTree, WaitTree}
 use Rattle.source_reader.specs.Values.{unexpected, after_open, whole_value}
 
@@ -100,17 +101,29 @@ some_arguments names n called ts = if is_close ts then wrong_count called else (
 abbrev pub arguments_at : Scope → (count : ℕ) → (called ts : List Token) → ReadArguments
 arguments_at names n called ts = if n == 0 then no_argument called ts else some_arguments names n called ts
 
--- A task is made in a group that nothing else uses, and waited for.
-abbrev pub called : Option ℕ → (number : ℕ) → ArgumentTrees → StmtTree
-called d f a = ThenTree (MakeTree (maker.Spawn CALLS) f a.first a.second) (WaitTree d None CALLS)
+-- a task of the function of that number, in a group
+abbrev pub made : (group number : ℕ) → ArgumentTrees → StmtTree
+made g f a = MakeTree (maker.Spawn g) f a.first a.second
 
--- Behind `call`. The value goes to the variable, if there is one.
-abbrev pub call_at : Scope → Option ℕ → List Token → Result (StmtTree × List Token) Fault
-call_at names d ts = do
+-- Behind `call` or `spawn`: a task in that group.
+abbrev pub made_at : Scope → (group : ℕ) → List Token → Result (StmtTree × List Token) Fault
+made_at names g ts = do
   f ← callee_at names ts
   inside ← after_open (drop 1 ts)
   a ← arguments_at names f.parameters ts inside
-  Ok (called d f.number a.0, a.1)
+  Ok (made g f.number a.0, a.1)
+
+-- Behind `call`: a task in a group that nothing else uses, which is waited for. The value goes to the variable, if there is one.
+abbrev pub call_at : Scope → Option ℕ → List Token → Result (StmtTree × List Token) Fault
+call_at names d ts = do
+  m ← made_at names CALLS ts
+  Ok (ThenTree m.0 (WaitTree d None CALLS), m.1)
+
+-- Behind `spawn`: a task in the first group that is free. Its name is the first of the tokens `name`.
+abbrev pub spawn_at : Scope → (name ts : List Token) → Result (StmtTree × List Token) Fault
+spawn_at names name ts = do
+  g ← free_group names name
+  made_at names (group_number g) ts
 
 abbrev pub is_call_of : Kind → Bool
 is_call_of kind.Call = true
@@ -119,3 +132,11 @@ is_call_of k = false
 abbrev pub is_call : List Token → Bool
 is_call [] = false
 is_call (t ∷ ts) = is_call_of t.kind
+
+abbrev pub is_spawn_of : Kind → Bool
+is_spawn_of kind.Spawn = true
+is_spawn_of k = false
+
+abbrev pub is_spawn : List Token → Bool
+is_spawn [] = false
+is_spawn (t ∷ ts) = is_spawn_of t.kind

@@ -1,12 +1,15 @@
 pub mod Faults
 pub mod Trees
 pub mod Names
+pub mod Tasks
+pub mod Waits
 pub mod Joining
 pub mod Values
 pub mod Lines
 pub mod Headers
 pub mod Calls
 pub mod Simple
+pub mod Returns
 pub mod Statements
 pub mod Functions
 pub mod Items

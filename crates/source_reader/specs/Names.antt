@@ -1,31 +1,60 @@
 -- What a place sees: names with their meanings, the last one first, and the functions of the source.
-use Rattle.std.specs.Prelude.{ℕ, List, Option, Some, None, Result, Ok, Err, ◌+◌, ◌==◌, nat_lt, if◌then◌else◌}
+use Rattle.std.specs.Prelude.{ℕ, Bool, true, false, List, Option, Some, None, Result, Ok, Err, ◌+◌, ◌==◌, nat_lt, if◌then◌else◌}
+use Rattle.std.specs.Option.{option_map}
 use Rattle.source_tokens.specs.declared.tokens.Token.{Token}
 use Rattle.source_reader.specs.declared.faults.Fault.{Fault}
 use Rattle.source_reader.specs.declared.faults.Wrong.TheVariants as wrong
 use Rattle.source_reader.specs.Faults.{fault_at}
 use Rattle.source_reader.specs.declared.names.Meaning.{Meaning}
 use Rattle.source_reader.specs.declared.names.Meaning.TheVariants as meaning
+use Rattle.source_reader.specs.declared.names.Task.{Task}
+use Rattle.source_reader.specs.declared.names.TaskGroup.{TaskGroup}
+use Rattle.source_reader.specs.declared.names.TaskGroup.TheVariants as task_group
 use Rattle.source_reader.specs.declared.names.Names.{Names}
 use Rattle.source_reader.specs.declared.names.Names.TheVariants as names
 use Rattle.source_reader.specs.declared.headers.Header.{Header}
 
+-- `Waited` stands behind a wait for the task of a group, and `Inner` is the beginning of a block inside the function's own.
 pub data Scope : Type 0 where
   Functions : List Header → Scope
   WithName : ℕ → Meaning → Scope → Scope
+  Waited : TaskGroup → Scope → Scope
+  Inner : (is_loop : Bool) → Scope → Scope
 
 abbrev pub names_of : Names → Scope
 names_of (names.Functions hs) = Functions hs.now
 names_of (names.Name' x m p others) = WithName x m (names_of others)
+names_of (names.Waited' g p others) = Waited g (names_of others)
+names_of (names.Inner' is_loop p others) = Inner is_loop (names_of others)
+
+abbrev pub is_same_group : TaskGroup → TaskGroup → Bool
+is_same_group task_group.First task_group.First = true
+is_same_group task_group.Second task_group.Second = true
+is_same_group task_group.Third task_group.Third = true
+is_same_group g h = false
+
+-- what a name means behind a wait for the task of that group
+abbrev pub awaited : TaskGroup → Meaning → Meaning
+awaited g (meaning.Task t) = if is_same_group t.group g then meaning.Awaited t.variable else meaning.Task t
+awaited g m = m
+
+-- what a name of a block means in a block inside it
+abbrev pub outer : Meaning → Meaning
+outer (meaning.Task t) = meaning.OuterTask t
+outer m = m
 
 abbrev pub meaning_of : ℕ → Scope → Option Meaning
 meaning_of x (Functions hs) = None
 meaning_of x (WithName y m others) = if y == x then Some m else meaning_of x others
+meaning_of x (Waited g others) = option_map (awaited g) (meaning_of x others)
+meaning_of x (Inner is_loop others) = option_map outer (meaning_of x others)
 
 -- the functions of the source, in its order
 abbrev pub functions_in : Scope → List Header
 functions_in (Functions hs) = hs
 functions_in (WithName x m others) = functions_in others
+functions_in (Waited g others) = functions_in others
+functions_in (Inner is_loop others) = functions_in others
 
 abbrev pub number_after : ℕ → ℕ
 number_after x = if nat_lt x 255 then x + 1 else 255
@@ -39,8 +68,13 @@ abbrev pub number_next : Meaning → List Token → Result ℕ Fault
 number_next (meaning.Variable v) ts = number_behind v ts
 number_next (meaning.Counter v) ts = number_behind (number_after v) ts
 number_next (meaning.Constant z) ts = Ok 0
+number_next (meaning.Task t) ts = number_behind t.variable ts
+number_next (meaning.Awaited v) ts = number_behind v ts
+number_next (meaning.OuterTask t) ts = number_behind t.variable ts
 
 -- the number of one more variable
 abbrev pub new_number : Scope → List Token → Result ℕ Fault
 new_number (Functions hs) ts = Ok 0
 new_number (WithName x m others) ts = number_next m ts
+new_number (Waited g others) ts = new_number others ts
+new_number (Inner is_loop others) ts = new_number others ts

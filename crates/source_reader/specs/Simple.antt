@@ -1,20 +1,23 @@
 -- Statements without blocks.
-use Rattle.std.specs.Prelude.{ℕ, pos, ◌||◌, List, [], ◌∷◌, drop, Option, Some, None, Result, Ok, Err, if◌then◌else◌}
+use Rattle.std.specs.Prelude.{ℕ, List, [], ◌∷◌, drop, Option, Some, None, is_none, Result, Ok, Err, if◌then◌else◌}
 use Rattle.source_tokens.specs.declared.tokens.Kind.{Kind}
 use Rattle.source_tokens.specs.declared.tokens.Kind.TheVariants as kind
 use Rattle.source_tokens.specs.declared.tokens.Token.{Token}
 use Rattle.source_reader.specs.declared.faults.Fault.{Fault}
 use Rattle.source_reader.specs.declared.faults.Wrong.TheVariants as wrong
 use Rattle.source_reader.specs.Faults.{◌>>=◌, fault_at}
-use Rattle.source_reader.specs.Trees.{value_tree_of, TestTree, ValueTree, StmtTree, Constant, Variable, NumberTree, ThenTree, ReturnTree}
+use Rattle.source_reader.specs.Trees.{value_tree_of, TestTree, ValueTree, StmtTree, Variable, NumberTree, SkipTree}
 use Rattle.source_reader.specs.declared.names.Meaning.{Meaning}
 use Rattle.source_reader.specs.declared.names.Meaning.TheVariants as meaning
 use Rattle.source_reader.specs.declared.simple.Count.{Count}
+use Rattle.source_reader.specs.declared.tasks.Reach.TheVariants as reach
 use Rattle.source_reader.specs.Names.{Scope, meaning_of, new_number, number_behind}
+use Rattle.source_reader.specs.Tasks.{pending}
+use Rattle.source_reader.specs.Waits.{awaited_at}
 use Rattle.source_reader.specs.Joining.{test_in, operation, a_number}
 use Rattle.source_reader.specs.Values.{unexpected, whole_value}
-use Rattle.source_reader.specs.Calls.{is_call, call_at}
-use Rattle.source_reader.specs.Lines.{assigned, returned, after_set, after_in, after_range, free_name, is_line_end, is_end}
+use Rattle.source_reader.specs.Calls.{is_call, call_at, is_spawn, spawn_at}
+use Rattle.source_reader.specs.Lines.{assigned, after_set, after_in, after_range, free_name}
 
 abbrev pub condition_at : Scope → List Token → Result (TestTree × List Token) Fault
 condition_at names ts = do
@@ -47,12 +50,16 @@ set_at names x rest = do
 abbrev pub given_at : Scope → ℕ → List Token → ReadStmt
 given_at names x ts = if is_call ts then call_at names (Some x) (drop 1 ts) else set_at names x ts
 
+-- Behind `=` of a new variable, whose name is the first of the tokens `name`.
+abbrev pub declared_at : Scope → ℕ → (name ts : List Token) → ReadStmt
+declared_at names n name ts = if is_spawn ts then spawn_at names name (drop 1 ts) else given_at names n ts
+
 -- behind `let`
 abbrev pub let_at : Scope → List Token → ReadStmt
 let_at names ts = do
   n ← new_name names ts
   rest ← after_set (drop 1 ts)
-  given_at names n rest
+  declared_at names n ts rest
 
 abbrev pub updated_of : Kind → Scope → ℕ → List Token → List Token → ReadStmt
 updated_of kind.Set names x rest ts = given_at names x rest
@@ -67,9 +74,12 @@ abbrev pub updated : Scope → ℕ → List Token → ReadStmt
 updated names x [] = unexpected []
 updated names x (t ∷ ts) = updated_of t.kind names x ts (t ∷ ts)
 
--- Only variables are assigned to. The name is the first of the tokens.
+-- Only variables are assigned to, and tasks that were waited for. The name is the first of the tokens.
 abbrev pub assigned_to : Scope → Meaning → List Token → List Token → ReadStmt
 assigned_to names (meaning.Variable v) ts rest = updated names v rest
+assigned_to names (meaning.Awaited v) ts rest = updated names v rest
+assigned_to names (meaning.Task t) ts rest = Err (fault_at ts wrong.NotWaited)
+assigned_to names (meaning.OuterTask t) ts rest = Err (fault_at ts wrong.NotWaited)
 assigned_to names (meaning.Counter v) ts rest = Err (fault_at ts wrong.NotAssigned)
 assigned_to names (meaning.Constant z) ts rest = Err (fault_at ts wrong.NotAssigned)
 
@@ -77,25 +87,13 @@ abbrev pub assigned_at : Scope → Option Meaning → List Token → List Token 
 assigned_at names None ts rest = Err (fault_at ts wrong.UnknownName)
 assigned_at names (Some m) ts rest = assigned_to names m ts rest
 
-abbrev pub value_returned : Scope → List Token → ReadStmt
-value_returned names ts = do
-  v ← whole_value names ts
-  Ok (returned v.0, v.1)
+-- Behind `wait`: it is done already.
+abbrev pub wait_at : Scope → List Token → ReadStmt
+wait_at names ts = awaited_at names ts >>= λ v. Ok (SkipTree, drop 1 ts)
 
--- Behind `call`: the value is that of one more variable.
-abbrev pub call_returned : Scope → List Token → ReadStmt
-call_returned names ts = do
-  n ← new_number names ts
-  c ← call_at names (Some n) ts
-  Ok (ThenTree c.0 (ReturnTree (Variable n)), c.1)
-
-abbrev pub something_returned : Scope → List Token → ReadStmt
-something_returned names ts = if is_call ts then call_returned names (drop 1 ts) else value_returned names ts
-
--- behind `return`
-abbrev pub return_at : Scope → List Token → ReadStmt
-return_at names [] = unexpected []
-return_at names (t ∷ ts) = if is_line_end t.kind || is_end t.kind then Ok (ReturnTree (Constant (pos 0)), t ∷ ts) else something_returned names (t ∷ ts)
+-- `sync`, which is the first of the tokens, behind its waits: the blocks around have no task that was not waited for.
+abbrev pub sync_at : Scope → (ts rest : List Token) → ReadStmt
+sync_at names ts rest = if is_none (pending reach.Function names) then Ok (SkipTree, rest) else Err (fault_at ts wrong.WaitSkipped)
 
 -- the head of a loop that counts: its index and that one's variable, the variable of the end, and both values
 pub record CountTree : Type 0 where

@@ -1,5 +1,5 @@
 -- Statements and blocks.
-use Rattle.std.specs.Prelude.{ℕ, zero, suc, pos, Bool, true, false, List, [], ◌∷◌, Option, Some, None, Result, Ok, Err, if◌then◌else◌}
+use Rattle.std.specs.Prelude.{ℕ, zero, suc, pos, Bool, true, false, List, [], ◌∷◌, drop, Option, Some, None, Result, Ok, Err, if◌then◌else◌}
 use Rattle.source_language.specs.declared.syntax.Operator.TheVariants as op
 use Rattle.source_tokens.specs.declared.tokens.Kind.{Kind}
 use Rattle.source_tokens.specs.declared.tokens.Kind.TheVariants as kind
@@ -8,12 +8,18 @@ use Rattle.source_reader.specs.declared.faults.Fault.{Fault}
 use Rattle.source_reader.specs.declared.faults.Wrong.TheVariants as wrong
 use Rattle.source_reader.specs.Faults.{◌>>=◌, fault_at}
 use Rattle.source_reader.specs.Trees.{ValueTree, StmtTree, Constant, Variable, TwoTree, HoldsTree, SkipTree, ThenTree, AssignTree, IfTree, LoopTree, BreakTree, ContinueTree}
+use Rattle.source_reader.specs.declared.names.Meaning.{Meaning}
 use Rattle.source_reader.specs.declared.names.Meaning.TheVariants as meaning
-use Rattle.source_reader.specs.Names.{Scope, WithName, meaning_of, new_number}
+use Rattle.source_reader.specs.declared.names.Task.{Task}
+use Rattle.source_reader.specs.declared.tasks.Reach.TheVariants as reach
+use Rattle.source_reader.specs.Names.{Scope, WithName, Waited, Inner, meaning_of, new_number}
+use Rattle.source_reader.specs.Tasks.{free_group, waited, leaving, block_end}
+use Rattle.source_reader.specs.Waits.{next_wait}
 use Rattle.source_reader.specs.Values.{unexpected}
 use Rattle.source_reader.specs.Lines.{assigned, leaves, after_begin, after_line_ends, ended, after_end, let_name}
-use Rattle.source_reader.specs.Calls.{call_at}
-use Rattle.source_reader.specs.Simple.{ReadStmt, condition_at, count_at, let_at, assigned_at, return_at}
+use Rattle.source_reader.specs.Calls.{call_at, is_spawn}
+use Rattle.source_reader.specs.Simple.{ReadStmt, condition_at, count_at, let_at, assigned_at, wait_at, sync_at}
+use Rattle.source_reader.specs.Returns.{return_at}
 
 -- What is read: `{ .. }`; what follows `{`, where what comes may never be reached; a statement; or what may follow the block of an `if`. Each says whether there is a loop around it.
 pub data Part : Type 0 where
@@ -25,12 +31,17 @@ pub data Part : Type 0 where
 abbrev pub Reader : Type 0
 Reader = Scope → Part → List Token → ReadStmt
 
--- the names behind a statement
+-- what a new variable stands for, by what follows `let x =`
+abbrev pub let_meaning : Scope → ℕ → List Token → Result Meaning Fault
+let_meaning names n ts = if is_spawn ts then (free_group names ts >>= λ g. Ok (meaning.Task (record { variable = n; group = g }))) else Ok (meaning.Variable n)
+
+-- the names behind a statement, which begins with the first of the tokens
 abbrev pub with_name : Option ℕ → Scope → List Token → Result Scope Fault
 with_name None names ts = Ok names
 with_name (Some x) names ts = do
   n ← new_number names ts
-  Ok (WithName x (meaning.Variable n) names)
+  m ← let_meaning names n (drop 1 (drop 1 (drop 1 ts)))
+  Ok (WithName x m names)
 
 abbrev pub line_and_rest : Reader → Scope → Bool → List Token → ReadStmt
 line_and_rest next names in_loop ts = do
@@ -40,15 +51,25 @@ line_and_rest next names in_loop ts = do
   others ← next inner (Rest in_loop (leaves first.0)) rest
   Ok (ThenTree first.0 others.0, others.1)
 
+-- a wait for a task, and then the same line, which sees what the task gave
+abbrev pub wait_and_rest : Reader → Scope → Bool → Task → List Token → ReadStmt
+wait_and_rest next names in_loop t ts = do
+  others ← next (Waited t.group names) (Rest in_loop false) ts
+  Ok (ThenTree (waited t) others.0, others.1)
+
+abbrev pub first_line : Reader → Scope → Bool → Option Task → List Token → ReadStmt
+first_line next names in_loop None ts = line_and_rest next names in_loop ts
+first_line next names in_loop (Some t) ts = wait_and_rest next names in_loop t ts
+
 abbrev pub rest_of : Reader → Scope → (in_loop left : Bool) → Option (List Token) → List Token → ReadStmt
-rest_of next names in_loop left (Some after) ts = Ok (SkipTree, after)
+rest_of next names in_loop left (Some after) ts = block_end left names ts >>= λ s. Ok (s, after)
 rest_of next names in_loop true None ts = Err (fault_at ts wrong.NeverReached)
-rest_of next names in_loop false None ts = line_and_rest next names in_loop ts
+rest_of next names in_loop false None ts = first_line next names in_loop (next_wait names ts) ts
 
 abbrev pub while_at : Reader → Scope → List Token → ReadStmt
 while_at next names ts = do
   c ← condition_at names ts
-  b ← next names (Block true) c.1
+  b ← next (Inner true names) (Block true) c.1
   Ok (LoopTree c.0 b.0 SkipTree, b.1)
 
 -- the turns of a loop whose index is set already
@@ -63,13 +84,13 @@ counting_loop i h low high body = ThenTree (assigned i low) (ThenTree (assigned 
 abbrev pub for_at : Reader → Scope → List Token → ReadStmt
 for_at next names ts = do
   c ← count_at names ts
-  b ← next (WithName c.0.name (meaning.Counter c.0.index) names) (Block true) c.1
+  b ← next (Inner true (WithName c.0.name (meaning.Counter c.0.index) names)) (Block true) c.1
   Ok (counting_loop c.0.index c.0.end c.0.low c.0.high b.0, b.1)
 
 abbrev pub if_at : Reader → Scope → Bool → List Token → ReadStmt
 if_at next names in_loop ts = do
   c ← condition_at names ts
-  a ← next names (Block in_loop) c.1
+  a ← next (Inner false names) (Block in_loop) c.1
   b ← next names (Otherwise in_loop) a.1
   Ok (IfTree c.0 a.0 b.0, b.1)
 
@@ -82,8 +103,10 @@ line_of next names in_loop kind.Let rest ts = let_at names rest
 line_of next names in_loop (kind.Name x) rest ts = assigned_at names (meaning_of x names) ts rest
 line_of next names in_loop kind.Return rest ts = return_at names rest
 line_of next names in_loop kind.Call rest ts = call_at names None rest
-line_of next names in_loop kind.Break rest ts = if_in_loop in_loop (BreakTree 0) rest ts
-line_of next names in_loop kind.Continue rest ts = if_in_loop in_loop (ContinueTree 0) rest ts
+line_of next names in_loop kind.Wait rest ts = wait_at names rest
+line_of next names in_loop kind.Sync rest ts = sync_at names ts rest
+line_of next names in_loop kind.Break rest ts = if_in_loop in_loop (leaving reach.Loop names (BreakTree 0)) rest ts
+line_of next names in_loop kind.Continue rest ts = if_in_loop in_loop (leaving reach.Loop names (ContinueTree 0)) rest ts
 line_of next names in_loop kind.While rest ts = while_at next names rest
 line_of next names in_loop kind.For rest ts = for_at next names rest
 line_of next names in_loop kind.If rest ts = if_at next names in_loop rest
@@ -103,7 +126,7 @@ is_if (t ∷ ts) = is_if_of t.kind
 
 -- behind `else`
 abbrev pub else_at : Reader → Scope → Bool → List Token → ReadStmt
-else_at next names in_loop ts = if is_if ts then next names (Line in_loop) ts else next names (Block in_loop) ts
+else_at next names in_loop ts = if is_if ts then next names (Line in_loop) ts else next (Inner false names) (Block in_loop) ts
 
 abbrev pub otherwise_of : Reader → Scope → Bool → Kind → List Token → List Token → ReadStmt
 otherwise_of next names in_loop kind.Else rest ts = else_at next names in_loop rest

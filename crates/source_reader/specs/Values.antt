@@ -13,6 +13,7 @@ use Rattle.source_reader.specs.Trees.{ExprTree, ValueTree, Constant, Variable, S
 use Rattle.source_reader.specs.declared.names.Meaning.{Meaning}
 use Rattle.source_reader.specs.declared.names.Meaning.TheVariants as meaning
 use Rattle.source_reader.specs.Names.{Scope, meaning_of}
+use Rattle.source_reader.specs.Waits.{awaited_at}
 use Rattle.source_reader.specs.Joining.{level_of, test_in, minus, joined}
 
 abbrev pub unexpected : {A : Type 0} → List Token → Result A Fault
@@ -53,15 +54,22 @@ pub data Wanted : Type 0 where
 abbrev pub Read : Type 0
 Read = Result (ValueTree × List Token) Fault
 
--- what a name is worth
-abbrev pub worth : Meaning → ExprTree
-worth (meaning.Variable v) = Variable v
-worth (meaning.Counter v) = Variable v
-worth (meaning.Constant z) = Constant z
+-- what a name is worth, which is the first of the tokens
+abbrev pub worth : Meaning → List Token → Result ExprTree Fault
+worth (meaning.Variable v) ts = Ok (Variable v)
+worth (meaning.Counter v) ts = Ok (Variable v)
+worth (meaning.Constant z) ts = Ok (Constant z)
+worth (meaning.Awaited v) ts = Ok (Variable v)
+worth (meaning.Task t) ts = Err (fault_at ts wrong.NotWaited)
+worth (meaning.OuterTask t) ts = Err (fault_at ts wrong.NotWaited)
 
 abbrev pub named : Option Meaning → List Token → List Token → Read
 named None ts rest = Err (fault_at ts wrong.UnknownName)
-named (Some m) ts rest = Ok (NumberTree (worth m), rest)
+named (Some m) ts rest = worth m ts >>= λ e. Ok (NumberTree e, rest)
+
+-- Behind `wait`: the value of a task.
+abbrev pub awaited_value : Scope → List Token → Read
+awaited_value names ts = awaited_at names ts >>= λ v. Ok (NumberTree (Variable v), drop 1 ts)
 
 abbrev pub more : (Wanted → List Token → Read) → ℕ → ValueTree → Option Sign → List Token → Read
 more next l left None ts = Ok (left, ts)
@@ -97,6 +105,7 @@ single_of next names kind.Not ts rest = next Single rest >>= λ v. Ok (TruthTree
 single_of next names kind.Open ts rest = bracketed next rest
 single_of next names kind.Slot ts rest = without_arguments SlotTree rest
 single_of next names kind.Width ts rest = without_arguments WidthTree rest
+single_of next names kind.Wait ts rest = awaited_value names rest
 single_of next names k ts rest = unexpected ts
 
 abbrev pub single : (Wanted → List Token → Read) → Scope → List Token → Read

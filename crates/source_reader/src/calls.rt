@@ -1,6 +1,6 @@
-// Calls of functions: a task that is waited for at once.
-ghost use Rattle.std.specs.Prelude.{◌≡◌, IfOk};
-ghost use Rattle.source_reader.specs.Calls.{found, callee_at, argument_at, after_last, before_next, view_arguments, no_argument, one_argument, two_arguments, arguments_at, called, call_at, is_call};
+// Calls of functions: a task that is waited for at once, or later.
+ghost use Rattle.std.specs.Prelude.{◌≡◌};
+ghost use Rattle.source_reader.specs.Calls.{found, callee_at, argument_at, after_last, before_next, view_arguments, no_argument, one_argument, two_arguments, arguments_at, made, made_at, call_at, spawn_at, is_call, is_spawn};
 ghost use Rattle.source_reader.specs.Faults.{Gives};
 ghost use Rattle.source_reader.specs.Headers.{callee_in};
 ghost use Rattle.source_reader.specs.Names.{names_of, functions_in};
@@ -11,12 +11,13 @@ use crate::headers::{Callee, Title, callee_in, title_at};
 use crate::joining::number_in;
 use crate::lines::is_close;
 use crate::names::Names;
+use crate::tasks::{free_group, group_of};
 use crate::trees::then;
 use crate::values::{after_first, after_open, whole_value};
 use job_language::Group;
 use source_language::{Expr, Maker, Stmt};
 use source_tokens::{Kind, Token};
-use std::alloc::{AllocError, Global};
+use std::alloc::Global;
 
 /// The group of tasks that are called, which is free wherever a statement begins.
 pub const CALLS: u64 = 0;
@@ -28,6 +29,8 @@ fn callee_of(title: Title, names: &Names) -> Option<Callee>
     match names {
         Names::Functions(functions) => callee_in(title, functions, 0),
         Names::Name(_, _, others) => callee_of(title, others),
+        Names::Waited(_, others) => callee_of(title, others),
+        Names::Inner(_, others) => callee_of(title, others),
     }
 }
 
@@ -181,21 +184,31 @@ fn calls() -> Group
     Group::new(CALLS).unwrap()
 }
 
-/// A task of the function of that number, and a wait for it.
-fn called(
-    alloc: Global,
-    value: Option<u8>,
-    number: u8,
-    arguments: Arguments,
-) -> Result<Stmt, AllocError>
-    ensures { IfOk result (λ s. stmt_tree_of s ≡ called value number (view_arguments arguments)) }
+/// A task of the function of that number, in a group.
+fn made(group: Group, number: u8, arguments: Arguments) -> Stmt
+    ensures { stmt_tree_of result ≡ made group number (view_arguments arguments) }
 {
     let Arguments { first, second } = arguments;
-    let made = Stmt::Make(Maker::Spawn(calls()), number, first, second);
-    then(alloc, made, Stmt::Wait(value, None, calls()))
+    Stmt::Make(Maker::Spawn(group), number, first, second)
 }
 
-/// `f(v, w)`, behind `call`. Its value goes to the variable, if there is one.
+/// `f(v, w)`, behind `call` or `spawn`: a task in that group.
+fn made_at<'a>(
+    alloc: Global,
+    names: &Names,
+    group: Group,
+    tokens: &'a [Token],
+) -> Result<(Stmt, &'a [Token]), ReadError>
+    ensures { Gives (λ x. (stmt_tree_of x.0, x.1.now)) result
+        (made_at (names_of names.now) group tokens.entry.now) }
+{
+    let callee = callee_at(names, tokens)?;
+    let inside = after_open(after_first(tokens))?;
+    let (arguments, rest) = arguments_at(alloc, names, callee.parameters, tokens, inside)?;
+    Ok((made(group, callee.number, arguments), rest))
+}
+
+/// `f(v, w)`, behind `call`: a task that is waited for. Its value goes to the variable, if there is one.
 pub(crate) fn call_at<'a>(
     alloc: Global,
     names: &Names,
@@ -205,10 +218,23 @@ pub(crate) fn call_at<'a>(
     ensures { Gives (λ x. (stmt_tree_of x.0, x.1.now)) result
         (call_at (names_of names.now) value tokens.entry.now) }
 {
-    let callee = callee_at(names, tokens)?;
-    let inside = after_open(after_first(tokens))?;
-    let (arguments, rest) = arguments_at(alloc, names, callee.parameters, tokens, inside)?;
-    Ok((called(alloc, value, callee.number, arguments)?, rest))
+    let (made, rest) = made_at(alloc, names, calls(), tokens)?;
+    let wait = Stmt::Wait(value, None, calls());
+    Ok((then(alloc, made, wait)?, rest))
+}
+
+/// `f(v, w)`, behind `spawn`: a task in a group that is free. Its name is the first of the tokens `name`.
+pub(crate) fn spawn_at<'a>(
+    alloc: Global,
+    names: &Names,
+    name: &[Token],
+    tokens: &'a [Token],
+) -> Result<(Stmt, &'a [Token]), ReadError>
+    ensures { Gives (λ x. (stmt_tree_of x.0, x.1.now)) result
+        (spawn_at (names_of names.now) name.now tokens.entry.now) }
+{
+    let group = free_group(names, name)?;
+    made_at(alloc, names, group_of(group), tokens)
 }
 
 /// Whether there is a `call` at the front.
@@ -218,6 +244,19 @@ pub(crate) fn is_call(tokens: &[Token]) -> bool
     match tokens.split_first() {
         Some((first, _)) => match first.kind {
             Kind::Call => true,
+            _ => false,
+        },
+        None => false,
+    }
+}
+
+/// Whether there is a `spawn` at the front.
+pub(crate) fn is_spawn(tokens: &[Token]) -> bool
+    ensures { result ≡ is_spawn tokens.now }
+{
+    match tokens.split_first() {
+        Some((first, _)) => match first.kind {
+            Kind::Spawn => true,
             _ => false,
         },
         None => false,

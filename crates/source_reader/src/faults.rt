@@ -39,6 +39,16 @@ pub enum Wrong {
     UnknownFunction,
     /// A function is called with more or fewer arguments than it has parameters.
     ArgumentCount,
+    /// A task, where a variable is wanted, that was not waited for.
+    NotWaited,
+    /// A wait for a task that may be skipped or done again here, or in a block inside the one that declares the task.
+    WaitSkipped,
+    /// What is waited for is no task.
+    NoTask,
+    /// A block inside that of the function ends, and a task of its own was not waited for.
+    TaskLeft,
+    /// More tasks that were not waited for than a function may have.
+    NoGroup,
     /// More functions than a job may have.
     TooManyFunctions,
     /// There is no function.

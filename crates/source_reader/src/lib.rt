@@ -11,11 +11,14 @@ mod lines;
 mod loops;
 mod names;
 mod places;
+mod returns;
 mod simple;
 mod source;
 mod statements;
+mod tasks;
 mod trees;
 mod values;
+mod waits;
 
 pub use faults::Wrong;
 pub use places::Place;

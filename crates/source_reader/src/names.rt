@@ -1,11 +1,28 @@
 // What names stand for.
 ghost use Rattle.std.specs.Prelude.{◌≡◌};
+ghost use Rattle.std.specs.Option.{option_map};
 ghost use Rattle.source_reader.specs.Faults.{Gives};
-ghost use Rattle.source_reader.specs.Names.{names_of, meaning_of, number_after, number_behind, number_next, new_number};
+ghost use Rattle.source_reader.specs.Names.{names_of, is_same_group, awaited, outer, meaning_of, number_after, number_behind, number_next, new_number};
 
 use crate::faults::{ReadError, Wrong, fault_at};
 use crate::headers::Header;
 use source_tokens::Token;
+
+/// A group of tasks that have names. None of them is that of calls.
+#[derive(Clone, Copy)]
+pub(crate) enum TaskGroup {
+    First,
+    Second,
+    Third,
+}
+
+/// A task that has a name: the variable that its value goes to, and its group, which no other task has before this one is
+/// waited for.
+#[derive(Clone, Copy)]
+pub(crate) struct Task {
+    pub(crate) variable: u8,
+    pub(crate) group: TaskGroup,
+}
 
 /// What a name stands for.
 #[derive(Clone, Copy)]
@@ -14,6 +31,12 @@ pub(crate) enum Meaning {
     /// The index of a `for`, which can't be assigned to. The end is the variable behind it.
     Counter(u8),
     Constant(i64),
+    /// A task of this block, which was not waited for.
+    Task(Task),
+    /// The variable of a task that was waited for.
+    Awaited(u8),
+    /// A task of a block around this one, which was not waited for.
+    OuterTask(Task),
 }
 
 /// The names that a place sees, the last one first, and the functions of the source. Constants are declared before all
@@ -23,6 +46,47 @@ pub(crate) enum Names<'a> {
     /// The functions of the source.
     Functions(&'a [Header]),
     Name(usize, Meaning, &'a Names<'a>),
+    /// The names behind a wait for the task of that group.
+    Waited(TaskGroup, &'a Names<'a>),
+    /// The names at the beginning of a block inside the function's own, and whether it is that of a loop.
+    Inner(bool, &'a Names<'a>),
+}
+
+pub(crate) fn is_same_group(a: TaskGroup, b: TaskGroup) -> bool
+    ensures { result ≡ is_same_group a b }
+{
+    match (a, b) {
+        (TaskGroup::First, TaskGroup::First) => true,
+        (TaskGroup::Second, TaskGroup::Second) => true,
+        (TaskGroup::Third, TaskGroup::Third) => true,
+        _ => false,
+    }
+}
+
+/// What a name stands for behind a wait for the task of that group.
+fn awaited(group: TaskGroup, meaning: Meaning) -> Meaning
+    ensures { result ≡ awaited group meaning }
+{
+    match meaning {
+        Meaning::Task(task) => {
+            if is_same_group(task.group, group) {
+                Meaning::Awaited(task.variable)
+            } else {
+                meaning
+            }
+        }
+        _ => meaning,
+    }
+}
+
+/// What a name of a block stands for in a block inside it.
+fn outer(meaning: Meaning) -> Meaning
+    ensures { result ≡ outer meaning }
+{
+    match meaning {
+        Meaning::Task(task) => Meaning::OuterTask(task),
+        _ => meaning,
+    }
 }
 
 /// What the name stands for.
@@ -38,6 +102,14 @@ pub(crate) fn meaning_of(name: usize, names: &Names) -> Option<Meaning>
                 meaning_of(name, others)
             }
         }
+        Names::Waited(group, others) => match meaning_of(name, others) {
+            Some(meaning) => Some(awaited(*group, meaning)),
+            None => None,
+        },
+        Names::Inner(_, others) => match meaning_of(name, others) {
+            Some(meaning) => Some(outer(meaning)),
+            None => None,
+        },
     }
 }
 
@@ -67,6 +139,9 @@ fn number_next(meaning: Meaning, tokens: &[Token]) -> Result<u8, ReadError>
         Meaning::Variable(number) => number_behind(number, tokens),
         Meaning::Counter(number) => number_behind(number_after(number), tokens),
         Meaning::Constant(_) => Ok(0),
+        Meaning::Task(task) => number_behind(task.variable, tokens),
+        Meaning::Awaited(number) => number_behind(number, tokens),
+        Meaning::OuterTask(task) => number_behind(task.variable, tokens),
     }
 }
 
@@ -77,5 +152,7 @@ pub(crate) fn new_number(names: &Names, tokens: &[Token]) -> Result<u8, ReadErro
     match names {
         Names::Functions(_) => Ok(0),
         Names::Name(_, meaning, _) => number_next(*meaning, tokens),
+        Names::Waited(_, others) => new_number(others, tokens),
+        Names::Inner(_, others) => new_number(others, tokens),
     }
 }

@@ -3,15 +3,17 @@ ghost use Rattle.std.specs.Prelude.{◌≡◌};
 ghost use Rattle.source_reader.specs.Faults.{Gives};
 ghost use Rattle.source_reader.specs.Trees.{stmt_tree_of, test_tree_of, value_tree_of};
 ghost use Rattle.source_reader.specs.Names.{names_of, meaning_of, new_number};
-ghost use Rattle.source_reader.specs.Simple.{condition_at, new_name, given_at, let_at, updated, assigned_to, assigned_at, call_returned, something_returned, return_at, view_count, count_at};
+ghost use Rattle.source_reader.specs.Simple.{condition_at, new_name, given_at, let_at, updated, assigned_to, assigned_at, declared_at, wait_at, sync_at, view_count, count_at};
 
-use crate::calls::{call_at, is_call};
+use crate::calls::{call_at, is_call, is_spawn, spawn_at};
 use crate::faults::{ReadError, Wrong, fault_at};
 use crate::joining::{Value, arithmetic, test_in};
-use crate::lines::{after_in, after_range, after_set, free_name, is_end, is_line_end};
+use crate::lines::{after_in, after_range, after_set, free_name};
 use crate::names::{Meaning, Names, meaning_of, new_number, number_behind};
-use crate::trees::{assigned, returned, then};
+use crate::tasks::{Reach, pending};
+use crate::trees::assigned;
 use crate::values::{after_first, whole_value};
+use crate::waits::awaited_at;
 use source_language::{Expr, Stmt, Test};
 use source_tokens::{Kind, Token};
 use std::alloc::Global;
@@ -62,7 +64,7 @@ fn given_at<'a>(
     Ok((assigned(alloc, number, value)?, after))
 }
 
-/// `let x = v`, behind `let`.
+/// `let x = v`, or `let a = spawn f(v, w)`, behind `let`.
 pub(crate) fn let_at<'a>(
     alloc: Global,
     names: &Names,
@@ -73,7 +75,25 @@ pub(crate) fn let_at<'a>(
 {
     let number = new_name(names, tokens)?;
     let rest = after_set(after_first(tokens))?;
-    given_at(alloc, names, number, rest)
+    declared_at(alloc, names, number, tokens, rest)
+}
+
+/// What a new variable stands for, behind `=`: a task, or what it is given. The first of the tokens `name` is its name.
+fn declared_at<'a>(
+    alloc: Global,
+    names: &Names,
+    number: u8,
+    name: &[Token],
+    tokens: &'a [Token],
+) -> Result<(Stmt, &'a [Token]), ReadError>
+    ensures { Gives (λ x. (stmt_tree_of x.0, x.1.now)) result
+        (declared_at (names_of names.now) number name.now tokens.entry.now) }
+{
+    if is_spawn(tokens) {
+        spawn_at(alloc, names, name, after_first(tokens))
+    } else {
+        given_at(alloc, names, number, tokens)
+    }
 }
 
 /// `x = v`, `x += v` and the like, of which the first token is a variable's name.
@@ -93,7 +113,7 @@ pub(crate) fn assigned_at<'a>(
     }
 }
 
-/// Only variables are assigned to. The first of the tokens is the name.
+/// Only variables are assigned to, and tasks that were waited for. The first of the tokens is the name.
 fn assigned_to<'a>(
     alloc: Global,
     names: &Names,
@@ -106,6 +126,9 @@ fn assigned_to<'a>(
 {
     match meaning {
         Meaning::Variable(number) => updated(alloc, names, number, rest),
+        Meaning::Awaited(number) => updated(alloc, names, number, rest),
+        Meaning::Task(_) => Err(fault_at(tokens, Wrong::NotWaited)),
+        Meaning::OuterTask(_) => Err(fault_at(tokens, Wrong::NotWaited)),
         Meaning::Counter(_) => Err(fault_at(tokens, Wrong::NotAssigned)),
         Meaning::Constant(_) => Err(fault_at(tokens, Wrong::NotAssigned)),
     }
@@ -135,52 +158,32 @@ fn updated<'a>(
     }
 }
 
-/// `return v` or `return`, behind the word.
-pub(crate) fn return_at<'a>(
-    alloc: Global,
+/// `wait a`, behind `wait`. The wait itself stands before the statement.
+pub(crate) fn wait_at<'a>(
     names: &Names,
     tokens: &'a [Token],
 ) -> Result<(Stmt, &'a [Token]), ReadError>
     ensures { Gives (λ x. (stmt_tree_of x.0, x.1.now)) result
-        (return_at (names_of names.now) tokens.entry.now) }
+        (wait_at (names_of names.now) tokens.entry.now) }
 {
-    let Some((first, _)) = tokens.split_first() else {
-        return Err(fault_at(tokens, Wrong::Unexpected));
-    };
-    if is_line_end(first.kind) || is_end(first.kind) {
-        return Ok((Stmt::Return(Expr::Number(0)), tokens));
-    }
-    something_returned(alloc, names, tokens)
+    let _variable = awaited_at(names, tokens)?;
+    Ok((Stmt::Skip, after_first(tokens)))
 }
 
-fn something_returned<'a>(
-    alloc: Global,
+/// `sync`, which is the first of the tokens. Its waits stand before it, and the blocks around have no task to wait for.
+pub(crate) fn sync_at<'a>(
     names: &Names,
-    tokens: &'a [Token],
+    tokens: &[Token],
+    rest: &'a [Token],
 ) -> Result<(Stmt, &'a [Token]), ReadError>
     ensures { Gives (λ x. (stmt_tree_of x.0, x.1.now)) result
-        (something_returned (names_of names.now) tokens.entry.now) }
+        (sync_at (names_of names.now) tokens.now rest.entry.now) }
 {
-    if is_call(tokens) {
-        return call_returned(alloc, names, after_first(tokens));
+    if pending(Reach::Function, names).is_none() {
+        Ok((Stmt::Skip, rest))
+    } else {
+        Err(fault_at(tokens, Wrong::WaitSkipped))
     }
-    let (value, after) = whole_value(alloc, names, tokens)?;
-    Ok((returned(alloc, value)?, after))
-}
-
-/// `return call f(v, w)`, behind `call`: one more variable has the value.
-fn call_returned<'a>(
-    alloc: Global,
-    names: &Names,
-    tokens: &'a [Token],
-) -> Result<(Stmt, &'a [Token]), ReadError>
-    ensures { Gives (λ x. (stmt_tree_of x.0, x.1.now)) result
-        (call_returned (names_of names.now) tokens.entry.now) }
-{
-    let number = new_number(names, tokens)?;
-    let (call, after) = call_at(alloc, names, Some(number), tokens)?;
-    let value = Stmt::Return(Expr::Variable(number));
-    Ok((then(alloc, call, value)?, after))
 }
 
 /// The head of a loop that counts: its index and that one's variable, the variable of the end, and both values.

@@ -1,17 +1,21 @@
 // Statements and blocks.
-ghost use Rattle.std.specs.Prelude.{◌≡◌, false};
+ghost use Rattle.std.specs.Prelude.{◌≡◌, false, drop};
 ghost use Rattle.source_reader.specs.Faults.{Gives};
 ghost use Rattle.source_reader.specs.Trees.{stmt_tree_of};
 ghost use Rattle.source_reader.specs.Names.{names_of};
-ghost use Rattle.source_reader.specs.Statements.{is_if, if_in_loop, for_at, stmt_at, Block, Rest, Line, Otherwise};
+ghost use Rattle.source_reader.specs.Statements.{is_if, if_in_loop, let_meaning, line_and_rest, for_at, stmt_at, Block, Rest, Line, Otherwise};
 
-use crate::calls::call_at;
+use crate::calls::{call_at, is_spawn};
 use crate::faults::{ReadError, Wrong, fault_at};
 use crate::lines::{after_begin, after_end, after_line_ends, ended, let_name};
 use crate::loops::counting_loop;
-use crate::names::{Meaning, Names, new_number};
-use crate::simple::{Count, assigned_at, condition_at, count_at, let_at, return_at};
+use crate::names::{Meaning, Names, Task, new_number};
+use crate::returns::return_at;
+use crate::simple::{Count, assigned_at, condition_at, count_at, let_at, sync_at, wait_at};
+use crate::tasks::{Reach, block_end, free_group, leaving, waited};
 use crate::trees::{choice, leaves, looped, then};
+use crate::values::after_first;
+use crate::waits::next_wait;
 use source_language::Stmt;
 use source_tokens::{Kind, Token};
 use std::alloc::Global;
@@ -43,6 +47,27 @@ fn if_in_loop<'a>(
     } else {
         Err(fault_at(tokens, Wrong::NoLoop))
     }
+}
+
+/// What follows `let x =`.
+fn behind_set(tokens: &[Token]) -> &[Token]
+    ensures { result.now ≡ drop 1 (drop 1 (drop 1 tokens.now)) }
+{
+    after_first(after_first(after_first(tokens)))
+}
+
+/// What a new variable stands for, by what follows `let x =`.
+fn let_meaning(names: &Names, number: u8, tokens: &[Token]) -> Result<Meaning, ReadError>
+    ensures { Gives (λ m. m) result (let_meaning (names_of names.now) number tokens.now) }
+{
+    if !is_spawn(tokens) {
+        return Ok(Meaning::Variable(number));
+    }
+    let group = free_group(names, tokens)?;
+    Ok(Meaning::Task(Task {
+        variable: number,
+        group,
+    }))
 }
 
 /// `{ .. }`.
@@ -84,23 +109,46 @@ fn rest_at<'a>(
     }
     let lines = after_line_ends(tokens);
     if let Some(after) = after_end(lines) {
-        return Ok((Stmt::Skip, after));
+        return Ok((block_end(alloc, left, names, lines)?, after));
     }
     if left {
         return Err(fault_at(lines, Wrong::NeverReached));
     }
-    let (first, rest) = line_at(alloc, names, in_loop, fuel - 1, lines)?;
+    match next_wait(names, lines) {
+        None => lines_at(alloc, names, in_loop, fuel - 1, lines),
+        Some(task) => {
+            let behind = Names::Waited(task.group, &*names);
+            let (others, after) = rest_at(alloc, &behind, in_loop, false, fuel - 1, lines)?;
+            Ok((then(alloc, waited(task), others)?, after))
+        }
+    }
+}
+
+/// A statement, and those behind it, up to the end of a block.
+#[cycle(statements)]
+fn lines_at<'a>(
+    alloc: Global,
+    names: &Names,
+    in_loop: bool,
+    fuel: u16,
+    tokens: &'a [Token],
+) -> Result<(Stmt, &'a [Token]), ReadError>
+    ensures { Gives (λ x. (stmt_tree_of x.0, x.1.now)) result
+        (line_and_rest (stmt_at fuel) (names_of names.now) in_loop tokens.entry.now) }
+{
+    let (first, rest) = line_at(alloc, names, in_loop, fuel, tokens)?;
     let rest = ended(rest)?;
     let left = leaves(&first);
-    match let_name(lines) {
+    match let_name(tokens) {
         None => {
-            let (others, after) = rest_at(alloc, names, in_loop, left, fuel - 1, rest)?;
+            let (others, after) = rest_at(alloc, names, in_loop, left, fuel, rest)?;
             Ok((then(alloc, first, others)?, after))
         }
         Some(name) => {
-            let number = new_number(names, lines)?;
-            let inner = Names::Name(name, Meaning::Variable(number), names);
-            let (others, after) = rest_at(alloc, &inner, in_loop, left, fuel - 1, rest)?;
+            let number = new_number(names, tokens)?;
+            let meaning = let_meaning(names, number, behind_set(tokens))?;
+            let inner = Names::Name(name, meaning, &*names);
+            let (others, after) = rest_at(alloc, &inner, in_loop, left, fuel, rest)?;
             Ok((then(alloc, first, others)?, after))
         }
     }
@@ -130,17 +178,27 @@ fn line_at<'a>(
         Kind::Name(name) => assigned_at(alloc, names, name, tokens, rest),
         Kind::Return => return_at(alloc, names, rest),
         Kind::Call => call_at(alloc, names, None, rest),
-        Kind::Break => if_in_loop(in_loop, Stmt::Break(0), rest, tokens),
-        Kind::Continue => if_in_loop(in_loop, Stmt::Continue(0), rest, tokens),
+        Kind::Wait => wait_at(names, rest),
+        Kind::Sync => sync_at(names, tokens, rest),
+        Kind::Break => {
+            let s = leaving(alloc, Reach::Loop, names, Stmt::Break(0))?;
+            if_in_loop(in_loop, s, rest, tokens)
+        }
+        Kind::Continue => {
+            let s = leaving(alloc, Reach::Loop, names, Stmt::Continue(0))?;
+            if_in_loop(in_loop, s, rest, tokens)
+        }
         Kind::While => {
             let (condition, after) = condition_at(alloc, names, rest)?;
-            let (body, after) = block_at(alloc, names, true, fuel - 1, after)?;
+            let inner = Names::Inner(true, &*names);
+            let (body, after) = block_at(alloc, &inner, true, fuel - 1, after)?;
             Ok((looped(alloc, condition, body)?, after))
         }
         Kind::For => for_at(alloc, names, fuel - 1, rest),
         Kind::If => {
             let (condition, after) = condition_at(alloc, names, rest)?;
-            let (then, after) = block_at(alloc, names, in_loop, fuel - 1, after)?;
+            let inner = Names::Inner(false, &*names);
+            let (then, after) = block_at(alloc, &inner, in_loop, fuel - 1, after)?;
             let (other, after) = otherwise_at(alloc, names, in_loop, fuel - 1, after)?;
             Ok((choice(alloc, condition, then, other)?, after))
         }
@@ -167,7 +225,8 @@ fn for_at<'a>(
         low,
         high,
     } = count;
-    let inner = Names::Name(name, Meaning::Counter(index), names);
+    let named = Names::Name(name, Meaning::Counter(index), &*names);
+    let inner = Names::Inner(true, &named);
     let (body, after) = block_at(alloc, &inner, true, fuel, rest)?;
     Ok((counting_loop(alloc, index, end, low, high, body)?, after))
 }
@@ -196,7 +255,8 @@ fn otherwise_at<'a>(
             if is_if(rest) {
                 line_at(alloc, names, in_loop, fuel - 1, rest)
             } else {
-                block_at(alloc, names, in_loop, fuel - 1, rest)
+                let inner = Names::Inner(false, &*names);
+                block_at(alloc, &inner, in_loop, fuel - 1, rest)
             }
         }
         _ => Ok((Stmt::Skip, tokens)),

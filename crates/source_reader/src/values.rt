@@ -3,11 +3,12 @@ ghost use Rattle.std.specs.Prelude.{◌≡◌, drop};
 ghost use Rattle.source_reader.specs.Faults.{Gives};
 ghost use Rattle.source_reader.specs.Trees.{tree_of, value_tree_of};
 ghost use Rattle.source_reader.specs.Names.{names_of, meaning_of};
-ghost use Rattle.source_reader.specs.Values.{after_open, after_close, sign_at, worth, named, without_arguments, value_at, whole_value, Level, More, Single};
+ghost use Rattle.source_reader.specs.Values.{after_open, after_close, sign_at, worth, named, awaited_value, without_arguments, value_at, whole_value, Level, More, Single};
 
 use crate::faults::{ReadError, Wrong, fault_at};
 use crate::joining::{Value, joined, level_of, minus, opposite};
 use crate::names::{Meaning, Names, meaning_of};
+use crate::waits::awaited_at;
 use source_language::Expr;
 use source_tokens::{Kind, Sign, Token};
 use std::alloc::Global;
@@ -73,14 +74,17 @@ fn sign_at(level: u8, tokens: &[Token]) -> Option<Sign>
     }
 }
 
-/// What a name is worth that stands for this.
-fn worth(meaning: Meaning) -> Expr
-    ensures { tree_of result ≡ worth meaning }
+/// What a name is worth that stands for this. It is the first of the tokens.
+fn worth(meaning: Meaning, tokens: &[Token]) -> Result<Expr, ReadError>
+    ensures { Gives tree_of result (worth meaning tokens.now) }
 {
     match meaning {
-        Meaning::Variable(number) => Expr::Variable(number),
-        Meaning::Counter(number) => Expr::Variable(number),
-        Meaning::Constant(number) => Expr::Number(number),
+        Meaning::Variable(number) => Ok(Expr::Variable(number)),
+        Meaning::Counter(number) => Ok(Expr::Variable(number)),
+        Meaning::Constant(number) => Ok(Expr::Number(number)),
+        Meaning::Awaited(number) => Ok(Expr::Variable(number)),
+        Meaning::Task(_) => Err(fault_at(tokens, Wrong::NotWaited)),
+        Meaning::OuterTask(_) => Err(fault_at(tokens, Wrong::NotWaited)),
     }
 }
 
@@ -95,9 +99,21 @@ fn named<'a>(
         (named (meaning_of name (names_of names.now)) tokens.now rest.entry.now) }
 {
     match meaning_of(name, names) {
-        Some(meaning) => Ok((Value::Number(worth(meaning)), rest)),
+        Some(meaning) => {
+            let e = worth(meaning, tokens)?;
+            Ok((Value::Number(e), rest))
+        }
         None => Err(fault_at(tokens, Wrong::UnknownName)),
     }
+}
+
+/// The value of a task, behind `wait`.
+fn awaited_value<'a>(names: &Names, tokens: &'a [Token]) -> Result<(Value, &'a [Token]), ReadError>
+    ensures { Gives (λ x. (value_tree_of x.0, x.1.now)) result
+        (awaited_value (names_of names.now) tokens.entry.now) }
+{
+    let number = awaited_at(names, tokens)?;
+    Ok((Value::Number(Expr::Variable(number)), after_first(tokens)))
 }
 
 /// A value that takes no arguments, before `()`.
@@ -183,6 +199,7 @@ fn single_at<'a>(
         Kind::Name(name) => named(name, names, tokens, rest),
         Kind::Slot => without_arguments(Expr::Slot, rest),
         Kind::Width => without_arguments(Expr::Width, rest),
+        Kind::Wait => awaited_value(names, rest),
         Kind::Sign(Sign::Minus) => {
             let (value, after) = single_at(alloc, names, fuel - 1, rest)?;
             Ok((minus(alloc, value, tokens)?, after))

@@ -1,0 +1,90 @@
+-- What lines wait for.
+use Rattle.std.specs.Prelude.{ℕ, Bool, true, false, List, [], ◌∷◌, Option, Some, None, Result, Ok, Err, if◌then◌else◌}
+use Rattle.source_tokens.specs.declared.tokens.Sign.TheVariants as sign
+use Rattle.source_tokens.specs.declared.tokens.Kind.{Kind}
+use Rattle.source_tokens.specs.declared.tokens.Kind.TheVariants as kind
+use Rattle.source_tokens.specs.declared.tokens.Token.{Token}
+use Rattle.source_reader.specs.declared.faults.Fault.{Fault}
+use Rattle.source_reader.specs.declared.faults.Wrong.TheVariants as wrong
+use Rattle.source_reader.specs.declared.names.Meaning.{Meaning}
+use Rattle.source_reader.specs.declared.names.Meaning.TheVariants as meaning
+use Rattle.source_reader.specs.declared.names.Task.{Task}
+use Rattle.source_reader.specs.declared.tasks.Reach.TheVariants as reach
+use Rattle.source_reader.specs.declared.waits.Ahead.{Ahead}
+use Rattle.source_reader.specs.declared.waits.Ahead.TheVariants as ahead
+use Rattle.source_reader.specs.Faults.{fault_at}
+use Rattle.source_reader.specs.Names.{Scope, meaning_of}
+use Rattle.source_reader.specs.Tasks.{pending}
+
+-- the task of the name at the front, if it may be waited for here
+abbrev pub named_task : Option Meaning → Option Task
+named_task (Some (meaning.Task t)) = Some t
+named_task m = None
+
+abbrev pub is_unread : Option Meaning → Bool
+is_unread (Some (meaning.Task t)) = true
+is_unread (Some (meaning.OuterTask t)) = true
+is_unread m = false
+
+abbrev pub task_of : Kind → Scope → Option Task
+task_of (kind.Name x) names = named_task (meaning_of x names)
+task_of k names = None
+
+abbrev pub task_at : Scope → List Token → Option Task
+task_at names [] = None
+task_at names (t ∷ ts) = task_of t.kind names
+
+abbrev pub ahead_if : Option Task → Ahead
+ahead_if (Some t) = ahead.Waits t
+ahead_if None = ahead.GoesOn
+
+-- What stands behind `&&` or `||` may be skipped, and a task that is read must have been waited for before.
+abbrev pub ahead_of : Scope → Kind → List Token → Ahead
+ahead_of names kind.Wait ts = ahead_if (task_at names ts)
+ahead_of names (kind.Name x) ts = if is_unread (meaning_of x names) then ahead.Ends else ahead.GoesOn
+ahead_of names (kind.Sign sign.And) ts = ahead.Ends
+ahead_of names (kind.Sign sign.Or) ts = ahead.Ends
+ahead_of names kind.LineEnd ts = ahead.Ends
+ahead_of names kind.Begin ts = ahead.Ends
+ahead_of names kind.End ts = ahead.Ends
+ahead_of names k ts = ahead.GoesOn
+
+abbrev pub wait_or : Ahead → Option Task → Option Task
+wait_or (ahead.Waits t) later = Some t
+wait_or ahead.Ends later = None
+wait_or ahead.GoesOn later = later
+
+-- the first task that a line waits for
+abbrev pub wait_in : Scope → List Token → Option Task
+wait_in names [] = None
+wait_in names (t ∷ ts) = wait_or (ahead_of names t.kind ts) (wait_in names ts)
+
+abbrev pub next_wait_of : Kind → Scope → List Token → Option Task
+next_wait_of kind.Sync names ts = pending reach.Block names
+next_wait_of kind.While names ts = None
+next_wait_of k names ts = wait_in names ts
+
+-- The task that is waited for before the statement at the front is read. The condition of a loop is none of these: it is computed again.
+abbrev pub next_wait : Scope → List Token → Option Task
+next_wait names [] = None
+next_wait names (t ∷ ts) = next_wait_of t.kind names (t ∷ ts)
+
+-- The variable of a task, whose name is the first of the tokens. The wait was done before the statement, unless it may not be done here.
+abbrev pub awaited_variable : Meaning → List Token → Result ℕ Fault
+awaited_variable (meaning.Awaited v) ts = Ok v
+awaited_variable (meaning.Task t) ts = Err (fault_at ts wrong.WaitSkipped)
+awaited_variable (meaning.OuterTask t) ts = Err (fault_at ts wrong.WaitSkipped)
+awaited_variable m ts = Err (fault_at ts wrong.NoTask)
+
+abbrev pub awaited_named : Option Meaning → List Token → Result ℕ Fault
+awaited_named None ts = Err (fault_at ts wrong.UnknownName)
+awaited_named (Some m) ts = awaited_variable m ts
+
+abbrev pub awaited_of : Kind → Scope → List Token → Result ℕ Fault
+awaited_of (kind.Name x) names ts = awaited_named (meaning_of x names) ts
+awaited_of k names ts = Err (fault_at ts wrong.Unexpected)
+
+-- behind `wait`
+abbrev pub awaited_at : Scope → List Token → Result ℕ Fault
+awaited_at names [] = Err (fault_at [] wrong.Unexpected)
+awaited_at names (t ∷ ts) = awaited_of t.kind names (t ∷ ts)

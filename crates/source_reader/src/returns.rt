@@ -1,0 +1,106 @@
+// Statements that return.
+ghost use Rattle.std.specs.Prelude.{◌≡◌, IfOk};
+ghost use Rattle.source_reader.specs.Faults.{Gives};
+ghost use Rattle.source_reader.specs.Trees.{stmt_tree_of, value_tree_of};
+ghost use Rattle.source_reader.specs.Names.{names_of};
+ghost use Rattle.source_reader.specs.Returns.{variable_returned, kept_returned, returned_from, call_returned, something_returned, return_at};
+
+use crate::calls::{call_at, is_call};
+use crate::faults::{ReadError, Wrong, fault_at};
+use crate::joining::Value;
+use crate::lines::{is_end, is_line_end};
+use crate::names::{Names, new_number};
+use crate::tasks::{Reach, leaving, pending};
+use crate::trees::{assigned, returned, then};
+use crate::values::{after_first, whole_value};
+use source_language::{Expr, Stmt};
+use source_tokens::Token;
+use std::alloc::{AllocError, Global};
+
+/// `return v` or `return`, behind the word.
+pub(crate) fn return_at<'a>(
+    alloc: Global,
+    names: &Names,
+    tokens: &'a [Token],
+) -> Result<(Stmt, &'a [Token]), ReadError>
+    ensures { Gives (λ x. (stmt_tree_of x.0, x.1.now)) result
+        (return_at (names_of names.now) tokens.entry.now) }
+{
+    let Some((first, _)) = tokens.split_first() else {
+        return Err(fault_at(tokens, Wrong::Unexpected));
+    };
+    if is_line_end(first.kind) || is_end(first.kind) {
+        let nothing = Stmt::Return(Expr::Number(0));
+        return Ok((leaving(alloc, Reach::Function, names, nothing)?, tokens));
+    }
+    something_returned(alloc, names, tokens)
+}
+
+fn something_returned<'a>(
+    alloc: Global,
+    names: &Names,
+    tokens: &'a [Token],
+) -> Result<(Stmt, &'a [Token]), ReadError>
+    ensures { Gives (λ x. (stmt_tree_of x.0, x.1.now)) result
+        (something_returned (names_of names.now) tokens.entry.now) }
+{
+    if is_call(tokens) {
+        return call_returned(alloc, names, after_first(tokens));
+    }
+    let (value, after) = whole_value(alloc, names, tokens)?;
+    Ok((returned_from(alloc, names, value, tokens)?, after))
+}
+
+/// A variable is returned, behind waits for all tasks.
+fn variable_returned(alloc: Global, names: &Names, number: u8) -> Result<Stmt, AllocError>
+    ensures { IfOk result (λ s. stmt_tree_of s ≡ variable_returned (names_of names.now) number) }
+{
+    let value = Stmt::Return(Expr::Variable(number));
+    leaving(alloc, Reach::Function, names, value)
+}
+
+/// A value is returned. If a task was not waited for, one more variable keeps it until then.
+fn returned_from(
+    alloc: Global,
+    names: &Names,
+    value: Value,
+    tokens: &[Token],
+) -> Result<Stmt, ReadError>
+    ensures { Gives stmt_tree_of result
+        (returned_from (names_of names.now) (value_tree_of value) tokens.now) }
+{
+    if pending(Reach::Function, names).is_none() {
+        return Ok(returned(alloc, value)?);
+    }
+    kept_returned(alloc, names, value, tokens)
+}
+
+fn kept_returned(
+    alloc: Global,
+    names: &Names,
+    value: Value,
+    tokens: &[Token],
+) -> Result<Stmt, ReadError>
+    ensures { Gives stmt_tree_of result
+        (kept_returned (names_of names.now) (value_tree_of value) tokens.now) }
+{
+    let number = new_number(names, tokens)?;
+    let kept = assigned(alloc, number, value)?;
+    let last = variable_returned(alloc, names, number)?;
+    Ok(then(alloc, kept, last)?)
+}
+
+/// `return call f(v, w)`, behind `call`: one more variable has the value.
+fn call_returned<'a>(
+    alloc: Global,
+    names: &Names,
+    tokens: &'a [Token],
+) -> Result<(Stmt, &'a [Token]), ReadError>
+    ensures { Gives (λ x. (stmt_tree_of x.0, x.1.now)) result
+        (call_returned (names_of names.now) tokens.entry.now) }
+{
+    let number = new_number(names, tokens)?;
+    let (call, after) = call_at(alloc, names, Some(number), tokens)?;
+    let last = variable_returned(alloc, names, number)?;
+    Ok((then(alloc, call, last)?, after))
+}
