@@ -29,13 +29,16 @@ class Sources:
     pending: list[str] = field(default_factory=list)
     further_out: int = 0
     """The tasks of the innermost block that were not waited for, and how many there are in the blocks around it."""
+    cells: list[str] = field(default_factory=list)
 
     def source(self) -> str:
-        """A source with a main of two parameters, behind constants, and functions below it. Each calls only later ones."""
+        """A source with a main of two parameters, behind constants and cells, and functions below it. Each calls only later ones,
+        and only main uses cells, so no schedule decides what they give."""
         self.constants = []
-        items = "".join(self.constant() for _ in range(self.draws.choice((0, 0, 1, 2))))
+        items = "".join(self.constant() for _ in range(self.draws.choice((0, 0, 1, 2)))) + self.items_of_cells()
         below = [Called(f"f{number}", self.draws.randint(0, 2)) for number in range(self.draws.choice((0, 1, 1, 2)))]
         functions = self.function(Called("main", 2), below, MOST_DEPTH)
+        self.cells = []
         functions += "".join(self.function(it, below[number:], 1) for number, it in enumerate(below, 1))
         comment = "# drawn\n" if self.draws.random() < 0.3 else ""
         return f"{comment}{items}{functions}"
@@ -53,6 +56,12 @@ class Sources:
         value = self.draws.choice([*self.constants, str(self.draws.randint(-4, 9))])
         self.constants.append(f"C{len(self.constants)}")
         return f"{self.draws.choice(('const', 'param'))} {self.constants[-1]} = {value}\n"
+
+    def items_of_cells(self) -> str:
+        """The items of a few cells, some of which choose their keys."""
+        self.cells = [f"c{number}" for number in range(self.draws.choice((0, 0, 0, 1, 2, 3)))]
+        keys = self.draws.sample(range(8), len(self.cells))
+        return "".join(f"cell {it}{self.draws.choice(('', f' @ {key}'))}\n" for it, key in zip(self.cells, keys))
 
     def block(self, indent: int, depth: int, in_loop: bool) -> str:
         """The lines of a block, without its braces. No statement in it but the last one leaves."""
@@ -73,11 +82,14 @@ class Sources:
         room = "    " * indent
         kind = self.draws.choice(("let", "set", "update", "if", "while") if depth else ("let", "set", "update"))
         if self.callees and self.draws.random() < 0.1:
-            return f"{room}{self.call()}\n"
+            return f"{room}{self.call(('call', 'isolate', 'post'))}\n"
         if self.callees and self.further_out + len(self.pending) < MOST_PENDING and self.draws.random() < 0.2:
             return self.task(room)
         if self.pending and self.draws.random() < 0.4:
             return self.wait(room)
+        if self.cells and self.draws.random() < 0.3:
+            sign = self.draws.choice(("=", *(f"{it}=" for it in ARITHMETIC)))
+            return f"{room}{self.draws.choice(self.cells)}.local {sign} {self.any_value() if sign == '=' else self.value(1)}\n"
         if not self.names or kind == "let" and len(self.names) < 6:
             return self.declared(room, self.given())
         if kind == "if":
@@ -89,14 +101,22 @@ class Sources:
             return f"{room}{name} {self.draws.choice(ARITHMETIC)}= {self.value(1)}\n"
         return f"{room}{name} = {self.given()}\n"
 
-    def call(self) -> str:
-        """A call of one of the functions that are called."""
-        return f"call {self.application()}"
+    def call(self, words: tuple[str, ...] = ("call", "isolate")) -> str:
+        """A call of one of the functions that are called, or a region or a posted task of one."""
+        return f"{self.draws.choice(words)} {self.application()}"
 
     def application(self) -> str:
         """One of the functions that are called, with its arguments."""
         called = self.draws.choice(self.callees)
         return f"{called.name}({', '.join(self.value(1) for _ in range(called.parameters))})"
+
+    def gift(self) -> str:
+        """What gives a value and is no expression, if something is drawn: a call, a region, a cell, `cancelled()`."""
+        if self.callees and self.draws.random() < 0.3:
+            return self.call()
+        if self.cells and self.draws.random() < 0.3:
+            return f"{self.draws.choice(self.cells)}.{self.draws.choice(('local', 'sum', 'count'))}"
+        return "cancelled()" if self.draws.random() < 0.03 else ""
 
     def task(self, room: str) -> str:
         """A task, which is not waited for yet."""
@@ -129,12 +149,12 @@ class Sources:
         return f"{room}let {self.names[-1]} = {value}\n"
 
     def given(self) -> str:
-        """What a variable may be given: a value, or that of a call."""
-        return self.call() if self.callees and self.draws.random() < 0.3 else self.any_value()
+        """What a variable may be given: a value, or what gives one."""
+        return self.gift() or self.any_value()
 
     def returned(self, depth: int) -> str:
-        """What may be returned: a number, or that of a call."""
-        return self.call() if self.callees and self.draws.random() < 0.3 else self.value(depth)
+        """What may be returned: a number, or what gives one."""
+        return self.gift() or self.value(depth)
 
     def choice(self, indent: int, depth: int, in_loop: bool) -> str:
         """An `if`, with the spaces before it."""

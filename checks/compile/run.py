@@ -1,8 +1,9 @@
 #!/usr/bin/env python3
 """Compares arena-compile with the compiler in Python, and both with the interpreter of checks/python, which was written from
-docs/LANGUAGE.md alone, on drawn sources, and on some with loops that count, constants, calls and tasks, at their edges: what both make
-is rehearsed on drawn schedules, and what `arena-compile --serial` prints must be the line of the interpreter's value. Sources with
-faults must be refused at the first one. The last line says how many.
+docs/LANGUAGE.md alone, on drawn sources, and on some with loops that count, constants, calls, tasks and cells, at their edges: what
+both make is rehearsed on drawn schedules, and what `arena-compile --serial` prints must be the line of the interpreter's value. Of the
+examples in examples/jobs those that it takes must give what they say. Sources with faults must be refused at the first one. The
+last line says how many.
 
 usage: checks/compile/run.py [SEED [PROGRAMS]], at the top of the repository; the seed is 1, and 400 programs are drawn, if none
 is said. It runs what `rt ci` or `rt run` left in crates/compile_program, or else builds arena-compile without proofs.
@@ -14,6 +15,8 @@ import re
 import subprocess
 import sys
 from collections import Counter
+from collections.abc import Mapping
+from dataclasses import dataclass
 
 TOP = pathlib.Path(__file__).resolve().parents[2]
 sys.path[:0] = [str(TOP / "checks" / "python"), str(TOP / "checks" / "build"), str(TOP / "python")]
@@ -21,11 +24,14 @@ sys.path[:0] = [str(TOP / "checks" / "python"), str(TOP / "checks" / "build"), s
 from calling_sources import CALLING  # noqa: E402
 from core_sources import Sources  # noqa: E402
 from counting_sources import COUNTING  # noqa: E402
+from arena.jobs import Job  # noqa: E402
 from arena.language import SourceFault, compile_source  # noqa: E402
+from arena.language.examples import examples_of, unit_of  # noqa: E402
 from arena.replies import Complete, Fault, FaultCode  # noqa: E402
 from arena.trace.rehearsal import rehearse  # noqa: E402
 from reference import TooLong, interpreted  # noqa: E402
 from refused_places import REFUSED  # noqa: E402
+from sharing_sources import SHARING  # noqa: E402
 from unproved import built  # noqa: E402
 from waiting_sources import WAITING  # noqa: E402
 
@@ -42,6 +48,11 @@ REPLIES = (
     ("fn main(n) { return call f(n, 3) }\nfn f(a, b) { return a - b }\n", ("--serial", 5), 0, ('{"job":1,"status":"complete","value":2}\n', "")),
     ("fn main(n) { call f(n); return 3 }\nfn f(n) { return 1 / n }\n", ("--serial",), 0, ('{"fault":1,"job":1,"status":"fault"}\n', "")),
     ("fn main() { while 1 { } }\n", ("--serial",), 0, ('{"fault":2,"job":1,"status":"fault"}\n', "")),
+    ("fn main(n) { return isolate f(n, 3) }\nfn f(a, b) { return a - b }\n", ("--serial", 5), 0, ('{"job":1,"status":"complete","value":2}\n', "")),
+    ("cell c\nfn main(n) { return n }\n", ("--serial", 5), 0, ('{"job":1,"status":"complete","value":5}\n', "")),
+    ("cell c\nfn main(n) { c.local = n }\n", ("--serial", 5), 1, ("", "1:1")),
+    ("fn main(n) { post f() }\nfn f() { }\n", ("--serial", 5), 1, ("", "1:1")),
+    ("fn main() { return cancelled() }\n", ("--serial",), 1, ("", "1:1")),
     ("fn main() { return slot() }\n", ("--serial",), 1, ("", "1:1")),
     ("fn main(n) { return m }\n", ("--serial", 12), 1, ("", "1:21")),
     ("fn main(n) { return n }\n", ("--serial", 1, 2, 3), 2, ("", "arena-compile")),
@@ -49,8 +60,8 @@ REPLIES = (
 )
 """Sources, the words for arena-compile, its status, its output, and standard error up to a colon and a space."""
 
-EXAMPLES = ("fib", "serial")
-"""Those of examples/jobs that arena-compile takes."""
+TAKEN = {"fib.job", "posted.job", "serial.job"}
+"""The examples that arena-compile takes."""
 
 FEWEST = {"complete": 0.4, "fault": 0.01}
 """Which share of the programs is at least so."""
@@ -69,18 +80,28 @@ def reply_of(value: int | None) -> str:
     return f'{{"job":1,"status":"complete","value":{value}}}\n'
 
 
-def ended(job: object, draws: random.Random) -> object:
-    """What a job gives: its value, or None for fault 1."""
-    match rehearse(job, draws.randint(1, 4), draws).outcome:
+@dataclass(frozen=True)
+class Ended:
+    """What a job gives: its value, or None for fault 1, and without a fault what the cells sum up to, by their keys, but for 0."""
+
+    value: object
+    cells: Mapping[int, int]
+
+
+def ended(job: object, draws: random.Random) -> Ended:
+    """What a job gives on a drawn schedule."""
+    found = rehearse(job, draws.randint(1, 4), draws)
+    cells = {key: total for key, total in found.cells.items() if total}
+    match found.outcome:
         case Complete(value=value):
-            return value
+            return Ended(value, cells)
         case Fault(code=FaultCode.DIVISION):
-            return None
+            return Ended(None, {})
         case other:
-            return str(other)
+            return Ended(str(other), cells)
 
 
-def of_python(source: str, arguments: tuple[int, int], draws: random.Random) -> object:
+def of_python(source: str, arguments: tuple[int, int], draws: random.Random) -> Ended | str:
     """What the job of the compiler in Python gives, or that it needs too many registers."""
     try:
         return ended(compile_source(source, args=arguments).job.to_value(), draws)
@@ -88,8 +109,10 @@ def of_python(source: str, arguments: tuple[int, int], draws: random.Random) -> 
         return next((kind for words, kind in LIMITS.items() if words in fault.message), f"refused: {fault}")
 
 
-def difference(program: str, source: str, arguments: tuple[int, int], draws: random.Random, seen: Counter[str]) -> str:
-    """What is wrong with a source, if something is."""
+def difference(program: str, source: str, arguments: tuple[int, int], draws: random.Random, seen: Counter[str],
+               cells: Mapping[int, int] | None = None) -> str:
+    """What is wrong with a source, if something is. What the cells sum up to in the end is compared with these, or else with what
+    they do by the compiler in Python."""
     try:
         wanted = interpreted(source, arguments)
     except TooLong:
@@ -101,15 +124,41 @@ def difference(program: str, source: str, arguments: tuple[int, int], draws: ran
     if limit:
         seen[limit] += 1
         return ""
-    found = ended(json.loads(output), draws) if status == 0 else f"status {status}: {said}"
-    python = of_python(source, arguments, draws)
+    if status != 0:
+        return f"status {status}: {said}, of arguments {arguments}:\n{source}"
+    found, python = ended(json.loads(output), draws), of_python(source, arguments, draws)
     seen["fault" if wanted is None else "complete"] += 1
-    if found != wanted or python not in (wanted, *LIMITS.values()):
-        return f"{found}, in Python {python}, and not {wanted}, of arguments {arguments}:\n{source}"
-    replied = compiled(program, source, "--serial", *arguments)
-    if replied != (0, reply_of(wanted), ""):
-        return f"{replied} for --serial, and not {reply_of(wanted)}, of arguments {arguments}:\n{source}"
+    if cells is None:
+        cells = python.cells if isinstance(python, Ended) else found.cells
+    if found != Ended(wanted, cells) or python not in (found, *LIMITS.values()):
+        return f"{found}, in Python {python}, and not {wanted} with {cells}, of arguments {arguments}:\n{source}"
+    return serial_difference(program, source, arguments, reply_of(wanted) if Job.from_value(json.loads(output)).is_serial() else "")
+
+
+def serial_difference(program: str, source: str, arguments: tuple[int, int], wanted: str) -> str:
+    """What is wrong with what --serial prints, if something is. Without a line that is wanted the source is refused."""
+    status, output, said = compiled(program, source, "--serial", *arguments)
+    if (status, output, said.split(": ")[0]) != ((0, wanted, "") if wanted else (1, "", "1:1")):
+        return f"status {status}, {said or output} for --serial, and not {wanted}, of arguments {arguments}:\n{source}"
     return ""
+
+
+def example_differences(program: str, draws: random.Random) -> list[str]:
+    """What is wrong with the examples that it takes: what they give, and which they are."""
+    found, taken = [], set()
+    for file in sorted((TOP / "examples" / "jobs").glob("*.job")):
+        source = file.read_text()
+        for example in examples_of(source):
+            status, output, _ = compiled(program, source, *example.args)
+            if status or example.parameters:
+                continue
+            taken.add(file.name)
+            keys = unit_of(source).cells
+            given = ended(json.loads(output), draws)
+            sums = {cell: given.cells.get(keys[cell], 0) for cell in example.cells}
+            if (given.value, sums) != (example.value, example.cells):
+                found.append(f"{file.name}: {given} and not as in {example.text}")
+    return [*found, *(f"{it} is taken, or not any more" for it in sorted(taken ^ TAKEN))]
 
 
 def refused_difference(program: str, source: str, place: str) -> str:
@@ -127,18 +176,6 @@ def wrong_replies(program: str) -> list[str]:
             if (*found[:2], found[2].split(": ")[0]) != (status, *output)]
 
 
-def wrong_examples(program: str) -> list[str]:
-    """What is wrong with the examples that arena-compile takes, by the tests in their comments."""
-    found = []
-    for name in EXAMPLES:
-        source = (TOP / "examples" / "jobs" / f"{name}.job").read_text()
-        tests = re.findall(r"^# test (-?\d+) (-?\d+) -> (-?\d+)$", source, re.MULTILINE)
-        said = [compiled(program, source, "--serial", *test[:2]) for test in tests]
-        if not tests or said != [(0, reply_of(int(test[2])), "") for test in tests]:
-            found.append(f"{said} for {name}.job, and not {tests}")
-    return found
-
-
 def main(seed: int = 1, programs: int = 400) -> list[str]:
     """Compares programs, and returns what differs."""
     proved = TOP / "crates" / "compile_program" / "out" / "compile_program"
@@ -150,9 +187,10 @@ def main(seed: int = 1, programs: int = 400) -> list[str]:
         said = difference(program, source, arguments, draws, seen)
         found += [said] if said else []
     found += [said for source, arguments in (*COUNTING, *CALLING, *WAITING) if (said := difference(program, source, arguments, draws, Counter()))]
+    found += [said for source, arguments, cells in SHARING if (said := difference(program, source, arguments, draws, Counter(), cells))]
+    found += example_differences(program, draws)
     found += [said for source, place in REFUSED if (said := refused_difference(program, source, place))]
     found += wrong_replies(program)
-    found += wrong_examples(program)
     for it in found[:3]:
         print(it)
     rare = [it for it, share in FEWEST.items() if seen[it] < share * programs]
@@ -160,7 +198,7 @@ def main(seed: int = 1, programs: int = 400) -> list[str]:
         print(f"too few programs are {', '.join(rare)}")
     shown = ", ".join(f"{count} {kind}" for kind, count in sorted(seen.items()))
     print(f"{programs} sources by two compilers ({shown}), {len(COUNTING)} that count, {len(CALLING)} that call, {len(WAITING)} that wait, "
-          f"{len(REFUSED)} refused: {len(found)} differences")
+          f"{len(SHARING)} that share, {len(TAKEN)} of the examples, {len(REFUSED)} refused: {len(found)} differences")
     return found or rare
 
 

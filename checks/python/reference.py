@@ -1,6 +1,6 @@
 """What a source of the job language gives, by docs/LANGUAGE.md alone: an interpreter that shares nothing with the package. It
-leaves out cells, `post`, `cancel`, `slot()`, `width()` and `cancelled()`, which a schedule decides: each task runs as soon as
-it is made.
+leaves out `cancel`, `slot()` and `width()`, which a schedule decides: each task runs as soon as it is made, on one slot, and
+none is cancelled. What cells give is up to no schedule if one task alone uses them.
 """
 from collections.abc import Sequence
 
@@ -46,7 +46,7 @@ BINARY = {
     "<": lambda a, b: int(a < b), "<=": lambda a, b: int(a <= b), ">": lambda a, b: int(a > b),
     ">=": lambda a, b: int(a >= b), "==": lambda a, b: int(a == b), "!=": lambda a, b: int(a != b)}
 UNARY = {"-": lambda a: wrap(-a), "!": lambda a: int(a == 0), "~": lambda a: ~a}
-BUILT_IN = {"min": min, "max": max, "abs": lambda a: wrap(abs(a))}
+BUILT_IN = {"min": min, "max": max, "abs": lambda a: wrap(abs(a)), "cancelled": lambda: 0}
 EMPTY = {"psum": 0, "pmin": HALF - 1, "pmax": -HALF}
 
 Scope = dict[str, object]
@@ -81,6 +81,7 @@ class Interpreter:
 
     def __init__(self, source: Source, turns: int = 3_000) -> None:
         self.source, self.turns, self.rows = source, turns, 0
+        self.cells: dict[str, int] = {}
         self.constants: Scope = {}
         for name, value in source.constants.items():
             self.constants[name] = self.value(value, Row([self.constants]))
@@ -180,6 +181,12 @@ class Interpreter:
         if group is not None:
             row.of(group)[group].total += value
 
+    def do_post(self, row: Row, call: tuple) -> None:
+        self.call(call, row)
+
+    def do_store(self, row: Row, cell: str, value: tuple) -> None:
+        self.cells[cell] = self.value(value, row)
+
     def do_sync(self, _row: Row) -> None:
         """All tasks have run."""
 
@@ -207,6 +214,8 @@ class Interpreter:
                 return self.call(call, row)
             case ("wait", name):
                 return self.waited(name, row)
+            case ("part", cell, part):
+                return self.asked(cell, part)
             case ("apply", name, arguments):
                 return self.applied(name, [self.value(argument, row) for argument in arguments])
         return self.gathered(row, *it[1:])
@@ -215,6 +224,12 @@ class Interpreter:
         """The value of a task, or the total of a group."""
         found = row.of(name)[name]
         return found.wait() if isinstance(found, Task) else found
+
+    def asked(self, cell: str, part: str) -> int:
+        """The slot's cell, or the sum or the number of all."""
+        if part == "count":
+            return int(cell in self.cells)
+        return self.cells.setdefault(cell, 0) if part == "local" else self.cells.get(cell, 0)
 
     def applied(self, name: str, numbers: list[int]) -> int:
         """What an inline function gives, or one of the language."""

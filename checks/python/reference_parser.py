@@ -2,9 +2,9 @@
 
 A tree is a tuple whose first member says what it is. Statements: ("let", name, e), ("task", name, call), ("both", total,
 status, group), ("assign", name, e), ("if", e, block, block), ("while", e, block), ("for", i, low, high, step, block),
-("return", e), ("give", e), ("break",), ("continue",), ("group", g), ("spawn", g or None, call), ("sync",), ("value", e). A
+("return", e), ("give", e), ("break",), ("continue",), ("group", g), ("spawn", g or None, call), ("post", call), ("store", cell, e), ("sync",), ("value", e). A
 block is a list of them. Expressions: ("number", n), ("name", n), ("binary", sign, a, b), ("unary", sign, a), ("apply", f,
-arguments), ("call", call), ("isolate", call), ("wait", name), ("gather", word, i, bits, low, high, step, grain, block). A call is (f,
+arguments), ("call", call), ("isolate", call), ("wait", name), ("part", cell, part), ("gather", word, i, bits, low, high, step, grain, block). A call is (f,
 arguments).
 """
 import re
@@ -88,6 +88,10 @@ class Reader:
                 name = self.word()
                 self.need("=")
                 constants[name] = self.expression()
+            elif kind == "cell":
+                self.word()
+                if self.take("@"):
+                    self.word()
             elif kind == "inline":
                 self.need("fn")
                 name, parameters = self.word(), self.parameters()
@@ -146,8 +150,13 @@ class Reader:
                 group = self.word() if self.tokens[self.at + 1] == ":" else None
                 self.take(":")
                 return "spawn", group, self.call()
+            case "post":
+                self.word()
+                return "post", self.call()
         if self.tokens[self.at + 1] in ASSIGN:
             return self.assignment()
+        if self.tokens[self.at + 1] == "." and self.tokens[self.at + 3] in ASSIGN:
+            return self.store()
         return "value", self.expression()
 
     def let(self) -> tuple:
@@ -169,6 +178,13 @@ class Reader:
         self.lines()
         value = self.expression()
         return "assign", name, value if sign == "=" else ("binary", sign[:-1], ("name", name), value)
+
+    def store(self) -> tuple:
+        """Reads `c.local = e`, `c.local += e` and the like."""
+        cell, _, part, sign = self.word(), self.word(), self.word(), self.word()
+        self.lines()
+        value = self.expression()
+        return "store", cell, value if sign == "=" else ("binary", sign[:-1], ("part", cell, part), value)
 
     def compound(self) -> tuple:
         """Reads `if`, `while` and `for`."""
@@ -246,6 +262,8 @@ class Reader:
             ends = self.range()
             grain = self.expression() if self.take("grain") else ("number", 64)
             return "gather", word, index, bits, *ends, grain, self.block()
+        if self.take("."):
+            return "part", word, self.word()
         return ("apply", word, self.arguments()) if self.next == "(" else ("name", word)
 
 

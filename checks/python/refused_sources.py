@@ -123,6 +123,8 @@ REFUSED = [
     Refused("const A = 1", ":1:1: there is no fn: write `fn main(x, y) { .. }`"),
     Refused("".join(f"cell c{number}\n" for number in range(9)) + main(),
             ":9:1: there are only 8 cells, and they are c0, c1, c2, c3, c4, c5, c6 and c7: use one for two things"),
+    Refused("cell c\n" + "".join(f"cell c{number} @ {number}\n" for number in range(8)) + main(),
+            ":1:1: no key is left for c: there are only 8 cells, and those below choose theirs"),
     Refused("cell c @ 8\n" + main(), ":1:1: the key of a cell is from 0 to 7"),
     Refused("cell c @ 3\ncell d @ 3\n" + main(), ":2:1: key 3 is that of the cell c: choose another key, or leave it "
                                                  "out"),

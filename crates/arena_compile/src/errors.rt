@@ -55,13 +55,19 @@ impl CompileFault {
 fn words_of(wrong: Wrong) -> &'static str {
     match wrong {
         Wrong::Unexpected => "this is not expected here, or is not taken by arena-compile",
-        Wrong::UnknownName => "no variable and no constant of this name is known here",
-        Wrong::KnownName => "a variable or a constant of this name is there already",
+        Wrong::UnknownName => "no variable, constant or cell of this name is known here",
+        Wrong::KnownName => "a variable, a constant or a cell of this name is there already",
         Wrong::TooManyNames => "a function has at most 240 variables",
-        Wrong::NotAssigned => "only variables are assigned to, and not the index of a `for`",
+        Wrong::NotAssigned =>
+            "only variables and cells are assigned to, and not the index of a `for`",
         Wrong::NoConstant => "the value of a constant is a number, or a constant above it",
-        Wrong::LateConstant => "constants stand above all functions",
-        Wrong::TooManyConstants => "a source has at most 100 constants",
+        Wrong::LateItem => "constants and cells stand above all functions",
+        Wrong::TooManyItems => "a source has at most 100 constants and cells",
+        Wrong::WrongKey => "the key of a cell is a number from 0 to 7",
+        Wrong::KnownKey => "another cell has this key",
+        Wrong::TooManyCells => "no key is left for this cell: there are 8",
+        Wrong::CellValue =>
+            "a cell is read alone: write `let x = c.local` before this, or c.sum or c.count",
         Wrong::Comparison => "a comparison is no operand of this operator here",
         Wrong::TooLong => "what begins here is too long, or nested too deep",
         Wrong::NeverReached => "this is never reached: leave it out",

@@ -146,7 +146,9 @@ fn say<R: Eprint>(rt: &R, stop: &Stop) -> io::Result<()> {
         Stop::Device => rt.eprintln("arena-compile: device"),
         Stop::Memory => rt.eprintln("arena-compile: memory"),
         Stop::Length => rt.eprintln("1:1: the source has more than 65536 bytes"),
-        Stop::NotSerial => rt.eprintln("1:1: the value may depend on the slot or the width"),
+        Stop::NotSerial => {
+            rt.eprintln("1:1: the value may depend on the slot, the width, cells or the schedule")
+        }
         Stop::Fault(fault) => {
             let place = fault.place();
             eprintln!(rt; "{}:{}: {}", place.line, place.column, fault.words())

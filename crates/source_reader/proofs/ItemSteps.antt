@@ -1,25 +1,25 @@
--- One step of reading constants.
+-- One step of reading constants and cells.
 use Rattle.std.proofs.Common.{◌≡◌, ℕ, zero, suc, ◌-◌, ◌<◌, List, [], false, refl, ap, arith}
 use Rattle.source_tokens.specs.declared.tokens.Token.{Token}
 use Rattle.source_reader.specs.Names.{Scope}
 use Rattle.source_reader.specs.declared.items.TheConstants.{FUNCTIONS}
 use Rattle.source_reader.specs.Lines.{after_line_ends}
 use Rattle.source_reader.specs.Functions.{functions_from}
-use Rattle.source_reader.specs.Items.{is_const, item_at, one_constant, no_constant, items_from}
+use Rattle.source_reader.specs.Items.{is_item, item_at, one_item, no_item, items_from}
 
-pub items_none : (n : ℕ) (names : Scope) (ts : List Token) → n ≡ 0 → items_from n names ts ≡ item_at no_constant names (after_line_ends ts)
+pub items_none : (n : ℕ) (names : Scope) (ts : List Token) → n ≡ 0 → items_from n names ts ≡ item_at no_item names (after_line_ends ts)
 unfolding items_from
 items_none zero names ts e = refl
 items_none (suc n) names ts e = absurd (omega arith)
 
-pub items_some : (n : ℕ) (names : Scope) (ts : List Token) → 0 < n → items_from n names ts ≡ item_at (one_constant (items_from (n - 1))) names (after_line_ends ts)
+pub items_some : (n : ℕ) (names : Scope) (ts : List Token) → 0 < n → items_from n names ts ≡ item_at (one_item (items_from (n - 1))) names (after_line_ends ts)
 unfolding items_from
 items_some zero names ts h = absurd (omega arith)
 items_some (suc n) names ts h =
     let e : n ≡ suc n - 1 = omega arith in
-    ap (λ (k : ℕ). item_at (one_constant (items_from k)) names (after_line_ends ts)) e
+    ap (λ (k : ℕ). item_at (one_item (items_from k)) names (after_line_ends ts)) e
 
-pub items_below : (n : ℕ) (names : Scope) (ts : List Token) → is_const (after_line_ends ts) ≡ false → items_from n names ts ≡ functions_from FUNCTIONS names [] [] (after_line_ends ts)
+pub items_below : (n : ℕ) (names : Scope) (ts : List Token) → is_item (after_line_ends ts) ≡ false → items_from n names ts ≡ functions_from FUNCTIONS names [] [] (after_line_ends ts)
 unfolding items_from
 items_below zero names ts e = rw e refl
 items_below (suc n) names ts e = rw e refl

@@ -1,10 +1,12 @@
--- Calls of functions: a task that is waited for at once, or later.
+-- Functions that are run: called, spawned, as regions, or posted.
 use Rattle.std.specs.Prelude.{ℕ, pos, ◌==◌, Bool, true, false, List, [], ◌∷◌, drop, Option, Some, None, Result, Ok, Err, if◌then◌else◌}
 use Rattle.source_language.specs.declared.syntax.Maker.TheVariants as maker
 use Rattle.source_tokens.specs.declared.tokens.Kind.{Kind}
 use Rattle.source_tokens.specs.declared.tokens.Kind.TheVariants as kind
 use Rattle.source_tokens.specs.declared.tokens.Token.{Token}
 use Rattle.source_reader.specs.declared.calls.Arguments.{Arguments}
+use Rattle.source_reader.specs.declared.calls.Run.{Run}
+use Rattle.source_reader.specs.declared.calls.Run.TheVariants as run
 use Rattle.source_reader.specs.declared.calls.TheConstants.{CALLS}
 use Rattle.source_reader.specs.declared.faults.Fault.{Fault}
 use Rattle.source_reader.specs.declared.faults.Wrong.TheVariants as wrong
@@ -101,37 +103,26 @@ some_arguments names n called ts = if is_close ts then wrong_count called else (
 abbrev pub arguments_at : Scope → (count : ℕ) → (called ts : List Token) → ReadArguments
 arguments_at names n called ts = if n == 0 then no_argument called ts else some_arguments names n called ts
 
--- a task of the function of that number, in a group
-abbrev pub made : (group number : ℕ) → ArgumentTrees → StmtTree
-made g f a = MakeTree (maker.Spawn g) f a.first a.second
+-- What is made of the function of that number. The task of a call is made in a group that nothing else uses, and waited for; its value goes to the variable, if there is one.
+abbrev pub made : Run → (number : ℕ) → ArgumentTrees → StmtTree
+made (run.Call d) f a = ThenTree (MakeTree (maker.Spawn CALLS) f a.first a.second) (WaitTree d None CALLS)
+made (run.Spawn g) f a = MakeTree (maker.Spawn (group_number g)) f a.first a.second
+made (run.Isolate d) f a = MakeTree (maker.Isolate d) f a.first a.second
+made run.Post f a = MakeTree maker.Post f a.first a.second
 
--- Behind `call` or `spawn`: a task in that group.
-abbrev pub made_at : Scope → (group : ℕ) → List Token → Result (StmtTree × List Token) Fault
-made_at names g ts = do
+-- behind `call`, `spawn`, `isolate` or `post`
+abbrev pub run_at : Scope → Run → List Token → Result (StmtTree × List Token) Fault
+run_at names r ts = do
   f ← callee_at names ts
   inside ← after_open (drop 1 ts)
   a ← arguments_at names f.parameters ts inside
-  Ok (made g f.number a.0, a.1)
-
--- Behind `call`: a task in a group that nothing else uses, which is waited for. The value goes to the variable, if there is one.
-abbrev pub call_at : Scope → Option ℕ → List Token → Result (StmtTree × List Token) Fault
-call_at names d ts = do
-  m ← made_at names CALLS ts
-  Ok (ThenTree m.0 (WaitTree d None CALLS), m.1)
+  Ok (made r f.number a.0, a.1)
 
 -- Behind `spawn`: a task in the first group that is free. Its name is the first of the tokens `name`.
 abbrev pub spawn_at : Scope → (name ts : List Token) → Result (StmtTree × List Token) Fault
 spawn_at names name ts = do
   g ← free_group names name
-  made_at names (group_number g) ts
-
-abbrev pub is_call_of : Kind → Bool
-is_call_of kind.Call = true
-is_call_of k = false
-
-abbrev pub is_call : List Token → Bool
-is_call [] = false
-is_call (t ∷ ts) = is_call_of t.kind
+  run_at names (run.Spawn g) ts
 
 abbrev pub is_spawn_of : Kind → Bool
 is_spawn_of kind.Spawn = true

@@ -1,5 +1,7 @@
 -- Functions.
 use Rattle.std.specs.Prelude.{ℕ, zero, suc, ◌+◌, ◌==◌, ◌||◌, nat_lt, Bool, true, false, List, [], ◌∷◌, ◌++◌, drop, length, Option, Some, None, Result, Ok, Err, if◌then◌else◌}
+use Rattle.source_language.specs.declared.syntax.Maker.{Maker}
+use Rattle.source_language.specs.declared.syntax.Maker.TheVariants as maker
 use Rattle.source_tokens.specs.declared.tokens.Kind.{Kind}
 use Rattle.source_tokens.specs.declared.tokens.Kind.TheVariants as kind
 use Rattle.source_tokens.specs.declared.tokens.Token.{Token}
@@ -25,6 +27,11 @@ abbrev pub given : Option ℕ → ℕ
 given None = 0
 given (Some x) = number_after x
 
+-- with the one that the value of a region goes to
+abbrev pub made_for : Maker → ℕ
+made_for (maker.Isolate d) = number_after d
+made_for m = 0
+
 -- how many variables a statement needs that was read
 abbrev pub variables_of : StmtTree → ℕ
 variables_of SkipTree = 0
@@ -36,16 +43,17 @@ variables_of (RepeatTree c a b) = larger (variables_of a) (variables_of b)
 variables_of (BreakTree k) = 0
 variables_of (ContinueTree k) = 0
 variables_of (ReturnTree e) = 0
-variables_of (MakeTree m p a b) = 0
+variables_of (MakeTree m p a b) = made_for m
 variables_of (WaitTree d e g) = larger (given d) (given e)
 variables_of (CancelTree g) = 0
-variables_of (ReadTree d q) = 0
+variables_of (ReadTree d q) = number_after d
 variables_of (StoreTree k e) = 0
 
--- No constant stands below a function.
+-- No constant and no cell stands below a function.
 abbrev pub after_fn_of : Kind → List Token → List Token → Result (List Token) Fault
 after_fn_of kind.Fn rest ts = Ok rest
-after_fn_of kind.Const rest ts = Err (fault_at ts wrong.LateConstant)
+after_fn_of kind.Const rest ts = Err (fault_at ts wrong.LateItem)
+after_fn_of kind.Cell rest ts = Err (fault_at ts wrong.LateItem)
 after_fn_of k rest ts = unexpected ts
 
 abbrev pub after_fn : List Token → Result (List Token) Fault
@@ -64,7 +72,7 @@ abbrev pub main_first : List (Option ℕ) → List Token → Result (Option ℕ)
 main_first [] ts = Ok None
 main_first (first ∷ others) ts = Err (fault_at ts wrong.KnownFunction)
 
--- the name of a function, which no other function has, and no constant
+-- the name of a function, which no other function has, and no constant or cell
 abbrev pub new_function : (is_there : Bool) → Scope → List Token → Result (Option ℕ) Fault
 new_function true names ts = Err (fault_at ts wrong.KnownFunction)
 new_function false names ts = free_name names ts >>= λ x. Ok (Some x)
@@ -139,7 +147,7 @@ abbrev pub no_more : List FunctionTree → List Token → Result (List FunctionT
 no_more before [] = Ok before
 no_more before (t ∷ ts) = Err (fault_at (t ∷ ts) wrong.TooManyFunctions)
 
--- so many functions at most, behind those before, which see these constants
+-- so many functions at most, behind those before, which see these constants and cells
 unfoldable pub functions_from : ℕ → Scope → Items
 functions_from zero names known before ts = no_more before (after_line_ends ts)
 functions_from (suc n) names known before ts = one_more (functions_from n names) names known before (after_line_ends ts)

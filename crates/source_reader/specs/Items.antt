@@ -1,14 +1,16 @@
--- Constants, and the functions below them.
+-- Constants and cells, and the functions below them.
 use Rattle.std.specs.Prelude.{ℕ, zero, suc, ℤ, Bool, true, false, List, [], ◌∷◌, drop, Result, Ok, Err, if◌then◌else◌}
 use Rattle.source_tokens.specs.declared.tokens.Kind.{Kind}
 use Rattle.source_tokens.specs.declared.tokens.Kind.TheVariants as kind
 use Rattle.source_tokens.specs.declared.tokens.Token.{Token}
 use Rattle.source_reader.specs.declared.faults.Fault.{Fault}
 use Rattle.source_reader.specs.declared.faults.Wrong.TheVariants as wrong
+use Rattle.source_reader.specs.declared.names.Meaning.{Meaning}
 use Rattle.source_reader.specs.declared.names.Meaning.TheVariants as meaning
 use Rattle.source_reader.specs.declared.items.TheConstants.{FUNCTIONS}
 use Rattle.source_reader.specs.Faults.{◌>>=◌, fault_at}
 use Rattle.source_reader.specs.Trees.{FunctionTree, ExprTree, ValueTree, Constant, Variable, SlotTree, WidthTree, TwoTree, NumberTree, TruthTree}
+use Rattle.source_reader.specs.Keys.{cell_at}
 use Rattle.source_reader.specs.Names.{Scope, WithName}
 use Rattle.source_reader.specs.Values.{whole_value}
 use Rattle.source_reader.specs.Lines.{after_set, after_line_ends, item_ended, free_name}
@@ -35,33 +37,57 @@ constant_at names ts = do
   z ← constant_in v.0 from
   Ok (x, z, v.1)
 
-abbrev pub is_const_of : Kind → Bool
-is_const_of kind.Const = true
-is_const_of k = false
+abbrev pub is_cell_of : Kind → Bool
+is_cell_of kind.Cell = true
+is_cell_of k = false
 
-abbrev pub is_const : List Token → Bool
-is_const [] = false
-is_const (t ∷ ts) = is_const_of t.kind
+abbrev pub is_cell : List Token → Bool
+is_cell [] = false
+is_cell (t ∷ ts) = is_cell_of t.kind
 
--- reads all functions, behind constants with these names and meanings, the last one first
+abbrev pub is_item_of : Kind → Bool
+is_item_of kind.Const = true
+is_item_of kind.Cell = true
+is_item_of k = false
+
+-- whether there is a constant or a cell at the front
+abbrev pub is_item : List Token → Bool
+is_item [] = false
+is_item (t ∷ ts) = is_item_of t.kind
+
+-- the name of a constant or a cell, what it stands for, and the tokens after it
+abbrev pub Declared : Type 0
+Declared = Result (ℕ × Meaning × List Token) Fault
+
+abbrev pub a_cell : Result (ℕ × ℕ × List Token) Fault → Declared
+a_cell r = r >>= λ c. Ok (c.0, meaning.Cell c.1, c.2)
+
+abbrev pub a_constant : Result (ℕ × ℤ × List Token) Fault → Declared
+a_constant r = r >>= λ c. Ok (c.0, meaning.Constant c.1, c.2)
+
+-- a constant or a cell, whose word is at the front
+abbrev pub declared_at : Scope → List Token → Declared
+declared_at names ts = if is_cell ts then a_cell (cell_at names (drop 1 ts)) else a_constant (constant_at names (drop 1 ts))
+
+-- reads all functions, behind constants and cells with these names and meanings, the last one first
 abbrev pub ItemReader : Type 0
 ItemReader = Scope → List Token → Result (List FunctionTree) Fault
 
--- one constant more, whose word is at the front
-abbrev pub one_constant : ItemReader → ItemReader
-one_constant next names ts = do
-  c ← constant_at names (drop 1 ts)
-  rest ← item_ended c.2
-  next (WithName c.0 (meaning.Constant c.1) names) rest
+-- one constant or cell more
+abbrev pub one_item : ItemReader → ItemReader
+one_item next names ts = do
+  d ← declared_at names ts
+  rest ← item_ended d.2
+  next (WithName d.0 d.1 names) rest
 
-abbrev pub no_constant : ItemReader
-no_constant names ts = Err (fault_at ts wrong.TooManyConstants)
+abbrev pub no_item : ItemReader
+no_item names ts = Err (fault_at ts wrong.TooManyItems)
 
--- Functions stand below all constants.
+-- Functions stand below all constants and cells.
 abbrev pub item_at : ItemReader → ItemReader
-item_at constant names ts = if is_const ts then constant names ts else functions_from FUNCTIONS names [] [] ts
+item_at item names ts = if is_item ts then item names ts else functions_from FUNCTIONS names [] [] ts
 
--- so many constants at most, and the functions below them
+-- so many constants and cells at most, and the functions below them
 unfoldable pub items_from : ℕ → ItemReader
-items_from zero names ts = item_at no_constant names (after_line_ends ts)
-items_from (suc n) names ts = item_at (one_constant (items_from n)) names (after_line_ends ts)
+items_from zero names ts = item_at no_item names (after_line_ends ts)
+items_from (suc n) names ts = item_at (one_item (items_from n)) names (after_line_ends ts)

@@ -8,10 +8,13 @@ pub mod Values
 pub mod Lines
 pub mod Headers
 pub mod Calls
+pub mod Cells
+pub mod Givers
 pub mod Simple
 pub mod Returns
 pub mod Statements
 pub mod Functions
+pub mod Keys
 pub mod Items
 pub mod Places
 pub mod Source

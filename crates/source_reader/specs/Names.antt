@@ -63,7 +63,7 @@ number_after x = if nat_lt x 255 then x + 1 else 255
 abbrev pub number_behind : ℕ → List Token → Result ℕ Fault
 number_behind v ts = if nat_lt v 240 then Ok (v + 1) else Err (fault_at ts wrong.TooManyNames)
 
--- The end of a loop that counts is the variable behind its index. Before constants there are no variables.
+-- The end of a loop that counts is the variable behind its index. Before constants and cells there are no variables.
 abbrev pub number_next : Meaning → List Token → Result ℕ Fault
 number_next (meaning.Variable v) ts = number_behind v ts
 number_next (meaning.Counter v) ts = number_behind (number_after v) ts
@@ -71,6 +71,7 @@ number_next (meaning.Constant z) ts = Ok 0
 number_next (meaning.Task t) ts = number_behind t.variable ts
 number_next (meaning.Awaited v) ts = number_behind v ts
 number_next (meaning.OuterTask t) ts = number_behind t.variable ts
+number_next (meaning.Cell k) ts = Ok 0
 
 -- the number of one more variable
 abbrev pub new_number : Scope → List Token → Result ℕ Fault

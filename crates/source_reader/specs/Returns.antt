@@ -1,5 +1,5 @@
 -- Statements that return.
-use Rattle.std.specs.Prelude.{ℕ, pos, ◌||◌, List, [], ◌∷◌, drop, Some, is_none, Result, Ok, if◌then◌else◌}
+use Rattle.std.specs.Prelude.{ℕ, pos, ◌||◌, List, [], ◌∷◌, Option, Some, None, is_none, Result, Ok, if◌then◌else◌}
 use Rattle.source_tokens.specs.declared.tokens.Token.{Token}
 use Rattle.source_reader.specs.declared.faults.Fault.{Fault}
 use Rattle.source_reader.specs.declared.tasks.Reach.TheVariants as reach
@@ -8,7 +8,8 @@ use Rattle.source_reader.specs.Trees.{ValueTree, StmtTree, Constant, Variable, T
 use Rattle.source_reader.specs.Names.{Scope, new_number}
 use Rattle.source_reader.specs.Tasks.{pending, leaving}
 use Rattle.source_reader.specs.Values.{unexpected, whole_value}
-use Rattle.source_reader.specs.Calls.{is_call, call_at}
+use Rattle.source_reader.specs.declared.givers.Giver.{Giver}
+use Rattle.source_reader.specs.Givers.{giver_at, given_by}
 use Rattle.source_reader.specs.Lines.{assigned, returned, is_line_end, is_end}
 use Rattle.source_reader.specs.Simple.{ReadStmt}
 
@@ -31,15 +32,19 @@ value_returned names ts = do
   s ← returned_from names v.0 ts
   Ok (s, v.1)
 
--- Behind `call`: the value is that of one more variable.
-abbrev pub call_returned : Scope → List Token → ReadStmt
-call_returned names ts = do
+-- The value is that of one more variable.
+abbrev pub returned_by : Giver → Scope → List Token → ReadStmt
+returned_by g names ts = do
   n ← new_number names ts
-  c ← call_at names (Some n) ts
+  c ← given_by g names n ts
   Ok (ThenTree c.0 (variable_returned names n), c.1)
 
+abbrev pub returned_if : Option Giver → Scope → List Token → ReadStmt
+returned_if (Some g) names ts = returned_by g names ts
+returned_if None names ts = value_returned names ts
+
 abbrev pub something_returned : Scope → List Token → ReadStmt
-something_returned names ts = if is_call ts then call_returned names (drop 1 ts) else value_returned names ts
+something_returned names ts = returned_if (giver_at names ts) names ts
 
 -- Behind `return`. Tasks that were not waited for are waited for, and their values are dropped.
 abbrev pub return_at : Scope → List Token → ReadStmt

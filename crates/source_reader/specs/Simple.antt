@@ -16,7 +16,11 @@ use Rattle.source_reader.specs.Tasks.{pending}
 use Rattle.source_reader.specs.Waits.{awaited_at}
 use Rattle.source_reader.specs.Joining.{test_in, operation, a_number}
 use Rattle.source_reader.specs.Values.{unexpected, whole_value}
-use Rattle.source_reader.specs.Calls.{is_call, call_at, is_spawn, spawn_at}
+use Rattle.source_reader.specs.declared.calls.Run.TheVariants as run
+use Rattle.source_reader.specs.declared.givers.Giver.{Giver}
+use Rattle.source_reader.specs.Calls.{run_at, is_spawn, spawn_at}
+use Rattle.source_reader.specs.Cells.{store_at}
+use Rattle.source_reader.specs.Givers.{giver_at, given_by}
 use Rattle.source_reader.specs.Lines.{assigned, after_set, after_in, after_range, free_name}
 
 abbrev pub condition_at : Scope → List Token → Result (TestTree × List Token) Fault
@@ -46,9 +50,13 @@ set_at names x rest = do
   v ← whole_value names rest
   Ok (assigned x v.0, v.1)
 
+abbrev pub given_from : Option Giver → Scope → ℕ → List Token → ReadStmt
+given_from (Some g) names x ts = given_by g names x ts
+given_from None names x ts = set_at names x ts
+
 -- Behind `=`: what is given to a variable.
 abbrev pub given_at : Scope → ℕ → List Token → ReadStmt
-given_at names x ts = if is_call ts then call_at names (Some x) (drop 1 ts) else set_at names x ts
+given_at names x ts = given_from (giver_at names ts) names x ts
 
 -- Behind `=` of a new variable, whose name is the first of the tokens `name`.
 abbrev pub declared_at : Scope → ℕ → (name ts : List Token) → ReadStmt
@@ -74,7 +82,7 @@ abbrev pub updated : Scope → ℕ → List Token → ReadStmt
 updated names x [] = unexpected []
 updated names x (t ∷ ts) = updated_of t.kind names x ts (t ∷ ts)
 
--- Only variables are assigned to, and tasks that were waited for. The name is the first of the tokens.
+-- Only variables, tasks that were waited for, and cells are assigned to. The name is the first of the tokens.
 abbrev pub assigned_to : Scope → Meaning → List Token → List Token → ReadStmt
 assigned_to names (meaning.Variable v) ts rest = updated names v rest
 assigned_to names (meaning.Awaited v) ts rest = updated names v rest
@@ -82,6 +90,7 @@ assigned_to names (meaning.Task t) ts rest = Err (fault_at ts wrong.NotWaited)
 assigned_to names (meaning.OuterTask t) ts rest = Err (fault_at ts wrong.NotWaited)
 assigned_to names (meaning.Counter v) ts rest = Err (fault_at ts wrong.NotAssigned)
 assigned_to names (meaning.Constant z) ts rest = Err (fault_at ts wrong.NotAssigned)
+assigned_to names (meaning.Cell k) ts rest = store_at names k rest
 
 abbrev pub assigned_at : Scope → Option Meaning → List Token → List Token → ReadStmt
 assigned_at names None ts rest = Err (fault_at ts wrong.UnknownName)
@@ -94,6 +103,12 @@ wait_at names ts = awaited_at names ts >>= λ v. Ok (SkipTree, drop 1 ts)
 -- `sync`, which is the first of the tokens, behind its waits: the blocks around have no task that was not waited for.
 abbrev pub sync_at : Scope → (ts rest : List Token) → ReadStmt
 sync_at names ts rest = if is_none (pending reach.Function names) then Ok (SkipTree, rest) else Err (fault_at ts wrong.WaitSkipped)
+
+-- A region alone: its value goes to one more variable, which nothing reads.
+abbrev pub region_at : Scope → List Token → ReadStmt
+region_at names ts = do
+  n ← new_number names ts
+  run_at names (run.Isolate n) (drop 1 ts)
 
 -- the head of a loop that counts: its index and that one's variable, the variable of the end, and both values
 pub record CountTree : Type 0 where

@@ -11,7 +11,7 @@ use Rattle.source_reader.specs.declared.source.SourceFault.{SourceFault}
 use Rattle.source_reader.specs.declared.source.SourceError.{SourceError}
 use Rattle.source_reader.specs.declared.source.SourceError.TheVariants as errors
 use Rattle.source_reader.specs.Faults.{◌>>=◌, fault_at}
-use Rattle.source_reader.specs.declared.items.TheConstants.{CONSTANTS}
+use Rattle.source_reader.specs.declared.items.TheConstants.{ITEMS}
 use Rattle.source_reader.specs.Trees.{FunctionTree, function_tree_of}
 use Rattle.source_reader.specs.Names.{Functions}
 use Rattle.source_reader.specs.Headers.{is_fn, headers_of}
@@ -23,7 +23,7 @@ some_functions [] = Err (fault_at [] wrong.NoFunction)
 some_functions (f ∷ fs) = Ok (f ∷ fs)
 
 abbrev pub read_tokens : List Token → Result (List FunctionTree) Fault
-read_tokens ts = items_from CONSTANTS (Functions (headers_of ts)) ts >>= some_functions
+read_tokens ts = items_from ITEMS (Functions (headers_of ts)) ts >>= some_functions
 
 -- The text says these functions.
 abbrev pub Says : List ℕ → List FunctionTree → Type 0

@@ -17,8 +17,9 @@ use Rattle.source_reader.specs.Tasks.{free_group, waited, leaving, block_end}
 use Rattle.source_reader.specs.Waits.{next_wait}
 use Rattle.source_reader.specs.Values.{unexpected}
 use Rattle.source_reader.specs.Lines.{assigned, leaves, after_begin, after_line_ends, ended, after_end, let_name}
-use Rattle.source_reader.specs.Calls.{call_at, is_spawn}
-use Rattle.source_reader.specs.Simple.{ReadStmt, condition_at, count_at, let_at, assigned_at, wait_at, sync_at}
+use Rattle.source_reader.specs.declared.calls.Run.TheVariants as run
+use Rattle.source_reader.specs.Calls.{run_at, is_spawn}
+use Rattle.source_reader.specs.Simple.{ReadStmt, condition_at, count_at, let_at, assigned_at, wait_at, sync_at, region_at}
 use Rattle.source_reader.specs.Returns.{return_at}
 
 -- What is read: `{ .. }`; what follows `{`, where what comes may never be reached; a statement; or what may follow the block of an `if`. Each says whether there is a loop around it.
@@ -102,7 +103,9 @@ abbrev pub line_of : Reader → Scope → Bool → Kind → List Token → List 
 line_of next names in_loop kind.Let rest ts = let_at names rest
 line_of next names in_loop (kind.Name x) rest ts = assigned_at names (meaning_of x names) ts rest
 line_of next names in_loop kind.Return rest ts = return_at names rest
-line_of next names in_loop kind.Call rest ts = call_at names None rest
+line_of next names in_loop kind.Call rest ts = run_at names (run.Call None) rest
+line_of next names in_loop kind.Isolate rest ts = region_at names ts
+line_of next names in_loop kind.Post rest ts = run_at names run.Post rest
 line_of next names in_loop kind.Wait rest ts = wait_at names rest
 line_of next names in_loop kind.Sync rest ts = sync_at names ts rest
 line_of next names in_loop kind.Break rest ts = if_in_loop in_loop (leaving reach.Loop names (BreakTree 0)) rest ts

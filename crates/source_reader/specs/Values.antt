@@ -54,7 +54,7 @@ pub data Wanted : Type 0 where
 abbrev pub Read : Type 0
 Read = Result (ValueTree × List Token) Fault
 
--- what a name is worth, which is the first of the tokens
+-- What a name is worth, which is the first of the tokens. No expression asks a cell.
 abbrev pub worth : Meaning → List Token → Result ExprTree Fault
 worth (meaning.Variable v) ts = Ok (Variable v)
 worth (meaning.Counter v) ts = Ok (Variable v)
@@ -62,6 +62,7 @@ worth (meaning.Constant z) ts = Ok (Constant z)
 worth (meaning.Awaited v) ts = Ok (Variable v)
 worth (meaning.Task t) ts = Err (fault_at ts wrong.NotWaited)
 worth (meaning.OuterTask t) ts = Err (fault_at ts wrong.NotWaited)
+worth (meaning.Cell k) ts = Err (fault_at ts wrong.CellValue)
 
 abbrev pub named : Option Meaning → List Token → List Token → Read
 named None ts rest = Err (fault_at ts wrong.UnknownName)

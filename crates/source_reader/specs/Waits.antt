@@ -59,12 +59,17 @@ abbrev pub wait_in : Scope → List Token → Option Task
 wait_in names [] = None
 wait_in names (t ∷ ts) = wait_or (ahead_of names t.kind ts) (wait_in names ts)
 
+abbrev pub is_cell : Option Meaning → Bool
+is_cell (Some (meaning.Cell k)) = true
+is_cell m = false
+
 abbrev pub next_wait_of : Kind → Scope → List Token → Option Task
 next_wait_of kind.Sync names ts = pending reach.Block names
 next_wait_of kind.While names ts = None
+next_wait_of (kind.Name x) names ts = if is_cell (meaning_of x names) then None else wait_in names ts
 next_wait_of k names ts = wait_in names ts
 
--- The task that is waited for before the statement at the front is read. The condition of a loop is none of these: it is computed again.
+-- The task that is waited for before the statement at the front is read. The condition of a loop is none of these: it is computed again. Nor is what a cell is given: the cell is read before.
 abbrev pub next_wait : Scope → List Token → Option Task
 next_wait names [] = None
 next_wait names (t ∷ ts) = next_wait_of t.kind names (t ∷ ts)

@@ -1,6 +1,6 @@
-// Calls of functions: a task that is waited for at once, or later.
-ghost use Rattle.std.specs.Prelude.{◌≡◌};
-ghost use Rattle.source_reader.specs.Calls.{found, callee_at, argument_at, after_last, before_next, view_arguments, no_argument, one_argument, two_arguments, arguments_at, made, made_at, call_at, spawn_at, is_call, is_spawn};
+// Functions that are run: called, spawned, as regions, or posted.
+ghost use Rattle.std.specs.Prelude.{◌≡◌, IfOk};
+ghost use Rattle.source_reader.specs.Calls.{found, callee_at, argument_at, after_last, before_next, view_arguments, no_argument, one_argument, two_arguments, arguments_at, made, run_at, spawn_at, is_spawn};
 ghost use Rattle.source_reader.specs.Faults.{Gives};
 ghost use Rattle.source_reader.specs.Headers.{callee_in};
 ghost use Rattle.source_reader.specs.Names.{names_of, functions_in};
@@ -10,14 +10,14 @@ use crate::faults::{ReadError, Wrong, fault_at};
 use crate::headers::{Callee, Title, callee_in, title_at};
 use crate::joining::number_in;
 use crate::lines::is_close;
-use crate::names::Names;
+use crate::names::{Names, TaskGroup};
 use crate::tasks::{free_group, group_of};
 use crate::trees::then;
 use crate::values::{after_first, after_open, whole_value};
 use job_language::Group;
 use source_language::{Expr, Maker, Stmt};
 use source_tokens::{Kind, Token};
-use std::alloc::Global;
+use std::alloc::{AllocError, Global};
 
 /// The group of tasks that are called, which is free wherever a statement begins.
 pub const CALLS: u64 = 0;
@@ -184,43 +184,49 @@ fn calls() -> Group
     Group::new(CALLS).unwrap()
 }
 
-/// A task of the function of that number, in a group.
-fn made(group: Group, number: u8, arguments: Arguments) -> Stmt
-    ensures { stmt_tree_of result ≡ made group number (view_arguments arguments) }
-{
-    let Arguments { first, second } = arguments;
-    Stmt::Make(Maker::Spawn(group), number, first, second)
+/// How a function is run.
+#[derive(Clone, Copy)]
+pub(crate) enum Run {
+    /// As a task that is waited for at once. Its value goes to the variable, if there is one.
+    Call(Option<u8>),
+    /// As a task in that group.
+    Spawn(TaskGroup),
+    /// As a region, whose value goes to the variable.
+    Isolate(u8),
+    /// As a task that nothing waits for.
+    Post,
 }
 
-/// `f(v, w)`, behind `call` or `spawn`: a task in that group.
-fn made_at<'a>(
+/// What is made of the function of that number.
+fn made(alloc: Global, run: Run, number: u8, arguments: Arguments) -> Result<Stmt, AllocError>
+    ensures { IfOk result (λ s. stmt_tree_of s ≡ made run number (view_arguments arguments)) }
+{
+    let Arguments { first, second } = arguments;
+    match run {
+        Run::Call(value) => {
+            let task = Stmt::Make(Maker::Spawn(calls()), number, first, second);
+            then(alloc, task, Stmt::Wait(value, None, calls()))
+        }
+        Run::Spawn(group) => Ok(Stmt::Make(Maker::Spawn(group_of(group)), number, first, second)),
+        Run::Isolate(value) => Ok(Stmt::Make(Maker::Isolate(value), number, first, second)),
+        Run::Post => Ok(Stmt::Make(Maker::Post, number, first, second)),
+    }
+}
+
+/// `f(v, w)`, behind `call`, `spawn`, `isolate` or `post`.
+pub(crate) fn run_at<'a>(
     alloc: Global,
     names: &Names,
-    group: Group,
+    run: Run,
     tokens: &'a [Token],
 ) -> Result<(Stmt, &'a [Token]), ReadError>
     ensures { Gives (λ x. (stmt_tree_of x.0, x.1.now)) result
-        (made_at (names_of names.now) group tokens.entry.now) }
+        (run_at (names_of names.now) run tokens.entry.now) }
 {
     let callee = callee_at(names, tokens)?;
     let inside = after_open(after_first(tokens))?;
     let (arguments, rest) = arguments_at(alloc, names, callee.parameters, tokens, inside)?;
-    Ok((made(group, callee.number, arguments), rest))
-}
-
-/// `f(v, w)`, behind `call`: a task that is waited for. Its value goes to the variable, if there is one.
-pub(crate) fn call_at<'a>(
-    alloc: Global,
-    names: &Names,
-    value: Option<u8>,
-    tokens: &'a [Token],
-) -> Result<(Stmt, &'a [Token]), ReadError>
-    ensures { Gives (λ x. (stmt_tree_of x.0, x.1.now)) result
-        (call_at (names_of names.now) value tokens.entry.now) }
-{
-    let (made, rest) = made_at(alloc, names, calls(), tokens)?;
-    let wait = Stmt::Wait(value, None, calls());
-    Ok((then(alloc, made, wait)?, rest))
+    Ok((made(alloc, run, callee.number, arguments)?, rest))
 }
 
 /// `f(v, w)`, behind `spawn`: a task in a group that is free. Its name is the first of the tokens `name`.
@@ -234,20 +240,7 @@ pub(crate) fn spawn_at<'a>(
         (spawn_at (names_of names.now) name.now tokens.entry.now) }
 {
     let group = free_group(names, name)?;
-    made_at(alloc, names, group_of(group), tokens)
-}
-
-/// Whether there is a `call` at the front.
-pub(crate) fn is_call(tokens: &[Token]) -> bool
-    ensures { result ≡ is_call tokens.now }
-{
-    match tokens.split_first() {
-        Some((first, _)) => match first.kind {
-            Kind::Call => true,
-            _ => false,
-        },
-        None => false,
-    }
+    run_at(alloc, names, Run::Spawn(group), tokens)
 }
 
 /// Whether there is a `spawn` at the front.

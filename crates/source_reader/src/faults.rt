@@ -11,9 +11,9 @@ use std::alloc::{AllocError, AllocFailed};
 pub enum Wrong {
     /// Another token was wanted.
     Unexpected,
-    /// No variable of this name is there.
+    /// No variable, constant or cell of this name is there.
     UnknownName,
-    /// A variable of this name is there already.
+    /// A variable, a constant or a cell of this name is there already.
     KnownName,
     /// More variables than a function may have.
     TooManyNames,
@@ -21,10 +21,18 @@ pub enum Wrong {
     NotAssigned,
     /// The value of a constant is not written as a number.
     NoConstant,
-    /// A constant below a function.
-    LateConstant,
-    /// More constants than a source may have.
-    TooManyConstants,
+    /// A constant or a cell below a function.
+    LateItem,
+    /// More constants and cells than a source may have.
+    TooManyItems,
+    /// The key of a cell is no number from 0 to 7.
+    WrongKey,
+    /// Another cell has this key.
+    KnownKey,
+    /// No key is left for a cell.
+    TooManyCells,
+    /// A cell inside an expression.
+    CellValue,
     /// A comparison, where a number is wanted.
     Comparison,
     /// Too many operators and parentheses, or too many statements.

@@ -3,14 +3,14 @@ ghost use Rattle.std.specs.Prelude.{◌≡◌, ◌++◌, ◌∷◌, [], Ok, map}
 ghost use Rattle.source_reader.specs.Faults.{Gives};
 ghost use Rattle.source_reader.specs.Trees.{stmt_tree_of, function_tree_of};
 ghost use Rattle.source_reader.specs.Names.{names_of};
-ghost use Rattle.source_reader.specs.Functions.{larger, given, variables_of, after_fn, is_this, is_known, function_name, second_name, parameters_at, body_at, view_named, function_at, functions_from};
+ghost use Rattle.source_reader.specs.Functions.{larger, given, made_for, variables_of, after_fn, is_this, is_known, function_name, second_name, parameters_at, body_at, view_named, function_at, functions_from};
 
 use crate::faults::{ReadError, Wrong, fault_at};
 use crate::lines::{after_comma, after_line_ends, free_name, is_close, item_ended};
 use crate::names::{Meaning, Names, number_after};
 use crate::statements::block_at;
 use crate::values::{after_close, after_first, after_open};
-use source_language::{Function, Stmt};
+use source_language::{Function, Maker, Stmt};
 use source_tokens::{Kind, Token};
 use std::alloc::Global;
 
@@ -28,6 +28,8 @@ fn variables_of(s: &Stmt) -> u8
         Stmt::Repeat(_, a, b) => larger(variables_of(a), variables_of(b)),
         Stmt::Assign(x, _) => number_after(*x),
         Stmt::Wait(x, y, _) => larger(given(*x), given(*y)),
+        Stmt::Make(maker, _, _, _) => made_for(*maker),
+        Stmt::Read(x, _) => number_after(*x),
         _ => 0,
     }
 }
@@ -42,27 +44,39 @@ fn given(variable: Option<u8>) -> u8
     }
 }
 
+/// How many variables there are with the one that the value of a region goes to.
+fn made_for(maker: Maker) -> u8
+    ensures { result ≡ made_for maker }
+{
+    match maker {
+        Maker::Isolate(number) => number_after(number),
+        _ => 0,
+    }
+}
+
 fn larger(a: u8, b: u8) -> u8
     ensures { result ≡ larger a b }
 {
     if a < b { b } else { a }
 }
 
-/// What follows `fn`. No constant stands below a function.
+/// What follows `fn`. No constant and no cell stands below a function.
 fn after_fn(tokens: &[Token]) -> Result<&[Token], ReadError>
     ensures { Gives (λ ts. ts.now) result (after_fn tokens.now) }
 {
     match tokens.split_first() {
         Some((first, rest)) => match first.kind {
             Kind::Fn => Ok(rest),
-            Kind::Const => Err(fault_at(tokens, Wrong::LateConstant)),
+            Kind::Const => Err(fault_at(tokens, Wrong::LateItem)),
+            Kind::Cell => Err(fault_at(tokens, Wrong::LateItem)),
             _ => Err(fault_at(tokens, Wrong::Unexpected)),
         },
         None => Err(fault_at(tokens, Wrong::Unexpected)),
     }
 }
 
-/// The name of a function, at the front, which no other one has, and no constant: none if it is `main`.
+/// The name of a function, at the front, which no other one has, and no constant or cell: none if it is
+/// `main`.
 fn function_name(
     names: &Names,
     known: &[Option<usize>],
@@ -219,7 +233,8 @@ fn function_at<'a>(
     })
 }
 
-/// The functions, so many more at most, behind those that were read before. They see these constants.
+/// The functions, so many more at most, behind those that were read before. They see these constants and
+/// cells.
 #[tactic(auto, using(crate::proofs::FunctionSteps::function_steps))]
 pub(crate) fn functions_from(
     alloc: Global,

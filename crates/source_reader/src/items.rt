@@ -1,13 +1,14 @@
-// Constants, and the functions below them.
+// Constants and cells, and the functions below them.
 ghost use Rattle.std.specs.Prelude.{◌≡◌, map};
 ghost use Rattle.source_reader.specs.Faults.{Gives};
 ghost use Rattle.source_reader.specs.Trees.{tree_of, value_tree_of, function_tree_of};
 ghost use Rattle.source_reader.specs.Names.{names_of};
-ghost use Rattle.source_reader.specs.Items.{constant_of, constant_in, constant_at, is_const, items_from};
+ghost use Rattle.source_reader.specs.Items.{constant_of, constant_in, constant_at, is_item, is_cell, declared_at, items_from};
 
 use crate::faults::{ReadError, Wrong, fault_at};
 use crate::functions::functions_from;
 use crate::joining::Value;
+use crate::keys::cell_at;
 use crate::lines::{after_line_ends, after_set, free_name, item_ended};
 use crate::names::{Meaning, Names};
 use crate::values::{after_first, whole_value};
@@ -15,8 +16,8 @@ use source_language::{Expr, Function};
 use source_tokens::{Kind, Token};
 use std::alloc::Global;
 
-/// How many constants a source may have.
-pub const CONSTANTS: u8 = 100;
+/// How many constants and cells a source may have.
+pub const ITEMS: u8 = 100;
 
 /// How many functions a source may have.
 pub const FUNCTIONS: u8 = 16;
@@ -56,19 +57,53 @@ pub(crate) fn constant_at<'a>(
     Ok((name, (number, rest)))
 }
 
-fn is_const(tokens: &[Token]) -> bool
-    ensures { result ≡ is_const tokens.now }
+/// Whether there is a constant or a cell at the front.
+fn is_item(tokens: &[Token]) -> bool
+    ensures { result ≡ is_item tokens.now }
 {
     match tokens.split_first() {
         Some((first, _)) => match first.kind {
             Kind::Const => true,
+            Kind::Cell => true,
             _ => false,
         },
         None => false,
     }
 }
 
-/// So many constants at most, behind those of these names, and the functions below them.
+fn is_cell(tokens: &[Token]) -> bool
+    ensures { result ≡ is_cell tokens.now }
+{
+    match tokens.split_first() {
+        Some((first, _)) => match first.kind {
+            Kind::Cell => true,
+            _ => false,
+        },
+        None => false,
+    }
+}
+
+/// The name of a constant or a cell, whose word is at the front, what it stands for, and the tokens after it.
+fn declared_at<'a>(
+    alloc: Global,
+    names: &Names,
+    tokens: &'a [Token],
+) -> Result<(usize, (Meaning, &'a [Token])), ReadError>
+    ensures { Gives (λ d. (d.0, d.1.0, d.1.1.now)) result
+        (declared_at (names_of names.now) tokens.entry.now) }
+{
+    if is_cell(tokens) {
+        match cell_at(names, after_first(tokens)) {
+            Ok((name, (key, rest))) => Ok((name, (Meaning::Cell(key), rest))),
+            Err(error) => Err(error),
+        }
+    } else {
+        let (name, (number, rest)) = constant_at(alloc, names, after_first(tokens))?;
+        Ok((name, (Meaning::Constant(number), rest)))
+    }
+}
+
+/// So many constants and cells at most, behind those of these names, and the functions below them.
 #[tactic(auto, using(crate::proofs::ItemSteps::item_steps))]
 pub(crate) fn items_from(
     alloc: Global,
@@ -80,15 +115,19 @@ pub(crate) fn items_from(
         (items_from left (names_of names.now) tokens.now) }
 {
     let lines = after_line_ends(tokens);
-    if !is_const(lines) {
+    if !is_item(lines) {
         let known = Vec::new(alloc);
         return functions_from(alloc, FUNCTIONS, names, known, Vec::new(alloc), lines);
     }
     if left == 0 {
-        return Err(fault_at(lines, Wrong::TooManyConstants));
+        return Err(fault_at(lines, Wrong::TooManyItems));
     }
-    let (name, (number, rest)) = constant_at(alloc, names, after_first(lines))?;
-    let rest = item_ended(rest)?;
-    let inner = Names::Name(name, Meaning::Constant(number), &*names);
-    items_from(alloc, left - 1, &inner, rest)
+    match declared_at(alloc, names, lines) {
+        Ok((name, (meaning, rest))) => {
+            let rest = item_ended(rest)?;
+            let inner = Names::Name(name, meaning, &*names);
+            items_from(alloc, left - 1, &inner, rest)
+        }
+        Err(error) => Err(error),
+    }
 }

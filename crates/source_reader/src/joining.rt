@@ -141,7 +141,7 @@ fn both(alloc: Global, a: Value, b: Value) -> Result<Value, ReadError>
 }
 
 /// The number of an operation.
-fn operation(
+pub(crate) fn operation(
     alloc: Global,
     op: Operator,
     a: Value,

@@ -2,11 +2,14 @@
 #![tactic(auto)]
 
 mod calls;
+mod cells;
 mod faults;
 mod functions;
+mod givers;
 mod headers;
 mod items;
 mod joining;
+mod keys;
 mod lines;
 mod loops;
 mod names;

@@ -6,6 +6,7 @@ ghost use Rattle.source_reader.specs.Names.{names_of, is_same_group, awaited, ou
 
 use crate::faults::{ReadError, Wrong, fault_at};
 use crate::headers::Header;
+use job_language::Key;
 use source_tokens::Token;
 
 /// A group of tasks that have names. None of them is that of calls.
@@ -37,10 +38,12 @@ pub(crate) enum Meaning {
     Awaited(u8),
     /// A task of a block around this one, which was not waited for.
     OuterTask(Task),
+    /// The cells of that key, one for each slot.
+    Cell(Key),
 }
 
-/// The names that a place sees, the last one first, and the functions of the source. Constants are declared before all
-/// variables.
+/// The names that a place sees, the last one first, and the functions of the source. Constants and cells are
+/// declared before all variables.
 #[derive(Drop)]
 pub(crate) enum Names<'a> {
     /// The functions of the source.
@@ -142,6 +145,7 @@ fn number_next(meaning: Meaning, tokens: &[Token]) -> Result<u8, ReadError>
         Meaning::Task(task) => number_behind(task.variable, tokens),
         Meaning::Awaited(number) => number_behind(number, tokens),
         Meaning::OuterTask(task) => number_behind(task.variable, tokens),
+        Meaning::Cell(_) => Ok(0),
     }
 }
 

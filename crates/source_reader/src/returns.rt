@@ -3,16 +3,16 @@ ghost use Rattle.std.specs.Prelude.{◌≡◌, IfOk};
 ghost use Rattle.source_reader.specs.Faults.{Gives};
 ghost use Rattle.source_reader.specs.Trees.{stmt_tree_of, value_tree_of};
 ghost use Rattle.source_reader.specs.Names.{names_of};
-ghost use Rattle.source_reader.specs.Returns.{variable_returned, kept_returned, returned_from, call_returned, something_returned, return_at};
+ghost use Rattle.source_reader.specs.Returns.{variable_returned, kept_returned, returned_from, returned_by, something_returned, return_at};
 
-use crate::calls::{call_at, is_call};
 use crate::faults::{ReadError, Wrong, fault_at};
+use crate::givers::{Giver, given_by, giver_at};
 use crate::joining::Value;
 use crate::lines::{is_end, is_line_end};
 use crate::names::{Names, new_number};
 use crate::tasks::{Reach, leaving, pending};
 use crate::trees::{assigned, returned, then};
-use crate::values::{after_first, whole_value};
+use crate::values::whole_value;
 use source_language::{Expr, Stmt};
 use source_tokens::Token;
 use std::alloc::{AllocError, Global};
@@ -44,8 +44,8 @@ fn something_returned<'a>(
     ensures { Gives (λ x. (stmt_tree_of x.0, x.1.now)) result
         (something_returned (names_of names.now) tokens.entry.now) }
 {
-    if is_call(tokens) {
-        return call_returned(alloc, names, after_first(tokens));
+    if let Some(giver) = giver_at(names, tokens) {
+        return returned_by(alloc, giver, names, tokens);
     }
     let (value, after) = whole_value(alloc, names, tokens)?;
     Ok((returned_from(alloc, names, value, tokens)?, after))
@@ -90,17 +90,18 @@ fn kept_returned(
     Ok(then(alloc, kept, last)?)
 }
 
-/// `return call f(v, w)`, behind `call`: one more variable has the value.
-fn call_returned<'a>(
+/// The value that this gives is returned: one more variable has it.
+fn returned_by<'a>(
     alloc: Global,
+    giver: Giver,
     names: &Names,
     tokens: &'a [Token],
 ) -> Result<(Stmt, &'a [Token]), ReadError>
     ensures { Gives (λ x. (stmt_tree_of x.0, x.1.now)) result
-        (call_returned (names_of names.now) tokens.entry.now) }
+        (returned_by giver (names_of names.now) tokens.entry.now) }
 {
     let number = new_number(names, tokens)?;
-    let (call, after) = call_at(alloc, names, Some(number), tokens)?;
+    let (given, after) = given_by(alloc, giver, names, number, tokens)?;
     let last = variable_returned(alloc, names, number)?;
-    Ok((then(alloc, call, last)?, after))
+    Ok((then(alloc, given, last)?, after))
 }

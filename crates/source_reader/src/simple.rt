@@ -3,10 +3,12 @@ ghost use Rattle.std.specs.Prelude.{◌≡◌};
 ghost use Rattle.source_reader.specs.Faults.{Gives};
 ghost use Rattle.source_reader.specs.Trees.{stmt_tree_of, test_tree_of, value_tree_of};
 ghost use Rattle.source_reader.specs.Names.{names_of, meaning_of, new_number};
-ghost use Rattle.source_reader.specs.Simple.{condition_at, new_name, given_at, let_at, updated, assigned_to, assigned_at, declared_at, wait_at, sync_at, view_count, count_at};
+ghost use Rattle.source_reader.specs.Simple.{condition_at, new_name, given_at, let_at, updated, assigned_to, assigned_at, declared_at, wait_at, sync_at, region_at, view_count, count_at};
 
-use crate::calls::{call_at, is_call, is_spawn, spawn_at};
+use crate::calls::{Run, is_spawn, run_at, spawn_at};
+use crate::cells::store_at;
 use crate::faults::{ReadError, Wrong, fault_at};
+use crate::givers::{Giver, given_by, giver_at};
 use crate::joining::{Value, arithmetic, test_in};
 use crate::lines::{after_in, after_range, after_set, free_name};
 use crate::names::{Meaning, Names, meaning_of, new_number, number_behind};
@@ -57,8 +59,8 @@ fn given_at<'a>(
     ensures { Gives (λ x. (stmt_tree_of x.0, x.1.now)) result
         (given_at (names_of names.now) number tokens.entry.now) }
 {
-    if is_call(tokens) {
-        return call_at(alloc, names, Some(number), after_first(tokens));
+    if let Some(giver) = giver_at(names, tokens) {
+        return given_by(alloc, giver, names, number, tokens);
     }
     let (value, after) = whole_value(alloc, names, tokens)?;
     Ok((assigned(alloc, number, value)?, after))
@@ -96,7 +98,7 @@ fn declared_at<'a>(
     }
 }
 
-/// `x = v`, `x += v` and the like, of which the first token is a variable's name.
+/// `x = v`, `x += v`, `c.local = v` and the like, of which the first token is the name of a variable or a cell.
 pub(crate) fn assigned_at<'a>(
     alloc: Global,
     names: &Names,
@@ -113,7 +115,7 @@ pub(crate) fn assigned_at<'a>(
     }
 }
 
-/// Only variables are assigned to, and tasks that were waited for. The first of the tokens is the name.
+/// Only variables, tasks that were waited for, and cells are assigned to. The first of the tokens is the name.
 fn assigned_to<'a>(
     alloc: Global,
     names: &Names,
@@ -131,6 +133,7 @@ fn assigned_to<'a>(
         Meaning::OuterTask(_) => Err(fault_at(tokens, Wrong::NotWaited)),
         Meaning::Counter(_) => Err(fault_at(tokens, Wrong::NotAssigned)),
         Meaning::Constant(_) => Err(fault_at(tokens, Wrong::NotAssigned)),
+        Meaning::Cell(key) => store_at(alloc, names, key, rest),
     }
 }
 
@@ -184,6 +187,19 @@ pub(crate) fn sync_at<'a>(
     } else {
         Err(fault_at(tokens, Wrong::WaitSkipped))
     }
+}
+
+/// `isolate f(v, w)` alone. Its value goes to one more variable, which nothing reads.
+pub(crate) fn region_at<'a>(
+    alloc: Global,
+    names: &Names,
+    tokens: &'a [Token],
+) -> Result<(Stmt, &'a [Token]), ReadError>
+    ensures { Gives (λ x. (stmt_tree_of x.0, x.1.now)) result
+        (region_at (names_of names.now) tokens.entry.now) }
+{
+    let number = new_number(names, tokens)?;
+    run_at(alloc, names, Run::Isolate(number), after_first(tokens))
 }
 
 /// The head of a loop that counts: its index and that one's variable, the variable of the end, and both values.

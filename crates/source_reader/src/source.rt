@@ -8,7 +8,7 @@ ghost use Rattle.source_reader.specs.Source.{read_tokens, some_functions, GivesS
 
 use crate::faults::{Fault, ReadError, Wrong, fault_at};
 use crate::headers::{headers_in, is_fn};
-use crate::items::{CONSTANTS, items_from};
+use crate::items::{ITEMS, items_from};
 use crate::names::Names;
 use crate::places::{Place, place_of};
 use source_language::Function;
@@ -102,7 +102,7 @@ fn read_tokens(alloc: Global, tokens: &[Token]) -> Result<Vec<Function>, ReadErr
 {
     let headers = headers_in(alloc, tokens)?;
     let names = Names::Functions(headers.as_slice());
-    let functions = items_from(alloc, CONSTANTS, &names, tokens)?;
+    let functions = items_from(alloc, ITEMS, &names, tokens)?;
     some_functions(functions)
 }
 

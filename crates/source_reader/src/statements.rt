@@ -5,13 +5,15 @@ ghost use Rattle.source_reader.specs.Trees.{stmt_tree_of};
 ghost use Rattle.source_reader.specs.Names.{names_of};
 ghost use Rattle.source_reader.specs.Statements.{is_if, if_in_loop, let_meaning, line_and_rest, for_at, stmt_at, Block, Rest, Line, Otherwise};
 
-use crate::calls::{call_at, is_spawn};
+use crate::calls::{Run, is_spawn, run_at};
 use crate::faults::{ReadError, Wrong, fault_at};
 use crate::lines::{after_begin, after_end, after_line_ends, ended, let_name};
 use crate::loops::counting_loop;
 use crate::names::{Meaning, Names, Task, new_number};
 use crate::returns::return_at;
-use crate::simple::{Count, assigned_at, condition_at, count_at, let_at, sync_at, wait_at};
+use crate::simple::{
+    Count, assigned_at, condition_at, count_at, let_at, region_at, sync_at, wait_at,
+};
 use crate::tasks::{Reach, block_end, free_group, leaving, waited};
 use crate::trees::{choice, leaves, looped, then};
 use crate::values::after_first;
@@ -177,7 +179,9 @@ fn line_at<'a>(
         Kind::Let => let_at(alloc, names, rest),
         Kind::Name(name) => assigned_at(alloc, names, name, tokens, rest),
         Kind::Return => return_at(alloc, names, rest),
-        Kind::Call => call_at(alloc, names, None, rest),
+        Kind::Call => run_at(alloc, names, Run::Call(None), rest),
+        Kind::Isolate => region_at(alloc, names, tokens),
+        Kind::Post => run_at(alloc, names, Run::Post, rest),
         Kind::Wait => wait_at(names, rest),
         Kind::Sync => sync_at(names, tokens, rest),
         Kind::Break => {

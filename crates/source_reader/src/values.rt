@@ -74,7 +74,7 @@ fn sign_at(level: u8, tokens: &[Token]) -> Option<Sign>
     }
 }
 
-/// What a name is worth that stands for this. It is the first of the tokens.
+/// What a name is worth that stands for this. It is the first of the tokens. No expression asks a cell.
 fn worth(meaning: Meaning, tokens: &[Token]) -> Result<Expr, ReadError>
     ensures { Gives tree_of result (worth meaning tokens.now) }
 {
@@ -85,6 +85,7 @@ fn worth(meaning: Meaning, tokens: &[Token]) -> Result<Expr, ReadError>
         Meaning::Awaited(number) => Ok(Expr::Variable(number)),
         Meaning::Task(_) => Err(fault_at(tokens, Wrong::NotWaited)),
         Meaning::OuterTask(_) => Err(fault_at(tokens, Wrong::NotWaited)),
+        Meaning::Cell(_) => Err(fault_at(tokens, Wrong::CellValue)),
     }
 }
 
@@ -99,10 +100,7 @@ fn named<'a>(
         (named (meaning_of name (names_of names.now)) tokens.now rest.entry.now) }
 {
     match meaning_of(name, names) {
-        Some(meaning) => {
-            let e = worth(meaning, tokens)?;
-            Ok((Value::Number(e), rest))
-        }
+        Some(meaning) => Ok((Value::Number(worth(meaning, tokens)?), rest)),
         None => Err(fault_at(tokens, Wrong::UnknownName)),
     }
 }

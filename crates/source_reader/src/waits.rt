@@ -2,7 +2,7 @@
 ghost use Rattle.std.specs.Prelude.{◌≡◌};
 ghost use Rattle.source_reader.specs.Faults.{Gives};
 ghost use Rattle.source_reader.specs.Names.{names_of};
-ghost use Rattle.source_reader.specs.Waits.{named_task, is_unread, task_at, ahead_of, wait_in, next_wait, awaited_variable, awaited_at};
+ghost use Rattle.source_reader.specs.Waits.{named_task, is_unread, task_at, ahead_of, wait_in, is_cell, next_wait, awaited_variable, awaited_at};
 
 use crate::faults::{ReadError, Wrong, fault_at};
 use crate::names::{Meaning, Names, Task, meaning_of};
@@ -90,6 +90,15 @@ fn wait_in(names: &Names, tokens: &[Token]) -> Option<Task>
     None
 }
 
+fn is_cell(meaning: Option<Meaning>) -> bool
+    ensures { result ≡ is_cell meaning }
+{
+    match meaning {
+        Some(Meaning::Cell(_)) => true,
+        _ => false,
+    }
+}
+
 /// The task that is waited for before the statement at the front is read.
 pub(crate) fn next_wait(names: &Names, tokens: &[Token]) -> Option<Task>
     ensures { result ≡ next_wait (names_of names.now) tokens.now }
@@ -98,6 +107,13 @@ pub(crate) fn next_wait(names: &Names, tokens: &[Token]) -> Option<Task>
     match first.kind {
         Kind::Sync => pending(Reach::Block, names),
         Kind::While => None,
+        Kind::Name(name) => {
+            if is_cell(meaning_of(name, names)) {
+                None
+            } else {
+                wait_in(names, tokens)
+            }
+        }
         _ => wait_in(names, tokens),
     }
 }

@@ -1,7 +1,7 @@
--- Lexemes: the pieces of a source, each with where it begins. A lexeme is a word, a comment, a sign, or one byte.
+-- Lexemes: the pieces of a source, each with where it begins. A lexeme is a word, a point and a word, a comment, a sign, or one byte.
 use Rattle.std.specs.Prelude.{ℕ, zero, suc, ◌+◌, ◌-◌, ◌==◌, ◌&&◌, ◌||◌, Bool, false, List, [], ◌∷◌, take, if◌then◌else◌}
 use Rattle.source_tokens.specs.declared.lexemes.Lexeme.{Lexeme}
-use Rattle.source_tokens.specs.Bytes.{is_word, word_len, line_len}
+use Rattle.source_tokens.specs.Bytes.{is_letter, is_word, word_len, line_len}
 
 abbrev pub view_lexeme : Lexeme → ℕ × List ℕ
 view_lexeme l = (l.at, l.text.now)
@@ -33,10 +33,18 @@ abbrev pub sign_len : ℕ → List ℕ → ℕ
 sign_len a [] = 1
 sign_len a (b ∷ bs) = if is_pair a b then 2 else 1
 
+-- whether a part of a cell begins with this byte, before the others
+abbrev pub is_part : ℕ → List ℕ → Bool
+is_part a [] = false
+is_part a (b ∷ bs) = a == 46 && is_letter b
+
+abbrev pub mark_len : ℕ → List ℕ → ℕ
+mark_len a bs = if is_part a bs then 1 + word_len bs else sign_len a bs
+
 -- the length of the lexeme at the front
 abbrev pub lexeme_len : List ℕ → ℕ
 lexeme_len [] = 1
-lexeme_len (b ∷ bs) = if is_word b then word_len (b ∷ bs) else (if is_comment b bs then line_len (b ∷ bs) else sign_len b bs)
+lexeme_len (b ∷ bs) = if is_word b then word_len (b ∷ bs) else (if is_comment b bs then line_len (b ∷ bs) else mark_len b bs)
 
 -- The first bytes are still in the lexeme before; the next lexeme begins behind it.
 unfoldable pub lexemes_at : (skip at : ℕ) → List ℕ → List (ℕ × List ℕ)

@@ -5,6 +5,7 @@ use Rattle.source_language.specs.declared.syntax.Operator.{Operator}
 use Rattle.source_language.specs.declared.syntax.Operator.TheVariants as op
 use Rattle.source_tokens.specs.declared.tokens.Sign.{Sign}
 use Rattle.source_tokens.specs.declared.tokens.Sign.TheVariants as sign
+use Rattle.source_tokens.specs.declared.tokens.Part.TheVariants as part
 use Rattle.source_tokens.specs.declared.tokens.Kind.{Kind}
 use Rattle.source_tokens.specs.declared.tokens.Kind.TheVariants as kind
 
@@ -66,9 +67,39 @@ waiting_word lexeme =
     else if bytes_eq lexeme (codes "sync") then Some kind.Sync
     else None
 
--- a word of counting loops, of constants, or of tasks that are waited for
+-- `isolate` or `post`
+abbrev pub region_word : List ℕ → Option Kind
+region_word lexeme =
+    if bytes_eq lexeme (codes "isolate") then Some kind.Isolate
+    else if bytes_eq lexeme (codes "post") then Some kind.Post
+    else None
+
+-- `cell` or `cancelled`
+abbrev pub cell_word : List ℕ → Option Kind
+cell_word lexeme =
+    if bytes_eq lexeme (codes "cell") then Some kind.Cell
+    else if bytes_eq lexeme (codes "cancelled") then Some kind.Cancelled
+    else None
+
+-- a part of a cell
+abbrev pub part_word : List ℕ → Option Kind
+part_word lexeme =
+    if bytes_eq lexeme (codes ".local") then Some (kind.Part part.Local)
+    else if bytes_eq lexeme (codes ".sum") then Some (kind.Part part.Sum)
+    else if bytes_eq lexeme (codes ".count") then Some (kind.Part part.Count)
+    else None
+
+-- a word of what tasks share, or of regions
+abbrev pub shared_word : List ℕ → Option Kind
+shared_word lexeme = first_of (region_word lexeme) (first_of (cell_word lexeme) (part_word lexeme))
+
+-- a word of tasks that are waited for, or of what tasks share
+abbrev pub task_word : List ℕ → Option Kind
+task_word lexeme = first_of (waiting_word lexeme) (shared_word lexeme)
+
+-- a word of counting loops, of constants, or of tasks
 abbrev pub later_word : List ℕ → Option Kind
-later_word lexeme = first_of (counting_word lexeme) (first_of (constant_word lexeme) (waiting_word lexeme))
+later_word lexeme = first_of (counting_word lexeme) (first_of (constant_word lexeme) (task_word lexeme))
 
 -- a word that is taken
 abbrev pub word_named : List ℕ → Option Kind
@@ -87,6 +118,7 @@ mark_named lexeme =
     else if bytes_eq lexeme (codes "..") then Some kind.Range
     else if bytes_eq lexeme (codes "=") then Some kind.Set
     else if bytes_eq lexeme (codes "!") then Some kind.Not
+    else if bytes_eq lexeme (codes "@") then Some kind.At
     else None
 
 -- an operator
@@ -117,26 +149,17 @@ update_named lexeme =
     else if bytes_eq lexeme (codes "%=") then Some op.Remainder
     else None
 
--- a word of tasks
-abbrev pub is_task_word : List ℕ → Bool
-is_task_word lexeme =
+-- a word of groups of tasks
+abbrev pub is_group_word : List ℕ → Bool
+is_group_word lexeme =
     if bytes_eq lexeme (codes "group") then true
-    else if bytes_eq lexeme (codes "post") then true
-    else false
-
--- a word of cancelling
-abbrev pub is_cancelling_word : List ℕ → Bool
-is_cancelling_word lexeme =
-    if bytes_eq lexeme (codes "cancel") then true
-    else if bytes_eq lexeme (codes "cancelled") then true
+    else if bytes_eq lexeme (codes "cancel") then true
     else false
 
 -- a word of items
 abbrev pub is_item_word : List ℕ → Bool
 is_item_word lexeme =
-    if bytes_eq lexeme (codes "inline") then true
-    else if bytes_eq lexeme (codes "cell") then true
-    else false
+    bytes_eq lexeme (codes "inline")
 
 -- a word of parallel sums
 abbrev pub is_gathering_word : List ℕ → Bool
@@ -146,17 +169,16 @@ is_gathering_word lexeme =
     else if bytes_eq lexeme (codes "pmax") then true
     else false
 
--- a word inside parallel sums, or of regions
+-- a word inside parallel sums
 abbrev pub is_giving_word : List ℕ → Bool
 is_giving_word lexeme =
     if bytes_eq lexeme (codes "grain") then true
     else if bytes_eq lexeme (codes "give") then true
-    else if bytes_eq lexeme (codes "isolate") then true
     else false
 
 -- a word of the language that is not taken
 abbrev pub is_other_word : List ℕ → Bool
-is_other_word lexeme = (((is_task_word lexeme || is_cancelling_word lexeme) || is_item_word lexeme) || is_gathering_word lexeme) || is_giving_word lexeme
+is_other_word lexeme = ((is_group_word lexeme || is_item_word lexeme) || is_gathering_word lexeme) || is_giving_word lexeme
 
 abbrev pub update_kind : Option Operator → List ℕ → Option Kind
 update_kind (Some o) lexeme = Some (kind.Update o)

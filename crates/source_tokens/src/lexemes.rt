@@ -1,8 +1,8 @@
 // Lexemes: the pieces of a source.
 ghost use Rattle.std.specs.Prelude.{◌≡◌, ◌+◌, ◌++◌, map, drop, take, length, IfOk, ◌<◌};
-ghost use Rattle.source_tokens.specs.Lexemes.{view_lexeme, is_pair, is_comment, sign_len, lexeme_len, lexemes_at, lexemes_of};
+ghost use Rattle.source_tokens.specs.Lexemes.{view_lexeme, is_pair, is_comment, sign_len, is_part, mark_len, lexeme_len, lexemes_at, lexemes_of};
 
-use crate::bytes::{is_word, line_len, word_len};
+use crate::bytes::{is_letter, is_word, line_len, word_len};
 use std::alloc::{AllocError, Global};
 
 /// A piece of the text, and where it begins.
@@ -54,6 +54,27 @@ fn sign_len(first: u8, rest: &[u8]) -> usize
     }
 }
 
+/// Whether a part of a cell begins with this byte, before the others.
+fn is_part(first: u8, rest: &[u8]) -> bool
+    ensures { result ≡ is_part first rest.now }
+{
+    match rest.split_first() {
+        Some((second, _)) => first == b'.' && is_letter(*second),
+        None => false,
+    }
+}
+
+/// The length of a part of a cell, of a sign, or of a byte that is none.
+fn mark_len(first: u8, rest: &[u8]) -> usize
+    ensures { result ≡ mark_len first rest.now }
+{
+    if is_part(first, rest) {
+        1 + word_len(rest)
+    } else {
+        sign_len(first, rest)
+    }
+}
+
 /// The length of the lexeme at the front.
 fn lexeme_len(text: &[u8]) -> usize
     ensures { result ≡ lexeme_len text.now }
@@ -65,7 +86,7 @@ fn lexeme_len(text: &[u8]) -> usize
             } else if is_comment(*first, rest) {
                 line_len(text)
             } else {
-                sign_len(*first, rest)
+                mark_len(*first, rest)
             }
         }
         None => 1,

@@ -4,9 +4,10 @@
 mod bytes;
 mod lexemes;
 mod numbers;
+mod others;
 mod scanning;
 mod tokens;
 mod words;
 
 pub use scanning::tokens_in;
-pub use tokens::{Kind, Sign, Token};
+pub use tokens::{Kind, Part, Sign, Token};

@@ -19,6 +19,17 @@ pub enum Sign {
     Remainder,
 }
 
+/// What is asked of a cell.
+#[derive(Clone, Copy, Debug, PartialEq, Eq)]
+pub enum Part {
+    /// `.local`
+    Local,
+    /// `.sum`
+    Sum,
+    /// `.count`
+    Count,
+}
+
 /// What a token is.
 #[derive(Clone, Copy, Debug, PartialEq, Eq)]
 pub enum Kind {
@@ -65,6 +76,14 @@ pub enum Kind {
     In,
     /// `const` or `param`.
     Const,
+    Isolate,
+    Post,
+    Cancelled,
+    Cell,
+    /// A part of a cell, with the point before it.
+    Part(Part),
+    /// `@`
+    At,
     /// A word or sign of the language that is not taken.
     Other,
 }

@@ -1,9 +1,10 @@
 // Words and signs of the language.
 ghost use Rattle.std.specs.Prelude.{◌≡◌};
 ghost use Rattle.std.specs.Str.{bytes_eq};
-ghost use Rattle.source_tokens.specs.Words.{word_named, opening_word, choice_word, leaving_word, asking_word, counting_word, constant_word, waiting_word, later_word, mark_named, sign_named, update_named, is_other_word, is_task_word, is_cancelling_word, is_item_word, is_gathering_word, is_giving_word, sign_kind, kind_named};
+ghost use Rattle.source_tokens.specs.Words.{word_named, opening_word, choice_word, leaving_word, asking_word, counting_word, constant_word, waiting_word, region_word, cell_word, part_word, shared_word, task_word, later_word, mark_named, sign_named, update_named, sign_kind, kind_named};
 
-use crate::tokens::{Kind, Sign};
+use crate::others::is_other_word;
+use crate::tokens::{Kind, Part, Sign};
 use source_language::Operator;
 
 /// The kind of a word or sign of the language.
@@ -39,7 +40,7 @@ fn sign_kind(lexeme: &[u8]) -> Option<Kind>
 }
 
 /// Whether a lexeme is that word.
-fn is(lexeme: &[u8], word: &[u8]) -> bool
+pub(crate) fn is(lexeme: &[u8], word: &[u8]) -> bool
     ensures { result ≡ bytes_eq lexeme.now word.now }
 {
     lexeme == word
@@ -165,7 +166,71 @@ fn waiting_word(lexeme: &[u8]) -> Option<Kind>
     }
 }
 
-/// A word of counting loops, of constants, or of tasks that are waited for.
+/// `isolate` or `post`.
+fn region_word(lexeme: &[u8]) -> Option<Kind>
+    ensures { result ≡ region_word lexeme.now }
+{
+    if is(lexeme, b"isolate") {
+        Some(Kind::Isolate)
+    } else if is(lexeme, b"post") {
+        Some(Kind::Post)
+    } else {
+        None
+    }
+}
+
+/// `cell` or `cancelled`.
+fn cell_word(lexeme: &[u8]) -> Option<Kind>
+    ensures { result ≡ cell_word lexeme.now }
+{
+    if is(lexeme, b"cell") {
+        Some(Kind::Cell)
+    } else if is(lexeme, b"cancelled") {
+        Some(Kind::Cancelled)
+    } else {
+        None
+    }
+}
+
+/// A part of a cell.
+fn part_word(lexeme: &[u8]) -> Option<Kind>
+    ensures { result ≡ part_word lexeme.now }
+{
+    if is(lexeme, b".local") {
+        Some(Kind::Part(Part::Local))
+    } else if is(lexeme, b".sum") {
+        Some(Kind::Part(Part::Sum))
+    } else if is(lexeme, b".count") {
+        Some(Kind::Part(Part::Count))
+    } else {
+        None
+    }
+}
+
+/// A word of what tasks share, or of regions.
+fn shared_word(lexeme: &[u8]) -> Option<Kind>
+    ensures { result ≡ shared_word lexeme.now }
+{
+    match region_word(lexeme) {
+        Some(kind) => Some(kind),
+        None => match cell_word(lexeme) {
+            Some(kind) => Some(kind),
+            None => part_word(lexeme),
+        },
+    }
+}
+
+/// A word of tasks that are waited for, or of what tasks share.
+fn task_word(lexeme: &[u8]) -> Option<Kind>
+    ensures { result ≡ task_word lexeme.now }
+{
+    match waiting_word(lexeme) {
+        Some(kind) => Some(kind),
+        None => shared_word(lexeme),
+    }
+}
+
+/// A word of counting loops, of constants, or of tasks.
 fn later_word(lexeme: &[u8]) -> Option<Kind>
     ensures { result ≡ later_word lexeme.now }
 {
@@ -173,7 +238,7 @@ fn later_word(lexeme: &[u8]) -> Option<Kind>
         Some(kind) => Some(kind),
         None => match constant_word(lexeme) {
             Some(kind) => Some(kind),
-            None => waiting_word(lexeme),
+            None => task_word(lexeme),
         },
     }
 }
@@ -193,6 +258,7 @@ fn mark_named(lexeme: &[u8]) -> Option<Kind>
         b".." => Some(Kind::Range),
         b"=" => Some(Kind::Set),
         b"!" => Some(Kind::Not),
+        b"@" => Some(Kind::At),
         _ => None,
     }
 }
@@ -231,50 +297,4 @@ fn update_named(lexeme: &[u8]) -> Option<Operator>
         b"%=" => Some(Operator::Remainder),
         _ => None,
     }
-}
-
-/// Whether it is a word of the language that is not taken.
-fn is_other_word(lexeme: &[u8]) -> bool
-    ensures { result ≡ is_other_word lexeme.now }
-{
-    is_task_word(lexeme)
-        || is_cancelling_word(lexeme)
-        || is_item_word(lexeme)
-        || is_gathering_word(lexeme)
-        || is_giving_word(lexeme)
-}
-
-/// A word of tasks.
-fn is_task_word(lexeme: &[u8]) -> bool
-    ensures { result ≡ is_task_word lexeme.now }
-{
-    is(lexeme, b"group") || is(lexeme, b"post")
-}
-
-/// A word of cancelling.
-fn is_cancelling_word(lexeme: &[u8]) -> bool
-    ensures { result ≡ is_cancelling_word lexeme.now }
-{
-    is(lexeme, b"cancel") || is(lexeme, b"cancelled")
-}
-
-/// A word of items.
-fn is_item_word(lexeme: &[u8]) -> bool
-    ensures { result ≡ is_item_word lexeme.now }
-{
-    is(lexeme, b"inline") || is(lexeme, b"cell")
-}
-
-/// A word of parallel sums.
-fn is_gathering_word(lexeme: &[u8]) -> bool
-    ensures { result ≡ is_gathering_word lexeme.now }
-{
-    is(lexeme, b"psum") || is(lexeme, b"pmin") || is(lexeme, b"pmax")
-}
-
-/// A word inside parallel sums, or of regions.
-fn is_giving_word(lexeme: &[u8]) -> bool
-    ensures { result ≡ is_giving_word lexeme.now }
-{
-    is(lexeme, b"grain") || is(lexeme, b"give") || is(lexeme, b"isolate")
 }

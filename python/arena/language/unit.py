@@ -112,7 +112,11 @@ class Unit:
                                    "things")
         key = item.key
         if key is None:
-            return min(set(range(KEYS)) - self._taken_keys - set(self.cells.values()))
+            free = set(range(KEYS)) - self._taken_keys - set(self.cells.values())
+            if not free:
+                raise item.place.fault(f"no key is left for {item.name}: there are only {KEYS} cells, and those below "
+                                       "choose theirs")
+            return min(free)
         if key >= KEYS:
             raise item.place.fault(f"the key of a cell is from 0 to {KEYS - 1}")
         if key in self.cells.values():
