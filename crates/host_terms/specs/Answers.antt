@@ -49,7 +49,7 @@ job_named (Cancel job) = Some job
 job_named (Release job) = Some job
 job_named request = None
 
--- A session's place in a term asked the term's tenant, and noted the request with what it was told.
+-- Some place in a term asked the term's tenant, and noted the request with what it was told.
 pub record IsAsked (request : Request) (told : Told) : Type 0 where
   pub before : ClientSeen
   pub after : ClientSeen
@@ -71,13 +71,13 @@ pub record IsLooked (request : Request) (told : Told) : Type 0 where
   pub is : told.reply ≡ looked job status
   pub attended : told.attended ≡ None
 
--- The tenant of a term with these numbers was asked, and this is told of its answer.
+-- A tenant was asked, and this is told of its answer outside of a term with these numbers. That they are those of the term that was asked is not said.
 pub record IsToldBy (span : Span) (request : Request) (reply : Reply) : Type 0 where
   pub told : Told
   pub asked : IsAsked request told ⊎ IsLooked request told
   pub is : reply ≡ told_of span told
 
--- The request names a job. The term was asked whose job it is, about its number there.
+-- The request names a job. A tenant was asked about the number that the job has in a term whose job it is.
 pub record IsFromOwner (request : Request) (reply : Reply) : Type 0 where
   pub job : ℕ
   pub named : job_named request ≡ Some job
@@ -109,7 +109,7 @@ IsRefusedHere reply = (reply ≡ Refused NoTenant) ⊎ ((reply ≡ Refused NoMem
 abbrev pub IsServed : Request → Reply → Type 0
 IsServed request reply = IsFromTerm request reply ⊎ IsRefusedHere reply
 
--- The request names no job, and goes to a term that serves.
+-- The request names no job. Some term was asked, or it is refused.
 pub record IsFromServing (request : Request) (reply : Reply) : Type 0 where
   pub named : job_named request ≡ None
   pub served : IsServed request reply
