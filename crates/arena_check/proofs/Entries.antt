@@ -32,7 +32,8 @@ module _ (s : State) (es : List Entry) (i : ℕ) (e : Entry) (low : i < length e
 
   -- The next entry's answer is the tenant's, and then the others are given.
   pub answered_on : (step s e.step).0 ≡ e.answer →
-      map (λ (x : Entry). x.answer) (take i es) ++ answers s (map (λ (x : Entry). x.step) (drop i es)) ≡ map (λ (x : Entry). x.answer) (take (i + 1) es) ++ answers (step s e.step).1 (map (λ (x : Entry). x.step) (drop (i + 1) es))
+      map (λ (x : Entry). x.answer) (take i es) ++ answers s (map (λ (x : Entry). x.step) (drop i es)) ≡
+      map (λ (x : Entry). x.answer) (take (i + 1) es) ++ answers (step s e.step).1 (map (λ (x : Entry). x.step) (drop (i + 1) es))
   answered_on given =
       let rest = answers (step s e.step).1 (steps_in (drop (i + 1) es)) in
       ap (λ (xs : List Entry). answers_in (take i es) ++ answers s (steps_in xs)) left

@@ -71,7 +71,8 @@ abbrev pub member : (f g since : ℕ) → NumberedRow → Bool
 member f g since p = is_spawned_by f g p.1.kind && nat_lt since p.0
 
 pub members-like : (f g since k : ℕ) (a b : List Row) → AreLike a b →
-    (count_by (λ (p : NumberedRow). is_open p.1.phase) (filter (member f g since) (enumerate_from k b)) ≡ count_by (λ (p : NumberedRow). is_open p.1.phase) (filter (member f g since) (enumerate_from k a))) ×
+    (count_by (λ (p : NumberedRow). is_open p.1.phase) (filter (member f g since) (enumerate_from k b)) ≡
+    count_by (λ (p : NumberedRow). is_open p.1.phase) (filter (member f g since) (enumerate_from k a))) ×
     (length (filter (member f g since) (enumerate_from k b)) ≡ length (filter (member f g since) (enumerate_from k a)))
 members-like f g since k [] [] like = (refl, refl)
 members-like f g since k [] (y ∷ ys) like = absurd like
@@ -79,17 +80,23 @@ members-like f g since k (x ∷ xs) [] like = absurd like
 members-like f g since k (x ∷ xs) (y ∷ ys) like =
     let rest = members-like f g since (k + 1) xs ys like.1 in
     elim (either_way (member f g since (k, x))) [
-      | inl is ↦ rw (like.0.kind, is) (count_cons _ (k, y) (filter (member f g since) (enumerate_from (k + 1) ys)) ∙ rw (like.0.opens, rest.0) (sym (count_cons (λ (p : NumberedRow). is_open p.1.phase) (k, x) (filter (member f g since) (enumerate_from (k + 1) xs)))), omega (arith, rest.1))
+      | inl is ↦ rw (like.0.kind, is) (
+        count_cons _ (k, y) (filter (member f g since) (enumerate_from (k + 1) ys)) ∙
+            rw (like.0.opens, rest.0) (sym (count_cons (λ (p : NumberedRow). is_open p.1.phase) (k, x) (filter (member f g since) (enumerate_from (k + 1) xs)))),
+        omega (arith, rest.1),
+      )
       | inr not_so ↦ rw (like.0.kind, not_so) rest
     ]
 
 pub total-like : (f g since k : ℕ) (sum sum' : ℤ) (a b : List Row) → sum' ≡ sum → AreLike a b →
-    fold (λ sum (p : NumberedRow). int_wrapping_add w64 sum (value_in p.1.phase)) sum' (filter (member f g since) (enumerate_from k b)) ≡ fold (λ sum (p : NumberedRow). int_wrapping_add w64 sum (value_in p.1.phase)) sum (filter (member f g since) (enumerate_from k a))
+    fold (λ sum (p : NumberedRow). int_wrapping_add w64 sum (value_in p.1.phase)) sum' (filter (member f g since) (enumerate_from k b)) ≡
+    fold (λ sum (p : NumberedRow). int_wrapping_add w64 sum (value_in p.1.phase)) sum (filter (member f g since) (enumerate_from k a))
 total-like f g since k sum sum' [] [] same like = same
 total-like f g since k sum sum' [] (y ∷ ys) same like = absurd like
 total-like f g since k sum sum' (x ∷ xs) [] same like = absurd like
 total-like f g since k sum sum' (x ∷ xs) (y ∷ ys) same like =
-    let next : int_wrapping_add w64 sum' (value_in y.phase) ≡ int_wrapping_add w64 sum (value_in x.phase) = ap (λ v. int_wrapping_add w64 v (value_in y.phase)) same ∙ ap (int_wrapping_add w64 sum) like.0.value in
+    let next : int_wrapping_add w64 sum' (value_in y.phase) ≡ int_wrapping_add w64 sum (value_in x.phase) =
+    ap (λ v. int_wrapping_add w64 v (value_in y.phase)) same ∙ ap (int_wrapping_add w64 sum) like.0.value in
     elim (either_way (member f g since (k, x))) [
       | inl is ↦ rw (like.0.kind, is) (total-like f g since (k + 1) (int_wrapping_add w64 sum (value_in x.phase)) (int_wrapping_add w64 sum' (value_in y.phase)) xs ys next like.1)
       | inr not_so ↦ rw (like.0.kind, not_so) (total-like f g since (k + 1) sum sum' xs ys same like.1)
@@ -166,7 +173,8 @@ module _ (rows : List Row) (n : ℕ) (r : Row) (from : 1 ≤ n) (to : n ≤ leng
     | inr other ↦ ap f (row-with_other rows n m r from other)
   ]
 
-  pub Alike-set : r.kind ≡ (row rows n).kind → r.job ≡ (row rows n).job → r.made_on ≡ (row rows n).made_on → r.marks ≡ (row rows n).marks → is_open r.phase ≡ is_open (row rows n).phase → value_in r.phase ≡ value_in (row rows n).phase → Alike rows (with_at_number rows n r)
+  pub Alike-set : r.kind ≡ (row rows n).kind → r.job ≡ (row rows n).job → r.made_on ≡ (row rows n).made_on → r.marks ≡ (row rows n).marks → is_open r.phase ≡ is_open (row rows n).phase →
+      value_in r.phase ≡ value_in (row rows n).phase → Alike rows (with_at_number rows n r)
   Alike-set kind job made_on marks opens values = record {
     contexts = record { sources = SameSources-set rows n r from to kind job; marks = part-set (λ (q : Row). q.marks) marks };
     made_on = part-set (λ (q : Row). q.made_on) made_on;

@@ -35,7 +35,8 @@ use Rattle.arena_rows.proofs.Submitted.{begun_holds, r}
 use Rattle.arena_rows.proofs.Tops.{height_is}
 
 module _ (a : Held) (s : State) (is : Holds a s) (place : ℕ) (placed : is.places (length s.rows + 1) ≡ place) (j : Job) (c : ℕ)
-    (vacant : IsFree a.table place) (room : length a.jobs < MAX_JOBS) (free : binding a.contexts c ≡ None) (inside : c < length a.contexts) (count : held_count (with_bound a.contexts c None) ≡ held_count a.contexts + 1) where
+    (vacant : IsFree a.table place) (room : length a.jobs < MAX_JOBS) (free : binding a.contexts c ≡ None) (inside : c < length a.contexts)
+    (count : held_count (with_bound a.contexts c None) ≡ held_count a.contexts + 1) where
   abbrev N : ℕ
   N = length s.rows + 1
 
@@ -66,7 +67,8 @@ module _ (a : Held) (s : State) (is : Holds a s) (place : ℕ) (placed : is.plac
         let here : row rows1 N ≡ new = row-push_new s.rows N new refl in
         let no_region : region_of rows1 N ≡ None = region_of-none rows1 precede1 N (omega arith) (omega (arith, length_push s.rows new)) (rw here refl) (rw here refl) in
         let waiting_at : ℕ → ℕ → Option ℕ → Waiting = λ k q region. record { row = record { number = k; place = q }; made_on = None; region = option_map (id_of is.places) region } in
-        let w_is : w ≡ waiting_at N (is.places N) (region_of rows1 N) = ap (λ k. waiting_at k place None) number ∙ ap (λ q. waiting_at N q None) (sym placed) ∙ ap (waiting_at N (is.places N)) (sym no_region) in
+        let w_is : w ≡ waiting_at N (is.places N) (region_of rows1 N) =
+        ap (λ k. waiting_at k place None) number ∙ ap (λ q. waiting_at N q None) (sym placed) ∙ ap (waiting_at N (is.places N)) (sym no_region) in
         ap (λ q. with_row q w) is.waiting ∙ ap pool_of (ap (λ v. map (waiting_of s.rows is.places) (waiting s.rows) ++ v ∷ []) w_is ∙ sym (waiting-one s.rows new precede precede1 is.places refl))
 
     pub submitted_holds : Holds (put (job_begun a place j (stage.Waiting (root_frame j)) c) w) (add_job s j Unstarted)
@@ -95,23 +97,27 @@ module _ (a : Held) (s : State) (is : Holds a s) (place : ℕ) (placed : is.plac
     nested_is : nested_of rows2 is.places N ≡ record { frame = root_frame j; row = next_id a place; is_region = false }
     nested_is =
         let at_number : ℕ → ℕ → Nested = λ k q. record { frame = root_frame j; row = record { number = k; place = q }; is_region = false } in
-        ap (λ (q : Row). let x : Nested = record { frame = q.frame; row = id_of is.places N; is_region = is_region q.kind } in x) here2 ∙ ap (at_number N) placed ∙ ap (λ k. at_number k place) (sym number)
+        ap (λ (q : Row). let x : Nested = record { frame = q.frame; row = id_of is.places N; is_region = is_region q.kind } in x) here2 ∙ ap (at_number N) placed ∙
+        ap (λ k. at_number k place) (sym number)
 
     nests : AreNests rows2 is.places a.config.slots (root_pushed a slot (root_frame j) (next_id a place)).nests
     nests =
         let first : length (stack a.nests slot) + 1 ≡ 1 = omega (arith, bare) in
         subst (λ x. AreNests rows2 is.places a.config.slots (with_stack a.nests slot (stack a.nests slot ++ x ∷ []))) nested_is
         (AreNests-pushed s.rows rows2 is.places a.config.slots a.nests N slot is.nests low
-        (λ t h live. absurd (let opened : is_open (row s.rows N).phase ≡ true = rw live refl in omega (arith, open_there s.rows N opened))) (ap (λ (q : Row). q.phase) here2 ∙ ap (Live slot) (sym first)) others)
+        (λ t h live. absurd (let opened : is_open (row s.rows N).phase ≡ true = rw live refl in omega (arith, open_there s.rows N opened)))
+        (ap (λ (q : Row). q.phase) here2 ∙ ap (Live slot) (sym first)) others)
 
     live_pool : a.pool ≡ pool_of (map (waiting_of rows2 is.places) (waiting rows2))
     live_pool = is.waiting ∙ ap pool_of (sym (waiting-none s.rows new_live precede precede2 is.places refl))
 
     pub placed_holds : Holds (root_pushed (job_begun a place j (stage.Live slot 1) c) slot (root_frame j) (next_id a place)) (add_job s j (Live slot 1))
-    placed_holds = begun_holds a s is place placed j (Live slot 1) (stage.Live slot 1) c refl refl refl kept vacant room free inside count a.pool (root_pushed a slot (root_frame j) (next_id a place)).nests nests live_pool
+    placed_holds = begun_holds a s is place placed j (Live slot 1) (stage.Live slot 1) c refl refl refl kept vacant room free inside count a.pool
+        (root_pushed a slot (root_frame j) (next_id a place)).nests nests live_pool
 
 module _ (a : Held) (s : State) (rests : Rests a s) (place : ℕ) (j : Job) (c : ℕ)
-    (vacant : IsFree a.table place) (some : HasFreePlace a) (room : length a.jobs < MAX_JOBS) (free : binding a.contexts c ≡ None) (inside : c < length a.contexts) (count : held_count (with_bound a.contexts c None) ≡ held_count a.contexts + 1) where
+    (vacant : IsFree a.table place) (some : HasFreePlace a) (room : length a.jobs < MAX_JOBS) (free : binding a.contexts c ≡ None) (inside : c < length a.contexts)
+    (count : held_count (with_bound a.contexts c None) ≡ held_count a.contexts + 1) where
   next : IsPlaced a s rests.holds place
   next = next_placed a s rests.holds place
 
@@ -126,7 +132,8 @@ module _ (a : Held) (s : State) (rests : Rests a s) (place : ℕ) (j : Job) (c :
       record { holds = submitted_holds a s next.holds place next.placed j c vacant room free inside count kept; settled = added_settled s j Unstarted is.steady.formed.linked rests.settled }
 
   -- and after one was placed
-  pub placed_rests : (slot : ℕ) → slot < a.config.reserved → length (stack a.nests slot) ≡ 0 → Rests (root_pushed (job_begun a place j (stage.Live slot 1) c) slot (root_frame j) (next_id a place)) (add_job s j (Live slot 1))
+  pub placed_rests : (slot : ℕ) → slot < a.config.reserved → length (stack a.nests slot) ≡ 0 →
+      Rests (root_pushed (job_begun a place j (stage.Live slot 1) c) slot (root_frame j) (next_id a place)) (add_job s j (Live slot 1))
   placed_rests slot low bare =
       let is = rests.holds in
       let reserved = ap (λ (t : Tenant). t.reserved) is.config in

@@ -102,11 +102,13 @@ module _ (s : State) (r : Row) (precede : MakersPrecede s.rows) (precede' : Make
   its_job = ap (λ (q : Row). is_job_cancelled (job s.jobs q.job)) here
 
   -- The context of one that was spawned is cancelled where the group is, directly or from above.
-  pub spawned_context : (n g : ℕ) → 1 ≤ n → n ≤ length s.rows → r.kind ≡ Spawned n g → r.job ≡ (row s.rows n).job → is_context_cancelled more (length s.rows + 1) ≡ ((mark s.rows n g).cancelled || is_context_cancelled s n)
+  pub spawned_context : (n g : ℕ) → 1 ≤ n → n ≤ length s.rows → r.kind ≡ Spawned n g → r.job ≡ (row s.rows n).job →
+      is_context_cancelled more (length s.rows + 1) ≡ ((mark s.rows n g).cancelled || is_context_cancelled s n)
   spawned_context n g from to kind same_job =
       let N = length s.rows + 1 in
       let made : maker_of (row more.rows N).kind ≡ Some n = ap (λ (q : Row). maker_of q.kind) here ∙ ap maker_of kind in
-      let its : is_group_cancelled more.rows (row more.rows N).kind ≡ (mark s.rows n g).cancelled = ap (λ (q : Row). is_group_cancelled more.rows q.kind) here ∙ ap (is_group_cancelled more.rows) kind ∙ ap (λ (k : Mark). k.cancelled) (mark_push n g to) in
+      let its : is_group_cancelled more.rows (row more.rows N).kind ≡ (mark s.rows n g).cancelled =
+      ap (λ (q : Row). is_group_cancelled more.rows q.kind) here ∙ ap (is_group_cancelled more.rows) kind ∙ ap (λ (k : Mark). k.cancelled) (mark_push n g to) in
       let above = go n n (omega arith) from to in
       let of_maker : is_job_cancelled (job s.jobs (row more.rows N).job) ≡ is_job_cancelled (job s.jobs (row s.rows n).job) = its_job ∙ ap (λ j. is_job_cancelled (job s.jobs j)) same_job in
       rw (chain_goes_on more.rows precede' N n (omega arith) (omega (arith, length_push s.rows r)) made) (grind (arith, its, above, of_maker))
@@ -190,7 +192,9 @@ module _ (s : State) (k : Kind) (j : ℕ) (made_on : Option ℕ) (f : Frame) whe
         let at : ℕ → Row → State = λ i q. record s { rows = with_at_number t.rows i q } in
         let place : N - 1 ≡ length s.rows = omega arith in
         let same : on_row t N (λ r. record r { phase = Dropped }) ≡ with_born Dropped =
-        ap (λ (q : Row). at N (record q { phase = Dropped })) (new_is Unstarted) ∙ ap (λ rows. let u : State = record s { rows = rows } in u) (with_at_number-from t.rows N (born Dropped) (omega arith) ∙ set_at s.rows (born Unstarted) [] (born Dropped) (N - 1) (sym place)) in
+        ap (λ (q : Row). at N (record q { phase = Dropped })) (new_is Unstarted) ∙
+        ap (λ rows. let u : State = record s { rows = rows } in u)
+        (with_at_number-from t.rows N (born Dropped) (omega arith) ∙ set_at s.rows (born Unstarted) [] (born Dropped) (N - 1) (sym place)) in
         subst IsSteady same (steady_dropped t kept N (omega arith) (last Unstarted) waits)
 
 -- a row whose context is not cancelled is of a job without a fault

@@ -16,14 +16,18 @@ use Rattle.arena_rows.specs.Represents.{at_place, Assigned, Owner, Nobody, OfJob
 use Rattle.arena_rows.specs.HeldChanges.{with_group}
 
 -- one more of the contexts of an entry
-more_contexts : (cs : List (Option ℕ)) (g c : ℕ) → g < length cs → slice_index_or cs g None ≡ None → count_by (λ (o : Option ℕ). is_some o) (slice_set cs g (Some c)) ≡ count_by (λ (o : Option ℕ). is_some o) cs + 1
+more_contexts : (cs : List (Option ℕ)) (g c : ℕ) → g < length cs → slice_index_or cs g None ≡ None →
+    count_by (λ (o : Option ℕ). is_some o) (slice_set cs g (Some c)) ≡ count_by (λ (o : Option ℕ). is_some o) cs + 1
 more_contexts cs g c within none =
     let change = sum_by-set (λ (o : Option ℕ). one_if (is_some o)) cs g (Some c) None within in
     let before : one_if (is_some (slice_index_or cs g None)) ≡ 0 = rw none refl in
     omega (arith, change, before)
 
-module _ (s : State) (current : ℕ) (table : List (Option OpenRow)) (forest : Forest) (at : Assigned) (are : AreContexts s current table forest at) (n g c p : ℕ) (e : OpenRow) (few : g < GROUPS) (opened : is_open (row s.rows n).phase ≡ true) (started : is_unstarted (row s.rows n).phase ≡ false)
-    (within : p < length table) (there : at_place table p ≡ Some e) (number : e.number ≡ n) (only_place : (q : ℕ) (x : OpenRow) → at_place table q ≡ Some x → x.number ≡ n → q ≡ p) (no_context : at.of_group n g ≡ None) (long : length e.group_contexts ≡ GROUPS) (free : binding forest c ≡ None) (room : c < length forest) (context : ℕ) (context_is : context ≡ at.of_row n) where
+module _ (s : State) (current : ℕ) (table : List (Option OpenRow)) (forest : Forest) (at : Assigned) (are : AreContexts s current table forest at) (n g c p : ℕ) (e : OpenRow) (few : g < GROUPS)
+    (opened : is_open (row s.rows n).phase ≡ true) (started : is_unstarted (row s.rows n).phase ≡ false)
+    (within : p < length table) (there : at_place table p ≡ Some e) (number : e.number ≡ n) (only_place : (q : ℕ) (x : OpenRow) → at_place table q ≡ Some x → x.number ≡ n → q ≡ p)
+    (no_context : at.of_group n g ≡ None) (long : length e.group_contexts ≡ GROUPS) (free : binding forest c ≡ None) (room : c < length forest) (context : ℕ)
+    (context_is : context ≡ at.of_row n) where
   abbrev pub group_forest : Forest
   group_forest = with_bound forest c (Some context)
 
@@ -126,7 +130,8 @@ module _ (s : State) (current : ℕ) (table : List (Option OpenRow)) (forest : F
     ];
     in_table = λ q x at_q. elim (cases_eq q p) [
       | inl same ↦
-          let x_is : with_group g c e ≡ x = ap (λ o. unwrap_or o x) (sym (get_or-set_same table p (Some (with_group g c e)) None within) ∙ ap (at_place (slice_set table p (Some (with_group g c e)))) (sym same) ∙ at_q) in
+          let x_is : with_group g c e ≡ x =
+          ap (λ o. unwrap_or o x) (sym (get_or-set_same table p (Some (with_group g c e)) None within) ∙ ap (at_place (slice_set table p (Some (with_group g c e)))) (sym same) ∙ at_q) in
           let its = are.in_table p e there in
           rw (← x_is) (
             its.0,

@@ -64,7 +64,8 @@ none_fewer (x ∷ cs) zero within none =
 none_fewer (x ∷ cs) (suc g) within none =
     omega (arith, count_cons (λ (c : Option ℕ). is_some c) x cs, none_fewer cs g (omega (arith, within)) none, one_at_most (is_some x))
 
-pub group_room : (a : Held) (s : State) (is : Holds a s) (p g : ℕ) (e : OpenRow) → p < length a.table → at_place a.table p ≡ Some e → length e.group_contexts ≡ GROUPS → g < GROUPS → slice_index_or e.group_contexts g None ≡ None → held_count a.contexts < length a.contexts
+pub group_room : (a : Held) (s : State) (is : Holds a s) (p g : ℕ) (e : OpenRow) → p < length a.table → at_place a.table p ≡ Some e → length e.group_contexts ≡ GROUPS → g < GROUPS →
+    slice_index_or e.group_contexts g None ≡ None → held_count a.contexts < length a.contexts
 group_room a s is p g e within there long few none =
     let fewer = none_fewer e.group_contexts g (omega (arith, few, long)) none in
     let less : held_by (at_place a.table p) < 5 = rw there (omega (arith, fewer, long, one_at_most (is_spawned e.source))) in

@@ -22,7 +22,16 @@ cells_hold a s t table is = record {
   nests = is.nests;
   tags = is.tags;
   waiting = is.waiting;
-  contexts = record { of_jobs = is.contexts.of_jobs; of_rows = is.contexts.of_rows; of_groups = is.contexts.of_groups; bare = is.contexts.bare; owned = is.contexts.owned; in_table = is.contexts.in_table; count = is.contexts.count };
+  contexts = record {
+    of_jobs = is.contexts.of_jobs;
+    of_rows = is.contexts.of_rows;
+    of_groups = is.contexts.of_groups;
+    bare = is.contexts.bare;
+    owned = is.contexts.owned;
+    in_table =
+        is.contexts.in_table;
+    count = is.contexts.count;
+  };
   room = is.room;
   jobs = record { order = is.jobs.order; there = is.jobs.there; works = is.jobs.works; each = is.jobs.each; all = is.jobs.all; later = is.jobs.later; many = is.jobs.many; few = is.jobs.few };
   cells = refl;

@@ -32,7 +32,8 @@ open_valueless Dropped opened = refl
 open_valueless Faulted opened = refl
 
 -- a row changed, of the same kind, which is no member of a group
-members-other : (f g since k i : ℕ) (r d : Row) (xs : List Row) → i < length xs → r.kind ≡ (get_or xs i d).kind → is_spawned_by f g r.kind ≡ false → filter (member f g since) (enumerate_from k (slice_set xs i r)) ≡ filter (member f g since) (enumerate_from k xs)
+members-other : (f g since k i : ℕ) (r d : Row) (xs : List Row) → i < length xs → r.kind ≡ (get_or xs i d).kind → is_spawned_by f g r.kind ≡ false →
+    filter (member f g since) (enumerate_from k (slice_set xs i r)) ≡ filter (member f g since) (enumerate_from k xs)
 members-other f g since k i r d [] within kind apart = absurd (omega (arith, within))
 members-other f g since k zero r d (x ∷ xs) within kind apart =
     let before : is_spawned_by f g x.kind ≡ false = ap (is_spawned_by f g) (sym kind) ∙ apart in
@@ -45,7 +46,8 @@ members-other f g since k (suc i) r d (x ∷ xs) within kind apart =
     ]
 
 -- or which may be one
-long-set : (f g since k i : ℕ) (r d : Row) (xs : List Row) → i < length xs → r.kind ≡ (get_or xs i d).kind → length (filter (member f g since) (enumerate_from k (slice_set xs i r))) ≡ length (filter (member f g since) (enumerate_from k xs))
+long-set : (f g since k i : ℕ) (r d : Row) (xs : List Row) → i < length xs → r.kind ≡ (get_or xs i d).kind →
+    length (filter (member f g since) (enumerate_from k (slice_set xs i r))) ≡ length (filter (member f g since) (enumerate_from k xs))
 long-set f g since k i r d [] within kind = absurd (omega (arith, within))
 long-set f g since k zero r d (x ∷ xs) within kind = elim (either_way (member f g since (k, x))) [
   | inl is ↦ rw (kind, is) refl
@@ -125,7 +127,8 @@ module _ (rows : List Row) (n : ℕ) (r : Row) (from : 1 ≤ n) (to : n ≤ leng
   -- A group that it is no member of has the same counters.
   pub IsGroup-other : (f g : ℕ) (it : Group) → is_spawned_by f g (row rows n).kind ≡ false → IsGroup rows f g it → IsGroup rows' f g it
   IsGroup-other f g it apart is =
-      let same : members rows' f g ≡ members rows f g = rw (mark_same f g, set_is) (members-other f g (mark rows f g).rows 1 (n - 1) r r rows within kind_before (ap (is_spawned_by f g) kind ∙ apart)) in
+      let same : members rows' f g ≡ members rows f g =
+      rw (mark_same f g, set_is) (members-other f g (mark rows f g).rows 1 (n - 1) r r rows within kind_before (ap (is_spawned_by f g) kind ∙ apart)) in
       record {
         pending = is.pending ∙ ap (count_by (λ (p : NumberedRow). is_open p.1.phase)) (sym same);
         total = is.total ∙ ap (fold (λ sum (p : NumberedRow). int_wrapping_add w64 sum (value_in p.1.phase)) (pos 0)) (sym same);
@@ -162,7 +165,8 @@ module _ (rows : List Row) (n : ℕ) (r : Row) (from : 1 ≤ n) (to : n ≤ leng
         omega (arith, count-with (λ (q : Row). (q.job == j) && is_open q.phase) rows n r from to, was, now)
 
     -- The group that it is a member of has one pending member less, and its value.
-    pub IsGroup-left : (f g : ℕ) (it : Group) → (row rows n).kind ≡ Spawned f g → (mark rows f g).rows < n → IsGroup rows f g it → IsGroup rows' f g (record it { pending = it.pending - 1; total = int_wrapping_add w64 it.total (value_in r.phase) })
+    pub IsGroup-left : (f g : ℕ) (it : Group) → (row rows n).kind ≡ Spawned f g → (mark rows f g).rows < n → IsGroup rows f g it →
+        IsGroup rows' f g (record it { pending = it.pending - 1; total = int_wrapping_add w64 it.total (value_in r.phase) })
     IsGroup-left f g it made since is =
         let own_f : (f == f) ≡ true = grind arith in
         let own_g : (g == g) ≡ true = grind arith in

@@ -24,7 +24,8 @@ use Rattle.tenant_model.proofs.Within.{maker_before}
 use Rattle.arena_rows.specs.declared.rows.OpenRow.{OpenRow}
 use Rattle.arena_rows.specs.declared.rows.CurrentJob.{CurrentJob}
 use Rattle.arena_rows.specs.Held.{Held}
-use Rattle.arena_rows.specs.Represents.{at_place, tagged_of, AreRows, AreFree, AreNests, AreTagged, Owner, Nobody, OfJob, OfRow, OfGroup, IsRowContext, IsGroupContext, IsOwned, AreContexts, held_by, IsJob, AreJobs, open_of, Holds}
+use Rattle.arena_rows.specs.Represents.{at_place, tagged_of, AreRows, AreFree, AreNests, AreTagged, Owner, Nobody, OfJob, OfRow, OfGroup, IsRowContext, IsGroupContext, IsOwned, AreContexts, held_by}
+use Rattle.arena_rows.specs.Represents.{IsJob, AreJobs, open_of, Holds}
 use Rattle.arena_rows.proofs.BornDropped.{mark_push, settled_push}
 use Rattle.arena_rows.proofs.Picking.{unstarted_open}
 use Rattle.arena_rows.proofs.Pushing.{nested_old, tagged_old, waiting-none, value_same, open_more}
@@ -64,11 +65,13 @@ pub record IsTableAfter (a : Held) (s : State) (is : Holds a s) (r : Row) (table
   pub rows : AreRows (s.rows ++ r ∷ []) is.places table
   pub taken : count_by is_some table ≡ count_by is_some a.table
   pub tags : (q : ℕ) → option_map (tagged_of s.rows is.places) (at_place table q) ≡ option_map (tagged_of s.rows is.places) (at_place a.table q)
-  pub contexts : (q : ℕ) (x : OpenRow) → at_place table q ≡ Some x → (x.context ≡ is.assigned.of_row x.number) × ((h : ℕ) → h < GROUPS → slice_index_or x.group_contexts h None ≡ is.assigned.of_group x.number h)
+  pub contexts : (q : ℕ) (x : OpenRow) → at_place table q ≡ Some x →
+      (x.context ≡ is.assigned.of_row x.number) × ((h : ℕ) → h < GROUPS → slice_index_or x.group_contexts h None ≡ is.assigned.of_group x.number h)
   pub held : sum_by held_by table ≡ sum_by held_by a.table
   pub joins : (x h : ℕ) → is.assigned.of_group x h ≡ None → is_spawned_by x h r.kind ≡ false
 
-module _ (a : Held) (s : State) (is : Holds a s) (r : Row) (closed : is_open r.phase ≡ false) (none : value_in r.phase ≡ pos 0) (table : List (Option OpenRow)) (after : IsTableAfter a s is r table) (kept : IsSteady (add_row s r)) where
+module _ (a : Held) (s : State) (is : Holds a s) (r : Row) (closed : is_open r.phase ≡ false) (none : value_in r.phase ≡ pos 0) (table : List (Option OpenRow)) (after : IsTableAfter a s is r table)
+    (kept : IsSteady (add_row s r)) where
   abbrev t : State
   t = add_row s r
 
@@ -186,7 +189,8 @@ module _ (a : Held) (s : State) (is : Holds a s) (r : Row) (closed : is_open r.p
     free = free;
     nests = nests;
     tags = tags;
-    waiting = is.waiting ∙ ap (λ ws. let q : Ready = record { isolation = a.config.isolation; limit = a.config.rows; slots = a.config.slots; rows = ws } in q) (sym (waiting-none s.rows r precede precede' is.places started));
+    waiting = is.waiting ∙ ap (λ ws. let q : Ready = record { isolation = a.config.isolation; limit = a.config.rows; slots = a.config.slots; rows = ws } in q)
+        (sym (waiting-none s.rows r precede precede' is.places started));
     contexts = contexts;
     room = is.room;
     jobs = jobs;

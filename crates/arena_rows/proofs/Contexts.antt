@@ -37,12 +37,14 @@ module _ (forest : Forest) (is : IsForest forest) where
   by_binding : (c : ℕ) (b : Binding) → binding forest c ≡ Some b → is_cancelled forest c ≡ (asks_in (Some b) || option_map_or (is_cancelled forest) b.parent false)
   by_binding c b there = is.walk c ∙ rw there refl
 
-module _ (s : State) (current : ℕ) (table : List (Option OpenRow)) (forest : Forest) (at : Assigned) (steady : IsSteady s) (later : (n : ℕ) → is_open (row s.rows n).phase ≡ true → IsKept s.jobs (row s.rows n).job) (are : AreContexts s current table forest at) (is : IsForest forest) where
+module _ (s : State) (current : ℕ) (table : List (Option OpenRow)) (forest : Forest) (at : Assigned) (steady : IsSteady s)
+    (later : (n : ℕ) → is_open (row s.rows n).phase ≡ true → IsKept s.jobs (row s.rows n).job) (are : AreContexts s current table forest at) (is : IsForest forest) where
   precede : MakersPrecede s.rows
   precede = steady.formed.linked.makers
 
   job_context : (n : ℕ) → 1 ≤ n → n ≤ length s.rows → is_open (row s.rows n).phase ≡ true → is_cancelled forest (at.of_job (row s.rows n).job) ≡ is_job_cancelled (job s.jobs (row s.rows n).job)
-  job_context n from to opened = let its = are.of_jobs (row s.rows n).job (later n opened) (steady.formed.linked.jobs n from to).1 in by_binding forest is (at.of_job (row s.rows n).job) _ its.1 ∙ grind arith
+  job_context n from to opened = let its = are.of_jobs (row s.rows n).job (later n opened) (steady.formed.linked.jobs n from to).1 in
+      by_binding forest is (at.of_job (row s.rows n).job) _ its.1 ∙ grind arith
 
   -- the definition, by a row's maker
   by_maker : (n m : ℕ) → 1 ≤ n → n ≤ length s.rows → maker_of (row s.rows n).kind ≡ Some m → is_context_cancelled s n ≡ (is_group_cancelled s.rows (row s.rows n).kind || is_context_cancelled s m)
@@ -51,16 +53,19 @@ module _ (s : State) (current : ℕ) (table : List (Option OpenRow)) (forest : F
   abbrev Agrees : ℕ → Type 0
   Agrees n = is_cancelled forest (at.of_row n) ≡ is_context_cancelled s n
 
-  alone : (n : ℕ) → 1 ≤ n → n ≤ length s.rows → is_open (row s.rows n).phase ≡ true → maker_of (row s.rows n).kind ≡ None → is_group_cancelled s.rows (row s.rows n).kind ≡ false → at.of_row n ≡ at.of_job (row s.rows n).job → Agrees n
+  alone : (n : ℕ) → 1 ≤ n → n ≤ length s.rows → is_open (row s.rows n).phase ≡ true → maker_of (row s.rows n).kind ≡ None → is_group_cancelled s.rows (row s.rows n).kind ≡ false →
+      at.of_row n ≡ at.of_job (row s.rows n).job → Agrees n
   alone n from to opened none no_group context = rw (context, chain_ends s.rows n from none, no_group) (job_context n from to opened ∙ grind arith)
 
   -- the context of a group that has one
-  pub group_is : (m g c : ℕ) → is_open (row s.rows m).phase ≡ true → g < GROUPS → at.of_group m g ≡ Some c → Agrees m → is_cancelled forest c ≡ ((mark s.rows m g).cancelled || is_context_cancelled s m)
+  pub group_is : (m g c : ℕ) → is_open (row s.rows m).phase ≡ true → g < GROUPS → at.of_group m g ≡ Some c → Agrees m →
+      is_cancelled forest c ≡ ((mark s.rows m g).cancelled || is_context_cancelled s m)
   group_is m g c opened few given agrees =
       let its : IsGroupContext s forest at m g (Some c) = rw given at (are.of_groups m g opened few) in
       by_binding forest is c _ its.1 ∙ rw agrees (or_none (mark s.rows m g).cancelled (is_context_cancelled s m))
 
-  by_kind : (n : ℕ) (kind : Kind) → (row s.rows n).kind ≡ kind → ((m : ℕ) → m < n → 1 ≤ m → is_open (row s.rows m).phase ≡ true → Agrees m) → 1 ≤ n → n ≤ length s.rows → is_open (row s.rows n).phase ≡ true → Agrees n
+  by_kind : (n : ℕ) (kind : Kind) → (row s.rows n).kind ≡ kind → ((m : ℕ) → m < n → 1 ≤ m → is_open (row s.rows m).phase ≡ true → Agrees m) → 1 ≤ n → n ≤ length s.rows →
+      is_open (row s.rows n).phase ≡ true → Agrees n
   by_kind n Root kind ih from to opened = let its : IsRowContext s forest at n Root = rw kind at (are.of_rows n opened) in alone n from to opened (rw kind refl) (rw kind refl) its
   by_kind n Posted kind ih from to opened = let its : IsRowContext s forest at n Posted = rw kind at (are.of_rows n opened) in alone n from to opened (rw kind refl) (rw kind refl) its
   by_kind n (Region m) kind ih from to opened =

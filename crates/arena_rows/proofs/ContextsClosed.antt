@@ -29,8 +29,10 @@ abbrev pub IsSpawned : Kind → Type 0
 IsSpawned k = (m : ℕ) × (g : ℕ) × (k ≡ Spawned m g)
 
 module _ (s : State) (current : ℕ) (table table' : List (Option OpenRow)) (forest forest' : Forest) (at : Assigned) (are : AreContexts s current table forest at) (steady : IsSteady s)
-    (n : ℕ) (r : Row) (from : 1 ≤ n) (to : n ≤ length s.rows) (kind : r.kind ≡ (row s.rows n).kind) (same_job : r.job ≡ (row s.rows n).job) (marks : r.marks ≡ (row s.rows n).marks) (opened : is_open (row s.rows n).phase ≡ true) (closed : is_open r.phase ≡ false)
-    (cs : List ℕ) (left : Left forest forest' cs) (whose : (d : ℕ) → is_in d cs ≡ true → IsOf at (IsSpawned (row s.rows n).kind) n d) (all : (d : ℕ) → IsOf at (IsSpawned (row s.rows n).kind) n d → is_in d cs ≡ true)
+    (n : ℕ) (r : Row) (from : 1 ≤ n) (to : n ≤ length s.rows) (kind : r.kind ≡ (row s.rows n).kind) (same_job : r.job ≡ (row s.rows n).job) (marks : r.marks ≡ (row s.rows n).marks)
+    (opened : is_open (row s.rows n).phase ≡ true) (closed : is_open r.phase ≡ false)
+    (cs : List ℕ) (left : Left forest forest' cs) (whose : (d : ℕ) → is_in d cs ≡ true → IsOf at (IsSpawned (row s.rows n).kind) n d)
+    (all : (d : ℕ) → IsOf at (IsSpawned (row s.rows n).kind) n d → is_in d cs ≡ true)
     (unshared : (x : ℕ) → is_open (row s.rows x).phase ≡ true → x ≢ n → is_in (at.of_row x) cs ≡ false) where
   abbrev t : State
   t = record s { rows = with_at_number s.rows n r }
@@ -82,7 +84,10 @@ module _ (s : State) (current : ℕ) (table table' : List (Option OpenRow)) (for
                     let group : IsGroupContext s forest at m g (Some c) = rw held.1.1 at (are.of_groups m g held.0 few) in
                     let owner_c : row_in (at.owner c) ≡ m = ap row_in group.0 in
                     let fine : is_in c cs ≡ false = apart c (λ same. maker (sym owner_c ∙ same)) in
-                    inl (ap (λ (q : Row). is_open q.phase) (old m maker) ∙ held.0, (c, held.1.1, left.kept (at.of_row x) out (λ p its. let p_is : p ≡ c = some_is p c (sym its ∙ ap parent_in held.1.2) in ap (λ i. is_in i cs) p_is ∙ fine) ∙ held.1.2))
+                    inl (
+                      ap (λ (q : Row). is_open q.phase) (old m maker) ∙ held.0,
+                      (c, held.1.1, left.kept (at.of_row x) out (λ p its. let p_is : p ≡ c = some_is p c (sym its ∙ ap parent_in held.1.2) in ap (λ i. is_in i cs) p_is ∙ fine) ∙ held.1.2),
+                    )
               ]
           | inr gone ↦
               let maker : m ≢ n = λ same. let no : is_open (row s.rows n).phase ≡ false = ap (λ i. is_open (row s.rows i).phase) (sym same) ∙ gone.0 in grind (arith, no, opened) in
@@ -95,8 +100,11 @@ module _ (s : State) (current : ℕ) (table table' : List (Option OpenRow)) (for
   group_there x h (Some d) other opened_x is =
       let owner_d : row_in (at.owner d) ≡ x = ap row_in is.0 in
       let fine : is_in d cs ≡ false = apart d (λ same. other (sym owner_d ∙ same)) in
-      let marked = mark_same s.rows n r from to kind same_job marks x h in
-      (is.0, left.kept d fine (λ p its. let p_is : p ≡ at.of_row x = some_is p (at.of_row x) (sym its ∙ ap parent_in is.1) in ap (λ i. is_in i cs) p_is ∙ unshared x opened_x other) ∙ is.1 ∙ ap (λ m. Some (bound (at.of_row x) m.cancelled)) (sym marked))
+      let marked = mark_same s.rows n r from to kind same_job marks x h in (
+        is.0,
+        left.kept d fine (λ p its. let p_is : p ≡ at.of_row x = some_is p (at.of_row x) (sym its ∙ ap parent_in is.1) in ap (λ i. is_in i cs) p_is ∙ unshared x opened_x other) ∙ is.1 ∙
+            ap (λ m. Some (bound (at.of_row x) m.cancelled)) (sym marked),
+      )
 
   owned_there : (d : ℕ) (o : Owner) → is_in d cs ≡ false → IsOwned s at d o → IsOwned t at d o
   owned_there d Nobody out is = is
@@ -113,7 +121,8 @@ module _ (s : State) (current : ℕ) (table table' : List (Option OpenRow)) (for
       grind (arith, all d (inl (h, is.2, given)), out) in
       (is.0, ap (λ (q : Row). is_open q.phase) (old x other) ∙ is.1, is.2)
 
-  pub AreContexts-closed : ((p : ℕ) (e : OpenRow) → at_place table' p ≡ Some e → (e.context ≡ at.of_row e.number) × ((g : ℕ) → g < GROUPS → slice_index_or e.group_contexts g None ≡ at.of_group e.number g)) →
+  pub AreContexts-closed : ((p : ℕ) (e : OpenRow) → at_place table' p ≡ Some e →
+      (e.context ≡ at.of_row e.number) × ((g : ℕ) → g < GROUPS → slice_index_or e.group_contexts g None ≡ at.of_group e.number g)) →
       sum_by held_by table' + length cs ≡ sum_by held_by table → AreContexts t current table' forest' at
   AreContexts-closed in_table held = record {
     of_jobs = λ j above most. job_there j (are.of_jobs j above most);

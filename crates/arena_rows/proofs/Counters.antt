@@ -86,6 +86,7 @@ module _ (a : Held) (s : State) (is : Holds a s) (n : ℕ) (e : OpenRow) (entry 
         rw unmarked own_told
 
 -- The work of the topmost row's job.
-pub work_told : (a : Held) (s : State) (is : Holds a s) (slot n : ℕ) → top s.rows slot ≡ Some n → (d : CurrentJob) → (slice_index_or a.jobs (index_of a (row s.rows n).job) d).work ≡ job s.jobs (row s.rows n).job
+pub work_told : (a : Held) (s : State) (is : Holds a s) (slot n : ℕ) → top s.rows slot ≡ Some n → (d : CurrentJob) →
+    (slice_index_or a.jobs (index_of a (row s.rows n).job) d).work ≡ job s.jobs (row s.rows n).job
 work_told a s is slot n on_top d =
     sym (held_work a s is (row s.rows n).job (top_job a s is slot n on_top) d)

@@ -34,7 +34,8 @@ no_more : (k : ℕ) → k + 0 ≡ k
 no_more k = omega arith
 
 -- a member added that has ended already
-pub added_ended : (gs joined left : List Group) (g : ℕ) → g < length gs → joined ≡ slice_set gs g (record (group gs g) { pending = (group gs g).pending + 1; is_used = true }) → left ≡ slice_set joined g (record (group joined g) { pending = (group joined g).pending - 1 }) → left ≡ slice_set gs g (record (group gs g) { is_used = true })
+pub added_ended : (gs joined left : List Group) (g : ℕ) → g < length gs → joined ≡ slice_set gs g (record (group gs g) { pending = (group gs g).pending + 1; is_used = true }) →
+    left ≡ slice_set joined g (record (group joined g) { pending = (group joined g).pending - 1 }) → left ≡ slice_set gs g (record (group gs g) { is_used = true })
 added_ended gs joined left g within adds drops =
     let x : Group = record (group gs g) { pending = (group gs g).pending + 1; is_used = true } in
     let at : ℕ → Group = λ k. record (group gs g) { pending = k; is_used = true } in
@@ -49,7 +50,8 @@ one_pending gs joined g within adds =
     let here : group joined g ≡ x = ap (λ js. group js g) adds ∙ get_or-set_same gs g x unused within in
     rw here (omega arith)
 
-module _ (a : Held) (s : State) (is : Holds a s) (slot n g c : ℕ) (f : Frame) (me : OpenRow) (on_top : top s.rows slot ≡ Some n) (entry : IsEntry a s is n me) (low : g < GROUPS) (given : is.assigned.of_group n g ≡ Some c)
+module _ (a : Held) (s : State) (is : Holds a s) (slot n g c : ℕ) (f : Frame) (me : OpenRow) (on_top : top s.rows slot ≡ Some n) (entry : IsEntry a s is n me) (low : g < GROUPS)
+    (given : is.assigned.of_group n g ≡ Some c)
     (kept : IsSteady (add_row s (new_row (Spawned n g) (row s.rows n).job (Some slot) f Dropped))) where
   abbrev r : Row
   r = new_row (Spawned n g) (row s.rows n).job (Some slot) f Dropped
@@ -92,8 +94,10 @@ module _ (a : Held) (s : State) (is : Holds a s) (slot n g c : ℕ) (f : Frame) 
   groups h few = elim (cases_eq h g) [
     | inl same ↦
         let new : group me'.groups g ≡ record (group me.groups g) { is_used = true } = get_or-set_same me.groups g _ unused (omega (arith, low, entry.its.all_groups)) in
-        let joined : IsGroup t.rows n g (record (group me.groups g) { pending = (group me.groups g).pending + 0; is_used = true }) = IsGroup-joined s.rows r precede precede' n g (group me.groups g) to (is.steady.formed.marked n g) joins refl (entry.its.groups g low) in
-        let its : IsGroup t.rows n g (record (group me.groups g) { is_used = true }) = subst (λ k. let it : Group = record (group me.groups g) { pending = k; is_used = true } in IsGroup t.rows n g it) (no_more (group me.groups g).pending) joined in
+        let joined : IsGroup t.rows n g (record (group me.groups g) { pending = (group me.groups g).pending + 0; is_used = true }) =
+        IsGroup-joined s.rows r precede precede' n g (group me.groups g) to (is.steady.formed.marked n g) joins refl (entry.its.groups g low) in
+        let its : IsGroup t.rows n g (record (group me.groups g) { is_used = true }) =
+        subst (λ k. let it : Group = record (group me.groups g) { pending = k; is_used = true } in IsGroup t.rows n g it) (no_more (group me.groups g).pending) joined in
         rw (same, new) its
     | inr other ↦
         let old : group me'.groups h ≡ group me.groups h = get_or-set_other me.groups g h _ unused other in
@@ -123,8 +127,15 @@ module _ (a : Held) (s : State) (is : Holds a s) (slot n g c : ℕ) (f : Frame) 
         elim (cases_eq x n) [
           | inl same ↦ record { within = within; entry = me'; there = ap (λ k. at_place table' (is.places k)) same ∙ at_same a.table p (Some me') entry.within; is = rw same maker_now }
           | inr other ↦
-              let apart : is.places x ≢ p = λ both. other (sym its.is.number ∙ ap (λ (y : OpenRow). y.number) (some_is its.entry me (sym its.there ∙ ap (at_place a.table) both ∙ entry.there)) ∙ entry.its.number) in
-              record { within = within; entry = its.entry; there = at_other a.table p (Some me') entry.within (is.places x) apart ∙ its.there; is = IsRow-pushed s.rows r precede precede' is.places x its.entry old.1 (λ h few. other_row x h other) its.is }
+              let apart : is.places x ≢ p = λ both. other
+              (sym its.is.number ∙ ap (λ (y : OpenRow). y.number) (some_is its.entry me (sym its.there ∙ ap (at_place a.table) both ∙ entry.there)) ∙ entry.its.number) in
+              record {
+                within = within;
+                entry = its.entry;
+                there = at_other a.table p (Some me') entry.within (is.places x) apart ∙ its.there;
+                is =
+                    IsRow-pushed s.rows r precede precede' is.places x its.entry old.1 (λ h few. other_row x h other) its.is;
+              }
         ];
     only = λ q x here. elim (cases_eq q p) [
       | inl same ↦

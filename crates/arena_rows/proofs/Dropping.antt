@@ -23,7 +23,8 @@ abbrev pub dropped : State → ℕ → State
 dropped t n = on_row t n (λ r. record r { phase = Dropped })
 
 -- One more row that waits is dropped, whose context was cancelled in s.
-pub Drops-more : (s t : State) (n : ℕ) → 1 ≤ n → n ≤ length s.rows → is_unstarted (row t.rows n).phase ≡ true → row t.rows n ≡ row s.rows n → is_context_cancelled s n ≡ true → Drops s t → Drops s (dropped t n)
+pub Drops-more : (s t : State) (n : ℕ) → 1 ≤ n → n ≤ length s.rows → is_unstarted (row t.rows n).phase ≡ true → row t.rows n ≡ row s.rows n → is_context_cancelled s n ≡ true → Drops s t →
+    Drops s (dropped t n)
 Drops-more s t n from to waits same cancelled drops =
     let r : Row = record (row t.rows n) { phase = Dropped } in
     record {

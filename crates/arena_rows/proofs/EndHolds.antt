@@ -49,19 +49,24 @@ module _ (a b : Held) (s : State) (is : Holds a s) (n : ℕ) (e : OpenRow) (entr
         let same_nests : b.nests ≡ a.nests = ap (λ (x : Held). x.nests) over.rest in
         let same_pool : b.pool ≡ a.pool = ap (λ (x : Held). x.pool) over.rest in
         let ended : is_open (row rows' n).phase ≡ false = ap (λ (q : Row). is_open q.phase) (row_new s.rows n r from to kind same_job marks) ∙ closed in
-        let nests = AreNests-popped s.rows rows' is.places a.config.slots a.nests n is.nests ended (row_old s.rows n r from to kind same_job marks) is.steady.formed.stacked slot (on_slot a s is slot n on_top) on_top in
-        let pool : b.pool ≡ pool_of (map (waiting_of rows' is.places) (waiting rows')) = same_pool ∙ is.waiting ∙ ap pool_of (pool_live s.rows is.places n r from to kind same_job marks entry.opened closed (rw live refl)) in
+        let nests = AreNests-popped s.rows rows' is.places a.config.slots a.nests n is.nests ended (row_old s.rows n r from to kind same_job marks) is.steady.formed.stacked slot
+        (on_slot a s is slot n on_top) on_top in
+        let pool : b.pool ≡ pool_of (map (waiting_of rows' is.places) (waiting rows')) =
+        same_pool ∙ is.waiting ∙ ap pool_of (pool_live s.rows is.places n r from to kind same_job marks entry.opened closed (rw live refl)) in
         let all = closed_holds a b s is n e entry loose r kind same_job marks closed v value over b.pool (popped a slot).nests nests pool steady in
         subst (λ ns. Holds (record b { nests = ns }) (record s { rows = rows' })) (ap (λ ns. (popped (record b { nests = ns }) slot).nests) (sym same_nests)) all
 
-    pub done_holds : (f : Frame) (v : ℤ) → HasEnded a b (id_of is.places n) e v → length f.registers ≡ length (row s.rows n).frame.registers → has_used_group s n ≡ false → Holds (popped b slot) (on_row s n (λ r. record r { frame = f; phase = Done v }))
-    done_holds f v over same unused = ended_on_top (record (row s.rows n) { frame = f; phase = Done v }) refl refl refl refl v refl over (steady_over s slot n (top_at a s is slot n on_top) is.steady f v same unused)
+    pub done_holds : (f : Frame) (v : ℤ) → HasEnded a b (id_of is.places n) e v → length f.registers ≡ length (row s.rows n).frame.registers → has_used_group s n ≡ false →
+        Holds (popped b slot) (on_row s n (λ r. record r { frame = f; phase = Done v }))
+    done_holds f v over same unused =
+        ended_on_top (record (row s.rows n) { frame = f; phase = Done v }) refl refl refl refl v refl over (steady_over s slot n (top_at a s is slot n on_top) is.steady f v same unused)
 
     pub faulted_holds : HasEnded a b (id_of is.places n) e (pos 0) → IsSome (job s.jobs (row s.rows n).job).fault → Holds (popped b slot) (on_row s n (λ r. record r { phase = Faulted }))
     faulted_holds over fault = ended_on_top (record (row s.rows n) { phase = Faulted }) refl refl refl refl (pos 0) refl over (steady_faulted s slot n (top_at a s is slot n on_top) is.steady fault)
 
   -- a row that waited
-  pub dropped_holds : HasEnded a b (id_of is.places n) e (pos 0) → is_unstarted (row s.rows n).phase ≡ true → Holds (record b { pool = ready.without b.pool (id_of is.places n) }) (on_row s n (λ r. record r { phase = Dropped }))
+  pub dropped_holds : HasEnded a b (id_of is.places n) e (pos 0) → is_unstarted (row s.rows n).phase ≡ true →
+      Holds (record b { pool = ready.without b.pool (id_of is.places n) }) (on_row s n (λ r. record r { phase = Dropped }))
   dropped_holds over waits =
       let r = record (row s.rows n) { phase = Dropped } in
       let there = open_there s.rows n entry.opened in
@@ -69,15 +74,19 @@ module _ (a b : Held) (s : State) (is : Holds a s) (n : ℕ) (e : OpenRow) (entr
       let same_nests : b.nests ≡ a.nests = ap (λ (x : Held). x.nests) over.rest in
       let same_pool : b.pool ≡ a.pool = ap (λ (x : Held). x.pool) over.rest in
       let ended : is_open (row rows' n).phase ≡ false = ap (λ (q : Row). is_open q.phase) (row_new s.rows n r there.0 there.1 refl refl refl) in
-      let nests = AreNests-off s.rows rows' is.places a.config.slots a.nests n is.nests ended (row_old s.rows n r there.0 there.1 refl refl refl) (λ t h live. let started : is_unstarted (row s.rows n).phase ≡ false = rw live refl in grind (arith, started, waits)) in
+      let nests = AreNests-off s.rows rows' is.places a.config.slots a.nests n is.nests ended (row_old s.rows n r there.0 there.1 refl refl refl)
+      (λ t h live. let started : is_unstarted (row s.rows n).phase ≡ false = rw live refl in grind (arith, started, waits)) in
       let pool : ready.without b.pool (id_of is.places n) ≡ pool_of (map (waiting_of rows' is.places) (waiting rows')) =
       ap (λ p. ready.without p (id_of is.places n)) (same_pool ∙ is.waiting) ∙ ap pool_of (pool_dropped s.rows is.places n r there.0 there.1 refl refl refl entry.opened refl) in
-      let all = closed_holds a b s is n e entry loose r refl refl refl refl (pos 0) refl over (ready.without b.pool (id_of is.places n)) a.nests nests pool (steady_dropped s is.steady n there.0 there.1 waits) in
+      let all = closed_holds a b s is n e entry loose r refl refl refl refl (pos 0) refl over (ready.without b.pool (id_of is.places n)) a.nests nests pool
+      (steady_dropped s is.steady n there.0 there.1 waits) in
       subst (λ ns. Holds (record b { pool = ready.without b.pool (id_of is.places n); nests = ns }) (record s { rows = rows' })) (sym same_nests) all
 
 -- A row without a mark on others: what waited has the same contexts.
-pub ended_settled : (s : State) (n : ℕ) (r : Row) → 1 ≤ n → n ≤ length s.rows → r.kind ≡ (row s.rows n).kind → r.job ≡ (row s.rows n).job → r.marks ≡ (row s.rows n).marks → is_open (row s.rows n).phase ≡ true → is_open r.phase ≡ false → IsSettled s → IsSettled (record s { rows = with_at_number s.rows n r })
+pub ended_settled : (s : State) (n : ℕ) (r : Row) → 1 ≤ n → n ≤ length s.rows → r.kind ≡ (row s.rows n).kind → r.job ≡ (row s.rows n).job → r.marks ≡ (row s.rows n).marks →
+    is_open (row s.rows n).phase ≡ true → is_open r.phase ≡ false → IsSettled s → IsSettled (record s { rows = with_at_number s.rows n r })
 ended_settled s n r from to kind same_job marks opened closed settled m waits =
     let t = record s { rows = with_at_number s.rows n r } in
     let it = still s.rows n r from to kind same_job marks opened closed m (unstarted_open (row t.rows m).phase waits) in
-    is_context_cancelled-same s t (contexts_same s.rows n r from to kind same_job marks) refl m ∙ settled m (ap (λ (q : Row). is_unstarted q.phase) (sym (row_old s.rows n r from to kind same_job marks m it.0)) ∙ waits)
+    is_context_cancelled-same s t (contexts_same s.rows n r from to kind same_job marks) refl m ∙
+    settled m (ap (λ (q : Row). is_unstarted q.phase) (sym (row_old s.rows n r from to kind same_job marks m it.0)) ∙ waits)

@@ -49,13 +49,16 @@ told a forest source v = record a { contexts = forest; table = parted a.table so
 abbrev pub taken : Held → Forest → RowId → Source → ℤ → Held
 taken a forest id source v = record a { contexts = forest; table = slice_set (parted a.table source v) id.place None; regions = slice_set a.regions id.place None }
 
-pub taken_is : (a x y : Held) (forest : Forest) (id : RowId) (source : Source) (v : ℤ) → x ≡ told a forest source v → y ≡ record x { table = slice_set x.table id.place None; regions = slice_set x.regions id.place None } → y ≡ taken a forest id source v
+pub taken_is : (a x y : Held) (forest : Forest) (id : RowId) (source : Source) (v : ℤ) → x ≡ told a forest source v →
+    y ≡ record x { table = slice_set x.table id.place None; regions = slice_set x.regions id.place None } → y ≡ taken a forest id source v
 taken_is a x y forest id source v tells takes = takes ∙ ap (λ (z : Held). record z { table = slice_set z.table id.place None; regions = slice_set z.regions id.place None }) tells
 
 -- and the job counted
-pub counted_is : (a y z : Held) (forest : Forest) (id : RowId) (e : OpenRow) (v : ℤ) → y ≡ taken a forest id e.source v → ((d : CurrentJob) → z ≡ record y { jobs = slice_set y.jobs (index_of y e.job) (with_ended id.number v (slice_index_or y.jobs (index_of y e.job) d)) }) →
+pub counted_is : (a y z : Held) (forest : Forest) (id : RowId) (e : OpenRow) (v : ℤ) → y ≡ taken a forest id e.source v →
+    ((d : CurrentJob) → z ≡ record y { jobs = slice_set y.jobs (index_of y e.job) (with_ended id.number v (slice_index_or y.jobs (index_of y e.job) d)) }) →
     z ≡ record (ended a id e v) { contexts = forest }
-counted_is a y z forest id e v takes counts = counts no_job ∙ ap (λ (x : Held). record x { jobs = slice_set x.jobs (index_of x e.job) (with_ended id.number v (slice_index_or x.jobs (index_of x e.job) no_job)) }) takes
+counted_is a y z forest id e v takes counts =
+    counts no_job ∙ ap (λ (x : Held). record x { jobs = slice_set x.jobs (index_of x e.job) (with_ended id.number v (slice_index_or x.jobs (index_of x e.job) no_job)) }) takes
 
 pub has_ended : (a z : Held) (forest : Forest) (id : RowId) (e : OpenRow) (v : ℤ) → Left a.contexts forest (contexts_of e) → z ≡ record (ended a id e v) { contexts = forest } → HasEnded a z id e v
 has_ended a z forest id e v left is =

@@ -42,7 +42,8 @@ pub own_some : (b : Bool) (c d : ℕ) → (let o : Option ℕ = if b then Some c
 own_some true c d is = (refl, some_is c d is)
 own_some false c d is = absurd (some_none d (sym is))
 
-module _ (a b : Held) (s : State) (is : Holds a s) (n : ℕ) (e : OpenRow) (entry : IsEntry a s is n e) (loose : IsLoose a s is.assigned n) (r : Row) (kind : r.kind ≡ (row s.rows n).kind) (same_job : r.job ≡ (row s.rows n).job) (marks : r.marks ≡ (row s.rows n).marks) (closed : is_open r.phase ≡ false) (v : ℤ) (value : value_in r.phase ≡ v)
+module _ (a b : Held) (s : State) (is : Holds a s) (n : ℕ) (e : OpenRow) (entry : IsEntry a s is n e) (loose : IsLoose a s is.assigned n) (r : Row) (kind : r.kind ≡ (row s.rows n).kind)
+    (same_job : r.job ≡ (row s.rows n).job) (marks : r.marks ≡ (row s.rows n).marks) (closed : is_open r.phase ≡ false) (v : ℤ) (value : value_in r.phase ≡ v)
     (over : HasEnded a b (id_of is.places n) e v) where
   abbrev pub t : State
   t = record s { rows = with_at_number s.rows n r }
@@ -159,7 +160,13 @@ module _ (a b : Held) (s : State) (is : Holds a s) (n : ℕ) (e : OpenRow) (entr
 
   -- the row taken off its slot or out of the pool
   pub closed_holds : (pool : Ready) (nests : List (List Nested)) → AreNests (with_at_number s.rows n r) is.places a.config.slots nests →
-      pool ≡ record { isolation = a.config.isolation; limit = a.config.rows; slots = a.config.slots; rows = map (waiting_of (with_at_number s.rows n r) is.places) (waiting (with_at_number s.rows n r)) } → IsSteady t →
+      pool ≡ record {
+        isolation = a.config.isolation;
+        limit = a.config.rows;
+        slots = a.config.slots;
+        rows =
+            map (waiting_of (with_at_number s.rows n r) is.places) (waiting (with_at_number s.rows n r));
+      } → IsSteady t →
       Holds (record b { pool = pool; nests = nests }) t
   closed_holds pool nests are_nests are_waiting steady =
       let its_job : e.job ≡ j = entry.its.job in
@@ -177,7 +184,8 @@ module _ (a b : Held) (s : State) (is : Holds a s) (n : ℕ) (e : OpenRow) (entr
         nests = are_nests;
         tags = AreTagged-closed s.rows is.places n r there.0 there.1 kind same_job marks entry.opened closed a.table table1 e entry.within part.parted a.regions is.tags;
         waiting = are_waiting;
-        contexts = rw jobs_long (AreContexts-closed s (length a.jobs) a.table table' a.contexts b.contexts at is.contexts is.steady n r there.0 there.1 kind same_job marks entry.opened closed cs over.left whose all unshared
+        contexts = rw jobs_long (AreContexts-closed s (length a.jobs) a.table table' a.contexts b.contexts at is.contexts is.steady n r there.0 there.1 kind same_job marks entry.opened closed cs
+            over.left whose all unshared
             (λ q x here. elim (cases_eq q p) [
               | inl same ↦ absurd (some_none x (sym here ∙ ap (at_place table') same ∙ at_same table1 p None inside))
               | inr other ↦ part.in_table q x (sym (at_other table1 p None inside q other) ∙ here)

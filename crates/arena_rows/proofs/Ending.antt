@@ -52,7 +52,8 @@ module _ (a : Held) (s : State) (is : Holds a s) (n : ℕ) (e : OpenRow) (entry 
   own_kind spawned = spawned_is (row s.rows n).kind is.places (rw (← entry.its.source) spawned)
 
   -- what is bound to its own context is of one of its groups
-  bound_to_own : (m g : ℕ) → (row s.rows n).kind ≡ Spawned m g → IsLoose a s is.assigned n → (d : ℕ) (o : Owner) → parent a.contexts d ≡ Some (is.assigned.of_row n) → IsOwned s is.assigned d o → (h : ℕ) × (h < GROUPS) × (is.assigned.of_group n h ≡ Some d)
+  bound_to_own : (m g : ℕ) → (row s.rows n).kind ≡ Spawned m g → IsLoose a s is.assigned n → (d : ℕ) (o : Owner) → parent a.contexts d ≡ Some (is.assigned.of_row n) → IsOwned s is.assigned d o →
+      (h : ℕ) × (h < GROUPS) × (is.assigned.of_group n h ≡ Some d)
   bound_to_own m g made loose d Nobody bound_to owned = absurd owned
   bound_to_own m g made loose d (OfJob j) bound_to owned =
       let its = (is.contexts.of_jobs j owned.1 owned.2).1 in
@@ -65,8 +66,10 @@ module _ (a : Held) (s : State) (is : Holds a s) (n : ℕ) (e : OpenRow) (entry 
         | inl held ↦
             let gc = held.1.0 in
             let its_d : binding a.contexts d ≡ Some (bound gc false) = rw (← owned.0) held.1.2 in
-            let same : gc ≡ is.assigned.of_row n = ap (λ o. unwrap_or o gc) (sym (parent_of s (length a.jobs) a.table a.contexts is.assigned is.steady is.jobs.later is.contexts d (bound gc false) its_d) ∙ bound_to) in
-            let its_group : IsGroupContext s a.contexts is.assigned owned.2.0 owned.2.1 (Some gc) = rw held.1.1 at (is.contexts.of_groups owned.2.0 owned.2.1 held.0 (is.steady.stay.groups x owned.2.0 owned.2.1 owned.2.2)) in
+            let same : gc ≡ is.assigned.of_row n =
+            ap (λ o. unwrap_or o gc) (sym (parent_of s (length a.jobs) a.table a.contexts is.assigned is.steady is.jobs.later is.contexts d (bound gc false) its_d) ∙ bound_to) in
+            let its_group : IsGroupContext s a.contexts is.assigned owned.2.0 owned.2.1 (Some gc) =
+            rw held.1.1 at (is.contexts.of_groups owned.2.0 owned.2.1 held.0 (is.steady.stay.groups x owned.2.0 owned.2.1 owned.2.2)) in
             absurd (grind (arith, ap is_group (sym its_group.0 ∙ ap is.assigned.owner same ∙ own.0)))
         | inr gone ↦
             let its_d : binding a.contexts d ≡ Some orphan = rw (← owned.0) gone.1 in
@@ -74,7 +77,8 @@ module _ (a : Held) (s : State) (is : Holds a s) (n : ℕ) (e : OpenRow) (entry 
       ]
   bound_to_own m g made loose d (OfGroup x h) bound_to owned =
       let its_group : IsGroupContext s a.contexts is.assigned x h (Some d) = rw owned.0 at (is.contexts.of_groups x h owned.1 owned.2) in
-      let same : is.assigned.of_row x ≡ is.assigned.of_row n = ap (λ o. unwrap_or o (is.assigned.of_row x)) (sym (parent_of s (length a.jobs) a.table a.contexts is.assigned is.steady is.jobs.later is.contexts d _ its_group.1) ∙ bound_to) in
+      let same : is.assigned.of_row x ≡ is.assigned.of_row n =
+      ap (λ o. unwrap_or o (is.assigned.of_row x)) (sym (parent_of s (length a.jobs) a.table a.contexts is.assigned is.steady is.jobs.later is.contexts d _ its_group.1) ∙ bound_to) in
       elim (cases_eq x n) [
         | inl here ↦ (h, owned.2, ap (λ k. is.assigned.of_group k h) (sym here) ∙ owned.0)
         | inr other ↦ absurd (loose.alone m g x made owned.1 other same)
@@ -93,14 +97,16 @@ module _ (a : Held) (s : State) (is : Holds a s) (n : ℕ) (e : OpenRow) (entry 
       | inl found ↦
           let its = below_is e.group_contexts GROUPS c found in
           let owner = (group_of its.0 c its.1 (given its.0 c its.1 its.2)).0 in
-          absurd (not_group s (length a.jobs) a.table a.contexts is.assigned is.steady is.jobs.later is.contexts n n its.0 there.0 there.1 entry.opened (ap is.assigned.owner (sym (own_is c own).1) ∙ owner))
+          absurd (not_group s (length a.jobs) a.table a.contexts is.assigned is.steady is.jobs.later is.contexts n n its.0 there.0 there.1 entry.opened
+          (ap is.assigned.owner (sym (own_is c own).1) ∙ owner))
       | inr out ↦ out
     ];
     alone = λ c d own bound_to.
         let its = own_is c own in
         let kind = own_kind its.0 in
         let bound_here = bound_to ∙ ap Some its.1 in
-        let found = bound_to_own kind.0 kind.1 kind.2 loose d (is.assigned.owner d) bound_here (is.contexts.owned d (held_child s (length a.jobs) a.table a.contexts is.assigned is.steady is.jobs.later is.contexts d (is.assigned.of_row n) bound_here)) in
+        let found = bound_to_own kind.0 kind.1 kind.2 loose d (is.assigned.owner d) bound_here
+        (is.contexts.owned d (held_child s (length a.jobs) a.table a.contexts is.assigned is.steady is.jobs.later is.contexts d (is.assigned.of_row n) bound_here)) in
         is_below e.group_contexts GROUPS found.0 d found.1 ((is.contexts.in_table (is.places n) e entry.there).1 found.0 found.1 ∙ ap (λ k. is.assigned.of_group k found.0) entry.its.number ∙ found.2);
   }
 
@@ -131,7 +137,8 @@ module _ (a : Held) (s : State) (is : Holds a s) (n : ℕ) (e : OpenRow) (entry 
   abbrev pub CanLeave : (p : ℕ × ℕ) → Type 0
   CanLeave p = (p.0 < length a.table) × (IsSome (at_place a.table p.0)) × ((x : OpenRow) → at_place a.table p.0 ≡ Some x → 0 < (group x.groups p.1).pending)
 
-  by_maker : (f g : ℕ) → (row s.rows n).kind ≡ Spawned f g → (o : Option OpenRow) → at_place a.table (is.places f) ≡ o → (p : ℕ × ℕ) → (let m : Option (ℕ × ℕ) = if is_of_row o f then Some (is.places f, g) else None in m) ≡ Some p → CanLeave p
+  by_maker : (f g : ℕ) → (row s.rows n).kind ≡ Spawned f g → (o : Option OpenRow) → at_place a.table (is.places f) ≡ o → (p : ℕ × ℕ) →
+      (let m : Option (ℕ × ℕ) = if is_of_row o f then Some (is.places f, g) else None in m) ≡ Some p → CanLeave p
   by_maker f g made None at_maker p found = absurd (some_none p (sym found))
   by_maker f g made (Some x) at_maker p found = elim (cases_eq x.number f) [
     | inl same ↦

@@ -32,12 +32,14 @@ pub has_some : (o : Option Binding) (gc : ℕ) → parent_in o ≡ Some gc → i
 has_some None gc is = absurd (grind (arith, ap is_some is))
 has_some (Some b) gc is = refl
 
-module _ (s : State) (current : ℕ) (table : List (Option OpenRow)) (forest : Forest) (at : Assigned) (steady : IsSteady s) (later : (n : ℕ) → is_open (row s.rows n).phase ≡ true → IsKept s.jobs (row s.rows n).job) (are : AreContexts s current table forest at) where
+module _ (s : State) (current : ℕ) (table : List (Option OpenRow)) (forest : Forest) (at : Assigned) (steady : IsSteady s)
+    (later : (n : ℕ) → is_open (row s.rows n).phase ≡ true → IsKept s.jobs (row s.rows n).job) (are : AreContexts s current table forest at) where
   -- who holds the context of an open row: its job, or a row that has started, or itself
   abbrev pub HasContext : ℕ → Type 0
   HasContext n = ((j : ℕ) × (at.owner (at.of_row n) ≡ OfJob j)) ⊎ ((x : ℕ) × (at.owner (at.of_row n) ≡ OfRow x) × ((x ≡ n) ⊎ (is_unstarted (row s.rows x).phase ≡ false)))
 
-  by_kind : (n : ℕ) (kind : Kind) → (row s.rows n).kind ≡ kind → ((m : ℕ) → m < n → 1 ≤ m → m ≤ length s.rows → is_open (row s.rows m).phase ≡ true → HasContext m) → 1 ≤ n → n ≤ length s.rows → is_open (row s.rows n).phase ≡ true → HasContext n
+  by_kind : (n : ℕ) (kind : Kind) → (row s.rows n).kind ≡ kind → ((m : ℕ) → m < n → 1 ≤ m → m ≤ length s.rows → is_open (row s.rows m).phase ≡ true → HasContext m) → 1 ≤ n → n ≤ length s.rows →
+      is_open (row s.rows n).phase ≡ true → HasContext n
   by_kind n Root kind ih from to opened =
       let its : IsRowContext s forest at n Root = rw kind at (are.of_rows n opened) in
       inl ((row s.rows n).job, rw its (are.of_jobs (row s.rows n).job (later n opened) (steady.formed.linked.jobs n from to).1).0)
@@ -112,5 +114,6 @@ module _ (s : State) (current : ℕ) (table : List (Option OpenRow)) (forest : F
   pub held_child : (d gc : ℕ) → parent forest d ≡ Some gc → IsHeld forest d
   held_child d gc bound_to = has_some (binding forest d) gc bound_to
 
-  pub nothing_bound : (there : (n : ℕ) → is_open (row s.rows n).phase ≡ true → (1 ≤ n) × (n ≤ length s.rows)) → (m g gc : ℕ) → at.owner gc ≡ OfGroup m g → ((n : ℕ) → (row s.rows n).kind ≡ Spawned m g → is_open (row s.rows n).phase ≡ true → ⊥) → (d : ℕ) → parent forest d ≡ Some gc → ⊥
+  pub nothing_bound : (there : (n : ℕ) → is_open (row s.rows n).phase ≡ true → (1 ≤ n) × (n ≤ length s.rows)) → (m g gc : ℕ) → at.owner gc ≡ OfGroup m g →
+      ((n : ℕ) → (row s.rows n).kind ≡ Spawned m g → is_open (row s.rows n).phase ≡ true → ⊥) → (d : ℕ) → parent forest d ≡ Some gc → ⊥
   nothing_bound there m g gc owner none d bound_to = by_owner there m g gc d (at.owner d) owner none bound_to (are.owned d (held_child d gc bound_to))

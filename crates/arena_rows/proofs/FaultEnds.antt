@@ -43,7 +43,8 @@ module _ (a : Held) (s : State) (is : Holds a s) (slot n : ℕ) (on_top : top s.
       rw (same, entries) room
 
 -- whether a slot is a reserved one with nothing on it
-pub freed_told : (a : Held) (s : State) (is : Holds a s) (slot high : ℕ) → slot < a.config.reserved → high ≡ length (stack a.nests slot) → (high == 0) ≡ (nat_lt slot s.config.reserved && (height s.rows slot == 0))
+pub freed_told : (a : Held) (s : State) (is : Holds a s) (slot high : ℕ) → slot < a.config.reserved → high ≡ length (stack a.nests slot) →
+    (high == 0) ≡ (nat_lt slot s.config.reserved && (height s.rows slot == 0))
 freed_told a s is slot high low told =
     let same : high ≡ height s.rows slot = told ∙ height_is s.rows is.places a.config.slots a.nests is.steady.formed.stacked is.nests slot in
     let its : nat_lt slot s.config.reserved ≡ true = ap (λ t. nat_lt slot t.reserved) (sym is.config) ∙ grind (arith, low) in

@@ -31,7 +31,8 @@ module _ (a b : Held) (s : State) (is : Holds a s) (slot n : ℕ) (on_top : top 
   -- A task: it alone faults.
   pub task_faulted : is_region (row s.rows n).kind ≡ false → Holds b s1 → Holds b (faulted_rows s slot)
   task_faulted task holds =
-      let same : map (faulted_row slot (task_height s.rows slot)) s.rows ≡ s1.rows = ap (λ k. map (faulted_row slot k) s.rows) (task_is_top slot s.rows is.steady.formed.stacked n on_top task) ∙ faults_top slot s.rows is.steady.formed.stacked n on_top in
+      let same : map (faulted_row slot (task_height s.rows slot)) s.rows ≡ s1.rows =
+      ap (λ k. map (faulted_row slot k) s.rows) (task_is_top slot s.rows is.steady.formed.stacked n on_top task) ∙ faults_top slot s.rows is.steady.formed.stacked n on_top in
       subst (λ rows. Holds b (record s { rows = rows })) (sym same) holds
 
   -- A region: its maker is on top now, and faults next.
@@ -72,5 +73,6 @@ module _ (a b : Held) (s : State) (is : Holds a s) (slot n : ℕ) (on_top : top 
     region_faulted c all =
         let k = task_height s.rows slot in
         let low = task_low slot s.rows is.steady.formed.stacked n on_top in
-        let same : map (faulted_row slot (task_height s1.rows slot)) s1.rows ≡ map (faulted_row slot k) s.rows = ap (λ i. map (faulted_row slot i) s1.rows) (task_below slot s.rows is.steady.formed.stacked n on_top region) ∙ faults_below slot s.rows is.steady.formed.stacked n on_top k low in
+        let same : map (faulted_row slot (task_height s1.rows slot)) s1.rows ≡ map (faulted_row slot k) s.rows =
+        ap (λ i. map (faulted_row slot i) s1.rows) (task_below slot s.rows is.steady.formed.stacked n on_top region) ∙ faults_below slot s.rows is.steady.formed.stacked n on_top k low in
         subst (λ rows. Holds c (record s { rows = rows })) same all

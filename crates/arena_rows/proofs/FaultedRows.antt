@@ -1,5 +1,6 @@
 -- Rows of a slot that fault, from the topmost one down.
-use Rattle.std.proofs.Common.{◌≡◌, ◌≢◌, ℕ, zero, suc, ◌+◌, ◌-◌, ◌==◌, ◌<◌, ◌≤◌, nat_le, List, [], ◌∷◌, length, length-set, Option, Some, None, Bool, true, false, ◌&&◌, not, refl, sym, ap, ◌∙◌, arith, inl, inr, get_or, map}
+use Rattle.std.proofs.Common.{◌≡◌, ◌≢◌, ℕ, zero, suc, ◌+◌, ◌-◌, ◌==◌, ◌<◌, ◌≤◌, nat_le, List, [], ◌∷◌, length, length-set, Option, Some, None, Bool, true, false, ◌&&◌, not, refl, sym, ap, ◌∙◌, arith}
+use Rattle.std.proofs.Common.{inl, inr, get_or, map}
 use Rattle.std.specs.Prelude.{fold, max, slice_set, if◌then◌else◌}
 use Rattle.std.proofs.Math.Nat.{le-max_left, le-max_right, max-le}
 use Rattle.std.proofs.lemmas.Bool.{cases_eq}
@@ -84,7 +85,8 @@ module _ (slot : ℕ) where
     -- It is a region: the highest task is below it.
     pub task_below : is_region (row rows n).kind ≡ true → task_height (with_at_number rows n r) slot ≡ task_height rows slot
     task_below region =
-        let none : task_height_of slot (get_or rows (n - 1) r) ≡ 0 = ap (task_height_of slot) (here r) ∙ rw (its.2, region) (elim (either_way (slot == slot)) [ inl is ↦ rw is refl | inr not_so ↦ rw not_so refl ]) in
+        let none : task_height_of slot (get_or rows (n - 1) r) ≡ 0 =
+        ap (task_height_of slot) (here r) ∙ rw (its.2, region) (elim (either_way (slot == slot)) [ inl is ↦ rw is refl | inr not_so ↦ rw not_so refl ]) in
         rw (with_at_number-from rows n r its.0) (most_same rows 0 (n - 1) r r (sym none))
 
     abbrev faulted : ℕ → Row → Row
@@ -115,7 +117,9 @@ module _ (slot : ℕ) where
           | inl same ↦
               let now : get_or (slice_set rows (n - 1) r) i r ≡ r = ap (λ k. get_or (slice_set rows (n - 1) r) k r) same ∙ get_or-set_same rows (n - 1) r r within in
               let was : get_or rows i r ≡ row rows n = ap (λ k. get_or rows k r) same ∙ here r in
-              ap (faulted (height rows slot)) was ∙ ap (λ p. let q : Row = record (row rows n) { phase = p } in q) (ap (faulted_phase slot (height rows slot)) its.2 ∙ goes_at (height rows slot) (height rows slot) (omega arith)) ∙ sym now
+              ap (faulted (height rows slot)) was ∙
+              ap (λ p. let q : Row = record (row rows n) { phase = p } in q) (ap (faulted_phase slot (height rows slot)) its.2 ∙ goes_at (height rows slot) (height rows slot) (omega arith)) ∙
+              sym now
           | inr other ↦
               let now : get_or (slice_set rows (n - 1) r) i r ≡ get_or rows i r = get_or-set_other rows (n - 1) i r r other in
               let x = get_or rows i r in
@@ -131,7 +135,8 @@ module _ (slot : ℕ) where
     pub faults_below : (k : ℕ) → k ≤ height rows slot → map (faulted k) (with_at_number rows n r) ≡ map (faulted k) rows
     faults_below k low =
         let same : faulted k r ≡ faulted k (row rows n) = ap (λ p. let q : Row = record (row rows n) { phase = p } in q) (sym (ap (faulted_phase slot k) its.2 ∙ goes_at k (height rows slot) low)) in
-        ap (map (faulted k)) (with_at_number-from rows n r its.0) ∙ map-set (faulted k) rows (n - 1) r ∙ ap (slice_set (map (faulted k) rows) (n - 1)) (same ∙ ap (faulted k) (sym (here r)) ∙ sym (get_or-map (faulted k) rows (n - 1) r r within)) ∙ set-get_or (map (faulted k) rows) (n - 1) r
+        ap (map (faulted k)) (with_at_number-from rows n r its.0) ∙ map-set (faulted k) rows (n - 1) r ∙
+        ap (slice_set (map (faulted k) rows) (n - 1)) (same ∙ ap (faulted k) (sym (here r)) ∙ sym (get_or-map (faulted k) rows (n - 1) r r within)) ∙ set-get_or (map (faulted k) rows) (n - 1) r
 
     pub lower_by_one : height (with_at_number rows n r) slot + 1 ≡ height rows slot
     lower_by_one =

@@ -42,7 +42,8 @@ module _ (c : Tenant) where
       grind (arith, none, held)
 
   none_held : held_count (founded c).contexts ≡ 0
-  none_held = nothing_counted (λ (b : Option Binding). is_some b) (founded c).contexts (λ i d below. ap is_some (get_or_default (founded c).contexts i d None below ∙ same_there (BASE_CONTEXTS + CONTEXTS_PER_ROW * c.rows) i None))
+  none_held = nothing_counted (λ (b : Option Binding). is_some b) (founded c).contexts
+      (λ i d below. ap is_some (get_or_default (founded c).contexts i d None below ∙ same_there (BASE_CONTEXTS + CONTEXTS_PER_ROW * c.rows) i None))
 
   none_taken : count_by is_some (founded c).table ≡ 0
   none_taken = nothing_counted (λ (o : Option OpenRow). is_some o) (founded c).table (λ i d below. ap is_some (get_or_default (founded c).table i d None below ∙ same_there c.rows i None))

@@ -29,7 +29,8 @@ get-set_other (y ∷ ys) zero (suc j) x other = refl
 get-set_other (y ∷ ys) (suc i) zero x other = refl
 get-set_other (y ∷ ys) (suc i) (suc j) x other = get-set_other ys i j x (omega arith)
 
-module _ (rows rows' : List Row) (places : Places) (slots : ℕ) (nests : List (List Nested)) (stacked : AreStacked rows) (n slot : ℕ) (f : Frame) (are : AreNests rows places slots nests) (within : slot < slots) (on_top : top rows slot ≡ Some n)
+module _ (rows rows' : List Row) (places : Places) (slots : ℕ) (nests : List (List Nested)) (stacked : AreStacked rows) (n slot : ℕ) (f : Frame) (are : AreNests rows places slots nests)
+    (within : slot < slots) (on_top : top rows slot ≡ Some n)
     (phases : (m : ℕ) → (row rows' m).phase ≡ (row rows m).phase) (framed : row rows' n ≡ record (row rows n) { frame = f }) (others : (m : ℕ) → m ≢ n → row rows' m ≡ row rows m) where
   live : (row rows n).phase ≡ Live slot (height rows slot)
   live = (top_is rows slot n on_top).2
@@ -74,14 +75,16 @@ module _ (rows rows' : List Row) (places : Places) (slots : ℕ) (nests : List (
                   let level : h ≡ height rows slot = omega (arith, same, its, high, old) in
                   let both : Some (nested_of rows places m) ≡ Some (nested_of rows places n) = sym its_here ∙ rw level old.2 in
                   other (ap (λ (o : Option Nested). (unwrap_or o (nested_of rows places m)).row.number) both) in
-                  rw (here, stack_same nests slot new_stack inside, others m other) (get-set_other (stack nests slot) (length (stack nests slot) - 1) (h - 1) (nested_of rows' places n) apart ∙ its_here)
+                  rw (here, stack_same nests slot new_stack inside, others m other)
+                  (get-set_other (stack nests slot) (length (stack nests slot) - 1) (h - 1) (nested_of rows' places n) apart ∙ its_here)
               | inr there ↦ rw (stack_other nests slot new_stack inside t there, others m other) its.2
             ]
           ],
         );
     only = λ t h from to.
         let to_old : h ≤ length (stack nests t) = elim (cases_eq t slot) [
-          | inl here ↦ let it : h ≤ length new_stack = rw (here, stack_same nests slot new_stack inside) at to in rw here (omega (arith, it, length-set (stack nests slot) (length (stack nests slot) - 1) (nested_of rows' places n)))
+          | inl here ↦ let it : h ≤ length new_stack = rw (here, stack_same nests slot new_stack inside) at to in
+              rw here (omega (arith, it, length-set (stack nests slot) (length (stack nests slot) - 1) (nested_of rows' places n)))
           | inr there ↦ rw (stack_other nests slot new_stack inside t there) at to
         ] in
         let found = are.only t h from to_old in

@@ -32,14 +32,17 @@ use Rattle.arena_rows.proofs.TopRows.{top_there, top_at, on_slot}
 
 module _ (a : Held) (s : State) (is : Holds a s) (n g : ℕ) (m : Mark) (opened : is_open (row s.rows n).phase ≡ true) (low : g < GROUPS) where
   -- The request of the group's context as the mark says.
-  pub with_context : (c : ℕ) (asked : Bool) → is.assigned.of_group n g ≡ Some c → m.cancelled ≡ asked → held_count (with_request a.contexts c asked) ≡ held_count a.contexts → IsRequested a.contexts (with_request a.contexts c asked) is.assigned n g m
+  pub with_context : (c : ℕ) (asked : Bool) → is.assigned.of_group n g ≡ Some c → m.cancelled ≡ asked → held_count (with_request a.contexts c asked) ≡ held_count a.contexts →
+      IsRequested a.contexts (with_request a.contexts c asked) is.assigned n g m
   with_context c asked given says count =
       let its : IsGroupContext s a.contexts is.assigned n g (Some c) = rw given at (is.contexts.of_groups n g opened low) in
       let inside : c < length a.contexts = IsHeld-within a.contexts c (rw its.1 refl) in
-      let new : binding (with_request a.contexts c asked) c ≡ Some (bound (is.assigned.of_row n) asked) = get_or-set_same a.contexts c (asking asked (binding a.contexts c)) None inside ∙ ap (asking asked) its.1 in
+      let new : binding (with_request a.contexts c asked) c ≡ Some (bound (is.assigned.of_row n) asked) =
+      get_or-set_same a.contexts c (asking asked (binding a.contexts c)) None inside ∙ ap (asking asked) its.1 in
       record {
         others = λ d other. get_or-set_other a.contexts c d (asking asked (binding a.contexts c)) None (λ same. other (ap is.assigned.owner same ∙ its.0));
-        here = λ d its_d. let same : c ≡ d = some_is c d (sym given ∙ its_d) in ap (binding (with_request a.contexts c asked)) (sym same) ∙ new ∙ ap (λ b. Some (bound (is.assigned.of_row n) b)) (sym says);
+        here = λ d its_d. let same : c ≡ d = some_is c d (sym given ∙ its_d) in
+            ap (binding (with_request a.contexts c asked)) (sym same) ∙ new ∙ ap (λ b. Some (bound (is.assigned.of_row n) b)) (sym says);
         none = λ none. absurd (some_none c (sym given ∙ none));
         held = λ d held_d. elim (cases_eq d c) [
           | inl same ↦ rw (same, its.1) refl
@@ -95,14 +98,16 @@ module _ (a : Held) (s : State) (is : Holds a s) (slot n : ℕ) (on_top : top s.
         let top_now : top t.rows slot ≡ Some n = same_top a b s t is now.holds slot n nests on_top in
         let within = on_slot b t now.holds slot n top_now in
         let steady : IsSteady (with_frame t n f) = subst IsSteady (sym after_is) kept in
-        subst (Rests (framed b slot f)) after_is (record { holds = framed_holds b t now.holds slot n f within top_now steady; settled = framed_settled b t now.holds slot n f within top_now steady now.settled })
+        subst (Rests (framed b slot f)) after_is
+        (record { holds = framed_holds b t now.holds slot n f within top_now steady; settled = framed_settled b t now.holds slot n f within top_now steady now.settled })
 
   module _ (e : OpenRow) (entry : IsEntry a s is n e) where
     -- A group whose context is there, cancelled.
     cancelled_steady : IsSteady (marked s n g (cancelled_mark s n g))
     cancelled_steady = steady_cancelled s slot n (top_at a s is slot n on_top) is.steady (row s.rows n).frame g refl
 
-    pub cancelled_holds : (c : ℕ) → is.assigned.of_group n g ≡ Some c → held_count (with_request a.contexts c true) ≡ held_count a.contexts → Holds (requested a c true) (marked s n g (cancelled_mark s n g))
+    pub cancelled_holds : (c : ℕ) → is.assigned.of_group n g ≡ Some c → held_count (with_request a.contexts c true) ≡ held_count a.contexts →
+        Holds (requested a c true) (marked s n g (cancelled_mark s n g))
     cancelled_holds c given count =
         let m = cancelled_mark s n g in
         let p = is.places n in
@@ -111,15 +116,18 @@ module _ (a : Held) (s : State) (is : Holds a s) (slot n : ℕ) (on_top : top s.
           | inl both ↦ ap (λ k. (mark (marked s n g m).rows n k).rows) both.1 ∙ ap (λ (k : Mark). k.rows) (mark_here s.rows n g m from to marks) ∙ ap (λ k. (mark s.rows n k).rows) (sym both.1)
           | inr apart ↦ ap (λ (k : Mark). k.rows) apart.1
         ] in
-        let holds = marked_holds a s is n g m e e entry started low (record { same = refl; long = refl }) cancelled_steady (λ h within. IsGroup-marked s.rows n g m from to marks n h (group e.groups h) (since h) (entry.its.groups h within))
-        (with_request a.contexts c true) (length-set a.contexts c (asking true (binding a.contexts c))) (with_context a s is n g m entry.opened low c true given refl count) (λ none. absurd (some_none c (sym given ∙ none))) in
+        let holds = marked_holds a s is n g m e e entry started low (record { same = refl; long = refl }) cancelled_steady
+        (λ h within. IsGroup-marked s.rows n g m from to marks n h (group e.groups h) (since h) (entry.its.groups h within))
+        (with_request a.contexts c true) (length-set a.contexts c (asking true (binding a.contexts c))) (with_context a s is n g m entry.opened low c true given refl count)
+        (λ none. absurd (some_none c (sym given ∙ none))) in
         subst (λ x. let b : Held = record a { table = x; contexts = with_request a.contexts c true } in Holds b (marked s n g m)) same_table holds
 
     -- A wait that passed.
     passed_steady : is_pending s.rows n g ≡ false → IsSteady (marked s n g (passed_mark s))
     passed_steady ended = steady_waited s slot n (top_at a s is slot n on_top) is.steady (row s.rows n).frame g refl ended
 
-    pub passed_holds : is_pending s.rows n g ≡ false → (forest : Forest) → length forest ≡ length a.contexts → IsRequested a.contexts forest is.assigned n g (passed_mark s) → Holds (record (with_entry a (is.places n) (with_group_emptied g e)) { contexts = forest }) (marked s n g (passed_mark s))
+    pub passed_holds : is_pending s.rows n g ≡ false → (forest : Forest) → length forest ≡ length a.contexts → IsRequested a.contexts forest is.assigned n g (passed_mark s) →
+        Holds (record (with_entry a (is.places n) (with_group_emptied g e)) { contexts = forest }) (marked s n g (passed_mark s))
     passed_holds ended forest long asked =
         let m = passed_mark s in
         let within : g < length e.groups = omega (arith, low, entry.its.all_groups) in

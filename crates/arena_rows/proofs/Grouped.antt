@@ -45,7 +45,8 @@ module _ (a : Held) (s : State) (is : Holds a s) (n : ℕ) where
 
   -- An entry changed that is still the row's, with the contexts.
   pub holds_entry : (e e' : OpenRow) (forest : Forest) (at : Assigned) → IsEntry a s is n e → IsRow s.rows is.places n e' → length forest ≡ length a.contexts →
-      ((j : ℕ) → at.of_job j ≡ is.assigned.of_job j) → AreContexts s (length a.jobs) (slice_set a.table (is.places n) (Some e')) forest at → Holds (record (with_entry a (is.places n) e') { contexts = forest }) s
+      ((j : ℕ) → at.of_job j ≡ is.assigned.of_job j) → AreContexts s (length a.jobs) (slice_set a.table (is.places n) (Some e')) forest at →
+      Holds (record (with_entry a (is.places n) e') { contexts = forest }) s
   holds_entry e e' forest at entry its long of_jobs contexts =
       let same = alike_same s.rows in
       record {
@@ -65,7 +66,8 @@ module _ (a : Held) (s : State) (is : Holds a s) (n : ℕ) where
           order = is.jobs.order;
           there = is.jobs.there;
           works = is.jobs.works;
-          each = λ i d below. let its_job = is.jobs.each i d below in record { current = its_job.current; value = its_job.value; opened = its_job.opened; context = its_job.context ∙ sym (of_jobs (get_or a.jobs i d).number) };
+          each = λ i d below. let its_job = is.jobs.each i d below in
+              record { current = its_job.current; value = its_job.value; opened = its_job.opened; context = its_job.context ∙ sym (of_jobs (get_or a.jobs i d).number) };
           all = is.jobs.all;
           many = is.jobs.many;
           later = is.jobs.later;
@@ -84,15 +86,18 @@ pub record IsGrouped (a : Held) (s : State) (is : Holds a s) (b : Held) (n g c :
   pub given : holds.assigned.of_group n g ≡ Some c
 
 -- a group that has none yet
-pub group_bound : (a : Held) (s : State) (is : Holds a s) (n g c : ℕ) (e : OpenRow) → IsEntry a s is n e → is_unstarted (row s.rows n).phase ≡ false → g < GROUPS → slice_index_or e.group_contexts g None ≡ None → binding a.contexts c ≡ None → c < length a.contexts →
+pub group_bound : (a : Held) (s : State) (is : Holds a s) (n g c : ℕ) (e : OpenRow) → IsEntry a s is n e → is_unstarted (row s.rows n).phase ≡ false → g < GROUPS →
+    slice_index_or e.group_contexts g None ≡ None → binding a.contexts c ≡ None → c < length a.contexts →
     held_count (with_bound a.contexts c (Some e.context)) ≡ held_count a.contexts + 1 → IsGrouped a s is (with_entry (bound_to a c (Some e.context)) (is.places n) (with_group g c e)) n g c
 unfolding holds_entry
 group_bound a s is n g c e entry started few none free room count =
     let its = is.contexts.in_table (is.places n) e entry.there in
     let context : e.context ≡ is.assigned.of_row n = its.0 ∙ ap is.assigned.of_row entry.its.number in
     let no_context : is.assigned.of_group n g ≡ None = ap (λ k. is.assigned.of_group k g) (sym entry.its.number) ∙ sym (its.1 g few) ∙ none in
-    let at = with_group_at s (length a.jobs) a.table a.contexts is.assigned is.contexts n g c (is.places n) e few entry.opened started entry.within entry.there entry.its.number (only_place a s is n e entry) no_context entry.its.all_contexts free room e.context context in
-    let are = AreContexts-bound s (length a.jobs) a.table a.contexts is.assigned is.contexts n g c (is.places n) e few entry.opened started entry.within entry.there entry.its.number (only_place a s is n e entry) no_context entry.its.all_contexts free room e.context context count in
+    let at = with_group_at s (length a.jobs) a.table a.contexts is.assigned is.contexts n g c (is.places n) e few entry.opened started entry.within entry.there entry.its.number
+    (only_place a s is n e entry) no_context entry.its.all_contexts free room e.context context in
+    let are = AreContexts-bound s (length a.jobs) a.table a.contexts is.assigned is.contexts n g c (is.places n) e few entry.opened started entry.within entry.there entry.its.number
+    (only_place a s is n e entry) no_context entry.its.all_contexts free room e.context context count in
     let new_row : IsRow s.rows is.places n (with_group g c e) = record {
       number = entry.its.number;
       source = entry.its.source;
@@ -106,5 +111,6 @@ group_bound a s is n g c e entry started few none free room count =
     record {
       holds = holds_entry a s is n e (with_group g c e) (with_bound a.contexts c (Some e.context)) at entry new_row (length-set a.contexts c _) (λ j. refl) are;
       places = refl;
-      given = group_here s (length a.jobs) a.table a.contexts is.assigned is.contexts n g c (is.places n) e few entry.opened started entry.within entry.there entry.its.number (only_place a s is n e entry) no_context entry.its.all_contexts free room e.context context;
+      given = group_here s (length a.jobs) a.table a.contexts is.assigned is.contexts n g c (is.places n) e few entry.opened started entry.within entry.there entry.its.number
+          (only_place a s is n e entry) no_context entry.its.all_contexts free room e.context context;
     }

@@ -123,7 +123,8 @@ module _ (s : State) (at : Assigned) (j : ℕ) (f : Work → Work) (kept : IsKep
       count = asked.held ∙ are.count;
     }
 
-  module _ (jobs : List CurrentJob) (are : AreJobs s at jobs) (i : ℕ) (d : CurrentJob) (number : (c : CurrentJob) → j ≡ (get_or jobs i c).number) (below : i < length jobs) (same_root : (f (job s.jobs j)).root ≡ (job s.jobs j).root) where
+  module _ (jobs : List CurrentJob) (are : AreJobs s at jobs) (i : ℕ) (d : CurrentJob) (number : (c : CurrentJob) → j ≡ (get_or jobs i c).number) (below : i < length jobs)
+      (same_root : (f (job s.jobs j)).root ≡ (job s.jobs j).root) where
     abbrev it : CurrentJob
     it = get_or jobs i d
 
@@ -194,7 +195,8 @@ module _ (s : State) (at : Assigned) (j : ℕ) (f : Work → Work) (kept : IsKep
         }
 
 -- What is held with one job's work changed, and the request of its context as the work says.
-pub job_changed_holds : (a : Held) (s : State) (is : Holds a s) (j : ℕ) (f : Work → Work) (d : CurrentJob) (forest : Forest) → IsCurrent a.jobs j → IsAsked a.contexts forest (is.assigned.of_job j) (f (job s.jobs j)) →
+pub job_changed_holds : (a : Held) (s : State) (is : Holds a s) (j : ℕ) (f : Work → Work) (d : CurrentJob) (forest : Forest) → IsCurrent a.jobs j →
+    IsAsked a.contexts forest (is.assigned.of_job j) (f (job s.jobs j)) →
     (f (job s.jobs j)).root ≡ (job s.jobs j).root → (f (job s.jobs j)).retired ≡ (job s.jobs j).retired → IsSteady (on_job s j f) →
     Holds (record (job_changed a j f d) { contexts = forest }) (on_job s j f)
 job_changed_holds a s is j f d forest current asked root retired steady =

@@ -50,14 +50,16 @@ place-at (x ∷ xs) j (suc i) rise below is =
     rw yes (omega (arith, rest))
 
 -- So has the place before which all numbers are smaller, and behind which none is.
-pub place-between : (jobs : List CurrentJob) (j r : ℕ) → r ≤ length jobs → AllWithin (λ (it : CurrentJob). nat_lt it.number j ≡ true) jobs 0 r → AllWithin (λ (it : CurrentJob). nat_lt it.number j ≡ false) jobs r (length jobs) → place_of jobs j ≡ r
+pub place-between : (jobs : List CurrentJob) (j r : ℕ) → r ≤ length jobs → AllWithin (λ (it : CurrentJob). nat_lt it.number j ≡ true) jobs 0 r →
+    AllWithin (λ (it : CurrentJob). nat_lt it.number j ≡ false) jobs r (length jobs) → place_of jobs j ≡ r
 place-between [] j r most smaller others = omega (arith, most)
 place-between (x ∷ xs) j zero most smaller others =
     let no : nat_lt x.number j ≡ false = others 0 x (omega arith) (omega arith) in
     rw no refl
 place-between (x ∷ xs) j (suc r) most smaller others =
     let yes : nat_lt x.number j ≡ true = smaller 0 x (omega arith) (omega arith) in
-    let rest = place-between xs j r (omega (arith, most)) (λ k d low high. smaller (suc k) d (omega arith) (omega (arith, high))) (λ k d low high. others (suc k) d (omega (arith, low)) (omega (arith, high))) in
+    let rest = place-between xs j r (omega (arith, most)) (λ k d low high. smaller (suc k) d (omega arith) (omega (arith, high)))
+    (λ k d low high. others (suc k) d (omega (arith, low)) (omega (arith, high))) in
     rw yes (omega (arith, rest))
 
 -- Where the numbers rise, the smaller ones come first.
@@ -85,7 +87,8 @@ numbers-apart jobs i k d rise low high other same = elim (cases_lt i k) [
 module _ (jobs : List CurrentJob) (i : ℕ) (it : CurrentJob) (below : i < length jobs) (same : (d : CurrentJob) → it.number ≡ (get_or jobs i d).number) where
   pub number-set : (k : ℕ) (d : CurrentJob) → (get_or (slice_set jobs i it) k d).number ≡ (get_or jobs k d).number
   number-set k d = elim (cases_eq k i) [
-    | inl here ↦ ap (λ n. (get_or (slice_set jobs i it) n d).number) here ∙ ap (λ (x : CurrentJob). x.number) (get_or-set_same jobs i it d below) ∙ same d ∙ ap (λ n. (get_or jobs n d).number) (sym here)
+    | inl here ↦ ap (λ n. (get_or (slice_set jobs i it) n d).number) here ∙ ap (λ (x : CurrentJob). x.number) (get_or-set_same jobs i it d below) ∙ same d ∙
+        ap (λ n. (get_or jobs n d).number) (sym here)
     | inr other ↦ ap (λ (x : CurrentJob). x.number) (get_or-set_other jobs i k it d other)
   ]
 

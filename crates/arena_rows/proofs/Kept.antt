@@ -36,7 +36,8 @@ module _ (s t : State) (alike : Alike s.rows t.rows) (same_jobs : t.jobs ≡ s.j
   owned_still at c (OfRow n) is = (is.0, alike.opens n ∙ is.1, (is.2.0, is.2.1, alike.contexts.sources.kinds n ∙ is.2.2))
   owned_still at c (OfGroup n g) is = (is.0, alike.opens n ∙ is.1, is.2)
 
-  pub AreContexts-alike : ((n : ℕ) → is_unstarted (row t.rows n).phase ≡ true → is_unstarted (row s.rows n).phase ≡ true) → (current : ℕ) (table table' : List (Option OpenRow)) (forest : Forest) (at : Assigned) →
+  pub AreContexts-alike : ((n : ℕ) → is_unstarted (row t.rows n).phase ≡ true → is_unstarted (row s.rows n).phase ≡ true) →
+      (current : ℕ) (table table' : List (Option OpenRow)) (forest : Forest) (at : Assigned) →
       ((p : ℕ) (e : OpenRow) → at_place table' p ≡ Some e → (e.context ≡ at.of_row e.number) × ((g : ℕ) → g < GROUPS → slice_index_or e.group_contexts g None ≡ at.of_group e.number g)) →
       sum_by held_by table' ≡ sum_by held_by table → AreContexts s current table forest at → AreContexts t current table' forest at
   AreContexts-alike waits current table table' forest at in_table held are = record {

@@ -55,7 +55,8 @@ out_of c d cs out = elim (cases_eq d c) [
 ]
 
 -- one more
-pub Left-more : (forest forest1 : Forest) (cs : List ℕ) (c : ℕ) → Left forest forest1 cs → is_in c cs ≡ false → c < length forest1 → held_count (without forest1 c) + 1 ≡ held_count forest1 → ((d : ℕ) → d ≢ c → is_cancelled (without forest1 c) d ≡ is_cancelled forest1 d) → IsForest (without forest1 c) →
+pub Left-more : (forest forest1 : Forest) (cs : List ℕ) (c : ℕ) → Left forest forest1 cs → is_in c cs ≡ false → c < length forest1 → held_count (without forest1 c) + 1 ≡ held_count forest1 →
+    ((d : ℕ) → d ≢ c → is_cancelled (without forest1 c) d ≡ is_cancelled forest1 d) → IsForest (without forest1 c) →
     Left forest (without forest1 c) (c ∷ cs)
 Left-more forest forest1 cs c left fresh within count others is_forest =
     let forest2 = without forest1 c in
@@ -75,7 +76,8 @@ Left-more forest forest1 cs c left fresh within count others is_forest =
                   | inr other ↦ let no : is_in p cs ≡ true = sym (in_more c p cs other) ∙ is in absurd (grind (arith, no, new))
                 ] in
                 let own : (c == c) ≡ true = grind arith in
-                let still : binding forest1 d ≡ binding forest d = left.kept d apart.1 (λ q its. let q_is : q ≡ p = some_is q p (sym its ∙ ap parent_in there ∙ bound) in ap (λ x. is_in x cs) q_is ∙ new) in
+                let still : binding forest1 d ≡ binding forest d =
+                left.kept d apart.1 (λ q its. let q_is : q ≡ p = some_is q p (sym its ∙ ap parent_in there ∙ bound) in ap (λ x. is_in x cs) q_is ∙ new) in
                 let parent_is : b.parent ≡ Some c = bound ∙ ap Some here in
                 rw (still, there, parent_is, own) refl
           ];
@@ -149,7 +151,21 @@ below_long (a ∷ b ∷ []) long = absurd (omega (arith, long))
 below_long (a ∷ b ∷ c ∷ []) long = absurd (omega (arith, long))
 below_long (a ∷ b ∷ c ∷ d ∷ []) long =
     let some : Option ℕ → Bool = λ o. is_some o in
-    omega (arith, some_long d (with_some c (with_some b (with_some a []))), some_long c (with_some b (with_some a [])), some_long b (with_some a []), some_long a [], count_cons some a (b ∷ c ∷ d ∷ []), count_cons some b (c ∷ d ∷ []), count_cons some c (d ∷ []), count_cons some d [], one_is a, one_is b, one_is c, one_is d)
+    omega (
+      arith,
+      some_long d (with_some c (with_some b (with_some a []))),
+      some_long c (with_some b (with_some a [])),
+      some_long b (with_some a []),
+      some_long a [],
+      count_cons some a (b ∷ c ∷ d ∷ []),
+      count_cons some b (c ∷ d ∷ []),
+      count_cons some c (d ∷ []),
+      count_cons some d [],
+      one_is a,
+      one_is b,
+      one_is c,
+      one_is d,
+    )
 below_long (a ∷ b ∷ c ∷ d ∷ e ∷ rest) long = absurd (omega (arith, long))
 
 -- A context that was not released yet is still held,
@@ -195,7 +211,8 @@ one_more : (g : ℕ) → suc g ≡ g + 1
 one_more g = omega arith
 
 -- The context of the next group can be released.
-module _ (forest forest' : Forest) (groups : List (Option ℕ)) (g c : ℕ) (may : MayLeave forest groups) (few : g < GROUPS) (here : slice_index_or groups g None ≡ Some c) (left : Left forest forest' (below groups g)) where
+module _ (forest forest' : Forest) (groups : List (Option ℕ)) (g c : ℕ) (may : MayLeave forest groups) (few : g < GROUPS) (here : slice_index_or groups g None ≡ Some c)
+    (left : Left forest forest' (below groups g)) where
   pub next_out : is_in c (below groups g) ≡ false
   next_out = elim (either_way (is_in c (below groups g))) [
     | inl is ↦ let found = below_is groups g c is in absurd (let same = may.apart found.0 g c (omega (arith, found.1, few)) few found.2 here in omega (arith, same, found.1))
@@ -210,8 +227,12 @@ module _ (forest forest' : Forest) (groups : List (Option ℕ)) (g c : ℕ) (may
       let was = bound_before forest forest' (below groups g) left d c bound in
       left.cancelled c next_out ∙ may.ends g c d few here was.1
 
-  pub next_left : held_count (without forest' c) + 1 ≡ held_count forest' → ((d : ℕ) → d ≢ c → is_cancelled (without forest' c) d ≡ is_cancelled forest' d) → IsForest (without forest' c) → Left forest (without forest' c) (below groups (g + 1))
-  next_left count others is_forest = subst (λ k. Left forest (without forest' c) (below groups k)) (one_more g) (subst (λ o. Left forest (without forest' c) (with_some o (below groups g))) (sym here) (Left-more forest forest' (below groups g) c left next_out (IsHeld-within forest' c next_held) count others is_forest))
+  pub next_left : held_count (without forest' c) + 1 ≡ held_count forest' → ((d : ℕ) → d ≢ c → is_cancelled (without forest' c) d ≡ is_cancelled forest' d) → IsForest (without forest' c) →
+      Left forest (without forest' c) (below groups (g + 1))
+  next_left count others is_forest =
+      subst (λ k. Left forest (without forest' c) (below groups k)) (one_more g)
+      (subst (λ o. Left forest (without forest' c) (with_some o (below groups g))) (sym here)
+      (Left-more forest forest' (below groups g) c left next_out (IsHeld-within forest' c next_held) count others is_forest))
 
 -- and at last its own.
 module _ (forest forest' : Forest) (e : OpenRow) (may : MayEnd forest e) (spawned : is_spawned e.source ≡ true) (left : Left forest forest' (below e.group_contexts GROUPS)) where
@@ -230,8 +251,11 @@ module _ (forest forest' : Forest) (e : OpenRow) (may : MayEnd forest e) (spawne
       let released = may.alone e.context d own_is was.1 in
       absurd (grind (arith, was.0, released))
 
-  pub own_left : held_count (without forest' e.context) + 1 ≡ held_count forest' → ((d : ℕ) → d ≢ e.context → is_cancelled (without forest' e.context) d ≡ is_cancelled forest' d) → IsForest (without forest' e.context) → Left forest (without forest' e.context) (contexts_of e)
-  own_left count others is_forest = subst (λ o. Left forest (without forest' e.context) (with_some o (below e.group_contexts GROUPS))) (sym own_is) (Left-more forest forest' (below e.group_contexts GROUPS) e.context left own_out (IsHeld-within forest' e.context own_held) count others is_forest)
+  pub own_left : held_count (without forest' e.context) + 1 ≡ held_count forest' → ((d : ℕ) → d ≢ e.context → is_cancelled (without forest' e.context) d ≡ is_cancelled forest' d) →
+      IsForest (without forest' e.context) → Left forest (without forest' e.context) (contexts_of e)
+  own_left count others is_forest =
+      subst (λ o. Left forest (without forest' e.context) (with_some o (below e.group_contexts GROUPS))) (sym own_is)
+      (Left-more forest forest' (below e.group_contexts GROUPS) e.context left own_out (IsHeld-within forest' e.context own_held) count others is_forest)
 
 -- A group without a context changes nothing.
 pub next_none : (forest forest' : Forest) (groups : List (Option ℕ)) (g : ℕ) → slice_index_or groups g None ≡ None → Left forest forest' (below groups g) → Left forest forest' (below groups (g + 1))

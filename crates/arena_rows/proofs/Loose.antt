@@ -35,11 +35,13 @@ module _ (a : Held) (s : State) (is : Holds a s) where
   own_owner n m g kind opened = let its : IsRowContext s a.contexts is.assigned n (Spawned m g) = rw kind at (is.contexts.of_rows n opened) in its.0
 
   -- A row that waits has its context for itself.
-  pub alone_waiting : (n m g x : ℕ) → is_unstarted (row s.rows n).phase ≡ true → is_open (row s.rows n).phase ≡ true → (row s.rows n).kind ≡ Spawned m g → is_open (row s.rows x).phase ≡ true → x ≢ n → is.assigned.of_row x ≢ is.assigned.of_row n
+  pub alone_waiting : (n m g x : ℕ) → is_unstarted (row s.rows n).phase ≡ true → is_open (row s.rows n).phase ≡ true → (row s.rows n).kind ≡ Spawned m g → is_open (row s.rows x).phase ≡ true → x ≢ n →
+      is.assigned.of_row x ≢ is.assigned.of_row n
   alone_waiting n m g x waits opened kind opened_x other same =
       let owner_x : is.assigned.owner (is.assigned.of_row x) ≡ OfRow n = ap is.assigned.owner same ∙ own_owner n m g kind opened in
       let place = there x opened_x in
-      let all : HasContext s (length a.jobs) a.table a.contexts is.assigned is.steady is.jobs.later is.contexts x = go s (length a.jobs) a.table a.contexts is.assigned is.steady is.jobs.later is.contexts x x (omega arith) place.0 place.1 opened_x in
+      let all : HasContext s (length a.jobs) a.table a.contexts is.assigned is.steady is.jobs.later is.contexts x =
+      go s (length a.jobs) a.table a.contexts is.assigned is.steady is.jobs.later is.contexts x x (omega arith) place.0 place.1 opened_x in
       elim all [
         | inl of_job ↦ grind (arith, ap is_job (sym owner_x ∙ of_job.1))
         | inr held ↦
@@ -73,7 +75,8 @@ module _ (a : Held) (s : State) (is : Holds a s) where
           let its = (is.contexts.of_jobs (row s.rows x).job (is.jobs.later x opened_x) (is.steady.formed.linked.jobs x place.0 place.1).1).0 in
           grind (arith, ap is_job (sym its ∙ ap is.assigned.owner (sym context ∙ same) ∙ owner_n))
 
-      by_kind : (x : ℕ) (k : Kind) → (row s.rows x).kind ≡ k → ((y : ℕ) → y < x → is_open (row s.rows y).phase ≡ true → y ≢ n → is.assigned.of_row y ≢ is.assigned.of_row n) → is_open (row s.rows x).phase ≡ true → x ≢ n → is.assigned.of_row x ≢ is.assigned.of_row n
+      by_kind : (x : ℕ) (k : Kind) → (row s.rows x).kind ≡ k → ((y : ℕ) → y < x → is_open (row s.rows y).phase ≡ true → y ≢ n → is.assigned.of_row y ≢ is.assigned.of_row n) →
+          is_open (row s.rows x).phase ≡ true → x ≢ n → is.assigned.of_row x ≢ is.assigned.of_row n
       by_kind x Root made ih opened_x other = let its : IsRowContext s a.contexts is.assigned x Root = rw made at (is.contexts.of_rows x opened_x) in of_job x opened_x its
       by_kind x Posted made ih opened_x other = let its : IsRowContext s a.contexts is.assigned x Posted = rw made at (is.contexts.of_rows x opened_x) in of_job x opened_x its
       by_kind x (Spawned f h) made ih opened_x other = λ same.

@@ -63,7 +63,8 @@ pub record IsJoined (a : Held) (s : State) (places : Places) (r : Row) (table : 
   pub taken : count_by is_some table ≡ count_by is_some a.table
 
 -- a new row that is a member of no group leaves the table as it is
-pub IsJoined-alone : (a : Held) (s : State) (is : Holds a s) (r : Row) → MakersPrecede s.rows → MakersPrecede (s.rows ++ r ∷ []) → ((m g : ℕ) → g < GROUPS → is_spawned_by m g r.kind ≡ false) → IsJoined a s is.places r a.table
+pub IsJoined-alone : (a : Held) (s : State) (is : Holds a s) (r : Row) → MakersPrecede s.rows → MakersPrecede (s.rows ++ r ∷ []) → ((m g : ℕ) → g < GROUPS → is_spawned_by m g r.kind ≡ false) →
+    IsJoined a s is.places r a.table
 IsJoined-alone a s is r precede precede' alone = record {
   long = refl;
   each = λ m opened.
@@ -76,7 +77,8 @@ IsJoined-alone a s is r precede precede' alone = record {
   taken = refl;
 }
 
-module _ (a : Held) (s : State) (is : Holds a s) (place : ℕ) (r : Row) (e : OpenRow) (kept : IsSteady (add_row s r)) (vacant : IsFree a.table place) (placed : is.places (length s.rows + 1) ≡ place) (opened : is_open r.phase ≡ true) (none : value_in r.phase ≡ pos 0) (fresh : IsFresh a is.places r e)
+module _ (a : Held) (s : State) (is : Holds a s) (place : ℕ) (r : Row) (e : OpenRow) (kept : IsSteady (add_row s r)) (vacant : IsFree a.table place) (placed : is.places (length s.rows + 1) ≡ place)
+    (opened : is_open r.phase ≡ true) (none : value_in r.phase ≡ pos 0) (fresh : IsFresh a is.places r e)
     (table : List (Option OpenRow)) (joined : IsJoined a s is.places r table) where
   abbrev rows' : List Row
   rows' = s.rows ++ r ∷ []
@@ -116,7 +118,8 @@ module _ (a : Held) (s : State) (is : Holds a s) (place : ℕ) (r : Row) (e : Op
     nests = nests;
   }
 
-  pub made_holds : (forest : Forest) (at : Assigned) (d : CurrentJob) (i : ℕ) (pool : Ready) (nests : List (List Nested)) → ((c : CurrentJob) → r.job ≡ (get_or a.jobs i c).number) → i < length a.jobs → length forest ≡ length a.contexts → ((j : ℕ) → at.of_job j ≡ is.assigned.of_job j) →
+  pub made_holds : (forest : Forest) (at : Assigned) (d : CurrentJob) (i : ℕ) (pool : Ready) (nests : List (List Nested)) → ((c : CurrentJob) → r.job ≡ (get_or a.jobs i c).number) →
+      i < length a.jobs → length forest ≡ length a.contexts → ((j : ℕ) → at.of_job j ≡ is.assigned.of_job j) →
       IfSome (maker_of r.kind) (λ m. (m ≤ length s.rows) × (outer_of a.regions e.source ≡ tag_of s.rows is.places m)) → (maker_of r.kind ≡ None → outer_of a.regions e.source ≡ None) →
       AreContexts (add_row s r) (length a.jobs) (slice_set table place (Some e)) forest at → AreNests rows' is.places a.config.slots nests →
       pool ≡ record { isolation = a.config.isolation; limit = a.config.rows; slots = a.config.slots; rows = map (waiting_of rows' is.places) (waiting rows') } →
@@ -126,9 +129,11 @@ module _ (a : Held) (s : State) (is : Holds a s) (place : ℕ) (r : Row) (e : Op
       let now_free : IsFree table place = record { within = omega (arith, next.within, joined.long); vacant = joined.vacant place next.vacant } in
       let jobs_long : length (slice_set a.jobs i (with_open (slice_index_or a.jobs i d))) ≡ length a.jobs = length-set a.jobs i _ in
       let region : is_region_source e.source ≡ is_region r.kind = ap is_region_source fresh.source ∙ source_region is.places r.kind in
-      let id : next_id a place ≡ id_of is.places (length s.rows + 1) = (let f : ℕ → ℕ → RowId = λ k p. record { number = k; place = p } in ap (λ k. f k place) (ap (λ k. k + 1) is.made) ∙ ap (f (length s.rows + 1)) (sym placed)) in
+      let id : next_id a place ≡ id_of is.places (length s.rows + 1) =
+      (let f : ℕ → ℕ → RowId = λ k p. record { number = k; place = p } in ap (λ k. f k place) (ap (λ k. k + 1) is.made) ∙ ap (f (length s.rows + 1)) (sym placed)) in
       let outer = outer_of a.regions e.source in
-      let same_tag : tagged (id_of is.places (length s.rows + 1)) outer (is_region r.kind) ≡ tagged (next_id a place) outer (is_region_source e.source) = ap (λ x. tagged x outer (is_region r.kind)) (sym id) ∙ ap (tagged (next_id a place) outer) (sym region) in
+      let same_tag : tagged (id_of is.places (length s.rows + 1)) outer (is_region r.kind) ≡ tagged (next_id a place) outer (is_region_source e.source) =
+      ap (λ x. tagged x outer (is_region r.kind)) (sym id) ∙ ap (tagged (next_id a place) outer) (sym region) in
       record {
         config = is.config;
         places = is.places;
@@ -136,9 +141,12 @@ module _ (a : Held) (s : State) (is : Holds a s) (place : ℕ) (r : Row) (e : Op
         made = ap (λ k. k + 1) is.made ∙ sym (length_push s.rows r);
         made_jobs = is.made_jobs;
         table = AreRows-pushed s.rows r precede precede' is.places table place e joined.each joined.only placed now_free.vacant now_free.within opened number_is is_row;
-        free = AreFree-pushed s.rows r precede precede' is.places a.config.rows a.table (slice_set table place (Some e)) (length-set table place (Some e) ∙ joined.long) (one_taken table place e now_free ∙ ap (λ k. k + 1) joined.taken) opened is.free;
+        free = AreFree-pushed s.rows r precede precede' is.places a.config.rows a.table (slice_set table place (Some e)) (length-set table place (Some e) ∙ joined.long)
+            (one_taken table place e now_free ∙ ap (λ k. k + 1) joined.taken) opened is.free;
         nests = are_nests;
-        tags = subst (λ x. AreTagged rows' is.places (slice_set table place (Some e)) (slice_set a.regions place (Some x))) same_tag (AreTagged-pushed s.rows r precede precede' is.places a.table table a.regions place e (outer_of a.regions e.source) is.table is.tags next.within placed number_is joined.long joined.tags (λ q x here. open_there s.rows x.number (joined.only q x here).0) maker no_maker);
+        tags = subst (λ x. AreTagged rows' is.places (slice_set table place (Some e)) (slice_set a.regions place (Some x))) same_tag
+            (AreTagged-pushed s.rows r precede precede' is.places a.table table a.regions place e (outer_of a.regions e.source) is.table is.tags next.within placed number_is joined.long joined.tags
+            (λ q x here. open_there s.rows x.number (joined.only q x here).0) maker no_maker);
         waiting = are_waiting;
         contexts = rw jobs_long contexts;
         room = long ∙ is.room;

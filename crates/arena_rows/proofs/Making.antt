@@ -72,20 +72,23 @@ region_kept : (regions : Table) (p : ℕ) (x : Tagged) (o : Option RowId) → sl
 region_kept regions p x o vacant is = λ r some. entered_kept regions p x r vacant (is r some)
 
 -- the new row's own tag
-pub new_tag : (a : Held) (p : ℕ) (e : OpenRow) → p < length a.regions → tags.region_of (entered a p e).regions (next_id a p) ≡ (tagged (next_id a p) (outer_of a.regions e.source) (is_region_source e.source)).tag
+pub new_tag : (a : Held) (p : ℕ) (e : OpenRow) → p < length a.regions →
+    tags.region_of (entered a p e).regions (next_id a p) ≡ (tagged (next_id a p) (outer_of a.regions e.source) (is_region_source e.source)).tag
 new_tag a p e within =
     let there : slice_index_or (entered a p e).regions p None ≡ Some (tagged (next_id a p) (outer_of a.regions e.source) (is_region_source e.source)) = get_or-set_same a.regions p _ None within in
     let same : ((a.made + 1) == (a.made + 1)) ≡ true = grind arith in
     rw (there, same) refl
 
 -- A row that has been entered can wait.
-pub can_wait : (a : Held) (s : State) (rests : Rests a s) (p : ℕ) (b : Held) (e : OpenRow) (made_on : Option ℕ) → IsFree a.table p → HasFreePlace a → b.regions ≡ (entered a p e).regions → b.pool ≡ a.pool → ForSome made_on (λ t. t < a.config.slots) →
+pub can_wait : (a : Held) (s : State) (rests : Rests a s) (p : ℕ) (b : Held) (e : OpenRow) (made_on : Option ℕ) → IsFree a.table p → HasFreePlace a → b.regions ≡ (entered a p e).regions →
+    b.pool ≡ a.pool → ForSome made_on (λ t. t < a.config.slots) →
     is_region_source e.source ≡ false → IsRegionEntered a.regions (outer_of a.regions e.source) → CanWait b (next_id a p) made_on
 can_wait a s rests p b e made_on free some regions pool on no_region outer =
     let is = rests.holds in
     let next = is_next a s is p free in
     let x = tagged (next_id a p) (outer_of a.regions e.source) (is_region_source e.source) in
-    let its_tag : tags.region_of b.regions (next_id a p) ≡ outer_of a.regions e.source = ap (λ t. tags.region_of t (next_id a p)) regions ∙ new_tag a p e (omega (arith, next.within, next.regions)) ∙ rw no_region refl in
+    let its_tag : tags.region_of b.regions (next_id a p) ≡ outer_of a.regions e.source =
+    ap (λ t. tags.region_of t (next_id a p)) regions ∙ new_tag a p e (omega (arith, next.within, next.regions)) ∙ rw no_region refl in
     record {
       room = rw pool (room a s rests (free_room a s is some));
       newest = rw pool (earlier_all a s rests);

@@ -72,7 +72,9 @@ module _ (s : State) (n g : ℕ) (m : Mark) (from : 1 ≤ n) (to : n ≤ length 
     owned_still d (OfRow x) is = (is.0, still_open x is.1, (is.2.0, is.2.1, kinds s.rows n g m from to few x ∙ is.2.2))
     owned_still d (OfGroup x h) is = (is.0, still_open x is.1, is.2)
 
-    pub AreContexts-marked : (table' : List (Option OpenRow)) → ((p : ℕ) (e : OpenRow) → at_place table' p ≡ Some e → (e.context ≡ at.of_row e.number) × ((h : ℕ) → h < GROUPS → slice_index_or e.group_contexts h None ≡ at.of_group e.number h)) → sum_by held_by table' ≡ sum_by held_by table →
+    pub AreContexts-marked : (table' : List (Option OpenRow)) →
+        ((p : ℕ) (e : OpenRow) → at_place table' p ≡ Some e → (e.context ≡ at.of_row e.number) × ((h : ℕ) → h < GROUPS → slice_index_or e.group_contexts h None ≡ at.of_group e.number h)) →
+        sum_by held_by table' ≡ sum_by held_by table →
         (at.of_group n g ≡ None → is_used t.rows n g ≡ false) → AreContexts t current table' forest' at
     AreContexts-marked table' in_table held unused = record {
       of_jobs = λ j above most. let its = are.of_jobs j above most in (its.0, rest (at.of_job j) (ap is_group its.0) ∙ its.1);
@@ -134,5 +136,6 @@ module _ (s : State) (n g : ℕ) (m : Mark) (from : 1 ≤ n) (to : n ≤ length 
         let job_fine : is_job_cancelled (job s.jobs (row s.rows x).job) ≡ false = grind (arith, before) in
         let chain_fine : list_any (λ y. is_group_cancelled s.rows (row s.rows y).kind) (chain s.rows x) ≡ false = grind (arith, before) in
         let same_job : is_job_cancelled (job s.jobs (row t.rows x).job) ≡ false = ap (λ j. is_job_cancelled (job s.jobs j)) ((sources s.rows n g m from to few).jobs x) ∙ job_fine in
-        let same_chain : list_any (λ y. is_group_cancelled t.rows (row t.rows y).kind) (chain t.rows x) ≡ false = ap (list_any (λ y. is_group_cancelled t.rows (row t.rows y).kind)) (chain-marked s.rows n g m from to few x) ∙ all_fine (chain s.rows x) chain_fine in
+        let same_chain : list_any (λ y. is_group_cancelled t.rows (row t.rows y).kind) (chain t.rows x) ≡ false =
+        ap (list_any (λ y. is_group_cancelled t.rows (row t.rows y).kind)) (chain-marked s.rows n g m from to few x) ∙ all_fine (chain s.rows x) chain_fine in
         rw (same_job, same_chain) refl

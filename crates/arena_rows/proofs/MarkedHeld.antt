@@ -30,7 +30,8 @@ pub record IsRegrouped (e e' : OpenRow) : Type 0 where
   pub same : e' ≡ record e { groups = e'.groups }
   pub long : length e'.groups ≡ length e.groups
 
-module _ (a : Held) (s : State) (is : Holds a s) (n g : ℕ) (m : Mark) (e e' : OpenRow) (entry : IsEntry a s is n e) (started : is_unstarted (row s.rows n).phase ≡ false) (low : g < GROUPS) (regrouped : IsRegrouped e e') (kept : IsSteady (marked s n g m)) where
+module _ (a : Held) (s : State) (is : Holds a s) (n g : ℕ) (m : Mark) (e e' : OpenRow) (entry : IsEntry a s is n e) (started : is_unstarted (row s.rows n).phase ≡ false) (low : g < GROUPS)
+    (regrouped : IsRegrouped e e') (kept : IsSteady (marked s n g m)) where
   from : 1 ≤ n
   from = (open_there s.rows n entry.opened).0
 
@@ -64,8 +65,15 @@ module _ (a : Held) (s : State) (is : Holds a s) (n g : ℕ) (m : Mark) (e e' : 
           elim (cases_eq x n) [
             | inl same ↦ record { within = within; entry = e'; there = ap (λ k. at_place table' (is.places k)) same ∙ at_same a.table p (Some e') entry.within; is = rw same its_row }
             | inr other ↦
-                let apart : is.places x ≢ p = λ both. other (sym its.is.number ∙ ap (λ (y : OpenRow). y.number) (some_is its.entry e (sym its.there ∙ ap (at_place a.table) both ∙ entry.there)) ∙ entry.its.number) in
-                record { within = within; entry = its.entry; there = at_other a.table p (Some e') entry.within (is.places x) apart ∙ its.there; is = IsRow-other s.rows n g m from to few is.places x its.entry other its.is }
+                let apart : is.places x ≢ p = λ both. other
+                (sym its.is.number ∙ ap (λ (y : OpenRow). y.number) (some_is its.entry e (sym its.there ∙ ap (at_place a.table) both ∙ entry.there)) ∙ entry.its.number) in
+                record {
+                  within = within;
+                  entry = its.entry;
+                  there = at_other a.table p (Some e') entry.within (is.places x) apart ∙ its.there;
+                  is =
+                      IsRow-other s.rows n g m from to few is.places x its.entry other its.is;
+                }
           ];
       only = λ q x here. elim (cases_eq q p) [
         | inl same ↦
@@ -98,17 +106,19 @@ module _ (a : Held) (s : State) (is : Holds a s) (n g : ℕ) (m : Mark) (e e' : 
     tags : AreTagged t.rows is.places table' a.regions
     tags = record {
       long = is.tags.long ∙ sym (length-set a.table p (Some e'));
-      each = λ q. is.tags.each q ∙ sym (option-same (tagged_of t.rows is.places) (tagged_of s.rows is.places) (at_place a.table q) (λ x. tagged_of-marked s.rows n g m from to few is.places x)) ∙ elim (cases_eq q p) [
-        | inl same ↦
-            let of_number : ℕ → Tagged = λ k. record { number = k; tag = tag_of t.rows is.places k; around = around_of t.rows is.places (row t.rows k).kind } in
-            let tagged : tagged_of t.rows is.places e ≡ tagged_of t.rows is.places e' = ap of_number (entry.its.number ∙ sym number) in
-            ap (λ k. option_map (tagged_of t.rows is.places) (at_place a.table k)) same ∙ ap (option_map (tagged_of t.rows is.places)) entry.there ∙ ap Some tagged ∙
-            sym (ap (λ k. option_map (tagged_of t.rows is.places) (at_place table' k)) same ∙ ap (option_map (tagged_of t.rows is.places)) (at_same a.table p (Some e') entry.within))
-        | inr other ↦ sym (ap (option_map (tagged_of t.rows is.places)) (at_other a.table p (Some e') entry.within q other))
-      ];
+      each = λ q. is.tags.each q ∙ sym (option-same (tagged_of t.rows is.places) (tagged_of s.rows is.places) (at_place a.table q) (λ x. tagged_of-marked s.rows n g m from to few is.places x)) ∙
+          elim (cases_eq q p) [
+            | inl same ↦
+                let of_number : ℕ → Tagged = λ k. record { number = k; tag = tag_of t.rows is.places k; around = around_of t.rows is.places (row t.rows k).kind } in
+                let tagged : tagged_of t.rows is.places e ≡ tagged_of t.rows is.places e' = ap of_number (entry.its.number ∙ sym number) in
+                ap (λ k. option_map (tagged_of t.rows is.places) (at_place a.table k)) same ∙ ap (option_map (tagged_of t.rows is.places)) entry.there ∙ ap Some tagged ∙
+                sym (ap (λ k. option_map (tagged_of t.rows is.places) (at_place table' k)) same ∙ ap (option_map (tagged_of t.rows is.places)) (at_same a.table p (Some e') entry.within))
+            | inr other ↦ sym (ap (option_map (tagged_of t.rows is.places)) (at_other a.table p (Some e') entry.within q other))
+          ];
     }
 
-    entry_contexts : (q : ℕ) (x : OpenRow) → at_place table' q ≡ Some x → (x.context ≡ is.assigned.of_row x.number) × ((h : ℕ) → h < GROUPS → slice_index_or x.group_contexts h None ≡ is.assigned.of_group x.number h)
+    entry_contexts : (q : ℕ) (x : OpenRow) → at_place table' q ≡ Some x →
+        (x.context ≡ is.assigned.of_row x.number) × ((h : ℕ) → h < GROUPS → slice_index_or x.group_contexts h None ≡ is.assigned.of_group x.number h)
     entry_contexts q x here = elim (cases_eq q p) [
       | inl same ↦
           let x_is : e' ≡ x = some_is e' x (sym (at_same a.table p (Some e') entry.within) ∙ ap (at_place table') (sym same) ∙ here) in
@@ -117,7 +127,8 @@ module _ (a : Held) (s : State) (is : Holds a s) (n g : ℕ) (m : Mark) (e e' : 
       | inr other ↦ is.contexts.in_table q x (sym (at_other a.table p (Some e') entry.within q other) ∙ here)
     ]
 
-    pub marked_holds : (forest : Forest) → length forest ≡ length a.contexts → IsRequested a.contexts forest is.assigned n g m → (is.assigned.of_group n g ≡ None → is_used t.rows n g ≡ false) → Holds (record a { table = table'; contexts = forest }) t
+    pub marked_holds : (forest : Forest) → length forest ≡ length a.contexts → IsRequested a.contexts forest is.assigned n g m → (is.assigned.of_group n g ≡ None → is_used t.rows n g ≡ false) →
+        Holds (record a { table = table'; contexts = forest }) t
     marked_holds forest long asked unused =
         let held : held_by (Some e') ≡ held_by (Some e) = ap (λ (x : OpenRow). held_by (Some x)) regrouped.same in
         record {
@@ -130,8 +141,10 @@ module _ (a : Held) (s : State) (is : Holds a s) (n g : ℕ) (m : Mark) (e e' : 
           free = free;
           nests = nests;
           tags = tags;
-          waiting = is.waiting ∙ ap (λ ws. let r : Ready = record { isolation = a.config.isolation; limit = a.config.rows; slots = a.config.slots; rows = ws } in r) (waiting-marked s.rows n g m from to few is.places started);
-          contexts = AreContexts-marked s n g m from to few (length a.jobs) a.table a.contexts forest is.assigned is.contexts asked table' entry_contexts (omega (arith, sum_by-set held_by a.table p (Some e') None entry.within, ap held_by entry.there, held)) unused;
+          waiting = is.waiting ∙ ap (λ ws. let r : Ready = record { isolation = a.config.isolation; limit = a.config.rows; slots = a.config.slots; rows = ws } in r)
+              (waiting-marked s.rows n g m from to few is.places started);
+          contexts = AreContexts-marked s n g m from to few (length a.jobs) a.table a.contexts forest is.assigned is.contexts asked table' entry_contexts
+              (omega (arith, sum_by-set held_by a.table p (Some e') None entry.within, ap held_by entry.there, held)) unused;
           room = long ∙ is.room;
           jobs = AreJobs-marked s n g m from to few is.assigned a.jobs is.jobs;
           cells = is.cells;

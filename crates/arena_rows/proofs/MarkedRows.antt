@@ -139,7 +139,8 @@ module _ (rows : List Row) (n g : ℕ) (m : Mark) (from : 1 ≤ n) (to : n ≤ l
 
   pub tagged_of-marked : (places : Places) (e : OpenRow) → tagged_of marked_rows places e ≡ tagged_of rows places e
   tagged_of-marked places e =
-      let around : around_of marked_rows places (row marked_rows e.number).kind ≡ around_of rows places (row rows e.number).kind = ap (around_of marked_rows places) (kinds e.number) ∙ around_same places (row rows e.number).kind in
+      let around : around_of marked_rows places (row marked_rows e.number).kind ≡ around_of rows places (row rows e.number).kind =
+      ap (around_of marked_rows places) (kinds e.number) ∙ around_same places (row rows e.number).kind in
       rw (tag_of-marked places e.number, around) refl
 
   pub nested_of-marked : (places : Places) (x : ℕ) → nested_of marked_rows places x ≡ nested_of rows places x
@@ -149,12 +150,15 @@ module _ (rows : List Row) (n g : ℕ) (m : Mark) (from : 1 ≤ n) (to : n ≤ l
   pub waiting-marked : (places : Places) → is_unstarted (row rows n).phase ≡ false → map (waiting_of rows places) (waiting rows) ≡ map (waiting_of marked_rows places) (waiting marked_rows)
   waiting-marked places started =
       let place : n - 1 + 1 ≡ n = omega (arith, from) in
-      let at : is_unstarted (get_or rows (n - 1) marked_row).phase ≡ false = ap (λ (x : Row). is_unstarted x.phase) (row-get_or rows (n - 1) marked_row (omega (arith, from, to)) ∙ ap (row rows) place) ∙ started in
-      let same : waiting marked_rows ≡ waiting rows = ap waiting (with_at_number-from rows n marked_row from) ∙ waiting-same 1 (n - 1) marked_row marked_row rows (omega (arith, from, to)) started at in
+      let at : is_unstarted (get_or rows (n - 1) marked_row).phase ≡ false =
+      ap (λ (x : Row). is_unstarted x.phase) (row-get_or rows (n - 1) marked_row (omega (arith, from, to)) ∙ ap (row rows) place) ∙ started in
+      let same : waiting marked_rows ≡ waiting rows =
+      ap waiting (with_at_number-from rows n marked_row from) ∙ waiting-same 1 (n - 1) marked_row marked_row rows (omega (arith, from, to)) started at in
       map-same (waiting_of rows places) (waiting_of marked_rows places) (waiting rows) (λ p. rw (tag_of-marked places p.0) refl) ∙ ap (map (waiting_of marked_rows places)) (sym same)
 
   -- The entry of a row whose groups are as they were.
-  pub IsRow-marked : (places : Places) (x : ℕ) (e e' : OpenRow) → e' ≡ record e { groups = e'.groups } → length e'.groups ≡ GROUPS → ((h : ℕ) → h < GROUPS → IsGroup marked_rows x h (group e'.groups h)) → IsRow rows places x e → IsRow marked_rows places x e'
+  pub IsRow-marked : (places : Places) (x : ℕ) (e e' : OpenRow) → e' ≡ record e { groups = e'.groups } → length e'.groups ≡ GROUPS →
+      ((h : ℕ) → h < GROUPS → IsGroup marked_rows x h (group e'.groups h)) → IsRow rows places x e → IsRow marked_rows places x e'
   IsRow-marked places x e e' same long groups is = record {
     number = ap (λ (y : OpenRow). y.number) same ∙ is.number;
     source = ap (λ (y : OpenRow). y.source) same ∙ is.source ∙ sym (ap (source_of places) (kinds x));

@@ -24,7 +24,8 @@ use Rattle.arena_rows.proofs.Framed.{AreNests-framed}
 use Rattle.arena_rows.proofs.Kept.{AreContexts-alike, AreJobs-alike, IsSettled-alike}
 
 -- The rows stay in the table where their stages stay.
-AreRows-alike : (rows rows' : List Row) (places : Places) (table : List (Option OpenRow)) → Alike rows rows' → ((m : ℕ) → stage_of (row rows' m).frame (row rows' m).phase ≡ stage_of (row rows m).frame (row rows m).phase) → AreRows rows places table → AreRows rows' places table
+AreRows-alike : (rows rows' : List Row) (places : Places) (table : List (Option OpenRow)) → Alike rows rows' →
+    ((m : ℕ) → stage_of (row rows' m).frame (row rows' m).phase ≡ stage_of (row rows m).frame (row rows m).phase) → AreRows rows places table → AreRows rows' places table
 AreRows-alike rows rows' places table alike stages are = record {
   each = λ m opened.
       let its = are.each m (sym (alike.opens m) ∙ opened) in
@@ -33,7 +34,8 @@ AreRows-alike rows rows' places table alike stages are = record {
 }
 
 -- a row that does not wait changed, so those that wait are the same
-pub waiting-same : (k i : ℕ) (r d : Row) (xs : List Row) → i < length xs → is_unstarted r.phase ≡ false → is_unstarted (get_or xs i d).phase ≡ false → filter waits (enumerate_from k (slice_set xs i r)) ≡ filter waits (enumerate_from k xs)
+pub waiting-same : (k i : ℕ) (r d : Row) (xs : List Row) → i < length xs → is_unstarted r.phase ≡ false → is_unstarted (get_or xs i d).phase ≡ false →
+    filter waits (enumerate_from k (slice_set xs i r)) ≡ filter waits (enumerate_from k xs)
 waiting-same k i r d [] within new old = absurd (omega arith)
 waiting-same k zero r d (x ∷ xs) within new old = rw (new, old) refl
 waiting-same k (suc i) r d (x ∷ xs) within new old = elim (either_way (is_unstarted x.phase)) [
@@ -95,9 +97,15 @@ module _ (a : Held) (s : State) (is : Holds a s) (slot n : ℕ) (f : Frame) (wit
     table = AreRows-alike s.rows rows' is.places a.table alike stages is.table;
     free = record { long = is.free.long; count = open_rows-alike s.rows rows' alike ∙ is.free.count };
     nests = AreNests-framed s.rows rows' is.places a.config.slots a.nests is.steady.formed.stacked n slot f is.nests within on_top phases here others;
-    tags = record { long = is.tags.long; each = λ p. is.tags.each p ∙ sym (option-same (tagged_of rows' is.places) (tagged_of s.rows is.places) (at_place a.table p) (λ x. rw (tag_of-alike s.rows rows' alike is.places x.number, around_of-alike s.rows rows' alike is.places x.number) refl)) };
+    tags = record {
+      long = is.tags.long;
+      each =
+          λ p. is.tags.each p ∙ sym (option-same (tagged_of rows' is.places) (tagged_of s.rows is.places) (at_place a.table p)
+          (λ x. rw (tag_of-alike s.rows rows' alike is.places x.number, around_of-alike s.rows rows' alike is.places x.number) refl));
+    };
     waiting = is.waiting ∙ ap (λ ws. let p : Ready = record { isolation = a.config.isolation; limit = a.config.rows; slots = a.config.slots; rows = ws } in p)
-        (map-same (waiting_of s.rows is.places) (waiting_of rows' is.places) (waiting s.rows) (λ p. rw (tag_of-alike s.rows rows' alike is.places p.0) refl) ∙ ap (map (waiting_of rows' is.places)) (sym same_waiting));
+        (map-same (waiting_of s.rows is.places) (waiting_of rows' is.places) (waiting s.rows) (λ p. rw (tag_of-alike s.rows rows' alike is.places p.0) refl) ∙
+        ap (map (waiting_of rows' is.places)) (sym same_waiting));
     contexts = AreContexts-alike s (with_frame s n f) alike refl fewer (length a.jobs) a.table a.table a.contexts is.assigned is.contexts.in_table refl is.contexts;
     room = is.room;
     jobs = AreJobs-alike s (with_frame s n f) alike refl is.assigned a.jobs is.jobs;

@@ -25,7 +25,8 @@ get-take (suc k) (x ∷ xs) zero low = refl
 get-take (suc k) (x ∷ xs) (suc i) low = get-take k xs i (omega (arith, low))
 
 -- row n is no longer on a slot, and the others are where they were
-module _ (rows rows' : List Row) (places : Places) (slots : ℕ) (nests : List (List Nested)) (n : ℕ) (are : AreNests rows places slots nests) (ended : is_open (row rows' n).phase ≡ false) (others : (m : ℕ) → m ≢ n → row rows' m ≡ row rows m) where
+module _ (rows rows' : List Row) (places : Places) (slots : ℕ) (nests : List (List Nested)) (n : ℕ) (are : AreNests rows places slots nests) (ended : is_open (row rows' n).phase ≡ false)
+    (others : (m : ℕ) → m ≢ n → row rows' m ≡ row rows m) where
   apart : (m slot h : ℕ) → (row rows' m).phase ≡ Live slot h → m ≢ n
   apart m slot h live same =
       let opened : is_open (row rows' m).phase ≡ true = rw live refl in
@@ -85,14 +86,16 @@ module _ (rows rows' : List Row) (places : Places) (slots : ℕ) (nests : List (
                   other (one_there rows stacked m n slot (height rows slot) (before ∙ ap (λ k. Live k h) here ∙ ap (Live slot) same) live) in
                   let low : h - 1 < length (stack nests slot) - 1 = omega (arith, to, high, not_top, its.1) in
                   let its_here : at_height (stack nests slot) h ≡ Some (nested_of rows places m) = ap (λ k. at_height (stack nests k) h) (sym here) ∙ its.2 in
-                  ap (λ k. at_height (stack (with_stack nests slot popped) k) h) here ∙ ap (λ xs. at_height xs h) (stack_same nests slot popped inside) ∙ get-take (length (stack nests slot) - 1) (stack nests slot) (h - 1) low ∙ its_here ∙ ap Some (sym (nested_same m other))
+                  ap (λ k. at_height (stack (with_stack nests slot popped) k) h) here ∙ ap (λ xs. at_height xs h) (stack_same nests slot popped inside) ∙
+                  get-take (length (stack nests slot) - 1) (stack nests slot) (h - 1) low ∙ its_here ∙ ap Some (sym (nested_same m other))
               | inr there ↦ ap (λ xs. at_height xs h) (stack_other nests slot popped inside t there) ∙ its.2 ∙ ap Some (sym (nested_same m other))
             ],
           );
       only = λ t h from to. elim (cases_eq t slot) [
         | inl here ↦
             let to_here : h ≤ length popped = ap_le h (ap length (ap (stack (with_stack nests slot popped)) here ∙ stack_same nests slot popped inside)) to in
-            found_again t h (are.only t h from (ap_le h (ap (λ k. length (stack nests k)) (sym here)) (omega (arith, to_here, short, high)))) (λ same. let place = same_place t h slot (height rows slot) (sym same ∙ live) in omega (arith, place, to_here, short, some))
+            found_again t h (are.only t h from (ap_le h (ap (λ k. length (stack nests k)) (sym here)) (omega (arith, to_here, short, high))))
+            (λ same. let place = same_place t h slot (height rows slot) (sym same ∙ live) in omega (arith, place, to_here, short, some))
         | inr there ↦
             let to_old : h ≤ length (stack nests t) = ap_le h (ap length (stack_other nests slot popped inside t there)) to in
             found_again t h (are.only t h from to_old) (λ same. let place = same_place t h slot (height rows slot) (sym same ∙ live) in there place.0)

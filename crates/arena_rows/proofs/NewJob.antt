@@ -1,5 +1,6 @@
 -- One job more, before its root is there: contexts and jobs.
-use Rattle.std.proofs.Common.{◌≡◌, ◌≢◌, ℕ, zero, suc, ◌+◌, ◌==◌, ◌<◌, ◌≤◌, pos, List, [], ◌∷◌, ◌++◌, length, Option, Some, None, Bool, true, false, ◌&&◌, refl, sym, ap, ◌∙◌, arith, inl, inr, get_or, map, subst, not}
+use Rattle.std.proofs.Common.{◌≡◌, ◌≢◌, ℕ, zero, suc, ◌+◌, ◌==◌, ◌<◌, ◌≤◌, pos, List, [], ◌∷◌, ◌++◌, length, Option, Some, None, Bool, true, false, ◌&&◌, refl, sym, ap, ◌∙◌, arith, inl, inr, get_or}
+use Rattle.std.proofs.Common.{map, subst, not}
 use Rattle.std.specs.Prelude.{count_by, is_some, if◌then◌else◌}
 use Rattle.std.proofs.lemmas.Bool.{cases_eq, cases_lt}
 use Rattle.std.proofs.lemmas.List.{length_push, get_or-set_same, get_or-set_other, get_or_append_left, get_or_push}
@@ -86,7 +87,8 @@ module _ (s : State) (at : Assigned) (w : Work) (c : ℕ) (linked : JobsAreThere
     contexts_of_jobs m kept to = elim (cases_eq m J) [
       | inl same ↦
           let here : binding forest' c ≡ bound_as (job more.jobs J) = get_or-set_same forest c _ None inside ∙ sym (ap bound_as works_new ∙ rw fine refl) in
-          subst (λ k. (with_job.owner (with_job.of_job k) ≡ OfJob k) × (binding forest' (with_job.of_job k) ≡ bound_as (job more.jobs k))) (sym same) (ap with_job.owner job_new ∙ owner_new, ap (binding forest') job_new ∙ here)
+          subst (λ k. (with_job.owner (with_job.of_job k) ≡ OfJob k) × (binding forest' (with_job.of_job k) ≡ bound_as (job more.jobs k))) (sym same)
+          (ap with_job.owner job_new ∙ owner_new, ap (binding forest') job_new ∙ here)
       | inr other ↦
           let old : m ≤ length s.jobs = omega (arith, to, other, length_push s.jobs w) in
           let was = are.of_jobs m (kept_before m old kept) old in
@@ -136,7 +138,8 @@ module _ (s : State) (at : Assigned) (w : Work) (c : ℕ) (linked : JobsAreThere
     }
 
   -- the job among those that are kept
-  module _ (jobs : List CurrentJob) (are : AreJobs s at jobs) (it : CurrentJob) (number : it.number ≡ J) (work : it.work ≡ w) (none_opened : it.open_rows ≡ 0) (context : it.context ≡ c) (value : it.value ≡ pos 0)
+  module _ (jobs : List CurrentJob) (are : AreJobs s at jobs) (it : CurrentJob) (number : it.number ≡ J) (work : it.work ≡ w) (none_opened : it.open_rows ≡ 0) (context : it.context ≡ c)
+      (value : it.value ≡ pos 0)
       (fresh : w.retired ≡ false) (root : w.root ≡ length s.rows + 1) (room : length jobs < MAX_JOBS) where
     none_open : open_of s.rows J ≡ 0
     none_open = nothing_counted (λ (r : Row). (r.job == J) && is_open r.phase) s.rows (λ i d below.
@@ -206,8 +209,10 @@ module _ (s : State) (at : Assigned) (w : Work) (c : ℕ) (linked : JobsAreThere
     pub AreJobs-job : AreJobs more with_job jobs'
     AreJobs-job = record {
       order = rises;
-      there = by_place (λ (x : CurrentJob). (1 ≤ x.number) × (x.number ≤ length more.jobs)) (λ i d below. let its = are.there i d below in (its.0, omega (arith, its, length_push s.jobs w))) (omega (arith, number), omega (arith, number, length_push s.jobs w));
-      works = by_place (λ (x : CurrentJob). job more.jobs x.number ≡ x.work) (λ i d below. works_old (get_or jobs i d).number (are.there i d below).1 ∙ are.works i d below) (ap (job more.jobs) number ∙ works_new ∙ sym work);
+      there = by_place (λ (x : CurrentJob). (1 ≤ x.number) × (x.number ≤ length more.jobs)) (λ i d below. let its = are.there i d below in (its.0, omega (arith, its, length_push s.jobs w)))
+          (omega (arith, number), omega (arith, number, length_push s.jobs w));
+      works = by_place (λ (x : CurrentJob). job more.jobs x.number ≡ x.work) (λ i d below. works_old (get_or jobs i d).number (are.there i d below).1 ∙ are.works i d below)
+          (ap (job more.jobs) number ∙ works_new ∙ sym work);
       each = by_place (λ (x : CurrentJob). IsJob s.rows with_job x.number x) (λ i d below.
           let was = are.each i d below in
           record { current = was.current; value = was.value; opened = was.opened; context = was.context ∙ sym (job_old (get_or jobs i d).number (are.there i d below).1) })

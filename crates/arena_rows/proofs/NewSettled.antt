@@ -1,5 +1,6 @@
 -- A job more cancels nothing, and there are no more jobs than rows.
-use Rattle.std.proofs.Common.{◌≡◌, ℕ, zero, suc, ◌+◌, ◌-◌, ◌==◌, ◌<◌, ◌≤◌, nat_le, List, [], ◌∷◌, length, Option, Some, None, Bool, true, false, ◌||◌, refl, sym, ap, ◌∙◌, arith, inl, inr, get_or, subst}
+use Rattle.std.proofs.Common.{◌≡◌, ℕ, zero, suc, ◌+◌, ◌-◌, ◌==◌, ◌<◌, ◌≤◌, nat_le, List, [], ◌∷◌, length, Option, Some, None, Bool, true, false, ◌||◌, refl, sym, ap, ◌∙◌, arith, inl, inr, get_or}
+use Rattle.std.proofs.Common.{subst}
 use Rattle.std.specs.Prelude.{IfSome, slice_index_or, count_by}
 use Rattle.std.specs.List.{list_any}
 use Rattle.std.proofs.lemmas.Bool.{cases_eq, cases_lt}
@@ -88,7 +89,8 @@ module _ (s : State) (j : Job) (p : Phase) (linked : IsLinked s) where
       let long : N ≡ suc (length s.rows) = omega arith in
       let alone : chain t.rows N ≡ N ∷ [] = ap (λ k. chain_for k t.rows N) long ∙ ap (λ (q : Row). with_makers N (maker_of q.kind) (chain_for (length s.rows) t.rows)) here in
       let none : list_any new_group (chain t.rows N) ≡ false = ap (list_any new_group) alone ∙ ap (λ (q : Row). is_group_cancelled t.rows q.kind || false) here in
-      let job_fine : is_job_cancelled (job t.jobs (row t.rows N).job) ≡ false = ap (λ (q : Row). is_job_cancelled (job t.jobs q.job)) here ∙ ap is_job_cancelled (at_number-push_new s.jobs _ (length s.jobs + 1) (new_job s j) refl) in
+      let job_fine : is_job_cancelled (job t.jobs (row t.rows N).job) ≡ false =
+      ap (λ (q : Row). is_job_cancelled (job t.jobs q.job)) here ∙ ap is_job_cancelled (at_number-push_new s.jobs _ (length s.jobs + 1) (new_job s j) refl) in
       ap (λ b. b || list_any new_group (chain t.rows N)) job_fine ∙ none
 
   -- So no row waits that is cancelled.
@@ -115,7 +117,8 @@ module _ (rows : List Row) where
   one_more k n = elim (cases_lt k n) [
     | inl above ↦ elim (cases_eq n (suc k)) [
       | inl same ↦ let a : nat_le n (suc k) ≡ true = grind (arith, same) in let b : nat_le n k ≡ false = grind (arith, above) in let c : (n == suc k) ≡ true = grind (arith, same) in rw (a, b, c) refl
-      | inr other ↦ let a : nat_le n (suc k) ≡ false = grind (arith, above, other) in let b : nat_le n k ≡ false = grind (arith, above) in let c : (n == suc k) ≡ false = grind (arith, other) in rw (a, b, c) refl
+      | inr other ↦ let a : nat_le n (suc k) ≡ false = grind (arith, above, other) in let b : nat_le n k ≡ false = grind (arith, above) in let c : (n == suc k) ≡ false = grind (arith, other) in
+          rw (a, b, c) refl
     ]
     | inr below ↦ let a : nat_le n (suc k) ≡ true = grind (arith, below) in let b : nat_le n k ≡ true = grind (arith, below) in let c : (n == suc k) ≡ false = grind (arith, below) in rw (a, b, c) refl
   ]

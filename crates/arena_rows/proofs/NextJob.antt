@@ -28,11 +28,13 @@ not_smaller (x ∷ xs) n d below = elim (either_way (nat_lt x.number n)) [
   | inl less ↦
       let place : place_of (x ∷ xs) n ≡ 1 + place_of xs n = rw less refl in
       let its = not_smaller xs n d (omega (arith, place, below)) in
-      let item : (get_or (x ∷ xs) (place_of (x ∷ xs) n) d).number ≡ (get_or xs (place_of xs n) d).number = ap (λ k. (get_or (x ∷ xs) k d).number) place ∙ ap (λ (y : CurrentJob). y.number) (next_item x xs (place_of xs n) d) in
+      let item : (get_or (x ∷ xs) (place_of (x ∷ xs) n) d).number ≡ (get_or xs (place_of xs n) d).number =
+      ap (λ k. (get_or (x ∷ xs) k d).number) place ∙ ap (λ (y : CurrentJob). y.number) (next_item x xs (place_of xs n) d) in
       omega (arith, its, item)
 ]
 
-by_place : (x : CurrentJob) (xs : List CurrentJob) (n k : ℕ) (d : CurrentJob) → ((m : ℕ) → m < place_of xs n → (get_or xs m d).number < n) → k < 1 + place_of xs n → x.number < n → (get_or (x ∷ xs) k d).number < n
+by_place : (x : CurrentJob) (xs : List CurrentJob) (n k : ℕ) (d : CurrentJob) → ((m : ℕ) → m < place_of xs n → (get_or xs m d).number < n) → k < 1 + place_of xs n → x.number < n →
+    (get_or (x ∷ xs) k d).number < n
 by_place x xs n zero d rest low first = first
 by_place x xs n (suc k) d rest low first = rest k (omega (arith, low))
 
@@ -52,7 +54,8 @@ module _ (a : Held) (s : State) (is : Holds a s) (after : ℕ) where
   i = index_of a (after + 1)
 
   held_at : (k : ℕ) → k < length a.jobs → IsCurrent a.jobs (get_or a.jobs k no_job).number
-  held_at k below = current_in a (get_or a.jobs k no_job).number is.jobs.order (record { place = k; within = below; number = λ d. ap (λ (x : CurrentJob). x.number) (get_or_default a.jobs k d no_job below) })
+  held_at k below = current_in a (get_or a.jobs k no_job).number is.jobs.order
+      (record { place = k; within = below; number = λ d. ap (λ (x : CurrentJob). x.number) (get_or_default a.jobs k d no_job below) })
 
   pub next_known : IfSome (first_from a (after + 1)) (λ n. (after < n) × IsSome (known_job s n))
   next_known = elim (cases_lt i (length a.jobs)) [

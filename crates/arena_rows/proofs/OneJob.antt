@@ -39,13 +39,15 @@ module _ (a : Held) (s : State) (is : Holds a s) (j : ℕ) (current : IsCurrent 
   job_held d = let there = (is.contexts.of_jobs j kept job_there).1 in rw (context_told d, there) refl
 
   pub asked_holds : (f : Work → Work) (d : CurrentJob) → held_count (job_asked a j d).contexts ≡ held_count a.contexts → is_job_cancelled (f (job s.jobs j)) ≡ true →
-      (f (job s.jobs j)).program ≡ (job s.jobs j).program → (f (job s.jobs j)).root ≡ (job s.jobs j).root → (f (job s.jobs j)).retired ≡ (job s.jobs j).retired → (IsSome (job s.jobs j).fault → IsSome (f (job s.jobs j)).fault) →
+      (f (job s.jobs j)).program ≡ (job s.jobs j).program → (f (job s.jobs j)).root ≡ (job s.jobs j).root → (f (job s.jobs j)).retired ≡ (job s.jobs j).retired →
+      (IsSome (job s.jobs j).fault → IsSome (f (job s.jobs j)).fault) →
       Holds (job_changed (job_asked a j d) j f d) (on_job s j f)
   asked_holds f d count cancelled program root retired fault =
       let c = is.assigned.of_job j in
       let there = (is.contexts.of_jobs j kept job_there).1 in
       let inside : c < length a.contexts = IsHeld-within a.contexts c (rw there refl) in
-      let same : binding (with_request a.contexts c true) c ≡ Some (record { parent = None; is_asked = true; is_orphan = false }) = get_or-set_same a.contexts c (asking true (binding a.contexts c)) None inside ∙ ap (asking true) there in
+      let same : binding (with_request a.contexts c true) c ≡ Some (record { parent = None; is_asked = true; is_orphan = false }) =
+      get_or-set_same a.contexts c (asking true (binding a.contexts c)) None inside ∙ ap (asking true) there in
       let told = context_told d in
       let counted : held_count (with_request a.contexts c true) ≡ held_count a.contexts = rw told at count in
       let asked : IsAsked a.contexts (with_request a.contexts c true) c (f (job s.jobs j)) = record {
@@ -78,7 +80,8 @@ module _ (a : Held) (s : State) (is : Holds a s) (slot n : ℕ) (on_top : top s.
 pub settled_fuel : (s : State) (j fuel : ℕ) → 1 ≤ j → j ≤ length s.jobs → IsSettled s → IsSettled (on_job s j (with_fuel_left fuel))
 settled_fuel s j fuel from to settled n waits =
     let same : is_job_cancelled (job (on_job s j (with_fuel_left fuel)).jobs (row s.rows n).job) ≡ is_job_cancelled (job s.jobs (row s.rows n).job) = elim (cases_eq (row s.rows n).job j) [
-      | inl here ↦ ap (λ k. is_job_cancelled (job (on_job s j (with_fuel_left fuel)).jobs k)) here ∙ ap is_job_cancelled (at_number-with_same s.jobs _ j (with_fuel_left fuel (job s.jobs j)) from to) ∙ sym (ap (λ k. is_job_cancelled (job s.jobs k)) here)
+      | inl here ↦ ap (λ k. is_job_cancelled (job (on_job s j (with_fuel_left fuel)).jobs k)) here ∙ ap is_job_cancelled (at_number-with_same s.jobs _ j (with_fuel_left fuel (job s.jobs j)) from to) ∙
+          sym (ap (λ k. is_job_cancelled (job s.jobs k)) here)
       | inr other ↦ ap is_job_cancelled (at_number-with_other s.jobs _ j (row s.rows n).job (with_fuel_left fuel (job s.jobs j)) from other)
     ] in
     ap (λ b. b || list_any (λ m. is_group_cancelled s.rows (row s.rows m).kind) (chain s.rows n)) same ∙ settled n waits

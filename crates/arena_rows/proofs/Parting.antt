@@ -28,10 +28,12 @@ use Rattle.arena_rows.proofs.TableClosed.{IsParted}
 -- what is asked of the table before the entry of the row is taken out
 pub record PartedAs (a : Held) (s : State) (is : Holds a s) (n : ℕ) (e : OpenRow) (r : Row) (table1 : List (Option OpenRow)) : Type 0 where
   pub parted : IsParted s.rows (with_at_number s.rows n r) is.places n e a.table table1
-  pub in_table : (q : ℕ) (x : OpenRow) → at_place table1 q ≡ Some x → (x.context ≡ is.assigned.of_row x.number) × ((g : ℕ) → g < GROUPS → slice_index_or x.group_contexts g None ≡ is.assigned.of_group x.number g)
+  pub in_table : (q : ℕ) (x : OpenRow) → at_place table1 q ≡ Some x →
+      (x.context ≡ is.assigned.of_row x.number) × ((g : ℕ) → g < GROUPS → slice_index_or x.group_contexts g None ≡ is.assigned.of_group x.number g)
   pub sum : sum_by held_by table1 ≡ sum_by held_by a.table
 
-module _ (a : Held) (s : State) (is : Holds a s) (n : ℕ) (e : OpenRow) (entry : IsEntry a s is n e) (r : Row) (kind : r.kind ≡ (row s.rows n).kind) (same_job : r.job ≡ (row s.rows n).job) (marks : r.marks ≡ (row s.rows n).marks) (closed : is_open r.phase ≡ false) (v : ℤ) (value : value_in r.phase ≡ v) where
+module _ (a : Held) (s : State) (is : Holds a s) (n : ℕ) (e : OpenRow) (entry : IsEntry a s is n e) (r : Row) (kind : r.kind ≡ (row s.rows n).kind) (same_job : r.job ≡ (row s.rows n).job)
+    (marks : r.marks ≡ (row s.rows n).marks) (closed : is_open r.phase ≡ false) (v : ℤ) (value : value_in r.phase ≡ v) where
   there_n : (1 ≤ n) × (n ≤ length s.rows)
   there_n = open_there s.rows n entry.opened
 
@@ -63,7 +65,13 @@ module _ (a : Held) (s : State) (is : Holds a s) (n : ℕ) (e : OpenRow) (entry 
       long = refl;
       each = λ m other opened_m.
           let its = is.table.each m opened_m in
-          record { within = its.within; entry = its.entry; there = its.there; is = is_row m its.entry other its.is (λ g few. group_other m g (group its.entry.groups g) (alone m g opened_m) (its.is.groups g few)) };
+          record {
+            within = its.within;
+            entry = its.entry;
+            there = its.there;
+            is =
+                is_row m its.entry other its.is (λ g few. group_other m g (group its.entry.groups g) (alone m g opened_m) (its.is.groups g few));
+          };
       only = is.table.only;
       tags = λ q. refl;
       taken = refl;
@@ -116,8 +124,10 @@ module _ (a : Held) (s : State) (is : Holds a s) (n : ℕ) (e : OpenRow) (entry 
     groups_left h low = elim (cases_eq h g) [
       | inl same ↦
           let it : Group = group em.groups g in
-          let new : group em'.groups g ≡ record it { pending = it.pending - 1; total = int_wrapping_add w64 it.total v } = get_or-set_same em.groups g _ unused (omega (arith, few_g, maker.its.all_groups)) in
-          let fewer : IsGroup rows' f g (record it { pending = it.pending - 1; total = int_wrapping_add w64 it.total (value_in r.phase) }) = IsGroup-left s.rows n r there_n.0 there_n.1 kind same_job marks entry.opened closed f g it made since (maker.its.groups g few_g) in
+          let new : group em'.groups g ≡ record it { pending = it.pending - 1; total = int_wrapping_add w64 it.total v } =
+          get_or-set_same em.groups g _ unused (omega (arith, few_g, maker.its.all_groups)) in
+          let fewer : IsGroup rows' f g (record it { pending = it.pending - 1; total = int_wrapping_add w64 it.total (value_in r.phase) }) =
+          IsGroup-left s.rows n r there_n.0 there_n.1 kind same_job marks entry.opened closed f g it made since (maker.its.groups g few_g) in
           let fewer_v : IsGroup rows' f g (record it { pending = it.pending - 1; total = int_wrapping_add w64 it.total v }) = rw value at fewer in
           rw (same, new) fewer_v
       | inr other ↦
@@ -173,7 +183,8 @@ module _ (a : Held) (s : State) (is : Holds a s) (n : ℕ) (e : OpenRow) (entry 
           | inr other ↦ is.table.only q x (sym (at_other a.table p (Some em') maker.within q other) ∙ here)
         ];
         tags = λ q. elim (cases_eq q p) [
-          | inl same ↦ ap (λ k. option_map (tagged_of s.rows is.places) (at_place table1 k)) same ∙ ap (option_map (tagged_of s.rows is.places)) (at_same a.table p (Some em') maker.within) ∙ sym (ap (λ k. option_map (tagged_of s.rows is.places) (at_place a.table k)) same ∙ ap (option_map (tagged_of s.rows is.places)) at_maker)
+          | inl same ↦ ap (λ k. option_map (tagged_of s.rows is.places) (at_place table1 k)) same ∙ ap (option_map (tagged_of s.rows is.places)) (at_same a.table p (Some em') maker.within) ∙
+              sym (ap (λ k. option_map (tagged_of s.rows is.places) (at_place a.table k)) same ∙ ap (option_map (tagged_of s.rows is.places)) at_maker)
           | inr other ↦ ap (option_map (tagged_of s.rows is.places)) (at_other a.table p (Some em') maker.within q other)
         ];
         taken = same_taken a.table p em em' maker.within at_maker;
@@ -187,7 +198,8 @@ module _ (a : Held) (s : State) (is : Holds a s) (n : ℕ) (e : OpenRow) (entry 
       sum = omega (arith, sum_by-set held_by a.table p (Some em') None maker.within, ap held_by at_maker);
     }
 
-  spawned_as : (f g : ℕ) → (row s.rows n).kind ≡ Spawned f g → (o : Option OpenRow) → at_place a.table (is.places f) ≡ o → PartedAs a s is n e r (parted_by a.table v (if is_of_row o f then Some (is.places f, g) else None))
+  spawned_as : (f g : ℕ) → (row s.rows n).kind ≡ Spawned f g → (o : Option OpenRow) → at_place a.table (is.places f) ≡ o →
+      PartedAs a s is n e r (parted_by a.table v (if is_of_row o f then Some (is.places f, g) else None))
   spawned_as f g made None at_maker = parted_alone (λ m h opened_m. elim (cases_eq m f) [
     | inl same ↦ absurd (let its = is.table.each m opened_m in some_none its.entry (sym its.there ∙ ap (λ k. at_place a.table (is.places k)) same ∙ at_maker))
     | inr other ↦ let apart : (f == m) ≡ false = grind (arith, other) in rw (made, apart) refl
@@ -223,7 +235,8 @@ numbers_by table v None q = refl
 numbers_by table v (Some p) q = elim (cases_lt p.0 (length table)) [
   | inl within ↦ elim (cases_eq q p.0) [
     | inl same ↦
-        ap (λ k. number_at (slice_set table p.0 (option_map (member_left p.1 v) (at_place table p.0))) k) same ∙ ap (option_map (λ (e : OpenRow). e.number)) (at_same table p.0 (option_map (member_left p.1 v) (at_place table p.0)) within) ∙
+        ap (λ k. number_at (slice_set table p.0 (option_map (member_left p.1 v) (at_place table p.0))) k) same ∙
+        ap (option_map (λ (e : OpenRow). e.number)) (at_same table p.0 (option_map (member_left p.1 v) (at_place table p.0)) within) ∙
         by_entry p.1 (at_place table p.0) ∙ ap (number_at table) (sym same)
     | inr other ↦ ap (option_map (λ (e : OpenRow). e.number)) (at_other table p.0 (option_map (member_left p.1 v) (at_place table p.0)) within q other)
   ]

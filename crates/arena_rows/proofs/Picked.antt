@@ -73,7 +73,8 @@ module _ (rows : List Row) (places : Places) where
   ]
 
   -- A slot may take the same rows.
-  allowed-same : (mode : Isolation) (regions : List (Option Tagged)) (r : Option ℕ) (n : ℕ) → ((q : ℕ) → r ≡ Some q → tags.is_within regions (tag_of rows places n) (id_of places q) ≡ is_within rows n q) →
+  allowed-same : (mode : Isolation) (regions : List (Option Tagged)) (r : Option ℕ) (n : ℕ) →
+      ((q : ℕ) → r ≡ Some q → tags.is_within regions (tag_of rows places n) (id_of places q) ≡ is_within rows n q) →
       ready.is_allowed mode regions (option_map (id_of places) r) (tag_of rows places n) ≡ is_allowed mode rows r n
   allowed-same mode regions None n within = refl
   allowed-same Exact regions (Some q) n within = same_tag q (region_of rows n)
@@ -82,13 +83,17 @@ module _ (rows : List Row) (places : Places) where
   -- A pool of the rows that wait picks what the definition picks.
   pub pick-same : (mode : Isolation) (limit slots slot : ℕ) (regions : List (Option Tagged)) (r : Option ℕ) → region_on rows (top rows slot) ≡ r →
       All (λ (p : NumberedRow). (q : ℕ) → r ≡ Some q → tags.is_within regions (tag_of rows places p.0) (id_of places q) ≡ is_within rows p.0 q) (waiting rows) →
-      ready.pick (record { isolation = mode; limit = limit; slots = slots; rows = map (waiting_of rows places) (waiting rows) }) regions slot (option_map (id_of places) r) ≡ option_map (id_of places) (pick_of mode rows slot)
+      ready.pick (record { isolation = mode; limit = limit; slots = slots; rows = map (waiting_of rows places) (waiting rows) }) regions slot (option_map (id_of places) r) ≡
+      option_map (id_of places) (pick_of mode rows slot)
   pick-same mode limit slots slot regions r region within =
       let test : NumberedRow → Bool = λ p. is_allowed mode rows r p.0 in
       let here : Waiting → Bool = λ w. ready.is_allowed mode regions (option_map (id_of places) r) w.region in
       let eligible_here : filter here (map (waiting_of rows places) (waiting rows)) ≡ map (waiting_of rows places) (eligible mode rows slot) =
       filter-map here (waiting_of rows places) (waiting rows) ∙
-      ap (map (waiting_of rows places)) (filter-all _ test (waiting rows) (λ i d below. allowed-same mode regions r (get_or (waiting rows) i d).0 (within i d below)) ∙ filter-filter _ test (numbered_rows rows) ∙ rw region refl) in
-      let made : filter (λ (w : Waiting). ready.is_made_on slot w.made_on) (map (waiting_of rows places) (eligible mode rows slot)) ≡ map (waiting_of rows places) (filter (λ (p : NumberedRow). is_made_on slot p.1.made_on) (eligible mode rows slot)) =
-      filter-map (λ (w : Waiting). ready.is_made_on slot w.made_on) (waiting_of rows places) (eligible mode rows slot) ∙ ap (map (waiting_of rows places)) (filter-same _ _ (eligible mode rows slot) (λ p. made_on-same slot p.1.made_on)) in
+      ap (map (waiting_of rows places))
+      (filter-all _ test (waiting rows) (λ i d below. allowed-same mode regions r (get_or (waiting rows) i d).0 (within i d below)) ∙ filter-filter _ test (numbered_rows rows) ∙ rw region refl) in
+      let made : filter (λ (w : Waiting). ready.is_made_on slot w.made_on) (map (waiting_of rows places) (eligible mode rows slot)) ≡
+      map (waiting_of rows places) (filter (λ (p : NumberedRow). is_made_on slot p.1.made_on) (eligible mode rows slot)) =
+      filter-map (λ (w : Waiting). ready.is_made_on slot w.made_on) (waiting_of rows places) (eligible mode rows slot) ∙
+      ap (map (waiting_of rows places)) (filter-same _ _ (eligible mode rows slot) (λ p. made_on-same slot p.1.made_on)) in
       rw (eligible_here, made, first-map) (last-map (first_of (eligible mode rows slot)) (filter (λ (p : NumberedRow). is_made_on slot p.1.made_on) (eligible mode rows slot)))

@@ -93,7 +93,8 @@ module _ (a : Held) (s : State) (rests : Rests a s) where
   region_on_is (Some n) q found = region_is n q found
 
   -- the region of a slot's topmost row, as the arena finds it
-  tag_on_top : (slot : ℕ) (o : Option ℕ) → top s.rows slot ≡ o → option_and_then (λ (n : Nested). tags.region_of a.regions n.row) (option_map (nested_of s.rows rests.holds.places) o) ≡ option_map (id_of rests.holds.places) (region_on s.rows o)
+  tag_on_top : (slot : ℕ) (o : Option ℕ) → top s.rows slot ≡ o →
+      option_and_then (λ (n : Nested). tags.region_of a.regions n.row) (option_map (nested_of s.rows rests.holds.places) o) ≡ option_map (id_of rests.holds.places) (region_on s.rows o)
   tag_on_top slot None on = refl
   tag_on_top slot (Some n) on = region_there s.rows rests.holds.places a.table a.regions rests.holds.table rests.holds.tags n (rw (top_is s.rows slot n on).2 refl)
 
@@ -111,11 +112,13 @@ module _ (a : Held) (s : State) (rests : Rests a s) where
   pub picked_is : (slot : ℕ) → picked a slot ≡ option_map (id_of rests.holds.places) (pick s slot)
   picked_is slot =
       let region = region_on s.rows (top s.rows slot) in
-      let tag = ap (option_and_then (λ (n : Nested). tags.region_of a.regions n.row)) (top_of_stack s.rows rests.holds.places a.config.slots a.nests rests.holds.steady.formed.stacked rests.holds.nests slot) ∙ tag_on_top slot (top s.rows slot) refl in
+      let tag = ap (option_and_then (λ (n : Nested). tags.region_of a.regions n.row))
+      (top_of_stack s.rows rests.holds.places a.config.slots a.nests rests.holds.steady.formed.stacked rests.holds.nests slot) ∙ tag_on_top slot (top s.rows slot) refl in
       rw (rests.holds.waiting, tag) (pick-same s.rows rests.holds.places a.config.isolation a.config.rows a.config.slots slot a.regions region refl
       (λ k d below q on_q.
       let p = get_or (waiting s.rows) k d in
       let its = all_waiting k d below in
       let waits : is_unstarted (row s.rows p.0).phase ≡ true = rw its.0.2 its.1 in
-      within_there s rests.holds.places a.table a.regions precede rests.holds.steady rests.holds.table rests.holds.tags tags_nested p.0 p.0 q (omega arith) its.0.0 its.0.1 (unstarted_open (row s.rows p.0).phase waits) (waits_fine p.0 waits) (region_on_is (top s.rows slot) q on_q))
+      within_there s rests.holds.places a.table a.regions precede rests.holds.steady rests.holds.table rests.holds.tags tags_nested p.0 p.0 q (omega arith) its.0.0 its.0.1
+      (unstarted_open (row s.rows p.0).phase waits) (waits_fine p.0 waits) (region_on_is (top s.rows slot) q on_q))
       ∙ ap (λ (c : Tenant). option_map (id_of rests.holds.places) (pick_of c.isolation s.rows slot)) rests.holds.config)

@@ -139,7 +139,8 @@ module _ (a : Held) (s : State) (is : Holds a s) (place : ℕ) where
         free = is.free;
         nests = AreNests-placed s.rows precede is.places places' same_before a.config.slots a.nests is.nests;
         tags = AreTagged-placed s.rows precede is.places places' same_before a.table a.regions is.table is.tags;
-        waiting = is.waiting ∙ ap (λ ws. let p : Ready = record { isolation = a.config.isolation; limit = a.config.rows; slots = a.config.slots; rows = ws } in p) (sym (waiting-placed s.rows precede is.places places' same_before));
+        waiting = is.waiting ∙ ap (λ ws. let p : Ready = record { isolation = a.config.isolation; limit = a.config.rows; slots = a.config.slots; rows = ws } in p)
+            (sym (waiting-placed s.rows precede is.places places' same_before));
         contexts = is.contexts;
         room = is.room;
         jobs = is.jobs;

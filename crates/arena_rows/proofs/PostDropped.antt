@@ -27,7 +27,13 @@ module _ (a : Held) (s : State) (rests : Rests a s) (j : ℕ) (f : Frame) (kept 
       each = λ x opened.
           let old = was s r refl x opened in
           let its = is.table.each x old.2 in
-          record { within = its.within; entry = its.entry; there = its.there; is = IsRow-pushed s.rows r is.steady.formed.linked.makers kept.formed.linked.makers is.places x its.entry old.1 (λ h few. refl) its.is };
+          record {
+            within = its.within;
+            entry = its.entry;
+            there = its.there;
+            is =
+                IsRow-pushed s.rows r is.steady.formed.linked.makers kept.formed.linked.makers is.places x its.entry old.1 (λ h few. refl) its.is;
+          };
       only = λ q x here. let its = is.table.only q x here in (still s r x.number its.0, its.1);
     };
     taken = refl;

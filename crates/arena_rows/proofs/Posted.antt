@@ -41,7 +41,8 @@ no_contexts (suc (suc zero)) = refl
 no_contexts (suc (suc (suc zero))) = refl
 no_contexts (suc (suc (suc (suc h)))) = refl
 
-module _ (a : Held) (s : State) (is : Holds a s) (place : ℕ) (placed : is.places (length s.rows + 1) ≡ place) (j ctx : ℕ) (f : Frame) (kept : IsSteady (add_row s (new_row kind.Posted j None f Unstarted))) (vacant : IsFree a.table place) (current : IsCurrent a.jobs j) (context : ctx ≡ is.assigned.of_job j) where
+module _ (a : Held) (s : State) (is : Holds a s) (place : ℕ) (placed : is.places (length s.rows + 1) ≡ place) (j ctx : ℕ) (f : Frame)
+    (kept : IsSteady (add_row s (new_row kind.Posted j None f Unstarted))) (vacant : IsFree a.table place) (current : IsCurrent a.jobs j) (context : ctx ≡ is.assigned.of_job j) where
   abbrev r : Row
   r = new_row kind.Posted j None f Unstarted
 
@@ -89,12 +90,14 @@ module _ (a : Held) (s : State) (is : Holds a s) (place : ℕ) (placed : is.plac
       let no_region : region_of rows' N ≡ None = region_of-none rows' precede' N (omega arith) (omega (arith, length_push s.rows r)) (rw here refl) (rw here refl) in
       let number : a.made + 1 ≡ N = ap (λ k. k + 1) is.made in
       let waiting_at : ℕ → ℕ → Option ℕ → Waiting = λ k p region. record { row = record { number = k; place = p }; made_on = None; region = option_map (id_of is.places) region } in
-      let w_is : w ≡ waiting_at N (is.places N) (region_of rows' N) = ap (λ k. waiting_at k place None) number ∙ ap (λ p. waiting_at N p None) (sym placed) ∙ ap (waiting_at N (is.places N)) (sym no_region) in
+      let w_is : w ≡ waiting_at N (is.places N) (region_of rows' N) =
+      ap (λ k. waiting_at k place None) number ∙ ap (λ p. waiting_at N p None) (sym placed) ∙ ap (waiting_at N (is.places N)) (sym no_region) in
       let p : List Waiting → Ready = λ ws. record { isolation = a.config.isolation; limit = a.config.rows; slots = a.config.slots; rows = ws } in
       ap (λ q. with_row q w) is.waiting ∙ ap p (ap (λ v. map (waiting_of s.rows is.places) (waiting s.rows) ++ v ∷ []) w_is ∙ sym (waiting-one s.rows r precede precede' is.places refl))
 
   pub posted_holds : (d : CurrentJob) → Holds (put (job_counted (entered a place e) j d) w) (add_row s r)
-  posted_holds d = made_holds a s is place r e kept vacant placed refl refl fresh a.table table_joined a.contexts at d (index_of a j) (with_row a.pool w) a.nests (λ c. sym (current.number c)) current.within refl (λ k. refl) tt (λ none. refl) contexts (AreNests-waiting s.rows r precede precede' is.places a.config.slots a.nests refl is.nests) pool
+  posted_holds d = made_holds a s is place r e kept vacant placed refl refl fresh a.table table_joined a.contexts at d (index_of a j) (with_row a.pool w) a.nests (λ c. sym (current.number c))
+      current.within refl (λ k. refl) tt (λ none. refl) contexts (AreNests-waiting s.rows r precede precede' is.places a.config.slots a.nests refl is.nests) pool
 
 one_both : (p q : Bool) → one_if (p && q) ≤ one_if q
 one_both true q = omega arith
@@ -102,7 +105,8 @@ one_both false q = omega arith
 
 open_of_le : (j : ℕ) (rows : List Row) → open_of rows j ≤ open_rows rows
 open_of_le j [] = omega arith
-open_of_le j (x ∷ rows) = omega (arith, open_of_le j rows, one_both (x.job == j) (is_open x.phase), count-cons (λ (r : Row). (r.job == j) && is_open r.phase) x rows, count-cons (λ (r : Row). is_open r.phase) x rows)
+open_of_le j (x ∷ rows) = omega
+    (arith, open_of_le j rows, one_both (x.job == j) (is_open x.phase), count-cons (λ (r : Row). (r.job == j) && is_open r.phase) x rows, count-cons (λ (r : Row). is_open r.phase) x rows)
 
 -- While a place is free, a job has fewer open rows than there are places.
 pub few_open : (a : Held) (s : State) (is : Holds a s) (j : ℕ) → IsCurrent a.jobs j → HasFreePlace a → (d : CurrentJob) → (slice_index_or a.jobs (index_of a j) d).open_rows < length a.table

@@ -64,8 +64,11 @@ module _ (rows rows' : List Row) (places : Places) (slots : ℕ) (nests : List (
     long = length-set nests slot new_stack ∙ are.long;
     each = λ m t h live_m. elim (cases_eq m n) [
       | inl same ↦
-          let place = same_place slot (length (stack nests slot) + 1) t h (sym live ∙ rw same at live_m) in
-          (omega (arith, place, within), omega (arith, place), rw (same, sym place.0, sym place.1, stack_same nests slot new_stack inside) (get-push (stack nests slot) top (length (stack nests slot) + 1 - 1) (omega arith)))
+          let place = same_place slot (length (stack nests slot) + 1) t h (sym live ∙ rw same at live_m) in (
+            omega (arith, place, within),
+            omega (arith, place),
+            rw (same, sym place.0, sym place.1, stack_same nests slot new_stack inside) (get-push (stack nests slot) top (length (stack nests slot) + 1 - 1) (omega arith)),
+          )
       | inr other ↦ at m t h other live_m
     ];
     only = λ t h from to. elim (cases_eq t slot) [

@@ -84,8 +84,11 @@ module _ (rows : List Row) (r : Row) (precede : MakersPrecede rows) (precede' : 
       let p : NumberedRow → Bool = λ q. is_open q.1.phase in
       let last : NumberedRow = (1 + length rows, r) in
       record {
-        pending = ap (λ k. k + one_if (is_open r.phase)) is.pending ∙ sym (ap (count_by p) same ∙ count_append p (members rows m g) (last ∷ []) ∙ ap (λ k. count_by p (members rows m g) + k) (one_counted p last));
-        total = is.total ∙ sym (ap (λ ps. fold (λ sum (q : NumberedRow). int_wrapping_add w64 sum (value_in q.1.phase)) (pos 0) ps) same ∙ fold-append (λ sum (q : NumberedRow). int_wrapping_add w64 sum (value_in q.1.phase)) (pos 0) (members rows m g) (last ∷ []) ∙ ap (int_wrapping_add w64 (total rows m g)) none ∙ summed_nothing (members rows m g));
+        pending = ap (λ k. k + one_if (is_open r.phase)) is.pending ∙
+            sym (ap (count_by p) same ∙ count_append p (members rows m g) (last ∷ []) ∙ ap (λ k. count_by p (members rows m g) + k) (one_counted p last));
+        total = is.total ∙ sym (ap (λ ps. fold (λ sum (q : NumberedRow). int_wrapping_add w64 sum (value_in q.1.phase)) (pos 0) ps) same ∙
+            fold-append (λ sum (q : NumberedRow). int_wrapping_add w64 sum (value_in q.1.phase)) (pos 0) (members rows m g) (last ∷ []) ∙ ap (int_wrapping_add w64 (total rows m g)) none ∙
+            summed_nothing (members rows m g));
         used = sym (ap (λ ps. nat_lt 0 (length ps)) same ∙ some_used (members rows m g) last);
       }
     where
@@ -106,7 +109,8 @@ module _ (rows : List Row) (r : Row) (precede : MakersPrecede rows) (precede' : 
   none_spawned h i d below =
       let place : get_or rows' i d ≡ row rows' (i + 1) = row-get_or rows' i d below in
       let there : i + 1 ≤ length rows' = omega (arith, below) in
-      rw place (not_by h (row rows' (i + 1)).kind (IfSome_then (maker_of (row rows' (i + 1)).kind) (precede' (i + 1) (omega arith) there) (λ m before. omega (arith, before, below, length_push rows r))))
+      rw place (not_by h (row rows' (i + 1)).kind
+      (IfSome_then (maker_of (row rows' (i + 1)).kind) (precede' (i + 1) (omega arith) there) (λ m before. omega (arith, before, below, length_push rows r))))
 
   pub no_members_yet : (h : ℕ) → members rows' N h ≡ []
   no_members_yet h = no_members N h (mark rows' N h).rows 1 rows' (none_spawned h)

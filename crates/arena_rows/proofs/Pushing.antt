@@ -1,5 +1,6 @@
 -- What is held with one row more.
-use Rattle.std.proofs.Common.{◌≡◌, ◌≢◌, ℕ, zero, suc, ◌+◌, ◌==◌, ◌<◌, ◌≤◌, List, [], ◌∷◌, ◌++◌, length, Option, Some, None, Bool, true, false, ◌&&◌, refl, sym, ap, ◌∙◌, arith, inl, inr, ◌⊎◌, get_or, map, length-set, pos, subst}
+use Rattle.std.proofs.Common.{◌≡◌, ◌≢◌, ℕ, zero, suc, ◌+◌, ◌==◌, ◌<◌, ◌≤◌, List, [], ◌∷◌, ◌++◌, length, Option, Some, None, Bool, true, false, ◌&&◌, refl, sym, ap, ◌∙◌, arith, inl, inr, ◌⊎◌, get_or}
+use Rattle.std.proofs.Common.{map, length-set, pos, subst}
 use Rattle.std.specs.Prelude.{IfSome, slice_index_or, slice_set, filter, count_by, is_some, All}
 use Rattle.std.specs.Option.{option_map}
 use Rattle.std.proofs.lemmas.Bool.{cases_eq, cases_lt}
@@ -27,7 +28,8 @@ use Rattle.tenant_model.proofs.AttendedSteps.{open_there}
 use Rattle.tenant_model.proofs.Picks.{IsNumbered, numbered_all}
 use Rattle.arena_rows.specs.declared.rows.OpenRow.{OpenRow}
 use Rattle.arena_rows.specs.declared.rows.CurrentJob.{CurrentJob}
-use Rattle.arena_rows.specs.Represents.{Places, id_of, at_place, source_of, stage_of, tag_of, around_of, tagged_of, nested_of, waiting, waiting_of, IsRow, Stands, AreRows, AreFree, AreNests, AreTagged, open_of, Assigned, IsJob, AreJobs, IsKept}
+use Rattle.arena_rows.specs.Represents.{Places, id_of, at_place, source_of, stage_of, tag_of, around_of, tagged_of, nested_of, waiting, waiting_of, IsRow, Stands, AreRows, AreFree, AreNests}
+use Rattle.arena_rows.specs.Represents.{AreTagged, open_of, Assigned, IsJob, AreJobs, IsKept}
 use Rattle.arena_rows.proofs.Started.{some_is, some_none}
 use Rattle.arena_rows.proofs.PushedRows.{tag_of-push, region_of-push, IsGroup-same}
 use Rattle.arena_rows.proofs.Spawned.{append_none, numbered_push}
@@ -81,7 +83,8 @@ module _ (rows : List Row) (r : Row) (precede : MakersPrecede rows) (precede' : 
 
   -- The table with the new entry.
   pub AreRows-pushed : (table : List (Option OpenRow)) (p : ℕ) (e : OpenRow) → ((m : ℕ) → is_open (row rows m).phase ≡ true → Stands rows' places table m) →
-      ((q : ℕ) (x : OpenRow) → at_place table q ≡ Some x → (is_open (row rows x.number).phase ≡ true) × (places x.number ≡ q)) → places N ≡ p → at_place table p ≡ None → p < length table → is_open r.phase ≡ true → e.number ≡ N → IsRow rows' places N e →
+      ((q : ℕ) (x : OpenRow) → at_place table q ≡ Some x → (is_open (row rows x.number).phase ≡ true) × (places x.number ≡ q)) → places N ≡ p → at_place table p ≡ None → p < length table →
+      is_open r.phase ≡ true → e.number ≡ N → IsRow rows' places N e →
       AreRows rows' places (slice_set table p (Some e))
   AreRows-pushed table p e each only placed vacant within opened number is = record {
     each = λ m opened_m. elim (by_age m opened_m) [
@@ -89,7 +92,13 @@ module _ (rows : List Row) (r : Row) (precede : MakersPrecede rows) (precede' : 
           let its = each m before.1 in
           let apart : places m ≢ p = λ same. some_none its.entry (sym its.there ∙ ap (at_place table) same ∙ vacant) in
           record { within = omega (arith, its.within, length-set table p (Some e)); entry = its.entry; there = get_or-set_other table p (places m) (Some e) None apart ∙ its.there; is = its.is }
-      | inr same ↦ rw same (record { within = omega (arith, placed, within, length-set table p (Some e)); entry = e; there = ap (at_place (slice_set table p (Some e))) placed ∙ get_or-set_same table p (Some e) None within; is = is })
+      | inr same ↦ rw same (record {
+        within = omega (arith, placed, within, length-set table p (Some e));
+        entry = e;
+        there =
+            ap (at_place (slice_set table p (Some e))) placed ∙ get_or-set_same table p (Some e) None within;
+        is = is;
+      })
     ];
     only = λ q x here. elim (cases_eq q p) [
       | inl same ↦
@@ -103,7 +112,8 @@ module _ (rows : List Row) (r : Row) (precede : MakersPrecede rows) (precede' : 
   }
 
   -- One place less is free.
-  pub AreFree-pushed : (limit : ℕ) (table table' : List (Option OpenRow)) → length table' ≡ length table → count_by is_some table' ≡ count_by is_some table + 1 → is_open r.phase ≡ true → AreFree rows limit table → AreFree rows' limit table'
+  pub AreFree-pushed : (limit : ℕ) (table table' : List (Option OpenRow)) → length table' ≡ length table → count_by is_some table' ≡ count_by is_some table + 1 → is_open r.phase ≡ true →
+      AreFree rows limit table → AreFree rows' limit table'
   AreFree-pushed limit table table' long more opened are =
       let one : one_if (is_open r.phase) ≡ 1 = rw opened refl in
       record { long = long ∙ are.long; count = omega (arith, are.count, more, count-push (λ (q : Row). is_open q.phase) rows r, one) }
@@ -121,7 +131,8 @@ module _ (rows : List Row) (r : Row) (precede : MakersPrecede rows) (precede' : 
           | inl before ↦
               let its = are.each m slot h (ap (λ (q : Row). q.phase) (sym (old m before.0)) ∙ live) in
               (its.0, its.1, its.2 ∙ ap Some (sym (nested_old m before.0)))
-          | inr same ↦ absurd (let no : is_unstarted r.phase ≡ false = ap (λ (q : Row). is_unstarted q.phase) (sym new) ∙ ap (λ k. is_unstarted (row rows' k).phase) (sym same) ∙ ap is_unstarted live in grind (arith, no, waits))
+          | inr same ↦ absurd (let no : is_unstarted r.phase ≡ false =
+              ap (λ (q : Row). is_unstarted q.phase) (sym new) ∙ ap (λ k. is_unstarted (row rows' k).phase) (sym same) ∙ ap is_unstarted live in grind (arith, no, waits))
         ];
     only = λ slot h from to.
         let found = are.only slot h from to in
@@ -145,7 +156,8 @@ module _ (rows : List Row) (r : Row) (precede : MakersPrecede rows) (precede' : 
       rw (region, here, none refl) refl
   tag_new (Spawned m g) outer kind maker none =
       let here : (row rows' N).kind ≡ Spawned m g = ap (λ (q : Row). q.kind) new ∙ kind in
-      let region : region_of rows' N ≡ region_of rows m = region_of-above rows' precede' N m (omega arith) (omega (arith, length_push rows r)) (rw here refl) (rw here refl) ∙ region_of-push rows r precede precede' m maker.0 in
+      let region : region_of rows' N ≡ region_of rows m =
+      region_of-above rows' precede' N m (omega arith) (omega (arith, length_push rows r)) (rw here refl) (rw here refl) ∙ region_of-push rows r precede precede' m maker.0 in
       rw (region, here, maker.1) refl
   tag_new (Region m) outer kind maker none =
       let here : (row rows' N).kind ≡ Region m = ap (λ (q : Row). q.kind) new ∙ kind in
@@ -162,11 +174,14 @@ module _ (rows : List Row) (r : Row) (precede : MakersPrecede rows) (precede' : 
 
   pub tagged_old : (e : OpenRow) → 1 ≤ e.number → e.number ≤ length rows → tagged_of rows' places e ≡ tagged_of rows places e
   tagged_old e from to =
-      let kind : around_of rows' places (row rows' e.number).kind ≡ around_of rows places (row rows e.number).kind = ap (λ (q : Row). around_of rows' places q.kind) (old e.number to) ∙ around_old e.number (row rows e.number).kind from to refl in
+      let kind : around_of rows' places (row rows' e.number).kind ≡ around_of rows places (row rows e.number).kind =
+      ap (λ (q : Row). around_of rows' places q.kind) (old e.number to) ∙ around_old e.number (row rows e.number).kind from to refl in
       rw (tag_of-push rows r precede precede' places e.number to, kind) refl
 
-  pub AreTagged-pushed : (table table1 : List (Option OpenRow)) (regions : List (Option Tagged)) (p : ℕ) (e : OpenRow) (outer : Option RowId) → AreRows rows places table → AreTagged rows places table regions → p < length table → places N ≡ p → e.number ≡ N →
-      length table1 ≡ length table → ((q : ℕ) → option_map (tagged_of rows places) (at_place table1 q) ≡ option_map (tagged_of rows places) (at_place table q)) → ((q : ℕ) (x : OpenRow) → at_place table1 q ≡ Some x → (1 ≤ x.number) × (x.number ≤ length rows)) →
+  pub AreTagged-pushed : (table table1 : List (Option OpenRow)) (regions : List (Option Tagged)) (p : ℕ) (e : OpenRow) (outer : Option RowId) → AreRows rows places table →
+      AreTagged rows places table regions → p < length table → places N ≡ p → e.number ≡ N →
+      length table1 ≡ length table → ((q : ℕ) → option_map (tagged_of rows places) (at_place table1 q) ≡ option_map (tagged_of rows places) (at_place table q)) →
+      ((q : ℕ) (x : OpenRow) → at_place table1 q ≡ Some x → (1 ≤ x.number) × (x.number ≤ length rows)) →
       IfSome (maker_of r.kind) (λ m. (m ≤ length rows) × (outer ≡ tag_of rows places m)) → (maker_of r.kind ≡ None → outer ≡ None) →
       AreTagged rows' places (slice_set table1 p (Some e)) (slice_set regions p (Some (tagged (id_of places N) outer (is_region r.kind))))
   AreTagged-pushed table table1 regions p e outer are tags within placed number long1 same1 numbers maker none = record {
@@ -174,10 +189,13 @@ module _ (rows : List Row) (r : Row) (precede : MakersPrecede rows) (precede' : 
     each = λ q. elim (cases_eq q p) [
       | inl same ↦
           let here : at_place (slice_set table1 p (Some e)) q ≡ Some e = ap (at_place (slice_set table1 p (Some e))) same ∙ get_or-set_same table1 p (Some e) None (omega (arith, within, long1)) in
-          let tag : slice_index_or (slice_set regions p (Some (tagged (id_of places N) outer (is_region r.kind)))) q None ≡ Some (tagged (id_of places N) outer (is_region r.kind)) = ap (λ k. slice_index_or (slice_set regions p (Some (tagged (id_of places N) outer (is_region r.kind)))) k None) same ∙ get_or-set_same regions p _ None (omega (arith, within, tags.long)) in
+          let tag : slice_index_or (slice_set regions p (Some (tagged (id_of places N) outer (is_region r.kind)))) q None ≡ Some (tagged (id_of places N) outer (is_region r.kind)) =
+          ap (λ k. slice_index_or (slice_set regions p (Some (tagged (id_of places N) outer (is_region r.kind)))) k None) same ∙
+          get_or-set_same regions p _ None (omega (arith, within, tags.long)) in
           let f : ℕ → Tagged = λ k. record { number = k; tag = tag_of rows' places k; around = around_of rows' places (row rows' k).kind } in
           tag ∙ ap Some (sym (tag_new r.kind outer refl maker none) ∙ ap f (sym number)) ∙ sym (ap (option_map (tagged_of rows' places)) here)
-      | inr other ↦ get_or-set_other regions p q _ None other ∙ tags.each q ∙ sym (same1 q) ∙ sym (by_entry q (at_place table1 q) refl) ∙ sym (ap (option_map (tagged_of rows' places)) (get_or-set_other table1 p q (Some e) None other))
+      | inr other ↦ get_or-set_other regions p q _ None other ∙ tags.each q ∙ sym (same1 q) ∙ sym (by_entry q (at_place table1 q) refl) ∙
+          sym (ap (option_map (tagged_of rows' places)) (get_or-set_other table1 p q (Some e) None other))
     ];
   }
     where
@@ -227,7 +245,8 @@ module _ (rows : List Row) (r : Row) (precede : MakersPrecede rows) (precede' : 
   open_more j = count-push (λ (q : Row). (q.job == j) && is_open q.phase) rows r
 
   -- The jobs, with one more open row of the new row's.
-  module _ (s : State) (here : s.rows ≡ rows) (at at' : Assigned) (of_jobs : (j : ℕ) → at'.of_job j ≡ at.of_job j) (i : ℕ) (jobs : List CurrentJob) (d : CurrentJob) (its_job : (c : CurrentJob) → r.job ≡ (get_or jobs i c).number) (below : i < length jobs) (opened : is_open r.phase ≡ true) (none : value_in r.phase ≡ pos 0) where
+  module _ (s : State) (here : s.rows ≡ rows) (at at' : Assigned) (of_jobs : (j : ℕ) → at'.of_job j ≡ at.of_job j) (i : ℕ) (jobs : List CurrentJob) (d : CurrentJob)
+      (its_job : (c : CurrentJob) → r.job ≡ (get_or jobs i c).number) (below : i < length jobs) (opened : is_open r.phase ≡ true) (none : value_in r.phase ≡ pos 0) where
     abbrev it : CurrentJob
     it = get_or jobs i d
 
@@ -242,11 +261,13 @@ module _ (rows : List Row) (r : Row) (precede : MakersPrecede rows) (precede' : 
 
     same_work : (k : ℕ) (c : CurrentJob) → (get_or (slice_set jobs i it') k c).work ≡ (get_or jobs k c).work
     same_work k c = elim (cases_eq k i) [
-      | inl same ↦ ap (λ n. (get_or (slice_set jobs i it') n c).work) same ∙ ap (λ (x : CurrentJob). x.work) (get_or-set_same jobs i it' c below) ∙ ap (λ (x : CurrentJob). x.work) (same_it c) ∙ ap (λ n. (get_or jobs n c).work) (sym same)
+      | inl same ↦ ap (λ n. (get_or (slice_set jobs i it') n c).work) same ∙ ap (λ (x : CurrentJob). x.work) (get_or-set_same jobs i it' c below) ∙ ap (λ (x : CurrentJob). x.work) (same_it c) ∙
+          ap (λ n. (get_or jobs n c).work) (sym same)
       | inr other ↦ ap (λ (x : CurrentJob). x.work) (get_or-set_other jobs i k it' c other)
     ]
 
-    job_at : (k : ℕ) (c : CurrentJob) → k < length jobs → NumbersRise jobs → IsJob rows at (get_or jobs k c).number (get_or jobs k c) → IsJob rows' at' (get_or jobs k c).number (get_or (slice_set jobs i it') k c)
+    job_at : (k : ℕ) (c : CurrentJob) → k < length jobs → NumbersRise jobs → IsJob rows at (get_or jobs k c).number (get_or jobs k c) →
+        IsJob rows' at' (get_or jobs k c).number (get_or (slice_set jobs i it') k c)
     job_at k c within rise is = elim (cases_eq k i) [
       | inl same ↦
           let item : get_or (slice_set jobs i it') k c ≡ it' = ap (λ n. get_or (slice_set jobs i it') n c) same ∙ get_or-set_same jobs i it' c below in

@@ -41,7 +41,8 @@ module _ (a : Held) (s : State) (rests : Rests a s) where
   precede = rests.holds.steady.formed.linked.makers
 
   -- the region of an open row, in a job without fault, is open
-  by_kind : (n q : ℕ) (kind : Kind) → (row s.rows n).kind ≡ kind → ((m : ℕ) → m < n → 1 ≤ m → is_open (row s.rows m).phase ≡ true → HasNoFault s m → region_of s.rows m ≡ Some q → is_open (row s.rows q).phase ≡ true) →
+  by_kind : (n q : ℕ) (kind : Kind) → (row s.rows n).kind ≡ kind →
+      ((m : ℕ) → m < n → 1 ≤ m → is_open (row s.rows m).phase ≡ true → HasNoFault s m → region_of s.rows m ≡ Some q → is_open (row s.rows q).phase ≡ true) →
       1 ≤ n → n ≤ length s.rows → is_open (row s.rows n).phase ≡ true → HasNoFault s n → region_of s.rows n ≡ Some q → is_open (row s.rows q).phase ≡ true
   by_kind n q Root kind ih from to opened fine found =
       let none : region_of s.rows n ≡ None = rw (chain_ends s.rows n from (rw kind refl), kind) refl in
@@ -74,7 +75,8 @@ module _ (a : Held) (s : State) (rests : Rests a s) where
       let same : (stands.entry.number == n) ≡ true = grind (arith, number) in
       rw (rests.holds.tags.each (rests.holds.places n), stands.there, same) (grind arith)
 
-  pub tag_entered : (n : ℕ) (o : Option ℕ) → region_of s.rows n ≡ o → 1 ≤ n → n ≤ length s.rows → is_open (row s.rows n).phase ≡ true → HasNoFault s n → IsRegionEntered a.regions (option_map (id_of rests.holds.places) o)
+  pub tag_entered : (n : ℕ) (o : Option ℕ) → region_of s.rows n ≡ o → 1 ≤ n → n ≤ length s.rows → is_open (row s.rows n).phase ≡ true → HasNoFault s n →
+      IsRegionEntered a.regions (option_map (id_of rests.holds.places) o)
   tag_entered n None found from to opened fine = λ x same. absurd (grind (arith, ap is_some same))
   tag_entered n (Some q) found from to opened fine = λ x same.
       let e : id_of rests.holds.places q ≡ x = ap (λ o. unwrap_or o x) same in
@@ -90,7 +92,8 @@ module _ (a : Held) (s : State) (rests : Rests a s) where
 
   -- The regions of the rows that wait are entered.
   pub regions_entered : All (λ (w : Waiting). IsRegionEntered a.regions w.region) a.pool.rows
-  regions_entered = all_put (λ (w : Waiting). IsRegionEntered a.regions w.region) (λ n r from to waits. tag_entered n (region_of s.rows n) refl from to (unstarted_open (row s.rows n).phase waits) (waits_fine a s rests n waits))
+  regions_entered = all_put (λ (w : Waiting). IsRegionEntered a.regions w.region)
+      (λ n r from to waits. tag_entered n (region_of s.rows n) refl from to (unstarted_open (row s.rows n).phase waits) (waits_fine a s rests n waits))
 
   -- They have earlier numbers than the next row,
   pub earlier_all : All (λ (w : Waiting). w.row.number < a.made + 1) a.pool.rows

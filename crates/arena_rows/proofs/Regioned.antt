@@ -34,7 +34,8 @@ use Rattle.arena_rows.proofs.Posted.{no_contexts}
 use Rattle.arena_rows.specs.HeldJobs.{IsCurrent}
 
 module _ (a : Held) (s : State) (is : Holds a s) (place : ℕ) (placed : is.places (length s.rows + 1) ≡ place) (slot n ctx : ℕ) (f : Frame) (on_top : top s.rows slot ≡ Some n)
-    (kept : IsSteady (add_row s (new_row (kind.Region n) (row s.rows n).job (Some slot) f (Live slot (height s.rows slot + 1))))) (vacant : IsFree a.table place) (context : ctx ≡ is.assigned.of_row n) where
+    (kept : IsSteady (add_row s (new_row (kind.Region n) (row s.rows n).job (Some slot) f (Live slot (height s.rows slot + 1))))) (vacant : IsFree a.table place)
+    (context : ctx ≡ is.assigned.of_row n) where
   abbrev r : Row
   r = new_row (kind.Region n) (row s.rows n).job (Some slot) f (Live slot (height s.rows slot + 1))
 
@@ -100,7 +101,8 @@ module _ (a : Held) (s : State) (is : Holds a s) (place : ℕ) (placed : is.plac
   nested_is : nested_of rows' is.places N ≡ record { frame = f; row = next_id a place; is_region = true }
   nested_is =
       let at_number : ℕ → ℕ → Nested = λ k p. record { frame = f; row = record { number = k; place = p }; is_region = true } in
-      ap (λ (q : Row). let x : Nested = record { frame = q.frame; row = id_of is.places N; is_region = is_region q.kind } in x) here ∙ ap (at_number N) placed ∙ ap (λ k. at_number k place) (sym (ap (λ k. k + 1) is.made))
+      ap (λ (q : Row). let x : Nested = record { frame = q.frame; row = id_of is.places N; is_region = is_region q.kind } in x) here ∙ ap (at_number N) placed ∙
+      ap (λ k. at_number k place) (sym (ap (λ k. k + 1) is.made))
 
   nests : AreNests rows' is.places a.config.slots (region_pushed a slot f (next_id a place)).nests
   nests = subst (λ x. AreNests rows' is.places a.config.slots (with_stack a.nests slot (stack a.nests slot ++ x ∷ []))) nested_is
@@ -108,11 +110,13 @@ module _ (a : Held) (s : State) (is : Holds a s) (place : ℕ) (placed : is.plac
       (λ t h live. absurd (let opened : is_open (row s.rows N).phase ≡ true = rw live refl in omega (arith, open_there s.rows N opened))) (rw (here, high) refl) others)
 
   pool : a.pool ≡ record { isolation = a.config.isolation; limit = a.config.rows; slots = a.config.slots; rows = map (waiting_of rows' is.places) (waiting rows') }
-  pool = is.waiting ∙ ap (λ ws. let p : Ready = record { isolation = a.config.isolation; limit = a.config.rows; slots = a.config.slots; rows = ws } in p) (sym (waiting-none s.rows r precede precede' is.places refl))
+  pool = is.waiting ∙ ap (λ ws. let p : Ready = record { isolation = a.config.isolation; limit = a.config.rows; slots = a.config.slots; rows = ws } in p)
+      (sym (waiting-none s.rows r precede precede' is.places refl))
 
   outer_is : outer_of a.regions e.source ≡ tag_of s.rows is.places n
   outer_is = tag_there a s is n maker_open
 
   pub region_holds : (d : CurrentJob) → Holds (region_pushed (job_counted (entered a place e) (row s.rows n).job d) slot f (next_id a place)) (add_row s r)
-  region_holds d = made_holds a s is place r e kept vacant placed refl refl fresh a.table table_joined a.contexts at d (index_of a (row s.rows n).job) a.pool (region_pushed a slot f (next_id a place)).nests (λ c. sym (current.number c)) current.within refl (λ k. refl)
+  region_holds d = made_holds a s is place r e kept vacant placed refl refl fresh a.table table_joined a.contexts at d (index_of a (row s.rows n).job) a.pool
+      (region_pushed a slot f (next_id a place)).nests (λ c. sym (current.number c)) current.within refl (λ k. refl)
       (maker_there.1, outer_is) (λ none. absurd (some_none n none)) contexts nests pool

@@ -27,7 +27,8 @@ not_some : (o : Option JobFault) → o ≡ None → IsSome o → ⊥
 not_some None none some = grind (arith, some)
 not_some (Some f) none some = grind (arith, ap is_some none)
 
-module _ (s : State) (places : Places) (table : List (Option OpenRow)) (regions : List (Option Tagged)) (precede : MakersPrecede s.rows) (steady : IsSteady s) (are : AreRows s.rows places table) (tagged : AreTagged s.rows places table regions) (nested : IsNested regions) where
+module _ (s : State) (places : Places) (table : List (Option OpenRow)) (regions : List (Option Tagged)) (precede : MakersPrecede s.rows) (steady : IsSteady s) (are : AreRows s.rows places table)
+    (tagged : AreTagged s.rows places table regions) (nested : IsNested regions) where
   around_there : (n m : ℕ) → is_open (row s.rows n).phase ≡ true → (row s.rows n).kind ≡ Region m → tags.around regions (id_of places n) ≡ tag_of s.rows places m
   around_there n m opened kind =
       let stands = are.each n opened in
@@ -55,10 +56,12 @@ module _ (s : State) (places : Places) (table : List (Option OpenRow)) (regions 
   abbrev Agrees : ℕ → ℕ → Type 0
   Agrees n q = tags.is_within regions (tag_of s.rows places n) (id_of places q) ≡ is_within s.rows n q
 
-  alone : (n q : ℕ) → maker_of (row s.rows n).kind ≡ None → is_region (row s.rows n).kind ≡ false → 1 ≤ n → is_region (row s.rows q).kind ≡ true → tags.is_within regions (tag_of s.rows places n) (id_of places q) ≡ is_within s.rows n q
+  alone : (n q : ℕ) → maker_of (row s.rows n).kind ≡ None → is_region (row s.rows n).kind ≡ false → 1 ≤ n → is_region (row s.rows q).kind ≡ true →
+      tags.is_within regions (tag_of s.rows places n) (id_of places q) ≡ is_within s.rows n q
   alone n q none no_region from is_one = rw (chain_ends s.rows n from none, no_region, is_other n q no_region is_one) refl
 
-  by_kind : (n q : ℕ) (kind : Kind) → (row s.rows n).kind ≡ kind → ((m : ℕ) → m < n → 1 ≤ m → is_open (row s.rows m).phase ≡ true → HasNoFault s m → Agrees m q) → 1 ≤ n → n ≤ length s.rows → is_open (row s.rows n).phase ≡ true → HasNoFault s n → is_region (row s.rows q).kind ≡ true → Agrees n q
+  by_kind : (n q : ℕ) (kind : Kind) → (row s.rows n).kind ≡ kind → ((m : ℕ) → m < n → 1 ≤ m → is_open (row s.rows m).phase ≡ true → HasNoFault s m → Agrees m q) → 1 ≤ n → n ≤ length s.rows →
+      is_open (row s.rows n).phase ≡ true → HasNoFault s n → is_region (row s.rows q).kind ≡ true → Agrees n q
   by_kind n q Root kind ih from to opened fine is_one = alone n q (rw kind refl) (rw kind refl) from is_one
   by_kind n q Posted kind ih from to opened fine is_one = alone n q (rw kind refl) (rw kind refl) from is_one
   by_kind n q (Spawned m g) kind ih from to opened fine is_one =

@@ -72,7 +72,8 @@ module _ (a : Held) (s : State) (is : Holds a s) (j : ℕ) (current : IsCurrent 
       of_job_apart (row s.rows n).job owner (none_open n opened) (sym context ∙ same)
 
   -- so no open row has its context,
-  by_kind : (n : ℕ) (k : Kind) → (row s.rows n).kind ≡ k → ((m : ℕ) → m < n → is_open (row s.rows m).phase ≡ true → is.assigned.of_row m ≢ c) → is_open (row s.rows n).phase ≡ true → is.assigned.of_row n ≢ c
+  by_kind : (n : ℕ) (k : Kind) → (row s.rows n).kind ≡ k → ((m : ℕ) → m < n → is_open (row s.rows m).phase ≡ true → is.assigned.of_row m ≢ c) → is_open (row s.rows n).phase ≡ true →
+      is.assigned.of_row n ≢ c
   by_kind n Root kind ih opened = let its : IsRowContext s a.contexts is.assigned n Root = rw kind at (is.contexts.of_rows n opened) in job_context_apart n opened its
   by_kind n Posted kind ih opened = let its : IsRowContext s a.contexts is.assigned n Posted = rw kind at (is.contexts.of_rows n opened) in job_context_apart n opened its
   by_kind n (Spawned m g) kind ih opened =
@@ -197,8 +198,11 @@ module _ (a : Held) (s : State) (is : Holds a s) (j : ℕ) (current : IsCurrent 
   AreContexts-released count = record {
     of_jobs = λ m is_kept to.
         let other = not_it m is_kept in
-        let was = is.contexts.of_jobs m (kept_before m is_kept) (omega (arith, to, as_many)) in
-        (was.0, others (is.assigned.of_job m) (of_job_apart m was.0 other) ∙ was.1 ∙ ap (λ (w : Work). Some (record { parent = None; is_asked = is_job_cancelled w; is_orphan = false })) (sym (job_there m other)));
+        let was = is.contexts.of_jobs m (kept_before m is_kept) (omega (arith, to, as_many)) in (
+          was.0,
+          others (is.assigned.of_job m) (of_job_apart m was.0 other) ∙ was.1 ∙
+              ap (λ (w : Work). Some (record { parent = None; is_asked = is_job_cancelled w; is_orphan = false })) (sym (job_there m other)),
+        );
     of_rows = λ n opened. row_context n (row s.rows n).kind (is.contexts.of_rows n opened);
     of_groups = λ n g opened few. group_context n g (is.assigned.of_group n g) (is.contexts.of_groups n g opened few);
     bare = is.contexts.bare;
@@ -243,7 +247,12 @@ module _ (a : Held) (s : State) (is : Holds a s) (j : ℕ) (current : IsCurrent 
 
   has_still : (m : ℕ) → m ≢ j → HasJob a.jobs m → HasJob jobs' m
   has_still m other has = elim (cases_lt has.place i) [
-    | inl before ↦ record { place = has.place; within = let within = current.within in omega (arith, before, within, long); number = λ d. ap (λ (x : CurrentJob). x.number) ((item has.place d).0 before) ∙ has.number d }
+    | inl before ↦ record {
+      place = has.place;
+      within = let within = current.within in omega (arith, before, within, long);
+      number =
+          λ d. ap (λ (x : CurrentJob). x.number) ((item has.place d).0 before) ∙ has.number d;
+    }
     | inr after ↦
         let moved : has.place ≢ i = λ same. other (sym (has.number no_job) ∙ ap (λ k. (get_or a.jobs k no_job).number) same ∙ current.number no_job) in
         let later : i < has.place = omega (arith, after, moved) in
@@ -287,7 +296,8 @@ module _ (a : Held) (s : State) (is : Holds a s) (j : ℕ) (current : IsCurrent 
     nests = is.nests;
     tags = is.tags;
     waiting = is.waiting;
-    contexts = let its = AreContexts-released count in record { of_jobs = its.of_jobs; of_rows = its.of_rows; of_groups = its.of_groups; bare = its.bare; owned = its.owned; in_table = its.in_table; count = its.count };
+    contexts = let its = AreContexts-released count in
+        record { of_jobs = its.of_jobs; of_rows = its.of_rows; of_groups = its.of_groups; bare = its.bare; owned = its.owned; in_table = its.in_table; count = its.count };
     room = length-without a.contexts c ∙ is.room;
     jobs = let its = AreJobs-released in record { order = its.order; there = its.there; works = its.works; each = its.each; all = its.all; later = its.later; many = its.many; few = its.few };
     cells = is.cells;
@@ -308,5 +318,6 @@ module _ (a : Held) (s : State) (is : Holds a s) (j : ℕ) (current : IsCurrent 
   released_rests settled count d =
       let still = settled_released settled in
       let told = context_told d in
-      let holds : Holds (job_released a j d) (record t { entries = s.entries + 1 }) = subst (λ x. Holds (record a { contexts = without a.contexts x; jobs = jobs'; entries = a.entries + 1 }) (record t { entries = s.entries + 1 })) (sym told) (released_holds count) in
+      let holds : Holds (job_released a j d) (record t { entries = s.entries + 1 }) =
+      subst (λ x. Holds (record a { contexts = without a.contexts x; jobs = jobs'; entries = a.entries + 1 }) (record t { entries = s.entries + 1 })) (sym told) (released_holds count) in
       rw (settled_entry t still) (record { holds = holds; settled = still })

@@ -69,14 +69,16 @@ module _ (forest : Forest) (c : ℕ) (held : IsHeld forest c) (bare : (d p : ℕ
   ]
 
 -- What is held after the next job's context was released.
-pub hold-released : (forest after : Forest) (jobs : List CurrentJob) (from : ℕ) (it : CurrentJob) → it ≡ get_or jobs from it → from < length jobs → HoldJobs forest jobs from → after ≡ without forest it.context →
+pub hold-released : (forest after : Forest) (jobs : List CurrentJob) (from : ℕ) (it : CurrentJob) → it ≡ get_or jobs from it → from < length jobs → HoldJobs forest jobs from →
+    after ≡ without forest it.context →
     ((c : ℕ) → c ≢ it.context → IsHeld forest c → IsHeld after c) → held_count after + 1 ≡ held_count forest → HoldJobs after jobs (from + 1)
 hold-released forest after jobs from it item within hold released keeps count =
     let context : it.context ≡ (get_or jobs from it).context = ap (λ (x : CurrentJob). x.context) item in
     let held : IsHeld forest it.context = ap (λ c. is_some (binding forest c)) context ∙ hold.each from it (omega arith) within in
     record {
       each = λ i d low below.
-          let apart : (get_or jobs i d).context ≢ it.context = λ same. hold.apart from i d (omega arith) (omega (arith, low)) below (ap (λ (x : CurrentJob). x.context) (get_or_default jobs from d it within) ∙ sym context ∙ sym same) in
+          let apart : (get_or jobs i d).context ≢ it.context =
+          λ same. hold.apart from i d (omega arith) (omega (arith, low)) below (ap (λ (x : CurrentJob). x.context) (get_or_default jobs from d it within) ∙ sym context ∙ sym same) in
           keeps (get_or jobs i d).context apart (hold.each i d (omega (arith, low)) below);
       apart = λ i k d low order below. hold.apart i k d (omega (arith, low)) order below;
       bare = λ c p bound. bare-without forest it.context held hold.bare c p (sym (ap (λ f. parent f c) released) ∙ bound);
@@ -109,7 +111,9 @@ module _ (a : Held) (s : State) (is : Holds a s) (idle : count_by is_some a.tabl
   told : (i : ℕ) (d : CurrentJob) → i < length a.jobs → (get_or a.jobs i d).context ≡ is.assigned.of_job (get_or a.jobs i d).number
   told i d below = (is.jobs.each i d below).context
 
-  its_context : (i : ℕ) (d : CurrentJob) → i < length a.jobs → let j = (get_or a.jobs i d).number in (is.assigned.owner (is.assigned.of_job j) ≡ OfJob j) × (binding a.contexts (is.assigned.of_job j) ≡ Some (record { parent = None; is_asked = is_job_cancelled (job s.jobs j); is_orphan = false }))
+  its_context : (i : ℕ) (d : CurrentJob) → i < length a.jobs → let j = (get_or a.jobs i d).number in
+      (is.assigned.owner (is.assigned.of_job j) ≡ OfJob j) ×
+      (binding a.contexts (is.assigned.of_job j) ≡ Some (record { parent = None; is_asked = is_job_cancelled (job s.jobs j); is_orphan = false }))
   its_context i d below =
       let known = is.jobs.there i d below in
       is.contexts.of_jobs (get_or a.jobs i d).number (record { from = known.0; kept = ap (λ (w : Work). w.retired) (is.jobs.works i d below) ∙ (is.jobs.each i d below).current }) known.1
@@ -134,7 +138,8 @@ module _ (a : Held) (s : State) (is : Holds a s) (idle : count_by is_some a.tabl
         ap is_some (ap (binding a.contexts) (told i d below) ∙ there);
     apart = λ i k d from order below same.
         let low : i < length a.jobs = omega (arith, order, below) in
-        let one : (get_or a.jobs i d).number ≡ (get_or a.jobs k d).number = ap job_in (sym (its_context i d low).0 ∙ ap is.assigned.owner (sym (told i d low) ∙ same ∙ told k d below) ∙ (its_context k d below).0) in
+        let one : (get_or a.jobs i d).number ≡ (get_or a.jobs k d).number =
+        ap job_in (sym (its_context i d low).0 ∙ ap is.assigned.owner (sym (told i d low) ∙ same ∙ told k d below) ∙ (its_context k d below).0) in
         numbers-apart a.jobs i k d is.jobs.order low below (omega (arith, order)) one;
     bare = λ c p bound. by_owner c p (is.assigned.owner c) (is.contexts.owned c (bound_held c p (binding a.contexts c) refl bound)) bound;
     count = omega (arith, is.contexts.count, no_held);

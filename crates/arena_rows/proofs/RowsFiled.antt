@@ -95,7 +95,8 @@ doomed_by forest (Some x) e =
     ]
 
 -- the open rows after the row at a place has changed
-pub changed_rows : (now : OpenRows) (table : List (Option OpenRow)) (forest : Forest) (p : ℕ) (f : OpenRow → OpenRow) (e : OpenRow) → (let old : OpenRows = record { table = table; contexts = forest } in old) ≡ now → slice_index_or table p None ≡ Some e
+pub changed_rows : (now : OpenRows) (table : List (Option OpenRow)) (forest : Forest) (p : ℕ) (f : OpenRow → OpenRow) (e : OpenRow) →
+    (let old : OpenRows = record { table = table; contexts = forest } in old) ≡ now → slice_index_or table p None ≡ Some e
     → (let new : OpenRows = record { table = slice_set table p (Some (f e)); contexts = forest } in new) ≡ record now { table = changed_at now.table p f }
 changed_rows now table forest p f e is there =
     let with_it : Option OpenRow → OpenRows = λ o. record { table = slice_set table p (option_map f o); contexts = forest } in
@@ -104,7 +105,8 @@ changed_rows now table forest p f e is there =
 
 module _ (table : List (Option OpenRow)) (forest : Forest) (filing : Filing) (doomed : ℕ) (turned : List ℕ) (k : AreFiled table forest filing doomed turned) where
   -- the row at a place waits as it did, under the same context
-  pub same_filed : (p : ℕ) (e x : OpenRow) → p < length table → slice_index_or table p None ≡ Some e → x.stage ≡ e.stage → x.context ≡ e.context → AreFiled (slice_set table p (Some x)) forest filing doomed turned
+  pub same_filed : (p : ℕ) (e x : OpenRow) → p < length table → slice_index_or table p None ≡ Some e → x.stage ≡ e.stage → x.context ≡ e.context →
+      AreFiled (slice_set table p (Some x)) forest filing doomed turned
   same_filed p e x within here stage context = record {
     places = k.places ∙ sym (length-set table p (Some x));
     lists = k.lists;
@@ -132,9 +134,11 @@ module _ (table : List (Option OpenRow)) (forest : Forest) (filing : Filing) (do
     each = λ q e there waits. elim (eqb_tells q p) [
       | inl s ↦
           let is : o ≡ Some e = sym (get_or-set_same table p o None within) ∙ ap (λ x. slice_index_or (slice_set table p o) x None) (sym s.1) ∙ there in
-          let at : filed_in (with_filed filing p (list_for forest o)) q ≡ list_for forest o = ap (filed_in (with_filed filing p (list_for forest o))) s.1 ∙ get_or-set_same filing.by_place p (list_for forest o) None (omega (arith, within, k.places)) in
+          let at : filed_in (with_filed filing p (list_for forest o)) q ≡ list_for forest o =
+          ap (filed_in (with_filed filing p (list_for forest o))) s.1 ∙ get_or-set_same filing.by_place p (list_for forest o) None (omega (arith, within, k.places)) in
           subst (λ l. IsFiled forest l e.context) (sym at) (filed_own forest o e is waits)
-      | inr ne ↦ subst (λ l. IsFiled forest l e.context) (sym (get_or-set_other filing.by_place p q (list_for forest o) None ne.1)) (k.each q e (sym (get_or-set_other table p q o None ne.1) ∙ there) waits)
+      | inr ne ↦ subst (λ l. IsFiled forest l e.context) (sym (get_or-set_other filing.by_place p q (list_for forest o) None ne.1))
+          (k.each q e (sym (get_or-set_other table p q o None ne.1) ∙ there) waits)
     ];
   }
 
@@ -151,7 +155,8 @@ module _ (table : List (Option OpenRow)) (forest : Forest) (filing : Filing) (do
         each = λ q e there waits. elim (eqb_tells q p) [
           | inl s ↦
               let is : o ≡ Some e = ap (λ x. slice_index_or table x None) (sym s.1) ∙ there in
-              let at : filed_in (with_filed filing p (list_for forest o)) q ≡ list_for forest o = ap (filed_in (with_filed filing p (list_for forest o))) s.1 ∙ get_or-set_same filing.by_place p (list_for forest o) None (filed-within filing.by_place p l filed) in
+              let at : filed_in (with_filed filing p (list_for forest o)) q ≡ list_for forest o =
+              ap (filed_in (with_filed filing p (list_for forest o))) s.1 ∙ get_or-set_same filing.by_place p (list_for forest o) None (filed-within filing.by_place p l filed) in
               subst (λ l. IsFiled forest l e.context) (sym at) (filed_own forest o e is waits)
           | inr ne ↦ subst (λ l. IsFiled forest l e.context) (sym (get_or-set_other filing.by_place p q (list_for forest o) None ne.1)) (k.each q e there waits)
         ];
@@ -162,7 +167,8 @@ module _ (table : List (Option OpenRow)) (forest : Forest) (filing : Filing) (do
   none_doomed none p e there waits = elim (k.each p e there waits) [ inl with_them ↦ absurd (none p (with_them ∙ ap Some (sym k.doomed_last))) | inr other ↦ other.0 ]
 
   -- the contexts change, and the rows that wait are filed as is right then
-  module _ (after : Forest) (filing_after : Filing) (long : length after ≡ length forest) (sound : IsForest after) (places : length filing_after.by_place ≡ length filing.by_place) (lists : filing_after.lists ≡ filing.lists) where
+  module _ (after : Forest) (filing_after : Filing) (long : length after ≡ length forest) (sound : IsForest after) (places : length filing_after.by_place ≡ length filing.by_place)
+      (lists : filing_after.lists ≡ filing.lists) where
     kept : ((p c : ℕ) → IsFiled forest (filed_in filing p) c → IsFiled after (filed_in filing_after p) c) → AreFiled table after filing_after doomed []
     kept step = record {
       places = places ∙ k.places;
@@ -177,9 +183,11 @@ module _ (table : List (Option OpenRow)) (forest : Forest) (filing : Filing) (do
     past_fine c past = unheld-fine after c sound (ap is_some (get_or_past after c None (omega (arith, past, long))))
 
     -- a context more
-    pub bound_filed : (r : ℕ) → r < length after → ((c : ℕ) → c ≢ r → is_cancelled after c ≡ is_cancelled forest c) → ((p : ℕ) → filed_in filing p ≡ Some r → filed_in filing_after p ≡ Some doomed) → ((p : ℕ) → filed_in filing p ≢ Some r → filed_in filing_after p ≡ filed_in filing p) → AreFiled table after filing_after doomed []
+    pub bound_filed : (r : ℕ) → r < length after → ((c : ℕ) → c ≢ r → is_cancelled after c ≡ is_cancelled forest c) → ((p : ℕ) → filed_in filing p ≡ Some r → filed_in filing_after p ≡ Some doomed) →
+        ((p : ℕ) → filed_in filing p ≢ Some r → filed_in filing_after p ≡ filed_in filing p) → AreFiled table after filing_after doomed []
     bound_filed r within others moved stays = kept (λ p c filed. elim filed [
-      | inl with_them ↦ inl (stays p (λ e. let same : length forest ≡ r = some_same (length forest) r (sym with_them ∙ e) in absurd (omega (arith, same, within, long))) ∙ with_them ∙ ap Some (sym long))
+      | inl with_them ↦ inl (stays p (λ e. let same : length forest ≡ r = some_same (length forest) r (sym with_them ∙ e) in absurd (omega (arith, same, within, long))) ∙ with_them ∙
+          ap Some (sym long))
       | inr fine ↦ elim (eqb_tells c r) [
         | inl s ↦ elim (fine.1) [
           | inl at ↦ inl (moved p (at ∙ ap Some s.1) ∙ ap Some (k.doomed_last ∙ sym long))
@@ -196,7 +204,9 @@ module _ (table : List (Option OpenRow)) (forest : Forest) (filing : Filing) (do
     ])
 
     -- contexts that are cancelled, all of which were noted
-    pub cancelled_filed : (noted : List ℕ) → ((c : ℕ) → is_cancelled after c ≡ true → is_cancelled forest c ≡ false → Contains noted c) → ((p c : ℕ) → Contains noted c → filed_in filing p ≡ Some c → filed_in filing_after p ≡ Some doomed) → ((p : ℕ) → (filed_in filing_after p ≡ filed_in filing p) ⊎ (filed_in filing_after p ≡ Some doomed)) → AreFiled table after filing_after doomed []
+    pub cancelled_filed : (noted : List ℕ) → ((c : ℕ) → is_cancelled after c ≡ true → is_cancelled forest c ≡ false → Contains noted c) →
+        ((p c : ℕ) → Contains noted c → filed_in filing p ≡ Some c → filed_in filing_after p ≡ Some doomed) →
+        ((p : ℕ) → (filed_in filing_after p ≡ filed_in filing p) ⊎ (filed_in filing_after p ≡ Some doomed)) → AreFiled table after filing_after doomed []
     cancelled_filed noted all moved others =
         let doomed_now : (p : ℕ) → filed_in filing_after p ≡ Some doomed → filed_in filing_after p ≡ Some (length after) = λ p e. e ∙ ap Some (k.doomed_last ∙ sym long) in
         kept (λ p c filed. elim filed [
@@ -225,7 +235,8 @@ reset_calms forest after no_more c fine = elim (either_way (is_cancelled after c
 ]
 
 -- and so does a context that is released
-pub release_calms : (forest after : Forest) (r : ℕ) → IsForest after → IsHeld forest r → after ≡ without forest r → ((c : ℕ) → c ≢ r → is_cancelled after c ≡ is_cancelled forest c) → (c : ℕ) → is_cancelled forest c ≡ false → is_cancelled after c ≡ false
+pub release_calms : (forest after : Forest) (r : ℕ) → IsForest after → IsHeld forest r → after ≡ without forest r → ((c : ℕ) → c ≢ r → is_cancelled after c ≡ is_cancelled forest c) → (c : ℕ) →
+    is_cancelled forest c ≡ false → is_cancelled after c ≡ false
 release_calms forest after r sound held is others c fine = elim (eqb_tells c r) [
   | inl s ↦ unheld-fine after c sound (ap is_some (ap (λ (f : Forest). binding f c) is ∙ ap (binding (without forest r)) s.1 ∙ binding-without forest r held))
   | inr ne ↦ others c ne.1 ∙ fine

@@ -19,4 +19,6 @@ by_stack rows places (Some k) x same = ap (λ (q : Option Nested). Some (unwrap_
 
 pub same_top : (a b : Held) (s t : State) (is : Holds a s) (now : Holds b t) (slot n : ℕ) → b.nests ≡ a.nests → top s.rows slot ≡ Some n → top t.rows slot ≡ Some n
 same_top a b s t is now slot n same on_top =
-    by_stack t.rows now.places (top t.rows slot) (nested_of s.rows is.places n) (sym (top_of_stack t.rows now.places b.config.slots b.nests now.steady.formed.stacked now.nests slot) ∙ ap (λ (ns : List (List Nested)). nest.top (stack ns slot)) same ∙ top_nested a s is slot n on_top)
+    by_stack t.rows now.places (top t.rows slot) (nested_of s.rows is.places n)
+    (sym (top_of_stack t.rows now.places b.config.slots b.nests now.steady.formed.stacked now.nests slot) ∙ ap (λ (ns : List (List Nested)). nest.top (stack ns slot)) same ∙
+    top_nested a s is slot n on_top)

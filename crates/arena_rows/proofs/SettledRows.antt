@@ -128,7 +128,8 @@ module _ (a : Held) (id : RowId) (sound : IsForest a.contexts) (cancelled : IsCa
         let told : is_context_cancelled t e.number ≡ true = sym (cancelled_told a t so_far.holds id.place e cancelled.doomed.there sound) ∙ cancelled.doomed.cancelled in
         record {
           t = dropped t e.number;
-          drops = Drops-more s t e.number place.0 (omega (arith, place, so_far.drops.long)) waits (Drops-waits s t so_far.drops e.number waits) (sym (Drops-cancelled s t so_far.drops e.number) ∙ told) so_far.drops;
+          drops = Drops-more s t e.number place.0 (omega (arith, place, so_far.drops.long)) waits (Drops-waits s t so_far.drops e.number waits) (sym (Drops-cancelled s t so_far.drops e.number) ∙ told)
+              so_far.drops;
           holds = drop t e.number so_far.holds waits (its_id t so_far.holds);
         }
 

@@ -1,5 +1,6 @@
 -- A row more, spawned into a group: members and contexts.
-use Rattle.std.proofs.Common.{◌≡◌, ◌≢◌, ℕ, zero, suc, ◌+◌, ◌==◌, ◌<◌, ◌≤◌, nat_lt, List, [], ◌∷◌, ◌++◌, length, Option, Some, None, true, false, ◌&&◌, ◌⊎◌, refl, sym, ap, ◌∙◌, arith, inl, inr, get_or, unwrap_or, subst}
+use Rattle.std.proofs.Common.{◌≡◌, ◌≢◌, ℕ, zero, suc, ◌+◌, ◌==◌, ◌<◌, ◌≤◌, nat_lt, List, [], ◌∷◌, ◌++◌, length, Option, Some, None, true, false, ◌&&◌, ◌⊎◌, refl, sym, ap, ◌∙◌, arith, inl, inr, get_or}
+use Rattle.std.proofs.Common.{unwrap_or, subst}
 use Rattle.std.specs.Prelude.{filter, if◌then◌else◌, is_some, IfSome, slice_index_or, slice_set}
 use Rattle.std.specs.List.{enumerate_from}
 use Rattle.std.proofs.lemmas.Bool.{cases_eq, cases_lt}
@@ -67,7 +68,8 @@ not_marked (suc (suc (suc zero))) = refl
 not_marked (suc (suc (suc (suc h)))) = refl
 
 -- a row more, whose context is ctx
-module _ (s : State) (current : ℕ) (table : List (Option OpenRow)) (forest forest' : Forest) (at : Assigned) (owner' : ℕ → Owner) (ctx p : ℕ) (r : Row) (e : OpenRow) (precede : MakersPrecede s.rows) (precede' : MakersPrecede (s.rows ++ r ∷ [])) (are : AreContexts s current table forest at)
+module _ (s : State) (current : ℕ) (table : List (Option OpenRow)) (forest forest' : Forest) (at : Assigned) (owner' : ℕ → Owner) (ctx p : ℕ) (r : Row) (e : OpenRow) (precede : MakersPrecede s.rows)
+    (precede' : MakersPrecede (s.rows ++ r ∷ [])) (are : AreContexts s current table forest at)
     (opened : is_open r.phase ≡ true) (none_marked : r.marks ≡ no_marks) (kept : (d : ℕ) (b : Binding) → binding forest d ≡ Some b → (binding forest' d ≡ Some b) × (owner' d ≡ at.owner d))
     (joins_given : (m h : ℕ) → m ≤ length s.rows → at.of_group m h ≡ None → is_spawned_by m h r.kind ≡ false) where
   abbrev pub new_number : ℕ
@@ -138,7 +140,8 @@ module _ (s : State) (current : ℕ) (table : List (Option OpenRow)) (forest for
   none_spawned : (h i : ℕ) (d : Row) → i < length more.rows → is_spawned_by new_number h (get_or more.rows i d).kind ≡ false
   none_spawned h i d below =
       let place : get_or more.rows i d ≡ row more.rows (i + 1) = row-get_or more.rows i d below in
-      rw place (not_by h (row more.rows (i + 1)).kind (IfSome_then (maker_of (row more.rows (i + 1)).kind) (precede' (i + 1) (omega arith) (omega (arith, below))) (λ m earlier. omega (arith, earlier, below, length_push s.rows r))))
+      rw place (not_by h (row more.rows (i + 1)).kind
+      (IfSome_then (maker_of (row more.rows (i + 1)).kind) (precede' (i + 1) (omega arith) (omega (arith, below))) (λ m earlier. omega (arith, earlier, below, length_push s.rows r))))
 
   new_group : (h : ℕ) → IsGroupContext more forest' assigned' new_number h None
   new_group h =
@@ -166,8 +169,10 @@ module _ (s : State) (current : ℕ) (table : List (Option OpenRow)) (forest for
   held_some d (Some b) is held = (b, is)
 
   -- The contexts with the new row.
-  pub AreContexts-pushed : (held : ℕ) → IsRowContext more forest' assigned' new_number (row more.rows new_number).kind → ((d : ℕ) → IsHeld forest' d → IsHeld forest d ⊎ IsOwned more assigned' d (owner' d)) →
-      ((q : ℕ) (x : OpenRow) → at_place table q ≡ Some x → x.number ≤ length s.rows) → e.context ≡ ctx → e.number ≡ new_number → ((h : ℕ) → slice_index_or e.group_contexts h None ≡ None) → held_by (Some e) ≡ held → p < length table → at_place table p ≡ None → held_count forest' ≡ held_count forest + held →
+  pub AreContexts-pushed : (held : ℕ) → IsRowContext more forest' assigned' new_number (row more.rows new_number).kind →
+      ((d : ℕ) → IsHeld forest' d → IsHeld forest d ⊎ IsOwned more assigned' d (owner' d)) →
+      ((q : ℕ) (x : OpenRow) → at_place table q ≡ Some x → x.number ≤ length s.rows) → e.context ≡ ctx → e.number ≡ new_number → ((h : ℕ) → slice_index_or e.group_contexts h None ≡ None) →
+      held_by (Some e) ≡ held → p < length table → at_place table p ≡ None → held_count forest' ≡ held_count forest + held →
       AreContexts more current (slice_set table p (Some e)) forest' assigned'
   AreContexts-pushed held new_context owned_new numbers context number no_groups its_own within vacant count = record {
     of_jobs = λ j above most.
@@ -175,8 +180,10 @@ module _ (s : State) (current : ℕ) (table : List (Option OpenRow)) (forest for
         let still = kept _ _ its.1 in
         (still.1 ∙ its.0, still.0);
     of_rows = by_age _ (λ m least old before. rw (row_old m old) (old_context m (row s.rows m).kind least old refl (are.of_rows m before))) new_context;
-    of_groups = λ m h opened_m few_h. by_age (λ m. IsGroupContext more forest' assigned' m h (assigned'.of_group m h)) (λ m least old before. rw (of_group_old m h old) (old_group m h old (at.of_group m h) refl (are.of_groups m h before few_h))) (rw (of_group_new h) (new_group h)) m opened_m;
-    bare = λ m h waits_m. by_age (λ m. is_unstarted (row more.rows m).phase ≡ true → assigned'.of_group m h ≡ None) (λ m least old before waits_m. of_group_old m h old ∙ are.bare m h (rw (row_old m old) at waits_m)) (λ waits_m. of_group_new h) m (unstarted_open (row more.rows m).phase waits_m) waits_m;
+    of_groups = λ m h opened_m few_h. by_age (λ m. IsGroupContext more forest' assigned' m h (assigned'.of_group m h))
+        (λ m least old before. rw (of_group_old m h old) (old_group m h old (at.of_group m h) refl (are.of_groups m h before few_h))) (rw (of_group_new h) (new_group h)) m opened_m;
+    bare = λ m h waits_m. by_age (λ m. is_unstarted (row more.rows m).phase ≡ true → assigned'.of_group m h ≡ None)
+        (λ m least old before waits_m. of_group_old m h old ∙ are.bare m h (rw (row_old m old) at waits_m)) (λ waits_m. of_group_new h) m (unstarted_open (row more.rows m).phase waits_m) waits_m;
     owned = λ d held_d. elim (owned_new d held_d) [
       | inl old ↦
           let its = held_some d (binding forest d) refl old in
@@ -197,20 +204,25 @@ module _ (s : State) (current : ℕ) (table : List (Option OpenRow)) (forest for
   }
 
 -- A new row of a job, or a region, has the context of its job or of its maker.
-module _ (s : State) (current : ℕ) (table : List (Option OpenRow)) (forest : Forest) (at : Assigned) (ctx p : ℕ) (r : Row) (e : OpenRow) (precede : MakersPrecede s.rows) (precede' : MakersPrecede (s.rows ++ r ∷ [])) (are : AreContexts s current table forest at)
+module _ (s : State) (current : ℕ) (table : List (Option OpenRow)) (forest : Forest) (at : Assigned) (ctx p : ℕ) (r : Row) (e : OpenRow) (precede : MakersPrecede s.rows)
+    (precede' : MakersPrecede (s.rows ++ r ∷ [])) (are : AreContexts s current table forest at)
     (opened : is_open r.phase ≡ true) (none_marked : r.marks ≡ no_marks) (not_spawned : (m h : ℕ) → is_spawned_by m h r.kind ≡ false) where
   abbrev pub joined : Assigned
   joined = assigned' s current table forest forest at at.owner ctx p r e precede precede' are opened none_marked (λ d b is. (is, refl)) (λ m h old none. not_spawned m h)
 
   pub AreContexts-joined : IsRowContext (add_row s r) forest joined (length s.rows + 1) (row (add_row s r).rows (length s.rows + 1)).kind →
-      ((q : ℕ) (x : OpenRow) → at_place table q ≡ Some x → x.number ≤ length s.rows) → e.context ≡ ctx → e.number ≡ length s.rows + 1 → ((h : ℕ) → slice_index_or e.group_contexts h None ≡ None) → held_by (Some e) ≡ 0 → p < length table → at_place table p ≡ None →
+      ((q : ℕ) (x : OpenRow) → at_place table q ≡ Some x → x.number ≤ length s.rows) → e.context ≡ ctx → e.number ≡ length s.rows + 1 → ((h : ℕ) → slice_index_or e.group_contexts h None ≡ None) →
+      held_by (Some e) ≡ 0 → p < length table → at_place table p ≡ None →
       AreContexts (add_row s r) current (slice_set table p (Some e)) forest joined
   AreContexts-joined new_context numbers context number no_groups none within vacant =
-      AreContexts-pushed s current table forest forest at at.owner ctx p r e precede precede' are opened none_marked (λ d b is. (is, refl)) (λ m h old none. not_spawned m h) 0 new_context (λ d held. inl held) numbers context number no_groups none within vacant (omega arith)
+      AreContexts-pushed s current table forest forest at at.owner ctx p r e precede precede' are opened none_marked (λ d b is. (is, refl)) (λ m h old none. not_spawned m h) 0 new_context
+      (λ d held. inl held) numbers context number no_groups none within vacant (omega arith)
 
 -- A new row that was spawned into group g of row n has a context of its own, bound to the group's context gc.
-module _ (s : State) (current : ℕ) (table : List (Option OpenRow)) (forest : Forest) (at : Assigned) (c p n g gc : ℕ) (r : Row) (e : OpenRow) (precede : MakersPrecede s.rows) (precede' : MakersPrecede (s.rows ++ r ∷ [])) (are : AreContexts s current table forest at)
-    (opened : is_open r.phase ≡ true) (none_marked : r.marks ≡ no_marks) (to : n ≤ length s.rows) (maker_open : is_open (row s.rows n).phase ≡ true) (kind : r.kind ≡ Spawned n g) (given : at.of_group n g ≡ Some gc) (free : binding forest c ≡ None) (room : c < length forest) where
+module _ (s : State) (current : ℕ) (table : List (Option OpenRow)) (forest : Forest) (at : Assigned) (c p n g gc : ℕ) (r : Row) (e : OpenRow) (precede : MakersPrecede s.rows)
+    (precede' : MakersPrecede (s.rows ++ r ∷ [])) (are : AreContexts s current table forest at)
+    (opened : is_open r.phase ≡ true) (none_marked : r.marks ≡ no_marks) (to : n ≤ length s.rows) (maker_open : is_open (row s.rows n).phase ≡ true) (kind : r.kind ≡ Spawned n g)
+    (given : at.of_group n g ≡ Some gc) (free : binding forest c ≡ None) (room : c < length forest) where
   abbrev pub bound_forest : Forest
   bound_forest = with_bound forest c (Some gc)
 
@@ -244,7 +256,8 @@ module _ (s : State) (current : ℕ) (table : List (Option OpenRow)) (forest : F
   abbrev pub spawned : Assigned
   spawned = assigned' s current table forest bound_forest at spawned_owner c p r e precede precede' are opened none_marked still joins_only
 
-  pub AreContexts-spawned : ((q : ℕ) (x : OpenRow) → at_place table q ≡ Some x → x.number ≤ length s.rows) → e.context ≡ c → e.number ≡ length s.rows + 1 → ((h : ℕ) → slice_index_or e.group_contexts h None ≡ None) → held_by (Some e) ≡ 1 → p < length table → at_place table p ≡ None → held_count bound_forest ≡ held_count forest + 1 →
+  pub AreContexts-spawned : ((q : ℕ) (x : OpenRow) → at_place table q ≡ Some x → x.number ≤ length s.rows) → e.context ≡ c → e.number ≡ length s.rows + 1 →
+      ((h : ℕ) → slice_index_or e.group_contexts h None ≡ None) → held_by (Some e) ≡ 1 → p < length table → at_place table p ≡ None → held_count bound_forest ≡ held_count forest + 1 →
       AreContexts (add_row s r) current (slice_set table p (Some e)) bound_forest spawned
   AreContexts-spawned numbers context number no_groups one within vacant count =
       let N = length s.rows + 1 in

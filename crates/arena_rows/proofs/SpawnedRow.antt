@@ -40,8 +40,10 @@ use Rattle.arena_rows.proofs.Spawned.{spawned, AreContexts-spawned}
 use Rattle.arena_rows.proofs.Posted.{no_contexts}
 use Rattle.arena_rows.specs.HeldJobs.{IsCurrent}
 
-module _ (a : Held) (s : State) (is : Holds a s) (place : ℕ) (placed : is.places (length s.rows + 1) ≡ place) (slot n g gc c : ℕ) (f : Frame) (me : OpenRow) (on_top : top s.rows slot ≡ Some n) (entry : IsEntry a s is n me)
-    (kept : IsSteady (add_row s (new_row (kind.Spawned n g) (row s.rows n).job (Some slot) f Unstarted))) (vacant : IsFree a.table place) (few : g < GROUPS) (given : is.assigned.of_group n g ≡ Some gc) (free : binding a.contexts c ≡ None) (room : c < length a.contexts)
+module _ (a : Held) (s : State) (is : Holds a s) (place : ℕ) (placed : is.places (length s.rows + 1) ≡ place) (slot n g gc c : ℕ) (f : Frame) (me : OpenRow) (on_top : top s.rows slot ≡ Some n)
+    (entry : IsEntry a s is n me)
+    (kept : IsSteady (add_row s (new_row (kind.Spawned n g) (row s.rows n).job (Some slot) f Unstarted))) (vacant : IsFree a.table place) (few : g < GROUPS)
+    (given : is.assigned.of_group n g ≡ Some gc) (free : binding a.contexts c ≡ None) (room : c < length a.contexts)
     (count : held_count (with_bound a.contexts c (Some gc)) ≡ held_count a.contexts + 1) where
   abbrev r : Row
   r = new_row (kind.Spawned n g) (row s.rows n).job (Some slot) f Unstarted
@@ -97,7 +99,8 @@ module _ (a : Held) (s : State) (is : Holds a s) (place : ℕ) (placed : is.plac
   groups_joined : (h : ℕ) → h < GROUPS → IsGroup rows' n h (group me'.groups h)
   groups_joined h low = elim (cases_eq h g) [
     | inl same ↦
-        let new : group me'.groups g ≡ record (group me.groups g) { pending = (group me.groups g).pending + 1; is_used = true } = get_or-set_same me.groups g _ unused (omega (arith, few, entry.its.all_groups)) in
+        let new : group me'.groups g ≡ record (group me.groups g) { pending = (group me.groups g).pending + 1; is_used = true } =
+        get_or-set_same me.groups g _ unused (omega (arith, few, entry.its.all_groups)) in
         rw (same, new) (IsGroup-joined s.rows r precede precede' n g (group me.groups g) maker_there.1 (is.steady.formed.marked n g) joins refl (entry.its.groups g few))
     | inr other ↦
         let old : group me'.groups h ≡ group me.groups h = get_or-set_other me.groups g h _ unused other in
@@ -146,7 +149,8 @@ module _ (a : Held) (s : State) (is : Holds a s) (place : ℕ) (placed : is.plac
       | inr other ↦ is.table.only q x (sym (at_other a.table p (Some me') entry.within q other) ∙ here)
     ];
     tags = λ q. elim (cases_eq q p) [
-      | inl same ↦ ap (λ k. option_map (tagged_of s.rows is.places) (at_place table k)) same ∙ ap (option_map (tagged_of s.rows is.places)) (at_same a.table p (Some me') entry.within) ∙ sym (ap (λ k. option_map (tagged_of s.rows is.places) (at_place a.table k)) same ∙ ap (option_map (tagged_of s.rows is.places)) entry.there)
+      | inl same ↦ ap (λ k. option_map (tagged_of s.rows is.places) (at_place table k)) same ∙ ap (option_map (tagged_of s.rows is.places)) (at_same a.table p (Some me') entry.within) ∙
+          sym (ap (λ k. option_map (tagged_of s.rows is.places) (at_place a.table k)) same ∙ ap (option_map (tagged_of s.rows is.places)) entry.there)
       | inr other ↦ ap (option_map (tagged_of s.rows is.places)) (at_other a.table p (Some me') entry.within q other)
     ];
     vacant = λ q none.
@@ -177,7 +181,8 @@ module _ (a : Held) (s : State) (is : Holds a s) (place : ℕ) (placed : is.plac
 
   contexts : AreContexts (add_row s r) (length a.jobs) (slice_set table place (Some e)) (with_bound a.contexts c (Some gc)) at
   contexts = AreContexts-spawned s (length a.jobs) table a.contexts is.assigned c place n g gc r e precede precede' contexts_joined refl refl maker_there.1 entry.opened kind_is given free room
-      (λ q x there. (open_there s.rows x.number (table_joined.only q x there).0).1) refl (ap (λ k. k + 1) is.made) no_contexts refl (omega (arith, next.within, table_joined.long)) (table_joined.vacant place next.vacant) count
+      (λ q x there. (open_there s.rows x.number (table_joined.only q x there).0).1) refl (ap (λ k. k + 1) is.made) no_contexts refl (omega (arith, next.within, table_joined.long))
+      (table_joined.vacant place next.vacant) count
 
   outer_is : outer_of a.regions e.source ≡ tag_of s.rows is.places n
   outer_is = tag_there a s is n entry.opened
@@ -191,10 +196,12 @@ module _ (a : Held) (s : State) (is : Holds a s) (place : ℕ) (placed : is.plac
       let tag : tag_of rows' is.places N ≡ tag_of s.rows is.places n = ap (option_map (id_of is.places)) region ∙ tag_of-push s.rows r precede precede' is.places n maker_there.1 in
       let number : a.made + 1 ≡ N = ap (λ k. k + 1) is.made in
       let waiting_at : ℕ → ℕ → Option RowId → Waiting = λ k q t. record { row = record { number = k; place = q }; made_on = Some slot; region = t } in
-      let w_is : w ≡ waiting_at N (is.places N) (tag_of rows' is.places N) = ap (λ k. waiting_at k place (tag_of s.rows is.places n)) number ∙ ap (λ q. waiting_at N q (tag_of s.rows is.places n)) (sym placed) ∙ ap (waiting_at N (is.places N)) (sym tag) in
+      let w_is : w ≡ waiting_at N (is.places N) (tag_of rows' is.places N) =
+      ap (λ k. waiting_at k place (tag_of s.rows is.places n)) number ∙ ap (λ q. waiting_at N q (tag_of s.rows is.places n)) (sym placed) ∙ ap (waiting_at N (is.places N)) (sym tag) in
       let p : List Waiting → Ready = λ ws. record { isolation = a.config.isolation; limit = a.config.rows; slots = a.config.slots; rows = ws } in
       ap (λ q. with_row q w) is.waiting ∙ ap p (ap (λ v. map (waiting_of s.rows is.places) (waiting s.rows) ++ v ∷ []) w_is ∙ sym (waiting-one s.rows r precede precede' is.places refl))
 
   pub spawned_holds : (d : CurrentJob) → Holds (put (job_counted (entered (record (with_entry a p me') { contexts = with_bound a.contexts c (Some gc) }) place e) (row s.rows n).job d) w) (add_row s r)
-  spawned_holds d = made_holds a s is place r e kept vacant placed refl refl fresh table table_joined (with_bound a.contexts c (Some gc)) at d (index_of a (row s.rows n).job) (with_row a.pool w) a.nests (λ c. sym (current.number c)) current.within (length-set a.contexts c _) (λ k. refl)
+  spawned_holds d = made_holds a s is place r e kept vacant placed refl refl fresh table table_joined (with_bound a.contexts c (Some gc)) at d (index_of a (row s.rows n).job) (with_row a.pool w)
+      a.nests (λ c. sym (current.number c)) current.within (length-set a.contexts c _) (λ k. refl)
       (maker_there.1, outer_is) (λ none. absurd (some_none n none)) contexts (AreNests-waiting s.rows r precede precede' is.places a.config.slots a.nests refl is.nests) pool

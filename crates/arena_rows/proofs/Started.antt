@@ -1,5 +1,6 @@
 -- A row that waits goes live on top of a slot.
-use Rattle.std.proofs.Common.{◌≡◌, ◌≢◌, ℕ, zero, suc, ◌+◌, ◌-◌, ◌==◌, ◌<◌, ◌≤◌, List, [], ◌∷◌, length, Option, Some, None, Bool, true, false, not, refl, sym, ap, ◌∙◌, arith, inl, inr, map, length-set, unwrap_or}
+use Rattle.std.proofs.Common.{◌≡◌, ◌≢◌, ℕ, zero, suc, ◌+◌, ◌-◌, ◌==◌, ◌<◌, ◌≤◌, List, [], ◌∷◌, length, Option, Some, None, Bool, true, false, not, refl, sym, ap, ◌∙◌, arith, inl, inr, map, length-set}
+use Rattle.std.proofs.Common.{unwrap_or}
 use Rattle.std.specs.Prelude.{filter, slice_set, is_some}
 use Rattle.std.specs.Option.{option_map}
 use Rattle.std.specs.List.{enumerate_from}
@@ -38,8 +39,10 @@ option-same f g None same = refl
 option-same f g (Some x) same = ap Some (same x)
 
 -- the entry of row n replaced, where the other rows stay
-module _ (rows rows' : List Row) (places : Places) (table : List (Option OpenRow)) (n : ℕ) (e e' : OpenRow) (alike : Alike rows rows') (opened : is_open (row rows n).phase ≡ true) (are : AreRows rows places table)
-    (there : at_place table (places n) ≡ Some e) (number : e'.number ≡ n) (is : IsRow rows' places n e') (stages : (m : ℕ) → m ≢ n → stage_of (row rows' m).frame (row rows' m).phase ≡ stage_of (row rows m).frame (row rows m).phase) where
+module _ (rows rows' : List Row) (places : Places) (table : List (Option OpenRow)) (n : ℕ) (e e' : OpenRow) (alike : Alike rows rows') (opened : is_open (row rows n).phase ≡ true)
+    (are : AreRows rows places table)
+    (there : at_place table (places n) ≡ Some e) (number : e'.number ≡ n) (is : IsRow rows' places n e')
+    (stages : (m : ℕ) → m ≢ n → stage_of (row rows' m).frame (row rows' m).phase ≡ stage_of (row rows m).frame (row rows m).phase) where
   within : places n < length table
   within = (are.each n opened).within
 
@@ -130,7 +133,8 @@ later-other n k (x ∷ xs) later =
     ]
 
 -- The rows that wait, without one that does no longer.
-waiting-set : (n k i : ℕ) (r : Row) (xs : List Row) → n ≡ k + i → is_unstarted r.phase ≡ false → i < length xs → filter waits (enumerate_from k (slice_set xs i r)) ≡ filter (is_other n) (filter waits (enumerate_from k xs))
+waiting-set : (n k i : ℕ) (r : Row) (xs : List Row) → n ≡ k + i → is_unstarted r.phase ≡ false → i < length xs →
+    filter waits (enumerate_from k (slice_set xs i r)) ≡ filter (is_other n) (filter waits (enumerate_from k xs))
 waiting-set n k i r [] is started within = absurd (omega arith)
 waiting-set n k zero r (x ∷ xs) is started within =
     let here : (k == n) ≡ true = grind (arith, is) in

@@ -47,7 +47,8 @@ abbrev frame_of : Stage → Frame → Frame
 frame_of (stage.Waiting f) d = f
 frame_of (stage.Live s h) d = d
 
-module _ (a : Held) (s : State) (is : Holds a s) (slot n : ℕ) (e : OpenRow) (f : Frame) (from : 1 ≤ n) (to : n ≤ length s.rows) (off : is_unstarted (row s.rows n).phase ≡ true) (within : slot < a.config.slots)
+module _ (a : Held) (s : State) (is : Holds a s) (slot n : ℕ) (e : OpenRow) (f : Frame) (from : 1 ≤ n) (to : n ≤ length s.rows) (off : is_unstarted (row s.rows n).phase ≡ true)
+    (within : slot < a.config.slots)
     (there : at_place a.table (is.places n) ≡ Some e) (waits : e.stage ≡ stage.Waiting f) (kept : IsSteady (nest s slot n)) where
   abbrev r : Row
   r = record (row s.rows n) { phase = Live slot (height s.rows slot + 1) }
@@ -122,9 +123,11 @@ module _ (a : Held) (s : State) (is : Holds a s) (slot n : ℕ) (e : OpenRow) (f
     made_jobs = is.made_jobs;
     table = AreRows-set s.rows (with_at_number s.rows n r) is.places a.table n e e' alike opened is.table there is_row.number is_row' (λ m other. rw (others m other) refl);
     free = AreFree-set s.rows (with_at_number s.rows n r) is.places a.table n e e' alike opened is.table there is_row.number is_row' (λ m other. rw (others m other) refl) a.config.rows is.free;
-    nests = rw (← pushed_is) (AreNests-pushed s.rows (with_at_number s.rows n r) is.places a.config.slots a.nests n slot is.nests within (λ t h live. absurd (let started : is_unstarted (row s.rows n).phase ≡ false = rw live refl in grind (arith, started, off))) (rw (here, high) refl) others);
+    nests = rw (← pushed_is) (AreNests-pushed s.rows (with_at_number s.rows n r) is.places a.config.slots a.nests n slot is.nests within
+        (λ t h live. absurd (let started : is_unstarted (row s.rows n).phase ≡ false = rw live refl in grind (arith, started, off))) (rw (here, high) refl) others);
     tags = AreTagged-set s.rows (with_at_number s.rows n r) is.places a.table n e e' alike opened is.table there is_row.number is_row' (λ m other. rw (others m other) refl) a.regions is.tags;
-    waiting = rw is.waiting (ap (λ rows. let p : Ready = record { isolation = a.config.isolation; limit = a.config.rows; slots = a.config.slots; rows = rows } in p) (pool-without s.rows (with_at_number s.rows n r) is.places n alike (waiting-with s.rows n r from to started_phase)));
+    waiting = rw is.waiting (ap (λ rows. let p : Ready = record { isolation = a.config.isolation; limit = a.config.rows; slots = a.config.slots; rows = rows } in p)
+        (pool-without s.rows (with_at_number s.rows n r) is.places n alike (waiting-with s.rows n r from to started_phase)));
     contexts = AreContexts-alike s (nest s slot n) alike refl fewer (length a.jobs) a.table _ a.contexts is.assigned
         (λ p x at_p. elim (cases_eq p (is.places n)) [
           | inl same ↦ let x_is : e' ≡ x = some_is e' x (sym (at_same a.table (is.places n) (Some e') its.within) ∙ (rw same at at_p)) in rw (← x_is) (is.contexts.in_table (is.places n) e there)
@@ -171,7 +174,16 @@ counted_holds a s is = record {
   nests = is.nests;
   tags = is.tags;
   waiting = is.waiting;
-  contexts = record { of_jobs = is.contexts.of_jobs; of_rows = is.contexts.of_rows; of_groups = is.contexts.of_groups; bare = is.contexts.bare; owned = is.contexts.owned; in_table = is.contexts.in_table; count = is.contexts.count };
+  contexts = record {
+    of_jobs = is.contexts.of_jobs;
+    of_rows = is.contexts.of_rows;
+    of_groups = is.contexts.of_groups;
+    bare = is.contexts.bare;
+    owned = is.contexts.owned;
+    in_table =
+        is.contexts.in_table;
+    count = is.contexts.count;
+  };
   room = is.room;
   jobs = record { order = is.jobs.order; there = is.jobs.there; works = is.jobs.works; each = is.jobs.each; all = is.jobs.all; later = is.jobs.later; many = is.jobs.many; few = is.jobs.few };
   cells = is.cells;

@@ -36,8 +36,10 @@ use Rattle.arena_rows.proofs.Pushing.{IsRow-pushed, AreRows-pushed, AreFree-push
 use Rattle.arena_rows.proofs.PushedRows.{IsGroup-new}
 use Rattle.arena_rows.proofs.Spawned.{joined, AreContexts-joined}
 
-module _ (a : Held) (s : State) (is : Holds a s) (place : ℕ) (placed : is.places (length s.rows + 1) ≡ place) (j : Job) (p : Phase) (st : Stage) (c : ℕ) (staged : st ≡ stage_of (root_frame j) p) (opened : is_open p ≡ true) (none : value_in p ≡ pos 0) (kept : IsSteady (add_job s j p))
-    (vacant : IsFree a.table place) (room : length a.jobs < MAX_JOBS) (free : binding a.contexts c ≡ None) (inside : c < length a.contexts) (count : held_count (with_bound a.contexts c None) ≡ held_count a.contexts + 1) where
+module _ (a : Held) (s : State) (is : Holds a s) (place : ℕ) (placed : is.places (length s.rows + 1) ≡ place) (j : Job) (p : Phase) (st : Stage) (c : ℕ) (staged : st ≡ stage_of (root_frame j) p)
+    (opened : is_open p ≡ true) (none : value_in p ≡ pos 0) (kept : IsSteady (add_job s j p))
+    (vacant : IsFree a.table place) (room : length a.jobs < MAX_JOBS) (free : binding a.contexts c ≡ None) (inside : c < length a.contexts)
+    (count : held_count (with_bound a.contexts c None) ≡ held_count a.contexts + 1) where
   abbrev pub N : ℕ
   N = length s.rows + 1
 
@@ -136,7 +138,8 @@ module _ (a : Held) (s : State) (is : Holds a s) (place : ℕ) (placed : is.plac
       let work : unopened.work ≡ w = ap f number in
       let before : AreJobs s1 (with_job s is.assigned w c linked) (a.jobs ++ unopened ∷ []) = AreJobs-job s is.assigned w c linked a.jobs is.jobs unopened its_job work refl refl refl refl refl room in
       let below : length a.jobs < length (a.jobs ++ unopened ∷ []) = omega (arith, length_push a.jobs unopened) in
-      let after = AreJobs-pushed s.rows r precede precede' is.places s1 refl (with_job s is.assigned w c linked) at (λ k. refl) (length a.jobs) (a.jobs ++ unopened ∷ []) unopened (λ d. sym its_job ∙ sym (ap (λ (x : CurrentJob). x.number) (get_or_push a.jobs unopened d (length a.jobs) refl))) below opened none before in
+      let after = AreJobs-pushed s.rows r precede precede' is.places s1 refl (with_job s is.assigned w c linked) at (λ k. refl) (length a.jobs) (a.jobs ++ unopened ∷ []) unopened
+      (λ d. sym its_job ∙ sym (ap (λ (x : CurrentJob). x.number) (get_or_push a.jobs unopened d (length a.jobs) refl))) below opened none before in
       let last : get_or (a.jobs ++ unopened ∷ []) (length a.jobs) unopened ≡ unopened = get_or_push a.jobs unopened unopened (length a.jobs) refl in
       let set : slice_set (a.jobs ++ unopened ∷ []) (length a.jobs) (new_current a j c 1) ≡ a.jobs ++ new_current a j c 1 ∷ [] = set_at a.jobs unopened [] (new_current a j c 1) (length a.jobs) refl in
       subst (AreJobs (add_job s j p) at) (ap (λ x. slice_set (a.jobs ++ unopened ∷ []) (length a.jobs) (with_open x)) last ∙ set) after

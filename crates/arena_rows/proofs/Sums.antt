@@ -18,7 +18,8 @@ add_is : (x y : ℤ) → cast_unsigned w64 (add x y) ≡ (cast_unsigned w64 x + 
 add_is x y = of_z-to_z w64 ((cast_unsigned w64 x + cast_unsigned w64 y) % 2 ^ 64) (mod-lt (cast_unsigned w64 x + cast_unsigned w64 y) (lit< tt))
 
 add_twice : (s x y : ℤ) → add (add s x) y ≡ cast_signed w64 ((cast_unsigned w64 s + cast_unsigned w64 x + cast_unsigned w64 y) % 2 ^ 64)
-add_twice s x y = ap (λ n. cast_signed w64 ((n + cast_unsigned w64 y) % 2 ^ 64)) (add_is s x) ∙ ap (cast_signed w64) (mod-add-mod (cast_unsigned w64 s + cast_unsigned w64 x) (2 ^ 64) (cast_unsigned w64 y))
+add_twice s x y = ap (λ n. cast_signed w64 ((n + cast_unsigned w64 y) % 2 ^ 64)) (add_is s x) ∙
+    ap (cast_signed w64) (mod-add-mod (cast_unsigned w64 s + cast_unsigned w64 x) (2 ^ 64) (cast_unsigned w64 y))
 
 -- The order of two numbers does not count.
 add_swap : (s x y : ℤ) → add (add s x) y ≡ add (add s y) x
@@ -45,7 +46,8 @@ pub summed_nothing : (ps : List NumberedRow) → add (summed (pos 0) ps) (pos 0)
 summed_nothing ps = sym (summed_more (pos 0) (pos 0) ps)
 
 -- A member that had no value is done.
-pub total-done : (f g since n k i : ℕ) (s : ℤ) (r d : Row) (xs : List Row) → n ≡ k + i → i < length xs → r.kind ≡ (get_or xs i d).kind → value_in (get_or xs i d).phase ≡ pos 0 → member f g since (n, get_or xs i d) ≡ true →
+pub total-done : (f g since n k i : ℕ) (s : ℤ) (r d : Row) (xs : List Row) → n ≡ k + i → i < length xs → r.kind ≡ (get_or xs i d).kind → value_in (get_or xs i d).phase ≡ pos 0 →
+    member f g since (n, get_or xs i d) ≡ true →
     summed s (filter (member f g since) (enumerate_from k (slice_set xs i r))) ≡ add (summed s (filter (member f g since) (enumerate_from k xs))) (value_in r.phase)
 total-done f g since n k i s r d [] is within kind none joined = absurd (omega arith)
 total-done f g since n k zero s r d (x ∷ xs) is within kind none joined =
@@ -53,15 +55,18 @@ total-done f g since n k zero s r d (x ∷ xs) is within kind none joined =
     let rest = filter (member f g since) (enumerate_from (k + 1) xs) in
     let is_in : member f g since (k, x) ≡ true = rw (← here) joined in
     let first : add s (value_in x.phase) ≡ add s (pos 0) = ap (add s) none in
-    rw (kind, is_in) (sym (ap (λ t. summed t rest) (add_zero s (value_in r.phase))) ∙ summed_more (add s (pos 0)) (value_in r.phase) rest ∙ ap (λ t. add (summed t rest) (value_in r.phase)) (sym first))
+    rw (kind, is_in) (sym (ap (λ t. summed t rest) (add_zero s (value_in r.phase))) ∙ summed_more (add s (pos 0)) (value_in r.phase) rest ∙
+    ap (λ t. add (summed t rest) (value_in r.phase)) (sym first))
 total-done f g since n k (suc i) s r d (x ∷ xs) is within kind none joined = elim (either_way (member f g since (k, x))) [
   | inl is_in ↦ rw is_in (total-done f g since n (k + 1) i (add s (value_in x.phase)) r d xs (omega arith) (omega arith) kind none joined)
   | inr not_in ↦ rw not_in (total-done f g since n (k + 1) i s r d xs (omega arith) (omega arith) kind none joined)
 ]
 
 -- An open member that has ended is not pending.
-pub pending-done : (f g since n k i : ℕ) (r d : Row) (xs : List Row) → n ≡ k + i → i < length xs → r.kind ≡ (get_or xs i d).kind → is_open (get_or xs i d).phase ≡ true → is_open r.phase ≡ false → member f g since (n, get_or xs i d) ≡ true →
-    count_by (λ (p : NumberedRow). is_open p.1.phase) (filter (member f g since) (enumerate_from k (slice_set xs i r))) + 1 ≡ count_by (λ (p : NumberedRow). is_open p.1.phase) (filter (member f g since) (enumerate_from k xs))
+pub pending-done : (f g since n k i : ℕ) (r d : Row) (xs : List Row) → n ≡ k + i → i < length xs → r.kind ≡ (get_or xs i d).kind → is_open (get_or xs i d).phase ≡ true → is_open r.phase ≡ false →
+    member f g since (n, get_or xs i d) ≡ true →
+    count_by (λ (p : NumberedRow). is_open p.1.phase) (filter (member f g since) (enumerate_from k (slice_set xs i r))) + 1 ≡
+    count_by (λ (p : NumberedRow). is_open p.1.phase) (filter (member f g since) (enumerate_from k xs))
 pending-done f g since n k i r d [] is within kind opened closed joined = absurd (omega arith)
 pending-done f g since n k zero r d (x ∷ xs) is within kind opened closed joined =
     let here : n ≡ k = omega arith in
@@ -73,6 +78,11 @@ pending-done f g since n k zero r d (x ∷ xs) is within kind opened closed join
 pending-done f g since n k (suc i) r d (x ∷ xs) is within kind opened closed joined =
     let later = pending-done f g since n (k + 1) i r d xs (omega arith) (omega arith) kind opened closed joined in
     elim (either_way (member f g since (k, x))) [
-      | inl is_in ↦ rw is_in (omega (arith, later, count_cons (λ (p : NumberedRow). is_open p.1.phase) (k, x) (filter (member f g since) (enumerate_from (k + 1) (slice_set xs i r))), count_cons (λ (p : NumberedRow). is_open p.1.phase) (k, x) (filter (member f g since) (enumerate_from (k + 1) xs))))
+      | inl is_in ↦ rw is_in (omega (
+        arith,
+        later,
+        count_cons (λ (p : NumberedRow). is_open p.1.phase) (k, x) (filter (member f g since) (enumerate_from (k + 1) (slice_set xs i r))),
+        count_cons (λ (p : NumberedRow). is_open p.1.phase) (k, x) (filter (member f g since) (enumerate_from (k + 1) xs)),
+      ))
       | inr not_in ↦ rw not_in later
     ]

@@ -1,5 +1,6 @@
 -- The table, the free places, the tags and the jobs after a row has ended.
-use Rattle.std.proofs.Common.{◌≡◌, ◌≢◌, ℕ, zero, suc, ◌+◌, ◌-◌, ◌==◌, ◌<◌, ◌≤◌, ℤ, List, [], ◌∷◌, ◌++◌, length, Option, Some, None, Bool, true, false, not, refl, sym, ap, ◌∙◌, arith, inl, inr, get_or, map, length-set, subst}
+use Rattle.std.proofs.Common.{◌≡◌, ◌≢◌, ℕ, zero, suc, ◌+◌, ◌-◌, ◌==◌, ◌<◌, ◌≤◌, ℤ, List, [], ◌∷◌, ◌++◌, length, Option, Some, None, Bool, true, false, not, refl, sym, ap, ◌∙◌, arith, inl, inr, get_or}
+use Rattle.std.proofs.Common.{map, length-set, subst}
 use Rattle.std.specs.Prelude.{filter, slice_index_or, slice_set, count_by, is_some}
 use Rattle.std.specs.List.{enumerate_from}
 use Rattle.std.specs.Option.{option_map}
@@ -35,7 +36,8 @@ pub record IsParted (rows rows' : List Row) (places : Places) (n : ℕ) (e : Ope
   pub number : e.number ≡ n
 
 -- rows that do not wait, one of them changed
-waiting-not : (k i : ℕ) (r d : Row) (xs : List Row) → i < length xs → is_unstarted (get_or xs i d).phase ≡ false → is_unstarted r.phase ≡ false → filter waits (enumerate_from k (slice_set xs i r)) ≡ filter waits (enumerate_from k xs)
+waiting-not : (k i : ℕ) (r d : Row) (xs : List Row) → i < length xs → is_unstarted (get_or xs i d).phase ≡ false → is_unstarted r.phase ≡ false →
+    filter waits (enumerate_from k (slice_set xs i r)) ≡ filter waits (enumerate_from k xs)
 waiting-not k i r d [] within old new = absurd (omega (arith, within))
 waiting-not k zero r d (x ∷ xs) within old new = rw (old, new) refl
 waiting-not k (suc i) r d (x ∷ xs) within old new =
@@ -48,7 +50,8 @@ waiting-not k (suc i) r d (x ∷ xs) within old new =
 abbrev is_other : ℕ → NumberedRow → Bool
 is_other n p = not (p.0 == n)
 
-module _ (rows : List Row) (places : Places) (n : ℕ) (r : Row) (from : 1 ≤ n) (to : n ≤ length rows) (kind : r.kind ≡ (row rows n).kind) (same_job : r.job ≡ (row rows n).job) (marks : r.marks ≡ (row rows n).marks) (opened : is_open (row rows n).phase ≡ true) (closed : is_open r.phase ≡ false) where
+module _ (rows : List Row) (places : Places) (n : ℕ) (r : Row) (from : 1 ≤ n) (to : n ≤ length rows) (kind : r.kind ≡ (row rows n).kind) (same_job : r.job ≡ (row rows n).job)
+    (marks : r.marks ≡ (row rows n).marks) (opened : is_open (row rows n).phase ≡ true) (closed : is_open r.phase ≡ false) where
   abbrev pub rows' : List Row
   rows' = with_at_number rows n r
 
@@ -96,8 +99,11 @@ module _ (rows : List Row) (places : Places) (n : ℕ) (r : Row) (from : 1 ≤ n
     AreTagged-closed regions tags = record {
       long = length-set regions (places n) None ∙ tags.long ∙ sym parted.long ∙ sym (length-set table1 (places n) None);
       each = λ q. elim (cases_eq q (places n)) [
-        | inl same ↦ ap (λ k. slice_index_or (slice_set regions (places n) None) k None) same ∙ get_or-set_same regions (places n) None None (omega (arith, within, tags.long)) ∙ sym (ap (λ k. option_map (tagged_of rows' places) (at_place table' k)) same ∙ ap (option_map (tagged_of rows' places)) (at_same table1 (places n) None inside))
-        | inr other ↦ get_or-set_other regions (places n) q None None other ∙ tags.each q ∙ sym (parted.tags q) ∙ sym (option-same (tagged_of rows' places) (tagged_of rows places) (at_place table1 q) tagged_same) ∙ sym (ap (option_map (tagged_of rows' places)) (at_other table1 (places n) None inside q other))
+        | inl same ↦ ap (λ k. slice_index_or (slice_set regions (places n) None) k None) same ∙ get_or-set_same regions (places n) None None (omega (arith, within, tags.long)) ∙
+            sym (ap (λ k. option_map (tagged_of rows' places) (at_place table' k)) same ∙ ap (option_map (tagged_of rows' places)) (at_same table1 (places n) None inside))
+        | inr other ↦ get_or-set_other regions (places n) q None None other ∙ tags.each q ∙ sym (parted.tags q) ∙
+            sym (option-same (tagged_of rows' places) (tagged_of rows places) (at_place table1 q) tagged_same) ∙
+            sym (ap (option_map (tagged_of rows' places)) (at_other table1 (places n) None inside q other))
       ];
     }
 
@@ -118,17 +124,20 @@ module _ (rows : List Row) (places : Places) (n : ℕ) (r : Row) (from : 1 ≤ n
   pool_live live =
       let place : n - 1 + 1 ≡ n = omega (arith, from) in
       let here : is_unstarted (get_or rows (n - 1) r).phase ≡ false = ap (λ (q : Row). is_unstarted q.phase) (row-get_or rows (n - 1) r (omega (arith, from, to)) ∙ ap (row rows) place) ∙ live in
-      sym (ap (map (waiting_of rows' places)) (ap waiting (with_at_number-from rows n r from) ∙ waiting-not 1 (n - 1) r r rows (omega (arith, from, to)) here never_waits) ∙ map-same (waiting_of rows' places) (waiting_of rows places) (waiting rows) waiting_same)
+      sym (ap (map (waiting_of rows' places)) (ap waiting (with_at_number-from rows n r from) ∙ waiting-not 1 (n - 1) r r rows (omega (arith, from, to)) here never_waits) ∙
+      map-same (waiting_of rows' places) (waiting_of rows places) (waiting rows) waiting_same)
 
   -- and is without it where it waited.
   pub pool_dropped : filter (λ w. not (ready.is_of (id_of places n) w)) (map (waiting_of rows places) (waiting rows)) ≡ map (waiting_of rows' places) (waiting rows')
   pool_dropped =
       filter-map _ (waiting_of rows places) (waiting rows) ∙
       ap (map (waiting_of rows places)) (filter-same _ (is_other n) (waiting rows) (λ p. ap not (same_id places p.0 n))) ∙
-      sym (ap (map (waiting_of rows' places)) (waiting-with rows n r from to never_waits) ∙ map-same (waiting_of rows' places) (waiting_of rows places) (filter (is_other n) (waiting rows)) waiting_same)
+      sym (ap (map (waiting_of rows' places)) (waiting-with rows n r from to never_waits) ∙
+      map-same (waiting_of rows' places) (waiting_of rows places) (filter (is_other n) (waiting rows)) waiting_same)
 
   -- The jobs, with one open row less of the row's.
-  module _ (s : State) (here : s.rows ≡ rows) (at : Assigned) (i : ℕ) (jobs : List CurrentJob) (d : CurrentJob) (its_job : (c : CurrentJob) → (row rows n).job ≡ (get_or jobs i c).number) (below : i < length jobs) (v : ℤ)
+  module _ (s : State) (here : s.rows ≡ rows) (at : Assigned) (i : ℕ) (jobs : List CurrentJob) (d : CurrentJob) (its_job : (c : CurrentJob) → (row rows n).job ≡ (get_or jobs i c).number)
+      (below : i < length jobs) (v : ℤ)
       (value : v ≡ value_in (row rows' (get_or jobs i d).work.root).phase) (roots : (k : ℕ) (c : CurrentJob) → k < length jobs → k ≢ i → (get_or jobs k c).work.root ≢ n) where
     abbrev it : CurrentJob
     it = get_or jobs i d
@@ -144,11 +153,13 @@ module _ (rows : List Row) (places : Places) (n : ℕ) (r : Row) (from : 1 ≤ n
 
     same_work : (k : ℕ) (c : CurrentJob) → (get_or (slice_set jobs i it') k c).work ≡ (get_or jobs k c).work
     same_work k c = elim (cases_eq k i) [
-      | inl same ↦ ap (λ m. (get_or (slice_set jobs i it') m c).work) same ∙ ap (λ (x : CurrentJob). x.work) (get_or-set_same jobs i it' c below) ∙ ap (λ (x : CurrentJob). x.work) (same_it c) ∙ ap (λ m. (get_or jobs m c).work) (sym same)
+      | inl same ↦ ap (λ m. (get_or (slice_set jobs i it') m c).work) same ∙ ap (λ (x : CurrentJob). x.work) (get_or-set_same jobs i it' c below) ∙ ap (λ (x : CurrentJob). x.work) (same_it c) ∙
+          ap (λ m. (get_or jobs m c).work) (sym same)
       | inr other ↦ ap (λ (x : CurrentJob). x.work) (get_or-set_other jobs i k it' c other)
     ]
 
-    job_at : (k : ℕ) (c : CurrentJob) → k < length jobs → NumbersRise jobs → IsJob rows at (get_or jobs k c).number (get_or jobs k c) → IsJob rows' at (get_or jobs k c).number (get_or (slice_set jobs i it') k c)
+    job_at : (k : ℕ) (c : CurrentJob) → k < length jobs → NumbersRise jobs → IsJob rows at (get_or jobs k c).number (get_or jobs k c) →
+        IsJob rows' at (get_or jobs k c).number (get_or (slice_set jobs i it') k c)
     job_at k c within rise is = elim (cases_eq k i) [
       | inl same ↦
           let item : get_or (slice_set jobs i it') k c ≡ it' = ap (λ m. get_or (slice_set jobs i it') m c) same ∙ get_or-set_same jobs i it' c below in

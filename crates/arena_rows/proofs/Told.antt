@@ -84,7 +84,8 @@ module _ (a : Held) (s : State) (is : Holds a s) where
   slot_told =
       let high = height_is s.rows is.places a.config.slots a.nests is.steady.formed.stacked is.nests in
       let reserved = ap (λ (t : Tenant). t.reserved) is.config in
-      find-same (λ slot. length (stack a.nests slot) == 0) (λ slot. height s.rows slot == 0) (range_with_len 0 a.config.reserved) (λ slot. ap (λ n. n == 0) (high slot)) ∙ ap (λ n. find (λ slot. height s.rows slot == 0) (range_with_len 0 n)) reserved
+      find-same (λ slot. length (stack a.nests slot) == 0) (λ slot. height s.rows slot == 0) (range_with_len 0 a.config.reserved) (λ slot. ap (λ n. n == 0) (high slot)) ∙
+      ap (λ n. find (λ slot. height s.rows slot == 0) (range_with_len 0 n)) reserved
 
   limit : a.config.rows ≡ s.config.rows
   limit = ap (λ (t : Tenant). t.rows) is.config

@@ -54,7 +54,8 @@ pub top_within : (a : Held) (slot : ℕ) → HasTop a slot → slot < length a.n
 top_within a slot h = omega (arith, on_slot a h.0 h.2 slot h.1 h.3, h.2.nests.long)
 
 -- what stands on top, as the stack tells it
-pub top_told : (a : Held) (s : State) (is : Holds a s) (slot n : ℕ) (o : Option Nested) (x : Nested) → top s.rows slot ≡ Some n → o ≡ nest.top (stack a.nests slot) → o ≡ Some x → x ≡ nested_of s.rows is.places n
+pub top_told : (a : Held) (s : State) (is : Holds a s) (slot n : ℕ) (o : Option Nested) (x : Nested) → top s.rows slot ≡ Some n → o ≡ nest.top (stack a.nests slot) → o ≡ Some x →
+    x ≡ nested_of s.rows is.places n
 top_told a s is slot n o x on_top told some = some_is x (nested_of s.rows is.places n) (sym some ∙ told ∙ top_nested a s is slot n on_top)
 
 pub top_not_none : (a : Held) (slot : ℕ) (o : Option Nested) → HasTop a slot → o ≡ nest.top (stack a.nests slot) → o ≡ None → ⊥

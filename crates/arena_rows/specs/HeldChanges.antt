@@ -178,7 +178,13 @@ root_frame j = new_frame 0 (slice_index_or j.args 0 (pos 0)) (slice_index_or j.a
 
 -- a job more, whose root is the next row, with `opened` open rows
 abbrev pub new_current : Held → Job → (context opened : ℕ) → CurrentJob
-new_current a j c opened = record { number = next_job a; work = record { program = j.program; fuel = j.fuel; root = a.made + 1; cancelled = false; fault = None; retired = false }; value = pos 0; open_rows = opened; context = c }
+new_current a j c opened = record {
+  number = next_job a;
+  work = record { program = j.program; fuel = j.fuel; root = a.made + 1; cancelled = false; fault = None; retired = false };
+  value = pos 0;
+  open_rows = opened;
+  context = c;
+}
 
 -- the entry of a root
 abbrev pub root_entry : Held → (stage : Stage) → (context : ℕ) → OpenRow

@@ -1,5 +1,6 @@
 -- Which states an arena stands for.
-use Rattle.std.specs.Prelude.{◌≡◌, ℕ, ◌+◌, ◌*◌, ◌<◌, ◌≤◌, ◌==◌, ◌&&◌, ◌⊎◌, Bool, true, false, if◌then◌else◌, List, ◌++◌, Option, Some, None, is_some, slice_index_or, get_or, All, map, filter, length, count_by, sum_by}
+use Rattle.std.specs.Prelude.{◌≡◌, ℕ, ◌+◌, ◌*◌, ◌<◌, ◌≤◌, ◌==◌, ◌&&◌, ◌⊎◌, Bool, true, false, if◌then◌else◌, List, ◌++◌, Option, Some, None, is_some, slice_index_or, get_or, All, map, filter, length}
+use Rattle.std.specs.Prelude.{count_by, sum_by}
 use Rattle.std.specs.Option.{option_map}
 use Rattle.job_language.specs.declared.instructions.TheConstants.{GROUPS}
 use Rattle.job_step.specs.declared.frames.Frame.{Frame}

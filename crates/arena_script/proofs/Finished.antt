@@ -11,7 +11,8 @@ use Rattle.tenant_record.specs.Replayed.{Replayed}
 abbrev replayed : Tenant → List Entry → Replayed
 replayed c h = record { config = c; history = h }
 
-pub finished_dump : (bytes text : List ℕ) (c : Tenant) (whole : List Entry) (old new : Replayed) → part_in bytes ≡ Some (c, whole) → old ≡ record { config = c; history = whole } → IsFinishedTenant old new → text ≡ dump_text c new.history → ReadsBack text c new.history → IsFinishedDump bytes text
+pub finished_dump : (bytes text : List ℕ) (c : Tenant) (whole : List Entry) (old new : Replayed) → part_in bytes ≡ Some (c, whole) → old ≡ record { config = c; history = whole } →
+    IsFinishedTenant old new → text ≡ dump_text c new.history → ReadsBack text c new.history → IsFinishedDump bytes text
 finished_dump bytes text c whole old new read start finished dump back =
     let from_start : IsFinishedTenant (replayed c whole) new = subst (λ (r : Replayed). IsFinishedTenant r new) start finished in
     let same : new ≡ replayed c new.history = ap (λ (k : Tenant). replayed k new.history) from_start.goes.config in

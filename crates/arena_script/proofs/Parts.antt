@@ -17,7 +17,8 @@ abbrev pub TakesAll : {S : Type 0} → (takes : S → Line → List ℕ → S �
 TakesAll {S = S} takes = (line : Line) (s : S) → (said : List ℕ) × (mid : S) × takes s line said mid
 
 -- A line is written, and a part of the rest.
-part_on : (before middle after : Option (List ℕ)) (line rest : List ℕ) → Appends before middle (line ++ newline ∷ []) → AppendsPart middle after rest → AppendsPart before after (line ++ newline ∷ rest)
+part_on : (before middle after : Option (List ℕ)) (line rest : List ℕ) → Appends before middle (line ++ newline ∷ []) → AppendsPart middle after rest →
+    AppendsPart before after (line ++ newline ∷ rest)
 part_on before middle after line rest first next =
     let all = length (line ++ newline ∷ []) + next.count in
     let whole_line : take all (line ++ newline ∷ rest) ≡ line ++ newline ∷ take next.count rest =
@@ -32,13 +33,15 @@ part_cut before after line rest cut =
     record { count = cut.count; appended = subst (λ (t : List ℕ). Appends before after t) (sym front) cut.appended }
 
 -- A line is answered, and then a part of the others.
-pub text_part_step : (before middle after : Option (List ℕ)) (all said rest line : List ℕ) → all ≡ said ++ newline ∷ rest → line ≡ said ++ newline ∷ [] → Appends before middle line → AppendsPart middle after rest → AppendsPart before after all
+pub text_part_step : (before middle after : Option (List ℕ)) (all said rest line : List ℕ) → all ≡ said ++ newline ∷ rest → line ≡ said ++ newline ∷ [] → Appends before middle line →
+    AppendsPart middle after rest → AppendsPart before after all
 text_part_step before middle after all said rest line all_is line_is written others =
     subst (λ (t : List ℕ). AppendsPart before after t) (sym all_is)
     (part_on before middle after said rest (subst (λ (t : List ℕ). Appends before middle t) line_is written) others)
 
 -- The answer to a line is cut short.
-pub text_part_cut : (before after : Option (List ℕ)) (all said rest line : List ℕ) → all ≡ said ++ newline ∷ rest → line ≡ said ++ newline ∷ [] → AppendsFewer before after line → AppendsPart before after all
+pub text_part_cut : (before after : Option (List ℕ)) (all said rest line : List ℕ) → all ≡ said ++ newline ∷ rest → line ≡ said ++ newline ∷ [] → AppendsFewer before after line →
+    AppendsPart before after all
 text_part_cut before after all said rest line all_is line_is cut =
     subst (λ (t : List ℕ). AppendsPart before after t) (sym all_is)
     (part_cut before after said rest (subst (λ (t : List ℕ). AppendsFewer before after t) line_is cut))
@@ -58,7 +61,8 @@ module _ {S : Type 0} (takes : S → Line → List ℕ → S → Type 0) (take_l
       let all = answer_lines lines s in
       record { text = all.0; new = all.1; answered = all.2; part = part_none known all.0 }
 
-  module _ (next : Line) (read left left' : List Line) (old mid : S) (said line : List ℕ) (one : read ≡ next ∷ []) (here : left ≡ read ++ left') (taken : takes old next said mid) (told_as : line ≡ said ++ newline ∷ []) where
+  module _ (next : Line) (read left left' : List Line) (old mid : S) (said line : List ℕ) (one : read ≡ next ∷ []) (here : left ≡ read ++ left') (taken : takes old next said mid)
+      (told_as : line ≡ said ++ newline ∷ []) where
     lines_there : next ∷ left' ≡ left
     lines_there = sym (next_is_line next read left left' one here)
 
@@ -67,7 +71,13 @@ module _ {S : Type 0} (takes : S → Line → List ℕ → S → Type 0) (take_l
     answers_part_step before middle after written others =
         let written_line : Appends before middle (said ++ newline ∷ []) = subst (λ (t : List ℕ). Appends before middle t) told_as written in
         subst (λ (ls : List Line). AnswersPart takes ls old before after) lines_there
-        (record { text = said ++ newline ∷ others.text; new = others.new; answered = (said, mid, others.text, taken, refl, others.answered); part = part_on before middle after said others.text written_line others.part })
+        (record {
+          text = said ++ newline ∷ others.text;
+          new = others.new;
+          answered = (said, mid, others.text, taken, refl, others.answered);
+          part =
+              part_on before middle after said others.text written_line others.part;
+        })
 
     -- The next line is taken and its answer cut short.
     pub answers_part_cut : (before after : Option (List ℕ)) → AppendsFewer before after line → AnswersPart takes left old before after
@@ -88,7 +98,8 @@ module _ {B S : Type 0} (first : List ℕ → Option B) (takes : B → S → Lin
   starts_from_none (too_long ∷ lines) known = appends_nothing known
   starts_from_none (whole line ∷ lines) known = later_none (first line) lines known
 
-module _ (next : Line) (read left left' : List Line) (answer : SerialAnswer) (line : List ℕ) (one : read ≡ next ∷ []) (here : left ≡ read ++ left') (answered : answer ≡ serial_answer (job_in next)) (told_as : line ≡ serial_text answer ++ newline ∷ []) where
+module _ (next : Line) (read left left' : List Line) (answer : SerialAnswer) (line : List ℕ) (one : read ≡ next ∷ []) (here : left ≡ read ++ left') (answered : answer ≡ serial_answer (job_in next))
+    (told_as : line ≡ serial_text answer ++ newline ∷ []) where
   serial_there : line ≡ serial_text (serial_answer (job_in next)) ++ newline ∷ []
   serial_there = told_as ∙ ap (λ a. serial_text a ++ newline ∷ []) answered
 

@@ -72,7 +72,8 @@ same_first a b xs ys same = cc
 same_rest : (a b : Answer) (xs ys : List Answer) → a ∷ xs ≡ b ∷ ys → xs ≡ ys
 same_rest a b xs ys same = cc
 
-lines_at : (s : State) (es : List Entry) → answers s (steps_of es) ≡ answers_of es → All (λ (e : Entry). is_entry e.answer ≡ true) es → (k : ℕ) (x : Entry) → k < length es → slice_index_or es k x ≡ x → entry_data x ≡ None → ⊥
+lines_at : (s : State) (es : List Entry) → answers s (steps_of es) ≡ answers_of es → All (λ (e : Entry). is_entry e.answer ≡ true) es → (k : ℕ) (x : Entry) → k < length es →
+    slice_index_or es k x ≡ x → entry_data x ≡ None → ⊥
 lines_at s [] same enters k x within here none = omega (arith, within)
 lines_at s (e ∷ es) same enters zero x within here none =
     let first : e ≡ x = here in

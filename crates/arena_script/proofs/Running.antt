@@ -37,11 +37,13 @@ pub starts_none : (lines : List Line) (known : Option (List ℕ)) → StartsRun 
 starts_none = starts_from_none config_in (λ (c : Configuration). TellsOutcome (names_of c.tenants)) start (λ (c : Configuration). tells_all (names_of c.tenants))
 
 -- A world is there only for a configuration, and is its start.
-pub started : {A : Type 0} (stands_for : A → State → Type 0) (o : Option Configuration) (held : Named A) → Starts stands_for o (Some held) → (c : Configuration) × (o ≡ Some c) × Knows stands_for (names_of c.tenants) (start c) held
+pub started : {A : Type 0} (stands_for : A → State → Type 0) (o : Option Configuration) (held : Named A) → Starts stands_for o (Some held) →
+    (c : Configuration) × (o ≡ Some c) × Knows stands_for (names_of c.tenants) (start c) held
 started {A = A} stands_for None held is = absurd is
 started {A = A} stands_for (Some c) held is = (c, refl, is)
 
 -- A part of what answers the lines after a configuration.
-pub later_part : (o : Option Configuration) (c : Configuration) → o ≡ Some c → (lines : List Line) (before after : Option (List ℕ)) → AnswersPart (TellsOutcome (names_of c.tenants)) lines (start c) before after →
+pub later_part : (o : Option Configuration) (c : Configuration) → o ≡ Some c → (lines : List Line) (before after : Option (List ℕ)) →
+    AnswersPart (TellsOutcome (names_of c.tenants)) lines (start c) before after →
     AnswersLater (λ (b : Configuration). TellsOutcome (names_of b.tenants)) start o lines before after
 later_part o c is lines before after part = rw is part

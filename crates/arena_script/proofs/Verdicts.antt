@@ -77,7 +77,8 @@ wrong_at true next k = refl
 wrong_at false next k = refl
 
 -- The verdict on the entries before the first foreign one gives that on all.
-verdict_on : (s : State) (k : ℕ) (all : List Said) (on_entries : Verdict) → IsVerdictFrom s k (entries_of all) on_entries → IsVerdictOn s k all (after_entries (length (entries_of all) + k) (has_foreign all) on_entries)
+verdict_on : (s : State) (k : ℕ) (all : List Said) (on_entries : Verdict) → IsVerdictFrom s k (entries_of all) on_entries →
+    IsVerdictOn s k all (after_entries (length (entries_of all) + k) (has_foreign all) on_entries)
 verdict_on s k [] on_entries is = is
 verdict_on s k (said.Foreign ∷ others) on_entries is = let here : 0 + k ≡ k = omega arith in rw is (ap (λ n. No n) here)
 verdict_on s k (said.Entry e ∷ others) on_entries is = elim is [
@@ -112,11 +113,13 @@ one_answer (Err number) one other first second = first ∙ sym second
 abbrev with_tenant : Tenant → Result (List Said) ℕ → Result (Tenant × List Said) ℕ
 with_tenant c all = result_map (λ said. (c, said)) all
 
-told_all : (c : Tenant) (all : Result (List Said) ℕ) (dump : DumpHeld) (verdict : Verdict) → result_map (held (new_dump c)) all ≡ Ok dump → IsVerdictHeld dump verdict → IsOk (with_tenant c all) × AnswersDump (with_tenant c all) (verdict_text verdict)
+told_all : (c : Tenant) (all : Result (List Said) ℕ) (dump : DumpHeld) (verdict : Verdict) → result_map (held (new_dump c)) all ≡ Ok dump → IsVerdictHeld dump verdict →
+    IsOk (with_tenant c all) × AnswersDump (with_tenant c all) (verdict_text verdict)
 told_all c (Err number) dump verdict came is = absurd (cc)
 told_all c (Ok all) dump verdict came is =
     let holds : held (new_dump c) all ≡ dump = cc in
-    let it : IsVerdictHeld (record { config = c; entries = entries_of all; has_foreign = has_foreign all }) verdict = subst (λ (d : DumpHeld). IsVerdictHeld d verdict) (sym holds ∙ held_is c [] all) is in
+    let it : IsVerdictHeld (record { config = c; entries = entries_of all; has_foreign = has_foreign all }) verdict =
+    subst (λ (d : DumpHeld). IsVerdictHeld d verdict) (sym holds ∙ held_is c [] all) is in
     let on_all = verdict_on (empty c) 1 all it.0 it.1 in
     (refl, (verdict, subst (λ (v : Verdict). IsVerdictOn (empty c) 1 all v) (sym it.2) on_all, refl))
 
@@ -129,12 +132,14 @@ told_first : (o : Option Tenant) (lines : List Line) (dump : DumpHeld) (verdict 
 told_first None lines dump verdict came is = absurd (cc)
 told_first (Some c) lines dump verdict came is = told_all c (all_said lines 2) dump verdict (sym (read_as lines 2 (new_dump c)) ∙ came) is
 
-bad_first : (o : Option Tenant) (lines : List Line) (number : ℕ) → option_map_or (λ c. read_on lines 2 (new_dump c)) o (Err 1) ≡ Err number → option_map_or (λ (c : Tenant). with_tenant c (all_said lines 2)) o (Err 1) ≡ Err number
+bad_first : (o : Option Tenant) (lines : List Line) (number : ℕ) → option_map_or (λ c. read_on lines 2 (new_dump c)) o (Err 1) ≡ Err number →
+    option_map_or (λ (c : Tenant). with_tenant c (all_said lines 2)) o (Err 1) ≡ Err number
 bad_first None lines number came = cc
 bad_first (Some c) lines number came = bad_all c (all_said lines 2) number (sym (read_as lines 2 (new_dump c)) ∙ came)
 
 -- The verdict on a dump that was read answers it.
-dump_answered : (lines : List Line) (dump : DumpHeld) (verdict : Verdict) → dump_read lines ≡ Ok dump → IsVerdictHeld dump verdict → IsOk (dump_of lines) × AnswersDump (dump_of lines) (verdict_text verdict)
+dump_answered : (lines : List Line) (dump : DumpHeld) (verdict : Verdict) → dump_read lines ≡ Ok dump → IsVerdictHeld dump verdict →
+    IsOk (dump_of lines) × AnswersDump (dump_of lines) (verdict_text verdict)
 dump_answered [] dump verdict came is = absurd (cc)
 dump_answered (too_long ∷ lines) dump verdict came is = absurd (cc)
 dump_answered (whole line ∷ lines) dump verdict came is = told_first (tenant_in line) lines dump verdict came is
@@ -146,11 +151,13 @@ bad_answered (too_long ∷ lines) number came = cc
 bad_answered (whole line ∷ lines) number came = bad_first (tenant_in line) lines number came
 
 -- A part of one answer is a part of each.
-part_of_answer : (dump : Result (Tenant × List Said) ℕ) (text told : List ℕ) (before after : Option (List ℕ)) → AnswersDump dump told → text ≡ told → AppendsPart before after text → (other : List ℕ) → AnswersDump dump other → AppendsPart before after other
+part_of_answer : (dump : Result (Tenant × List Said) ℕ) (text told : List ℕ) (before after : Option (List ℕ)) → AnswersDump dump told → text ≡ told → AppendsPart before after text → (other : List ℕ) →
+    AnswersDump dump other → AppendsPart before after other
 part_of_answer dump text told before after is same part other also = subst (λ (t : List ℕ). AppendsPart before after t) (same ∙ one_answer dump told other is also) part
 
 -- All of the answer is written.
-pub verdict_written : (lines : List Line) (dump : DumpHeld) (verdict : Verdict) (text : List ℕ) (before after : Option (List ℕ)) → dump_read lines ≡ Ok dump → IsVerdictHeld dump verdict → text ≡ verdict_text verdict → Appends before after text →
+pub verdict_written : (lines : List Line) (dump : DumpHeld) (verdict : Verdict) (text : List ℕ) (before after : Option (List ℕ)) → dump_read lines ≡ Ok dump → IsVerdictHeld dump verdict →
+    text ≡ verdict_text verdict → Appends before after text →
     IsOk (dump_of lines) × (told : List ℕ) × AnswersDump (dump_of lines) told × Appends before after told
 verdict_written lines dump verdict text before after came is as_text written =
     let answered = dump_answered lines dump verdict came is in
@@ -159,11 +166,16 @@ verdict_written lines dump verdict text before after came is as_text written =
 pub bad_line_written : (lines : List Line) (number : ℕ) (text : List ℕ) (before after : Option (List ℕ)) → dump_read lines ≡ Err number → text ≡ bad_line_text number → Appends before after text →
     IsErr (dump_of lines) × (told : List ℕ) × AnswersDump (dump_of lines) told × Appends before after told
 bad_line_written lines number text before after came as_text written =
-    let is = bad_answered lines number came in
-    (ap is_err is, bad_line_text number, subst (λ (d : Result (Tenant × List Said) ℕ). AnswersDump d (bad_line_text number)) (sym is) refl, subst (λ (t : List ℕ). Appends before after t) as_text written)
+    let is = bad_answered lines number came in (
+      ap is_err is,
+      bad_line_text number,
+      subst (λ (d : Result (Tenant × List Said) ℕ). AnswersDump d (bad_line_text number)) (sym is) refl,
+      subst (λ (t : List ℕ). Appends before after t) as_text written,
+    )
 
 -- A part of it is.
-pub verdict_part : (lines : List Line) (dump : DumpHeld) (verdict : Verdict) (text : List ℕ) (before after : Option (List ℕ)) → dump_read lines ≡ Ok dump → IsVerdictHeld dump verdict → text ≡ verdict_text verdict → AppendsPart before after text →
+pub verdict_part : (lines : List Line) (dump : DumpHeld) (verdict : Verdict) (text : List ℕ) (before after : Option (List ℕ)) → dump_read lines ≡ Ok dump → IsVerdictHeld dump verdict →
+    text ≡ verdict_text verdict → AppendsPart before after text →
     (other : List ℕ) → AnswersDump (dump_of lines) other → AppendsPart before after other
 verdict_part lines dump verdict text before after came is as_text part =
     part_of_answer (dump_of lines) text (verdict_text verdict) before after (dump_answered lines dump verdict came is).1 as_text part
@@ -171,4 +183,5 @@ verdict_part lines dump verdict text before after came is as_text part =
 pub bad_line_part : (lines : List Line) (number : ℕ) (text : List ℕ) (before after : Option (List ℕ)) → dump_read lines ≡ Err number → text ≡ bad_line_text number → AppendsPart before after text →
     (other : List ℕ) → AnswersDump (dump_of lines) other → AppendsPart before after other
 bad_line_part lines number text before after came as_text part =
-    part_of_answer (dump_of lines) text (bad_line_text number) before after (subst (λ (d : Result (Tenant × List Said) ℕ). AnswersDump d (bad_line_text number)) (sym (bad_answered lines number came)) refl) as_text part
+    part_of_answer (dump_of lines) text (bad_line_text number) before after
+    (subst (λ (d : Result (Tenant × List Said) ℕ). AnswersDump d (bad_line_text number)) (sym (bad_answered lines number came)) refl) as_text part

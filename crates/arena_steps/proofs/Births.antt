@@ -51,7 +51,8 @@ low_height a s is slot below =
     ]
 
 -- the frame at the next place, as it was given
-pub next_rests : (a b : Held) (s : State) (slot n : ℕ) (f x : Frame) → x ≡ next_place f → FrameFits a s slot n f → (length x.registers ≡ length (row s.rows n).frame.registers → Rests b (with_frame s n x)) → Rests b (with_frame s n (next_place f))
+pub next_rests : (a b : Held) (s : State) (slot n : ℕ) (f x : Frame) → x ≡ next_place f → FrameFits a s slot n f →
+    (length x.registers ≡ length (row s.rows n).frame.registers → Rests b (with_frame s n x)) → Rests b (with_frame s n (next_place f))
 next_rests a b s slot n f x next fits moves = subst (λ g. Rests b (with_frame s n g)) next (moves (ap (λ (g : Frame). length g.registers) next ∙ fits.same))
 
 module _ (a b : Held) (s : State) (slot n : ℕ) (f : Frame) (is : Holds a s) (on_top : top s.rows slot ≡ Some n) (now : Rests b (with_frame s n f)) where

@@ -36,7 +36,8 @@ none_handed t Posted v none = refl
 none_handed t (Spawned m g) v none = refl
 none_handed t (Region m) v none = absurd (grind (arith, none))
 
-module _ (a b : Held) (s : State) (is : Holds a s) (slot n : ℕ) (f : Frame) (v : ℤ) (on_top : top s.rows slot ≡ Some n) (now : Rests b (over s n f v)) (region : is_region (row s.rows n).kind ≡ true) where
+module _ (a b : Held) (s : State) (is : Holds a s) (slot n : ℕ) (f : Frame) (v : ℤ) (on_top : top s.rows slot ≡ Some n) (now : Rests b (over s n f v))
+    (region : is_region (row s.rows n).kind ≡ true) where
   abbrev t : State
   t = over s n f v
 

@@ -23,7 +23,8 @@ none_is (Some x) b says is = absurd (grind (arith, says, is))
 idle_stays : (s : State) (r : Moved × State) → r.0 ≡ moved.Idle → (unless_full s r).0 ≡ moved.Idle
 idle_stays s r idle = rw idle refl
 
-pub idle_waits : (s : State) (slot n : ℕ) (r : Run) → r ≡ run_on s slot n → is_idle_wait s n r.count r.stop ≡ true → pick s slot ≡ None → (unless_full s (advance_run s slot n (run_on s slot n))).0 ≡ moved.Idle
+pub idle_waits : (s : State) (slot n : ℕ) (r : Run) → r ≡ run_on s slot n → is_idle_wait s n r.count r.stop ≡ true → pick s slot ≡ None →
+    (unless_full s (advance_run s slot n (run_on s slot n))).0 ≡ moved.Idle
 idle_waits s slot n r run waits none =
     let all : advance_run s slot n (run_on s slot n) ≡ (moved.Idle, s) = advance_run_waits s slot n r run waits ∙ ap (nest_pick s slot n) none in
     idle_stays s (advance_run s slot n (run_on s slot n)) (ap (λ (q : Moved × State). q.0) all)
@@ -53,7 +54,8 @@ pub run_moves : (s : State) (slot n : ℕ) (r : Run) → r ≡ run_on s slot n �
 run_moves s slot n r run runs =
     subst (λ q. (unless_full s q).0 ≢ moved.Idle) (sym (advance_run_on s slot n r run runs)) (entry_moves s (after_run s slot n r.count r.end r.stop) (after_run_enters s slot n r.count r.end r.stop))
 
-pub pick_moves : (s : State) (slot n m : ℕ) (r : Run) → r ≡ run_on s slot n → is_idle_wait s n r.count r.stop ≡ true → pick s slot ≡ Some m → (unless_full s (advance_run s slot n (run_on s slot n))).0 ≢ moved.Idle
+pub pick_moves : (s : State) (slot n m : ℕ) (r : Run) → r ≡ run_on s slot n → is_idle_wait s n r.count r.stop ≡ true → pick s slot ≡ Some m →
+    (unless_full s (advance_run s slot n (run_on s slot n))).0 ≢ moved.Idle
 pick_moves s slot n m r run waits some =
     let all : advance_run s slot n (run_on s slot n) ≡ nest_pick s slot n (Some m) = advance_run_waits s slot n r run waits ∙ ap (nest_pick s slot n) some in
     subst (λ q. (unless_full s q).0 ≢ moved.Idle) (sym all) (entry_moves s (nest_pick s slot n (Some m)) (nest_enters s slot n m))

@@ -52,7 +52,8 @@ module _ (b : Held) (has_room : Bool) (s : State) (q r : Moved × State) (is : q
       subst (Gives b m) (sym all) gives
 
 -- what one gives that is no entry
-pub gives-quiet : (b : Held) (has_room : Bool) (s : State) (q : Moved × State) (m : Moved) → q ≡ (m, s) → would_be_recorded m ≡ false → is_entry (answer.Moved m) ≡ false → Rests b s → Gives b m (within has_room s (unless_full s q))
+pub gives-quiet : (b : Held) (has_room : Bool) (s : State) (q : Moved × State) (m : Moved) → q ≡ (m, s) → would_be_recorded m ≡ false → is_entry (answer.Moved m) ≡ false → Rests b s →
+    Gives b m (within has_room s (unless_full s q))
 gives-quiet b has_room s q m is quiet no_entry rests =
     let same : within has_room s (unless_full s (m, s)) ≡ (m, s) = rw (quiet, no_entry) refl in
     let all : within has_room s (unless_full s q) ≡ (m, s) = ap (λ p. within has_room s (unless_full s p)) is ∙ same in

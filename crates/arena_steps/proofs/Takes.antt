@@ -60,7 +60,8 @@ advance_on_none s slot low none =
     first ∙ ap (λ o. unless_full s (advance_top s slot o)) none
 
 -- and by the run
-pub advance_run_on : (s : State) (slot n : ℕ) (r : Run) → r ≡ run_on s slot n → is_idle_wait s n r.count r.stop ≡ false → advance_run s slot n (run_on s slot n) ≡ after_run s slot n r.count r.end r.stop
+pub advance_run_on : (s : State) (slot n : ℕ) (r : Run) → r ≡ run_on s slot n → is_idle_wait s n r.count r.stop ≡ false →
+    advance_run s slot n (run_on s slot n) ≡ after_run s slot n r.count r.end r.stop
 advance_run_on s slot n r run runs =
     let moves : is_idle_wait s n (run_on s slot n).count (run_on s slot n).stop ≡ false = rw (← run) runs in
     let all : advance_run s slot n r ≡ after_run s slot n r.count r.end r.stop = rw runs refl in

@@ -6,7 +6,8 @@ use Rattle.region_tag.specs.declared.regions.Tagged.{Tagged}
 use Rattle.region_tag.specs.Region.{Table}
 use Rattle.benchmarks.specs.Entered.{IsFreeFrom}
 
-pub exited : (regions more less : Table) (free place : ℕ) (t : Option Tagged) → IsFreeFrom regions free → place ≡ free → more ≡ slice_set regions place t → less ≡ slice_set more place None → less ≡ regions
+pub exited : (regions more less : Table) (free place : ℕ) (t : Option Tagged) → IsFreeFrom regions free → place ≡ free → more ≡ slice_set regions place t → less ≡ slice_set more place None →
+    less ≡ regions
 exited regions more less free place t none at enters exits =
     exits
     ∙ ap (λ (r : Table). slice_set r place None) enters

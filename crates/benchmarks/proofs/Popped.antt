@@ -47,7 +47,8 @@ module _ (stacks : Stacks) (slot : ℕ) (within : slot < length stacks) (x : Nes
       ∙ set-set stacks slot (stack stacks slot ++ x ∷ []) (stack stacks slot)
       ∙ set-get_or stacks slot []
 
-  pub popped-is : (more changed less : Stacks) → more ≡ pushed → changed ≡ with_stack more slot (with_top_frame (stack more slot) frame) → less ≡ with_stack changed slot (below (stack changed slot) (length (stack changed slot))) → less ≡ stacks
+  pub popped-is : (more changed less : Stacks) → more ≡ pushed → changed ≡ with_stack more slot (with_top_frame (stack more slot) frame) →
+      less ≡ with_stack changed slot (below (stack changed slot) (length (stack changed slot))) → less ≡ stacks
   popped-is more changed less pushes frames pops =
       let is : changed ≡ framed = frames ∙ ap (λ n. with_stack n slot (with_top_frame (stack n slot) frame)) pushes in
       pops ∙ ap (λ n. with_stack n slot (below (stack n slot) (length (stack n slot)))) is ∙ popped

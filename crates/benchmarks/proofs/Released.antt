@@ -44,10 +44,13 @@ module _ (forest : Forest) (c job : ℕ) (is : IsForest forest) (held : IsHeld f
   pub without-with_bound : (a b : Option Binding) → slice_set (map (without_parent c) (slice_set (slice_set (with_bound forest c (Some job)) c a) c b)) c None ≡ forest
   without-with_bound a b =
       let one : slice_set (slice_set (with_bound forest c (Some job)) c a) c b ≡ slice_set forest c b = set-set (with_bound forest c (Some job)) c a b ∙ set-set forest c _ b in
-      ap (λ f. slice_set (map (without_parent c) f) c None) one ∙ ap (λ f. slice_set f c None) (map-set (without_parent c) forest c b ∙ ap (λ f. slice_set f c (without_parent c b)) (map-without_parent c forest not_parent)) ∙ set-set forest c (without_parent c b) None ∙ subst (λ x. slice_set forest c x ≡ forest) free (set-get_or forest c None)
+      ap (λ f. slice_set (map (without_parent c) f) c None) one ∙
+      ap (λ f. slice_set f c None) (map-set (without_parent c) forest c b ∙ ap (λ f. slice_set f c (without_parent c b)) (map-without_parent c forest not_parent)) ∙
+      set-set forest c (without_parent c b) None ∙ subst (λ x. slice_set forest c x ≡ forest) free (set-get_or forest c None)
 
 module _ (forest : Forest) (c job : ℕ) (is : IsForest forest) (held : IsHeld forest job) (free : binding forest c ≡ None) where
-  module _ (bound cancelled reset : Forest) (binds : bound ≡ with_bound forest c (Some job)) (there : IsHeld bound c) (cancels : cancelled ≡ with_request bound c true) (still : IsHeld cancelled c) (resets : reset ≡ with_request cancelled c false) where
+  module _ (bound cancelled reset : Forest) (binds : bound ≡ with_bound forest c (Some job)) (there : IsHeld bound c) (cancels : cancelled ≡ with_request bound c true) (still : IsHeld cancelled c)
+      (resets : reset ≡ with_request cancelled c false) where
     within : c < length forest
     within = subst (λ n. c < n) (ap length binds ∙ length-set forest c _) (IsHeld-within bound c there)
 
@@ -60,5 +63,6 @@ module _ (forest : Forest) (c job : ℕ) (is : IsForest forest) (held : IsHeld f
     pub released : (after : Forest) → after ≡ without reset c → after ≡ forest
     released after releases =
         let begun : cancelled ≡ slice_set (with_bound forest c (Some job)) c (asking true (binding bound c)) = cancels ∙ ap (λ f. slice_set f c (asking true (binding bound c))) binds in
-        let all : reset ≡ slice_set (slice_set (with_bound forest c (Some job)) c (asking true (binding bound c))) c (asking false (binding cancelled c)) = resets ∙ ap (λ f. slice_set f c (asking false (binding cancelled c))) begun in
+        let all : reset ≡ slice_set (slice_set (with_bound forest c (Some job)) c (asking true (binding bound c))) c (asking false (binding cancelled c)) =
+        resets ∙ ap (λ f. slice_set f c (asking false (binding cancelled c))) begun in
         releases ∙ ap (λ f. slice_set (map (without_parent c) f) c None) all ∙ without-with_bound forest c job is held free (asking true (binding bound c)) (asking false (binding cancelled c))

@@ -36,18 +36,22 @@ without-with_row pool w before =
     filter-append f pool.rows (w ∷ []) ∙ ap (λ l. filter f pool.rows ++ l) last ∙ append-nil (filter f pool.rows) ∙ filter-others w.row pool.rows before in
     ap (λ l. record pool { rows = l }) rows
 
-pub removed : (pool put less : Ready) (w : Waiting) (free : ℕ) → All (λ (v : Waiting). v.row.place < free) pool.rows → w.row.place ≡ free → put ≡ with_row pool w → less ≡ without put w.row → less ≡ pool
+pub removed : (pool put less : Ready) (w : Waiting) (free : ℕ) → All (λ (v : Waiting). v.row.place < free) pool.rows → w.row.place ≡ free → put ≡ with_row pool w → less ≡ without put w.row →
+    less ≡ pool
 removed pool put less w free before at puts removes =
     removes ∙ ap (λ (p : Ready). without p w.row) puts ∙ without-with_row pool w (subst (λ n. All (λ (v : Waiting). v.row.place < n) pool.rows) (sym at) before)
 
-pub waiting-more : (pool : Ready) (regions : Table) (region : Option RowId) (free : ℕ) (w : Waiting) → AreWaiting (record { pool = pool; regions = regions; region = region; free = free }) → free + 1 < pool.limit → w.row.place ≡ free → w.row.number ≡ free + 1 → w.region ≡ region → AreWaiting (record { pool = with_row pool w; regions = regions; region = region; free = free + 1 })
+pub waiting-more : (pool : Ready) (regions : Table) (region : Option RowId) (free : ℕ) (w : Waiting) → AreWaiting (record { pool = pool; regions = regions; region = region; free = free }) →
+    free + 1 < pool.limit → w.row.place ≡ free → w.row.number ≡ free + 1 → w.region ≡ region → AreWaiting (record { pool = with_row pool w; regions = regions; region = region; free = free + 1 })
 waiting-more pool regions region free w are room at numbered in_region = record {
   limit = are.limit;
   slots = are.slots;
   place = room;
   count = omega (arith, length-append pool.rows (w ∷ []), are.count);
-  before = All-push (λ (v : Waiting). v.row.place < free + 1) pool.rows w (All-weaker (λ (v : Waiting). v.row.place < free) (λ (v : Waiting). v.row.place < free + 1) (λ v lt. omega arith) pool.rows are.before) (omega arith);
-  numbers = All-push (λ (v : Waiting). v.row.number ≤ free + 1) pool.rows w (All-weaker (λ (v : Waiting). v.row.number ≤ free) (λ (v : Waiting). v.row.number ≤ free + 1) (λ v le. omega arith) pool.rows are.numbers) (omega arith);
+  before = All-push (λ (v : Waiting). v.row.place < free + 1) pool.rows w
+      (All-weaker (λ (v : Waiting). v.row.place < free) (λ (v : Waiting). v.row.place < free + 1) (λ v lt. omega arith) pool.rows are.before) (omega arith);
+  numbers = All-push (λ (v : Waiting). v.row.number ≤ free + 1) pool.rows w
+      (All-weaker (λ (v : Waiting). v.row.number ≤ free) (λ (v : Waiting). v.row.number ≤ free + 1) (λ v le. omega arith) pool.rows are.numbers) (omega arith);
   places = are.places;
   region = are.region;
   regions_entered = All-push (λ (v : Waiting). IsRegionEntered regions v.region) pool.rows w are.regions_entered (subst (λ (r : Option RowId). IsRegionEntered regions r) (sym in_region) are.region);

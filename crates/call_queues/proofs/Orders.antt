@@ -1,5 +1,6 @@
 -- How the order of a level goes on.
-use Rattle.std.proofs.Common.{◌≡◌, ◌≢◌, ℕ, zero, suc, ◌+◌, ◌≤◌, ◌<◌, ◌⊎◌, Bool, true, false, cond, ◌&&◌, ◌||◌, ◌==◌, List, [], ◌∷◌, ◌++◌, length, get_or, set, refl, sym, ◌∙◌, ap, subst, inl, inr, arith, append_assoc, append-nil, length-append}
+use Rattle.std.proofs.Common.{◌≡◌, ◌≢◌, ℕ, zero, suc, ◌+◌, ◌≤◌, ◌<◌, ◌⊎◌, Bool, true, false, cond, ◌&&◌, ◌||◌, ◌==◌, List, [], ◌∷◌, ◌++◌, length, get_or, set, refl, sym, ◌∙◌, ap, subst, inl, inr}
+use Rattle.std.proofs.Common.{arith, append_assoc, append-nil, length-append}
 use Rattle.std.specs.List.{filter, list_any, sum_by, count_by}
 use Rattle.std.proofs.lemmas.List.Sums.{sum_by-cons, sum_by-append, sum_by-set}
 use Rattle.std.proofs.lemmas.List.Elements.{filter-append}
@@ -69,8 +70,10 @@ pushed_times p k (y ∷ ys) =
     let r = pushed_times p k ys in
     let q = is_at p k in
     let go : (b : Bool) → (y.by == p) ≡ b → count_by q (y ∷ ys) ≡ count_by q (pushed_by p (y ∷ ys)) = λ b. elim b as (λ b. (y.by == p) ≡ b → count_by q (y ∷ ys) ≡ count_by q (pushed_by p (y ∷ ys))) [
-      | true ↦ λ e. (let f : pushed_by p (y ∷ ys) ≡ y ∷ pushed_by p ys = ap (λ b. cond b (y ∷ pushed_by p ys) (pushed_by p ys)) e in times_cons q y ys ∙ ap (λ n. cond (q y) 1 0 + n) r ∙ sym (times_cons q y (pushed_by p ys)) ∙ ap (count_by q) (sym f))
-      | false ↦ λ e. (let f : pushed_by p (y ∷ ys) ≡ pushed_by p ys = ap (λ b. cond b (y ∷ pushed_by p ys) (pushed_by p ys)) e in let z : q y ≡ false = ap (λ b. b && (y.at == k)) e in there q y ys z ∙ r ∙ ap (count_by q) (sym f))
+      | true ↦ λ e. (let f : pushed_by p (y ∷ ys) ≡ y ∷ pushed_by p ys = ap (λ b. cond b (y ∷ pushed_by p ys) (pushed_by p ys)) e in
+          times_cons q y ys ∙ ap (λ n. cond (q y) 1 0 + n) r ∙ sym (times_cons q y (pushed_by p ys)) ∙ ap (count_by q) (sym f))
+      | false ↦ λ e. (let f : pushed_by p (y ∷ ys) ≡ pushed_by p ys = ap (λ b. cond b (y ∷ pushed_by p ys) (pushed_by p ys)) e in let z : q y ≡ false = ap (λ b. b && (y.at == k)) e in
+          there q y ys z ∙ r ∙ ap (count_by q) (sym f))
     ] in
     go (y.by == p) refl
 
@@ -111,7 +114,8 @@ next_new logs past rest o p k le =
     let c = past_end p k 0 (log_of logs p).pushed (λ i d t. let m = o.marks p i d t in omega arith) (omega arith) in
     omega arith
 
-module _ (logs : List PassLog) (past rest : List Marked) (o : LevelOrder logs past rest) (p : ℕ) (x : Marked) (within : p < length logs) (by : x.by ≡ p) (at : x.at ≡ length (log_of logs p).pushed) where
+module _ (logs : List PassLog) (past rest : List Marked) (o : LevelOrder logs past rest) (p : ℕ) (x : Marked) (within : p < length logs) (by : x.by ≡ p)
+    (at : x.at ≡ length (log_of logs p).pushed) where
   abbrev h : PassLog
   h = record { pushed = (log_of logs p).pushed ++ x ∷ []; popped = (log_of logs p).popped }
 
@@ -126,7 +130,8 @@ module _ (logs : List PassLog) (past rest : List Marked) (o : LevelOrder logs pa
       let a = times_append (is_at q k) (past ++ rest) (x ∷ []) in
       let whole : count_by (is_at q k) (past ++ (rest ++ x ∷ [])) ≡ count_by (is_at q k) ((past ++ rest) ++ x ∷ []) = ap (count_by (is_at q k)) longer in
       elim (tells (is_at q k x)) [
-        | inl t ↦ (let l = like q k x t in let z : count_by (is_at q k) (past ++ rest) ≡ 0 = subst (λ (n : ℕ × ℕ). count_by (is_at n.0 n.1) (past ++ rest) ≡ 0) (λ i. ((sym by ∙ l.0) i, l.1 i)) new in let c = here (is_at q k) x [] t in let c' : count_by (is_at q k) (x ∷ []) ≡ 1 = c in omega arith)
+        | inl t ↦ (let l = like q k x t in let z : count_by (is_at q k) (past ++ rest) ≡ 0 = subst (λ (n : ℕ × ℕ). count_by (is_at n.0 n.1) (past ++ rest) ≡ 0) (λ i. ((sym by ∙ l.0) i, l.1 i)) new in
+            let c = here (is_at q k) x [] t in let c' : count_by (is_at q k) (x ∷ []) ≡ 1 = c in omega arith)
         | inr f ↦ (let c : count_by (is_at q k) (x ∷ []) ≡ 0 = there (is_at q k) x [] f in let d = o.once q k in omega arith)
       ]
 
@@ -134,26 +139,30 @@ module _ (logs : List PassLog) (past rest : List Marked) (o : LevelOrder logs pa
   marks q k d = each_set (λ n (g : PassLog). k < length g.pushed → (get_or g.pushed k d).at ≡ k) logs p h within
       (λ t. elim (eqb_tells k (length (log_of logs p).pushed)) [
         | inl e ↦ (let s = get_or-append_seam (log_of logs p).pushed x [] d in ap (λ (n : ℕ). (get_or ((log_of logs p).pushed ++ x ∷ []) n d).at) e.1 ∙ ap (λ (m : Marked). m.at) s ∙ at ∙ sym e.1)
-        | inr e ↦ (let ne = e.1 in let lt : k < length (log_of logs p).pushed = omega (arith, length-append (log_of logs p).pushed (x ∷ [])) in ap (λ (m : Marked). m.at) (get_or_append_left (log_of logs p).pushed (x ∷ []) d k lt) ∙ o.marks p k d lt)
+        | inr e ↦ (let ne = e.1 in let lt : k < length (log_of logs p).pushed = omega (arith, length-append (log_of logs p).pushed (x ∷ [])) in
+            ap (λ (m : Marked). m.at) (get_or_append_left (log_of logs p).pushed (x ∷ []) d k lt) ∙ o.marks p k d lt)
       ])
       (λ n ne t. o.marks n k d t) q
 
   pushes : (q : ℕ) → pushed_by q (past ++ (rest ++ x ∷ [])) ≡ (log_of (set logs p h) q).pushed
-  pushes q = rw longer (rw (filter-append (λ (m : Marked). m.by == q) (past ++ rest) (x ∷ [])) (each_set (λ n (g : PassLog). pushed_by n (past ++ rest) ++ pushed_by n (x ∷ []) ≡ g.pushed) logs p h within
+  pushes q = rw longer (rw (filter-append (λ (m : Marked). m.by == q) (past ++ rest) (x ∷ []))
+      (each_set (λ n (g : PassLog). pushed_by n (past ++ rest) ++ pushed_by n (x ∷ []) ≡ g.pushed) logs p h within
       (let e : (x.by == p) ≡ true = grind (arith, nat_tests) in rw e (ap (λ l. l ++ x ∷ []) (o.pushes p)))
       (λ n ne. let e : (x.by == n) ≡ false = (elim (eqb_tells x.by n) [ inl t ↦ absurd (ne (sym t.1 ∙ by)) | inr t ↦ t.0 ]) in rw e (rw append-nil (o.pushes n))) q))
 
   -- no pop is of the new call
   fresh : (q : ℕ) → is_in (log_of logs q).popped x ≡ false
   fresh q = elim (tells (is_in (log_of logs q).popped x)) [
-    | inl t ↦ (let a = popped_past logs past rest o q x t in let b = times_append (is_at x.by x.at) past rest in let z : count_by (is_at x.by x.at) (past ++ rest) ≡ 0 = subst (λ (n : ℕ). count_by (is_at n x.at) (past ++ rest) ≡ 0) (sym by) new in absurd (omega arith))
+    | inl t ↦ (let a = popped_past logs past rest o q x t in let b = times_append (is_at x.by x.at) past rest in let z : count_by (is_at x.by x.at) (past ++ rest) ≡ 0 =
+        subst (λ (n : ℕ). count_by (is_at n x.at) (past ++ rest) ≡ 0) (sym by) new in absurd (omega arith))
     | inr f ↦ f
   ]
 
   same_pops : (q : ℕ) → members (log_of logs q).popped (past ++ (rest ++ x ∷ [])) ≡ (log_of logs q).popped
   same_pops q =
       let last : members (log_of logs q).popped (x ∷ []) ≡ [] = ap (λ b. cond b (x ∷ []) []) (fresh q) in
-      ap (members (log_of logs q).popped) longer ∙ filter-append (is_in (log_of logs q).popped) (past ++ rest) (x ∷ []) ∙ ap (λ l. members (log_of logs q).popped (past ++ rest) ++ l) last ∙ append-nil (members (log_of logs q).popped (past ++ rest)) ∙ o.pops q
+      ap (members (log_of logs q).popped) longer ∙ filter-append (is_in (log_of logs q).popped) (past ++ rest) (x ∷ []) ∙ ap (λ l. members (log_of logs q).popped (past ++ rest) ++ l) last ∙
+      append-nil (members (log_of logs q).popped (past ++ rest)) ∙ o.pops q
 
   pops : (q : ℕ) → members (log_of (set logs p h) q).popped (past ++ (rest ++ x ∷ [])) ≡ (log_of (set logs p h) q).popped
   pops = each_set (λ n (g : PassLog). members g.popped (past ++ (rest ++ x ∷ [])) ≡ g.popped) logs p h within (same_pops p) (λ n ne. same_pops n)
@@ -223,7 +232,8 @@ module _ (logs : List PassLog) (past rest : List Marked) (p : ℕ) (x : Marked) 
     once = λ q k. subst (λ l. count_by (is_at q k) l ≤ 1) (sym moved) (o.once q k);
     marks = λ q k d. each_set (λ n (f : PassLog). k < length f.pushed → (get_or f.pushed k d).at ≡ k) logs p g within (o.marks p k d) (λ n ne. o.marks n k d) q;
     pushes = λ q. ap (pushed_by q) moved ∙ each_set (λ n (f : PassLog). pushed_by n (past ++ x ∷ rest) ≡ f.pushed) logs p g within (o.pushes p) (λ n ne. o.pushes n) q;
-    pops = λ q. subst (λ l. members (log_of (set logs p g) q).popped l ≡ (log_of (set logs p g) q).popped) (sym moved) (each_set (λ n (f : PassLog). members f.popped (past ++ x ∷ rest) ≡ f.popped) logs p g within mine (λ n ne. o.pops n) q);
+    pops = λ q. subst (λ l. members (log_of (set logs p g) q).popped l ≡ (log_of (set logs p g) q).popped) (sym moved)
+        (each_set (λ n (f : PassLog). members f.popped (past ++ x ∷ rest) ≡ f.popped) logs p g within mine (λ n ne. o.pops n) q);
     popped = λ test.
         let a = sum_by-set (λ f. count_by test f.popped) logs p g no_log within in
         let b = o.popped test in
@@ -245,7 +255,8 @@ LevelOrder-more logs past rest o = record {
   marks = λ p k d. subst (λ (h : PassLog). k < length h.pushed → (get_or h.pushed k d).at ≡ k) (sym (extended logs p)) (o.marks p k d);
   pushes = λ p. o.pushes p ∙ ap (λ (h : PassLog). h.pushed) (sym (extended logs p));
   pops = λ p. subst (λ (h : PassLog). members h.popped (past ++ rest) ≡ h.popped) (sym (extended logs p)) (o.pops p);
-  popped = λ test. let a = sum_by-append (λ (h : PassLog). count_by test h.popped) logs (no_log ∷ []) in let b = sum_by-cons (λ (h : PassLog). count_by test h.popped) no_log [] in let c = o.popped test in omega arith;
+  popped = λ test. let a = sum_by-append (λ (h : PassLog). count_by test h.popped) logs (no_log ∷ []) in let b = sum_by-cons (λ (h : PassLog). count_by test h.popped) no_log [] in let c =
+      o.popped test in omega arith;
 }
 
 pub LevelOrder-none : LevelOrder [] [] []

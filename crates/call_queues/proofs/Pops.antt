@@ -39,4 +39,5 @@ module _ (old : PassSeen) (queues : QueueSet) (num : ℕ) (H N L : LevelPassSeen
   pub low_last : (h n l : PassLog) (r : Option Call) → LevelNone H h → LevelNone N n → MatchOption r (LevelNone L l) (λ call. LevelFound L l call)
       → MatchOption r (FoundNone old (three h n l)) (λ call. Found old (three h n l) call)
   low_last h n l None a b c = subst (λ o. FoundNone o (three h n l)) e ((λ i. three (a.0 i) (b.0 i) (c.0 i)), each h n l a b c)
-  low_last h n l (Some call) a b f = subst (λ o. Found o (three h n l) call) e (Low, f.0, f.1, (λ i. three (a.0 i) (b.0 i) (f.2 i)), (f.3.0, subst (λ k. Sees k (with_popped L.log f.0) f.3.0) el f.3.1), higher h n a b)
+  low_last h n l (Some call) a b f =
+      subst (λ o. Found o (three h n l) call) e (Low, f.0, f.1, (λ i. three (a.0 i) (b.0 i) (f.2 i)), (f.3.0, subst (λ k. Sees k (with_popped L.log f.0) f.3.0) el f.3.1), higher h n a b)

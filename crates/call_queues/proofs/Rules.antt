@@ -1,5 +1,6 @@
 -- Each step of a pass keeps the rule of its level.
-use Rattle.std.proofs.Common.{◌≡◌, ◌≢◌, ℕ, zero, suc, ◌+◌, ◌≤◌, ◌<◌, ◌⊎◌, List, [], ◌∷◌, ◌++◌, length, get_or, set, refl, sym, ◌∙◌, ap, subst, inl, inr, ⊎_elim, arith, append_assoc, append-nil, length-append}
+use Rattle.std.proofs.Common.{◌≡◌, ◌≢◌, ℕ, zero, suc, ◌+◌, ◌≤◌, ◌<◌, ◌⊎◌, List, [], ◌∷◌, ◌++◌, length, get_or, set, refl, sym, ◌∙◌, ap, subst, inl, inr, ⊎_elim, arith, append_assoc, append-nil}
+use Rattle.std.proofs.Common.{length-append}
 use Rattle.std.proofs.Math.ListN.{length-set}
 use Rattle.std.proofs.lemmas.Bool.Decides.{eqb_tells}
 use mathlib.Core.Option.{some, some-injective, some-ne-none}
@@ -152,7 +153,8 @@ drains port made known out all x items views k at =
     )
 
 -- a new number
-more_keep : (keeper : ℕ) (owners : List ℕ) (logs : List PassLog) (taken : List Marked) (port : ℕ) (j : ℕ) (u : QueueView) → j ≢ keeper → Fits keeper owners logs taken j u → Fits keeper (owners ++ port ∷ []) (logs ++ no_log ∷ []) taken j u
+more_keep : (keeper : ℕ) (owners : List ℕ) (logs : List PassLog) (taken : List Marked) (port : ℕ) (j : ℕ) (u : QueueView) → j ≢ keeper → Fits keeper owners logs taken j u →
+    Fits keeper (owners ++ port ∷ []) (logs ++ no_log ∷ []) taken j u
 more_keep keeper owners logs taken port j (Owner q g) ne f = (f.0, at_longer owners (port ∷ []) q j f.1, at_longer logs (no_log ∷ []) q g f.2)
 more_keep keeper owners logs taken port j (Keeper made known out) ne f = absurd (ne f.0)
 more_keep keeper owners logs taken port j Spent ne f = tt
@@ -167,7 +169,13 @@ forks port made known items views k at =
     let owners = k.owners ++ n ∷ [] in
     let logs = k.logs ++ no_log ∷ [] in
     let F = Fits k.keeper owners logs k.taken in
-    let mine : F port w = (f.0, (let s = f.1 in omega (arith, length-append k.logs (no_log ∷ []))), f.2, λ p h e. let r = f.3 p h e in (at_longer k.owners (n ∷ []) p k.keeper r.0, at_longer k.logs (no_log ∷ []) p h r.1)) in
+    let mine : F port w = (
+      f.0,
+      (let s = f.1 in omega (arith, length-append k.logs (no_log ∷ []))),
+      f.2,
+      λ p h e. let r = f.3 p h e in
+          (at_longer k.owners (n ∷ []) p k.keeper r.0, at_longer k.logs (no_log ∷ []) p h r.1),
+    ) in
     let last : F n v = ((λ e. let t = k.there in absurd (omega arith)), at_last k.owners n made (k.seats ∙ sym f.1), at_last k.logs no_log made (sym f.1)) in
     record {
       logs = logs;
@@ -192,7 +200,8 @@ back_keep keeper owners logs taken q other own j Spent ne away f = tt
 
 set_same : (owners : List ℕ) (p q keeper : ℕ) → get_elem? owners p ≡ some keeper → get_elem? (set owners q keeper) p ≡ some keeper
 set_same owners p q keeper e = elim (eqb_tells p q) [
-  | inl t ↦ (let l = within_at owners p keeper 0 e in let s : get_elem? (set owners p keeper) p ≡ some keeper = set_here owners p keeper l.0 in subst (λ n. get_elem? (set owners n keeper) p ≡ some keeper) t.1 s)
+  | inl t ↦ (let l = within_at owners p keeper 0 e in let s : get_elem? (set owners p keeper) p ≡ some keeper = set_here owners p keeper l.0 in
+      subst (λ n. get_elem? (set owners n keeper) p ≡ some keeper) t.1 s)
   | inr t ↦ set_else owners q p keeper t.1 ∙ e
 ]
 
@@ -219,7 +228,8 @@ merges port made known out other q h next items views k at two at' =
     let spent : QueueView = Spent in
     let vs = set views port w in
     let F' : ℕ → QueueView → Type 0 = λ j u. j ≢ other → F j u in
-    let first : (j : ℕ) (u : QueueView) → get_elem? vs j ≡ some u → F' j u = each_set F' views port w (λ _. mine) (λ j u ne t away. back_keep k.keeper k.owners k.logs k.taken q other g.1 j u (λ d. ne (d ∙ sym f.0)) away (k.fits j u t)) in
+    let first : (j : ℕ) (u : QueueView) → get_elem? vs j ≡ some u → F' j u =
+    each_set F' views port w (λ _. mine) (λ j u ne t away. back_keep k.keeper k.owners k.logs k.taken q other g.1 j u (λ d. ne (d ∙ sym f.0)) away (k.fits j u t)) in
     record {
       logs = k.logs;
       past = k.past;
@@ -231,7 +241,8 @@ merges port made known out other q h next items views k at two at' =
       there = (let t = k.there in omega (arith, length-set views port w, length-set vs other spent));
       fits = each_set F vs other spent tt (λ j u away t. first j u t away);
       room = k.room;
-      closed = ⊎_elim (λ e. inl e) (λ c. inr (λ p j t. ⊎_elim (λ (x : (p ≡ q) × (k.keeper ≡ j)). sym x.1) (λ (x : (p ≢ q) × (get_elem? k.owners p ≡ some j)). c p j x.1) (at_set k.owners q p k.keeper j t))) k.closed;
+      closed = ⊎_elim (λ e. inl e) (λ c. inr
+          (λ p j t. ⊎_elim (λ (x : (p ≡ q) × (k.keeper ≡ j)). sym x.1) (λ (x : (p ≢ q) × (get_elem? k.owners p ≡ some j)). c p j x.1) (at_set k.owners q p k.keeper j t))) k.closed;
     }
 
 pub learns : (port p : ℕ) (h : PassLog) → Learns IsKept port (Owner p h) (Sees p h)
@@ -275,12 +286,14 @@ first_keep keeper owners logs taken h own j (Owner q g) ne f = (f.0, f.1, set_el
 first_keep keeper owners logs taken h own j (Keeper made known out) ne f = absurd (ne f.0)
 first_keep keeper owners logs taken h own j Spent ne f = tt
 
-first_mine : (keeper : ℕ) (owners : List ℕ) (logs known : List PassLog) (h next : PassLog) → 0 < length logs → ((p : ℕ) (g : PassLog) → get_elem? (h ∷ known) p ≡ some g → (get_elem? owners p ≡ some keeper) × (get_elem? logs p ≡ some g))
+first_mine : (keeper : ℕ) (owners : List ℕ) (logs known : List PassLog) (h next : PassLog) → 0 < length logs →
+    ((p : ℕ) (g : PassLog) → get_elem? (h ∷ known) p ≡ some g → (get_elem? owners p ≡ some keeper) × (get_elem? logs p ≡ some g))
     → (p : ℕ) (g : PassLog) → get_elem? (next ∷ known) p ≡ some g → (get_elem? owners p ≡ some keeper) × (get_elem? (set logs 0 next) p ≡ some g)
 first_mine keeper owners logs known h next within f zero g e = ((f 0 h refl).0, set_here logs 0 next within ∙ e)
 first_mine keeper owners logs known h next within f (suc p) g e = let r = f (suc p) g e in (r.0, set_else logs 0 (suc p) next (λ t. omega arith) ∙ r.1)
 
-pub pushes_first : (n port made : ℕ) (known : List PassLog) (h : PassLog) (x : Marked) → n ≤ MAX_CALLS → x.by ≡ 0 → x.at ≡ length h.pushed → Pushes IsKept n port (Keeper made (h ∷ known) []) x (λ w. w ≡ Keeper made (with_pushed h x ∷ known) [])
+pub pushes_first : (n port made : ℕ) (known : List PassLog) (h : PassLog) (x : Marked) → n ≤ MAX_CALLS → x.by ≡ 0 → x.at ≡ length h.pushed →
+    Pushes IsKept n port (Keeper made (h ∷ known) []) x (λ w. w ≡ Keeper made (with_pushed h x ∷ known) [])
 pushes_first n port made known h x few by num items views room k at =
     let f = k.fits port (Keeper made (h ∷ known) []) at in
     let none : k.taken ≡ [] = sym f.2 in
@@ -300,7 +313,8 @@ pushes_first n port made known h x few by num items views room k at =
         order = subst (λ l. LevelOrder (set k.logs 0 (with_pushed h x)) k.past l) (append_assoc k.taken items (x ∷ [])) order';
         seats = k.seats ∙ sym (length-set k.logs 0 (with_pushed h x));
         there = subst (λ n. k.keeper < n) (sym (length-set views port w)) k.there;
-        fits = each_set (Fits k.keeper k.owners (set k.logs 0 (with_pushed h x)) k.taken) views port w (f.0, f.1 ∙ sym (length-set k.logs 0 (with_pushed h x)), f.2, first_mine k.keeper k.owners k.logs known h (with_pushed h x) here.0 f.3)
+        fits = each_set (Fits k.keeper k.owners (set k.logs 0 (with_pushed h x)) k.taken) views port w
+            (f.0, f.1 ∙ sym (length-set k.logs 0 (with_pushed h x)), f.2, first_mine k.keeper k.owners k.logs known h (with_pushed h x) here.0 f.3)
             (λ j u ne t. first_keep k.keeper k.owners k.logs k.taken (with_pushed h x) own.0 j u (λ d. ne (d ∙ sym f.0)) (k.fits j u t));
         room = omega (arith, length-append items (x ∷ []), ap length none);
         closed = k.closed;
@@ -327,7 +341,8 @@ pops_first port made known h x items views k at =
         order = subst (λ t. LevelOrder (set k.logs 0 (with_popped h x)) (k.past ++ x ∷ []) (t ++ items)) (sym none) order';
         seats = k.seats ∙ sym (length-set k.logs 0 (with_popped h x));
         there = subst (λ n. k.keeper < n) (sym (length-set views port w)) k.there;
-        fits = each_set (Fits k.keeper k.owners (set k.logs 0 (with_popped h x)) k.taken) views port w (f.0, f.1 ∙ sym (length-set k.logs 0 (with_popped h x)), f.2, first_mine k.keeper k.owners k.logs known h (with_popped h x) here.0 f.3)
+        fits = each_set (Fits k.keeper k.owners (set k.logs 0 (with_popped h x)) k.taken) views port w
+            (f.0, f.1 ∙ sym (length-set k.logs 0 (with_popped h x)), f.2, first_mine k.keeper k.owners k.logs known h (with_popped h x) here.0 f.3)
             (λ j u ne t. first_keep k.keeper k.owners k.logs k.taken (with_popped h x) own.0 j u (λ d. ne (d ∙ sym f.0)) (k.fits j u t));
         room = (let r = k.room in omega arith);
         closed = k.closed;
@@ -370,7 +385,8 @@ pub held_by : (n made p : ℕ) (h : PassLog) (v : QueueView) → v ≡ view_of m
 held_by n made zero h v e held = subst (λ u. Held n (SeesBy u)) e held
 held_by n made (suc p) h v e held = subst (λ u. Held n (SeesBy u)) e held
 
-pub drains_at : (port made : ℕ) (known : List PassLog) (out : List Marked) (v : QueueView) → v ≡ Keeper made known out → length known ≡ made → Pops IsKept port v (Drained v) × Learns IsKept port v (SeesAll v)
+pub drains_at : (port made : ℕ) (known : List PassLog) (out : List Marked) (v : QueueView) → v ≡ Keeper made known out → length known ≡ made →
+    Pops IsKept port v (Drained v) × Learns IsKept port v (SeesAll v)
 drains_at port made known out v e all = subst (λ v. Pops IsKept port v (Drained v) × Learns IsKept port v (SeesAll v)) (sym e) (drains port made known out all, learns_all port made known out all)
 
 pub forks_at : (port made : ℕ) (known : List PassLog) (v : QueueView) → v ≡ Keeper made known [] → Forks IsKept port v (rest_of v) (next_of v)
@@ -406,11 +422,14 @@ drained_all (Keeper m k out) made known e (items, none, (past, order)) =
     (past, subst (λ (y : List PassLog × List Marked). LevelOrder y.0 past y.1) (λ i. (b i, (ap (λ l. out ++ l) z ∙ append-nil out) i)) order)
 drained_all Spent made known e d = cc
 
-pub written_more : (start now next : List Call) (t more : List Marked) (x : Marked) → now ≡ start ++ map (λ (m : Marked). m.call) t → more ≡ t ++ x ∷ [] → next ≡ now ++ x.call ∷ [] → next ≡ start ++ map (λ (m : Marked). m.call) more
+pub written_more : (start now next : List Call) (t more : List Marked) (x : Marked) → now ≡ start ++ map (λ (m : Marked). m.call) t → more ≡ t ++ x ∷ [] → next ≡ now ++ x.call ∷ [] →
+    next ≡ start ++ map (λ (m : Marked). m.call) more
 written_more start now next t more x a b c =
-    c ∙ ap (λ l. l ++ x.call ∷ []) a ∙ append_assoc start (map (λ (m : Marked). m.call) t) (x.call ∷ []) ∙ ap (λ l. start ++ l) (sym (map-append (λ (m : Marked). m.call) t (x ∷ []))) ∙ ap (λ l. start ++ map (λ (m : Marked). m.call) l) (sym b)
+    c ∙ ap (λ l. l ++ x.call ∷ []) a ∙ append_assoc start (map (λ (m : Marked). m.call) t) (x.call ∷ []) ∙ ap (λ l. start ++ l) (sym (map-append (λ (m : Marked). m.call) t (x ∷ []))) ∙
+    ap (λ l. start ++ map (λ (m : Marked). m.call) l) (sym b)
 
-pub room_left : (start now : List Call) (t more : List Marked) (x : Marked) (cap begun : ℕ) → now ≡ start ++ map (λ (m : Marked). m.call) t → more ≡ t ++ x ∷ [] → length more ≤ MAX_CALLS → length start + MAX_CALLS ≤ begun → begun ≤ cap → length now < cap
+pub room_left : (start now : List Call) (t more : List Marked) (x : Marked) (cap begun : ℕ) → now ≡ start ++ map (λ (m : Marked). m.call) t → more ≡ t ++ x ∷ [] → length more ≤ MAX_CALLS →
+    length start + MAX_CALLS ≤ begun → begun ≤ cap → length now < cap
 room_left start now t more x cap begun a b few room le =
     let n : length now ≡ length start + length t = ap length a ∙ length-append start (map (λ (m : Marked). m.call) t) ∙ ap (λ k. length start + k) (length-map t (λ (m : Marked). m.call)) in
     let m : length more ≡ length t + 1 = ap length b ∙ length-append t (x ∷ []) in
@@ -430,6 +449,7 @@ other_made zero made h lt = absurd (omega arith)
 other_made (suc p) made h lt = refl
 
 -- what a pop tells of the pass p
-pub took_by : (made p : ℕ) (h : PassLog) (x : Marked) (v w : QueueView) → v ≡ view_of made p h → Took v x w → (w ≡ view_of made p (with_popped h x)) × ((items : List Marked) × Sees p (with_popped h x) items)
+pub took_by : (made p : ℕ) (h : PassLog) (x : Marked) (v w : QueueView) → v ≡ view_of made p h → Took v x w →
+    (w ≡ view_of made p (with_popped h x)) × ((items : List Marked) × Sees p (with_popped h x) items)
 took_by made zero h x v w e t = let q = t.0 ∙ ap (λ u. after_pop u x) e in (q, (t.1.0, subst (λ u. SeesBy u t.1.0) q t.1.1))
 took_by made (suc p) h x v w e t = let q = t.0 ∙ ap (λ u. after_pop u x) e in (q, (t.1.0, subst (λ u. SeesBy u t.1.0) q t.1.1))

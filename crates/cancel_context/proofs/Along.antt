@@ -29,7 +29,8 @@ along-start forest links d held l = record {
   size = l.lists.next_size;
 }
 
-pub along-more : (forest : Forest) (links : Links) (d x : ℕ) (rest : List ℕ) → IsAlong forest links d (Some x) rest → (xs : List ℕ) × ((rest ≡ x ∷ xs) × IsAlong forest links d (next_of links.next x) xs)
+pub along-more : (forest : Forest) (links : Links) (d x : ℕ) (rest : List ℕ) → IsAlong forest links d (Some x) rest →
+    (xs : List ℕ) × ((rest ≡ x ∷ xs) × IsAlong forest links d (next_of links.next x) xs)
 along-more forest links d x [] a = let wrong : Some x ≡ None = a.row in cc
 along-more forest links d x (y ∷ xs) a =
     let both : Some x ≡ Some y = a.row.0 in
@@ -54,10 +55,13 @@ along-end forest links d (y ∷ xs) a = let wrong : None ≡ Some y = a.row.0 in
 within_row : (forest : Forest) (links : Links) (d : ℕ) (following : Option ℕ) (rest : List ℕ) → IsAlong forest links d following rest → (x : ℕ) → IsIn rest x → x < length links.next
 within_row forest links d following rest a x i = let inside : x < length forest = IsHeld-within forest x (IsHeld-parent_in (binding forest x) d (a.bound x i)) in omega (arith, a.size)
 
-pub along-count : (forest : Forest) (links : Links) (d : ℕ) (following : Option ℕ) (rest : List ℕ) → IsAlong forest links d following rest → steps (length links.next) links.next following ≡ length rest
-along-count forest links d following rest a = steps-row (length links.next) links.next links.previous a.back following rest a.row (length-once-le (length links.next) rest a.once (within_row forest links d following rest a))
+pub along-count : (forest : Forest) (links : Links) (d : ℕ) (following : Option ℕ) (rest : List ℕ) → IsAlong forest links d following rest →
+    steps (length links.next) links.next following ≡ length rest
+along-count forest links d following rest a =
+    steps-row (length links.next) links.next links.previous a.back following rest a.row (length-once-le (length links.next) rest a.once (within_row forest links d following rest a))
 
-pub along-fewer : (forest : Forest) (links : Links) (d x : ℕ) (rest : List ℕ) → IsAlong forest links d (Some x) rest → steps (length links.next) links.next (next_of links.next x) < steps (length links.next) links.next (Some x)
+pub along-fewer : (forest : Forest) (links : Links) (d x : ℕ) (rest : List ℕ) → IsAlong forest links d (Some x) rest →
+    steps (length links.next) links.next (next_of links.next x) < steps (length links.next) links.next (Some x)
 along-fewer forest links d x rest a =
     let more = along-more forest links d x rest a in
     let one : length rest ≡ suc (length more.0) = ap length more.1.0 in
@@ -97,11 +101,13 @@ orphaning-held forest now links c x o =
       | inr t ↦ ap is_some t.0 ∙ held
     ]
 
-again_at : (c x : ℕ) (forest now : Forest) → (binding now x ≡ without_parent c (binding forest x)) ⊎ ((binding now x ≡ binding forest x) × Unit {0}) → without_parent c (binding now x) ≡ without_parent c (binding forest x)
+again_at : (c x : ℕ) (forest now : Forest) → (binding now x ≡ without_parent c (binding forest x)) ⊎ ((binding now x ≡ binding forest x) × Unit {0}) →
+    without_parent c (binding now x) ≡ without_parent c (binding forest x)
 again_at c x forest now (inl e) = ap (without_parent c) e ∙ left_alone c (without_parent c (binding forest x)) (λ t. (was c c (binding forest x) t).1 refl)
 again_at c x forest now (inr e) = ap (without_parent c) e.0
 
-pub orphaning-more : (forest now : Forest) (links : Links) (c x : ℕ) → IsOrphaning forest now links c (Some x) → IsOrphaning forest (slice_set now x (without_parent c (binding now x))) links c (next_of links.next x)
+pub orphaning-more : (forest now : Forest) (links : Links) (c x : ℕ) → IsOrphaning forest now links c (Some x) →
+    IsOrphaning forest (slice_set now x (without_parent c (binding now x))) links c (next_of links.next x)
 orphaning-more forest now links c x o =
     let more = along-more forest links c x o.rest o.along in
     let place = (orphaning-place forest now links c x o).0 in
@@ -110,7 +116,8 @@ orphaning-more forest now links c x o =
       along = more.1.1;
       same_size = length-set now x _ ∙ o.same_size;
       each = λ e. elim (eqb_tells e x) [
-        | inl s ↦ inl (ap (binding (slice_set now x (without_parent c (binding now x)))) s.1 ∙ get_or-set_same now x (without_parent c (binding now x)) None place ∙ again_at c x forest now (elim (o.each x) [ inl t ↦ inl t | inr t ↦ inr (t.0, tt) ]) ∙ sym (ap (λ y. without_parent c (binding forest y)) s.1))
+        | inl s ↦ inl (ap (binding (slice_set now x (without_parent c (binding now x)))) s.1 ∙ get_or-set_same now x (without_parent c (binding now x)) None place ∙
+            again_at c x forest now (elim (o.each x) [ inl t ↦ inl t | inr t ↦ inr (t.0, tt) ]) ∙ sym (ap (λ y. without_parent c (binding forest y)) s.1))
         | inr s ↦
             let kept : binding (slice_set now x (without_parent c (binding now x))) e ≡ binding now e = get_or-set_other now x e (without_parent c (binding now x)) None s.1 in
             elim (o.each e) [

@@ -1,5 +1,6 @@
 -- A context more.
-use Rattle.std.proofs.Common.{◌≡◌, ◌≢◌, ◌≤◌, ◌^◌, ◌<◌, ◌+◌, ℕ, zero, suc, true, false, ◌||◌, if◌then◌else◌, List, [], ◌∷◌, Option, Some, None, is_some, length, refl, sym, ◌∙◌, ap, subst, inl, inr, arith}
+use Rattle.std.proofs.Common.{◌≡◌, ◌≢◌, ◌≤◌, ◌^◌, ◌<◌, ◌+◌, ℕ, zero, suc, true, false, ◌||◌, if◌then◌else◌, List, [], ◌∷◌, Option, Some, None, is_some, length, refl, sym, ◌∙◌, ap, subst, inl, inr}
+use Rattle.std.proofs.Common.{arith}
 use Rattle.std.specs.List.{list_any}
 use Rattle.std.specs.Option.{option_map_or}
 use Rattle.std.specs.Prelude.{replicate}
@@ -41,7 +42,8 @@ ParentIn-each : (p : Option ℕ) (order : List ℕ) → ((q : ℕ) → p ≡ Som
 ParentIn-each None order h = tt
 ParentIn-each (Some q) order h = h q refl
 
-pub ordered-with_bound : (forest : Forest) (c : ℕ) (p : Option ℕ) → c < length forest → binding forest c ≡ None → ((q : ℕ) → p ≡ Some q → IsHeld forest q) → HasBindingOrder forest → HasBindingOrder (with_bound forest c p)
+pub ordered-with_bound : (forest : Forest) (c : ℕ) (p : Option ℕ) → c < length forest → binding forest c ≡ None → ((q : ℕ) → p ≡ Some q → IsHeld forest q) → HasBindingOrder forest →
+    HasBindingOrder (with_bound forest c p)
 ordered-with_bound forest c p within free held (order, o) =
     let here = binding-with_bound forest c p within in
     let above : ParentIn p order = ParentIn-each p order (λ q e. o.has_all q (held q e)) in
@@ -55,7 +57,8 @@ ordered-with_bound forest c p within free held (order, o) =
       },
     )
 
-pub IsSound-with_bound : (forest : Forest) (c : ℕ) (p : Option ℕ) → c < length forest → binding forest c ≡ None → ((q : ℕ) → p ≡ Some q → IsHeld forest q) → IsSound forest → IsSound (with_bound forest c p)
+pub IsSound-with_bound : (forest : Forest) (c : ℕ) (p : Option ℕ) → c < length forest → binding forest c ≡ None → ((q : ℕ) → p ≡ Some q → IsHeld forest q) → IsSound forest →
+    IsSound (with_bound forest c p)
 IsSound-with_bound forest c p within free held s = record {
   few = subst (λ n. n ≤ 2 ^ 16) (sym (length-set forest c (Some (record { parent = p; is_asked = false; is_orphan = false })))) s.few;
   ordered = ordered-with_bound forest c p within free held s.ordered;
@@ -63,7 +66,10 @@ IsSound-with_bound forest c p within free held s = record {
 
 -- what is reached from another context
 module _ (forest : Forest) (c : ℕ) (p : Option ℕ) (free : binding forest c ≡ None) (ordered : HasBindingOrder forest) where
-  reached_from : (n : ℕ) → ((q : ℕ) → q ≢ c → list_any (λ x. asks_in (binding (with_bound forest c p) x)) (chain_for n (with_bound forest c p) q) ≡ list_any (λ x. asks_in (binding forest x)) (chain_for n forest q)) → (d : ℕ) (o : Option ℕ) → parent forest d ≡ o → list_any (λ x. asks_in (binding (with_bound forest c p) x)) (chain_from o (chain_for n (with_bound forest c p))) ≡ list_any (λ x. asks_in (binding forest x)) (chain_from o (chain_for n forest))
+  reached_from : (n : ℕ) → ((q : ℕ) → q ≢ c →
+      list_any (λ x. asks_in (binding (with_bound forest c p) x)) (chain_for n (with_bound forest c p) q) ≡ list_any (λ x. asks_in (binding forest x)) (chain_for n forest q)) →
+      (d : ℕ) (o : Option ℕ) → parent forest d ≡ o →
+      list_any (λ x. asks_in (binding (with_bound forest c p) x)) (chain_from o (chain_for n (with_bound forest c p))) ≡ list_any (λ x. asks_in (binding forest x)) (chain_from o (chain_for n forest))
   reached_from n below d None e = refl
   reached_from n below d (Some q) e = below q (apart forest c q free (parents-held forest ordered d q e))
 
@@ -71,19 +77,23 @@ module _ (forest : Forest) (c : ℕ) (p : Option ℕ) (free : binding forest c �
   reached zero d ne = refl
   reached (suc n) d ne =
       let same = binding-with_bound_other forest c p d ne in
-      ap (λ o. asks_in o || list_any (λ x. asks_in (binding (with_bound forest c p) x)) (chain_from (parent_in o) (chain_for n (with_bound forest c p)))) same ∙ ap (λ b. asks_in (binding forest d) || b) (reached_from n (λ q. reached n q) d (parent forest d) refl)
+      ap (λ o. asks_in o || list_any (λ x. asks_in (binding (with_bound forest c p) x)) (chain_from (parent_in o) (chain_for n (with_bound forest c p)))) same ∙
+      ap (λ b. asks_in (binding forest d) || b) (reached_from n (λ q. reached n q) d (parent forest d) refl)
 
   -- every other context is cancelled as before
   pub is_cancelled-with_bound_other : (d : ℕ) → d ≢ c → is_cancelled (with_bound forest c p) d ≡ is_cancelled forest d
   is_cancelled-with_bound_other d ne =
-      ap (λ n. list_any (λ x. asks_in (binding (with_bound forest c p) x)) (chain_for n (with_bound forest c p) d)) (length-set forest c (Some (record { parent = p; is_asked = false; is_orphan = false }))) ∙ reached (length forest) d ne
+      ap (λ n. list_any (λ x. asks_in (binding (with_bound forest c p) x)) (chain_for n (with_bound forest c p) d))
+      (length-set forest c (Some (record { parent = p; is_asked = false; is_orphan = false }))) ∙ reached (length forest) d ne
 
-above_kept : (forest : Forest) (c : ℕ) (p q : Option ℕ) → binding forest c ≡ None → HasBindingOrder forest → ((r : ℕ) → q ≡ Some r → IsHeld forest r) → option_map_or (is_cancelled (with_bound forest c p)) q false ≡ option_map_or (is_cancelled forest) q false
+above_kept : (forest : Forest) (c : ℕ) (p q : Option ℕ) → binding forest c ≡ None → HasBindingOrder forest → ((r : ℕ) → q ≡ Some r → IsHeld forest r) →
+    option_map_or (is_cancelled (with_bound forest c p)) q false ≡ option_map_or (is_cancelled forest) q false
 above_kept forest c p None free ordered held = refl
 above_kept forest c p (Some r) free ordered held = is_cancelled-with_bound_other forest c p free ordered r (apart forest c r free (held r refl))
 
 -- a new context is cancelled if what it is bound to is
-pub is_cancelled-with_bound : (forest : Forest) (c : ℕ) (p : Option ℕ) → c < length forest → binding forest c ≡ None → ((q : ℕ) → p ≡ Some q → IsHeld forest q) → HasBindingOrder forest → is_cancelled (with_bound forest c p) c ≡ option_map_or (is_cancelled forest) p false
+pub is_cancelled-with_bound : (forest : Forest) (c : ℕ) (p : Option ℕ) → c < length forest → binding forest c ≡ None → ((q : ℕ) → p ≡ Some q → IsHeld forest q) → HasBindingOrder forest →
+    is_cancelled (with_bound forest c p) c ≡ option_map_or (is_cancelled forest) p false
 is_cancelled-with_bound forest c p within free held ordered =
     let after : IsForest (with_bound forest c p) = IsForest-ordered (with_bound forest c p) (ordered-with_bound forest c p within free held ordered) in
     after.walk c ∙ ap (λ o. asks_in o || option_map_or (is_cancelled (with_bound forest c p)) (parent_in o) false) (binding-with_bound forest c p within) ∙ above_kept forest c p p free ordered held

@@ -62,14 +62,16 @@ chains-follow forest (order, o) c p e =
     chain_for-enough forest order c (length forest) (suc (length forest)) o.newest_first (o.has_all c held) small longer ∙ step
 
 -- a context that is bound to none
-alone : (forest : Forest) (c n : ℕ) → parent forest c ≡ None → (n ≡ 0 → asks_in (binding forest c) ≡ false) → list_any (λ d. asks_in (binding forest d)) (chain_for n forest c) ≡ (asks_in (binding forest c) || false)
+alone : (forest : Forest) (c n : ℕ) → parent forest c ≡ None → (n ≡ 0 → asks_in (binding forest c) ≡ false) →
+    list_any (λ d. asks_in (binding forest d)) (chain_for n forest c) ≡ (asks_in (binding forest c) || false)
 alone forest c zero e h = sym (ap (λ b. b || false) (h refl))
 alone forest c (suc n) e h = ap (λ o. asks_in (binding forest c) || list_any (λ d. asks_in (binding forest d)) (chain_from o (chain_for n forest))) e
 
 absent : (forest : Forest) (c : ℕ) → length forest ≡ 0 → asks_in (binding forest c) ≡ false
 absent forest c e = let past : binding forest c ≡ None = get_or_past forest c None (omega arith) in ap asks_in past
 
-walk_at : (forest : Forest) → HasBindingOrder forest → (c : ℕ) → (o : Option ℕ) → parent forest c ≡ o → is_cancelled forest c ≡ (asks_in (binding forest c) || option_map_or (is_cancelled forest) o false)
+walk_at : (forest : Forest) → HasBindingOrder forest → (c : ℕ) → (o : Option ℕ) → parent forest c ≡ o →
+    is_cancelled forest c ≡ (asks_in (binding forest c) || option_map_or (is_cancelled forest) o false)
 walk_at forest ordered c None e = alone forest c (length forest) e (absent forest c)
 walk_at forest ordered c (Some p) e = ap (list_any (λ d. asks_in (binding forest d))) (chains-follow forest ordered c p e)
 
@@ -90,7 +92,8 @@ module _ (forest : Forest) (ordered : HasBindingOrder forest) (d : ℕ) where
         | inr t ↦ inr (sym (ap (λ b. b || list_any (λ x. x == d) (chain forest p)) t.0) ∙ sym (ap (list_any (λ x. x == d)) e) ∙ h)
       ]
 
-  shorter_from : (older : List ℕ) → IsNewestFirst forest older → ((c : ℕ) → IsIn older c → is_within forest c d ≡ true → (c ≡ d) ⊎ (length (chain forest d) < length (chain forest c))) → (c : ℕ) (o : Option ℕ) → parent forest c ≡ o → ParentIn o older → is_within forest c d ≡ true → (c ≡ d) ⊎ (length (chain forest d) < length (chain forest c))
+  shorter_from : (older : List ℕ) → IsNewestFirst forest older → ((c : ℕ) → IsIn older c → is_within forest c d ≡ true → (c ≡ d) ⊎ (length (chain forest d) < length (chain forest c))) →
+      (c : ℕ) (o : Option ℕ) → parent forest c ≡ o → ParentIn o older → is_within forest c d ≡ true → (c ≡ d) ⊎ (length (chain forest d) < length (chain forest c))
   shorter_from older s below c None e i h = inl (in_one c (length forest) e h)
   shorter_from older s below c (Some p) e i h =
       let more : chain forest c ≡ c ∷ chain forest p = chains-follow forest ordered c p e in

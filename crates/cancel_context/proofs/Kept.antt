@@ -20,19 +20,23 @@ AreFlags-replicate n = record {
   says = λ c h. absurd (nothing-held n c h);
 }
 
-pub AreFlags-with_bound : (forest : Forest) (c : ℕ) (o : Option ℕ) (flags : List Bool) → c < length forest → binding forest c ≡ None → ((q : ℕ) → o ≡ Some q → IsHeld forest q) → HasBindingOrder forest → AreFlags forest flags → AreFlags (with_bound forest c o) (slice_set flags c (option_map_or (flag flags) o false))
+pub AreFlags-with_bound : (forest : Forest) (c : ℕ) (o : Option ℕ) (flags : List Bool) → c < length forest → binding forest c ≡ None → ((q : ℕ) → o ≡ Some q → IsHeld forest q) →
+    HasBindingOrder forest → AreFlags forest flags → AreFlags (with_bound forest c o) (slice_set flags c (option_map_or (flag flags) o false))
 AreFlags-with_bound forest c o flags within free parents ordered a =
     let value = option_map_or (flag flags) o false in
     let inside : c < length flags = omega (arith, a.size) in
     record {
       size = length-set flags c value ∙ a.size ∙ sym (length-set forest c _);
       says = λ d h. elim (eqb_tells d c) [
-        | inl s ↦ ap (flag (slice_set flags c value)) s.1 ∙ get_or-set_same flags c value false inside ∙ above-same (flag flags) (is_cancelled forest) o (λ p e. a.says p (parents p e)) ∙ sym (ap (is_cancelled (with_bound forest c o)) s.1 ∙ is_cancelled-with_bound forest c o within free parents ordered)
-        | inr s ↦ get_or-set_other flags c d value false s.1 ∙ a.says d (sym (ap is_some (binding-with_bound_other forest c o d s.1)) ∙ h) ∙ sym (is_cancelled-with_bound_other forest c o free ordered d s.1)
+        | inl s ↦ ap (flag (slice_set flags c value)) s.1 ∙ get_or-set_same flags c value false inside ∙ above-same (flag flags) (is_cancelled forest) o (λ p e. a.says p (parents p e)) ∙
+            sym (ap (is_cancelled (with_bound forest c o)) s.1 ∙ is_cancelled-with_bound forest c o within free parents ordered)
+        | inr s ↦ get_or-set_other flags c d value false s.1 ∙ a.says d (sym (ap is_some (binding-with_bound_other forest c o d s.1)) ∙ h) ∙
+            sym (is_cancelled-with_bound_other forest c o free ordered d s.1)
       ];
     }
 
-pub AreFlags-without : (forest : Forest) (c : ℕ) (flags : List Bool) → IsHeld forest c → HasBindingOrder forest → ((d : ℕ) → parent forest d ≡ Some c → is_cancelled forest c ≡ true) → AreFlags forest flags → AreFlags (without forest c) flags
+pub AreFlags-without : (forest : Forest) (c : ℕ) (flags : List Bool) → IsHeld forest c → HasBindingOrder forest → ((d : ℕ) → parent forest d ≡ Some c → is_cancelled forest c ≡ true) →
+    AreFlags forest flags → AreFlags (without forest c) flags
 AreFlags-without forest c flags held ordered ends a = record {
   size = a.size ∙ sym (length-without forest c);
   says = λ d h.
@@ -53,9 +57,13 @@ not_unequal false true e = cc
 not_unequal false false e = refl
 
 -- A request is made or taken back, and the flag of its context follows.
-module _ (forest : Forest) (c : ℕ) (asked : Bool) (flags : List Bool) (value : Bool) (held : IsHeld forest c) (ordered : HasBindingOrder forest) (a : AreFlags forest flags) (follows : value ≡ (asks_in (binding (with_request forest c asked) c) || option_map_or (flag flags) (parent (with_request forest c asked) c) false)) where
+module _ (forest : Forest) (c : ℕ) (asked : Bool) (flags : List Bool) (value : Bool) (held : IsHeld forest c) (ordered : HasBindingOrder forest) (a : AreFlags forest flags)
+    (follows : value ≡ (asks_in (binding (with_request forest c asked) c) || option_map_or (flag flags) (parent (with_request forest c asked) c) false)) where
   pub request-spreads : differs value (flag flags c) ≡ true → IsSpreading (with_request forest c asked) (slice_set flags c value) (c ∷ []) [] value
-  request-spreads d = spreading-start forest (with_request forest c asked) c flags value (IsForest-ordered (with_request forest c asked) (ordered-with_request forest c asked held ordered)) ordered held a (length-set forest c _) (is_some-with_request forest c asked held) (parent-with_request forest c asked held) (λ d ne. binding-with_request_other forest c d asked ne) follows d
+  request-spreads d = spreading-start forest (with_request forest c asked) c flags value (IsForest-ordered (with_request forest c asked) (ordered-with_request forest c asked held ordered)) ordered
+      held a (length-set forest c _) (is_some-with_request forest c asked held) (parent-with_request forest c asked held) (λ d ne. binding-with_request_other forest c d asked ne) follows d
 
   pub request-settles : flag flags c ≡ value → AreFlags (with_request forest c asked) flags
-  request-settles e = flags-unturned forest (with_request forest c asked) c flags value (IsForest-ordered (with_request forest c asked) (ordered-with_request forest c asked held ordered)) ordered held a (length-set forest c _) (is_some-with_request forest c asked held) (parent-with_request forest c asked held) (λ d ne. binding-with_request_other forest c d asked ne) follows (ordered-with_request forest c asked held ordered) e
+  request-settles e = flags-unturned forest (with_request forest c asked) c flags value (IsForest-ordered (with_request forest c asked) (ordered-with_request forest c asked held ordered)) ordered held
+      a (length-set forest c _) (is_some-with_request forest c asked held) (parent-with_request forest c asked held) (λ d ne. binding-with_request_other forest c d asked ne) follows
+      (ordered-with_request forest c asked held ordered) e

@@ -10,7 +10,8 @@ use Rattle.cancel_context.proofs.Chains.{IsHeld-within, IsHeld-parent_in, parent
 use Rattle.cancel_context.proofs.Bound.{apart, binding-with_bound, binding-with_bound_other}
 use Rattle.cancel_context.proofs.Requests.{parent-with_request, is_some-with_request}
 use Rattle.cancel_context.proofs.Released.{except, IsIn-except, binding-without, binding-without_other, held_other, not_released, length-without}
-use Rattle.cancel_context.proofs.Rows.{set_at-other, set_at-same, length-set_at, except-same, except-other, except-none, IsIn-from_except, IsOnce-except, IsRow-same, after-in, before-in, next_left, previous_left, left-first, left-later, before-apart, head-in}
+use Rattle.cancel_context.proofs.Rows.{set_at-other, set_at-same, length-set_at, except-same, except-other, except-none, IsIn-from_except, IsOnce-except, IsRow-same, after-in, before-in, next_left}
+use Rattle.cancel_context.proofs.Rows.{previous_left, left-first, left-later, before-apart, head-in}
 
 -- what is in a list is held, and bound to the list's context alone
 pub held-below : (forest : Forest) (links : Links) (below : ℕ → List ℕ) → AreBelow forest links below → (p x : ℕ) → IsHeld forest p → IsIn (below p) x → IsHeld forest x
@@ -98,7 +99,8 @@ pub is_parent : (o : Option ℕ) (q : ℕ) → (o ≡ Some q) ⊎ (o ≡ Some q 
 is_parent None q = inr (λ e. cc)
 is_parent (Some p) q = elim (eqb_tells p q) [ inl h ↦ inl (ap Some h.1) | inr h ↦ inr (λ e. h.1 (let same : p ≡ q = cc in same)) ]
 
-module _ (forest : Forest) (c : ℕ) (o : Option ℕ) (links : Links) (below : ℕ → List ℕ) (within : c < length forest) (free : binding forest c ≡ None) (parents : (q : ℕ) → o ≡ Some q → IsHeld forest q) (ordered : HasBindingOrder forest) (l : AreBelow forest links below) where
+module _ (forest : Forest) (c : ℕ) (o : Option ℕ) (links : Links) (below : ℕ → List ℕ) (within : c < length forest) (free : binding forest c ≡ None) (parents : (q : ℕ) → o ≡ Some q → IsHeld forest q)
+    (ordered : HasBindingOrder forest) (l : AreBelow forest links below) where
   held_before : (q : ℕ) → q ≢ c → IsHeld (with_bound forest c o) q → IsHeld forest q
   held_before q ne h = sym (ap is_some (binding-with_bound_other forest c o q ne)) ∙ h
 
@@ -152,7 +154,8 @@ module _ (forest : Forest) (c : ℕ) (o : Option ℕ) (links : Links) (below : �
   size_grown : length (with_bound forest c o) ≡ length forest
   size_grown = length-set forest c _
 
-  with_rows : (after : Links) → length after.first ≡ length links.first → length after.next ≡ length links.next → length after.previous ≡ length links.previous → ((q : ℕ) → IsHeld (with_bound forest c o) q → IsRow after.next after.previous None (next_of after.first q) (grown below c o q)) → IsLinked (with_bound forest c o) after
+  with_rows : (after : Links) → length after.first ≡ length links.first → length after.next ≡ length links.next → length after.previous ≡ length links.previous →
+      ((q : ℕ) → IsHeld (with_bound forest c o) q → IsRow after.next after.previous None (next_of after.first q) (grown below c o q)) → IsLinked (with_bound forest c o) after
   with_rows after f n p rows = record {
     below = grown below c o;
     lists = record {
@@ -173,10 +176,12 @@ module _ (forest : Forest) (c : ℕ) (o : Option ℕ) (links : Links) (below : �
   rows_alone : o ≡ None → (q : ℕ) → IsHeld (with_bound forest c o) q → IsRow links.next links.previous None (next_of (slice_set links.first c None) q) (grown below c o q)
   rows_alone none q h =
       elim (eqb_tells q c) [
-        | inl e ↦ subst (λ t. IsRow links.next links.previous None (next_of (slice_set links.first c None) q) t) (sym (grown-own below c o q e.1)) (ap (next_of (slice_set links.first c None)) e.1 ∙ first_own)
+        | inl e ↦ subst (λ t. IsRow links.next links.previous None (next_of (slice_set links.first c None) q) t) (sym (grown-own below c o q e.1))
+            (ap (next_of (slice_set links.first c None)) e.1 ∙ first_own)
         | inr e ↦
             let out : o ≡ Some q → ⊥ = λ t. let wrong : None ≡ Some q = sym none ∙ t in cc in
-            subst (λ t. IsRow links.next links.previous None (next_of (slice_set links.first c None) q) t) (sym (grown-other below c o q e.1 out)) (subst (λ f. IsRow links.next links.previous None f (below q)) (sym (get_or-set_other links.first c q None None e.1)) (l.rows q (held_before q e.1 h)))
+            subst (λ t. IsRow links.next links.previous None (next_of (slice_set links.first c None) q) t) (sym (grown-other below c o q e.1 out))
+            (subst (λ f. IsRow links.next links.previous None f (below q)) (sym (get_or-set_other links.first c q None None e.1)) (l.rows q (held_before q e.1 h)))
       ]
 
   -- bound to another
@@ -216,7 +221,8 @@ module _ (forest : Forest) (c : ℕ) (o : Option ℕ) (links : Links) (below : �
 
     previous-own : next_of previous_after c ≡ None
     unfolding previous_after
-    previous-own = set_at-other (slice_set links.previous c None) follower (Some c) c (λ e. not_below p c parent_held (follower-below c e) refl) ∙ get_or-set_same links.previous c None None (omega (arith, l.previous_size))
+    previous-own = set_at-other (slice_set links.previous c None) follower (Some c) c (λ e. not_below p c parent_held (follower-below c e) refl) ∙
+        get_or-set_same links.previous c None None (omega (arith, l.previous_size))
 
     previous-follower : (y : ℕ) → follower ≡ Some y → next_of previous_after y ≡ Some c
     unfolding previous_after
@@ -230,7 +236,9 @@ module _ (forest : Forest) (c : ℕ) (o : Option ℕ) (links : Links) (below : �
         let other : (y : ℕ) → IsIn xs y → follower ≡ Some y → ⊥ = λ y i e. let both : Some x ≡ Some y = sym r.0 ∙ e in let same : x ≡ y = cc in once.0 (subst (λ t. IsIn xs t) (sym same) i) in (
           r.0,
           previous-follower x r.0,
-          subst (λ f. IsRow next_after previous_after (Some x) f xs) (sym (next-kept x (out x (inl refl)))) (IsRow-same links.next links.previous next_after previous_after (Some x) (next_of links.next x) xs (λ y i. next-kept y (out y (inr i))) (λ y i. previous-kept y (out y (inr i)) (other y i)) r.2),
+          subst (λ f. IsRow next_after previous_after (Some x) f xs) (sym (next-kept x (out x (inl refl))))
+              (IsRow-same links.next links.previous next_after previous_after (Some x) (next_of links.next x) xs (λ y i. next-kept y (out y (inr i)))
+              (λ y i. previous-kept y (out y (inr i)) (other y i)) r.2),
         )
 
     row_own : next_of first_after c ≡ None
@@ -243,7 +251,8 @@ module _ (forest : Forest) (c : ℕ) (o : Option ℕ) (links : Links) (below : �
 
     first-parent : next_of first_after p ≡ Some c
     unfolding first_after
-    first-parent = let inside : p < length forest = IsHeld-within forest p parent_held in get_or-set_same (slice_set links.first c None) p (Some c) None (omega (arith, l.first_size, length-set links.first c None))
+    first-parent = let inside : p < length forest = IsHeld-within forest p parent_held in
+        get_or-set_same (slice_set links.first c None) p (Some c) None (omega (arith, l.first_size, length-set links.first c None))
 
     next-own : next_of next_after c ≡ follower
     unfolding next_after
@@ -256,22 +265,32 @@ module _ (forest : Forest) (c : ℕ) (o : Option ℕ) (links : Links) (below : �
           | inr e ↦ let held = held_before q e.1 h in elim (eqb_tells q p) [
             | inl s ↦
                 let to : o ≡ Some q = is_parent_of ∙ ap Some (sym s.1) in
-                let row : IsRow links.next links.previous None follower (below q) = subst (λ f. IsRow links.next links.previous None f (below q)) (ap (next_of links.first) s.1 ∙ sym follower-is) (l.rows q held) in
-                let moved : IsRow next_after previous_after (Some c) (next_of next_after c) (below q) = subst (λ f. IsRow next_after previous_after (Some c) f (below q)) (sym next-own) (row_joined (below q) (l.once q held) (λ y i. not_below q y held i) row) in
+                let row : IsRow links.next links.previous None follower (below q) =
+                subst (λ f. IsRow links.next links.previous None f (below q)) (ap (next_of links.first) s.1 ∙ sym follower-is) (l.rows q held) in
+                let moved : IsRow next_after previous_after (Some c) (next_of next_after c) (below q) =
+                subst (λ f. IsRow next_after previous_after (Some c) f (below q)) (sym next-own) (row_joined (below q) (l.once q held) (λ y i. not_below q y held i) row) in
                 subst (λ t. IsRow next_after previous_after None (next_of first_after q) t) (sym (grown-parent below c o q e.1 to)) (ap (next_of first_after) s.1 ∙ first-parent, previous-own, moved)
             | inr s ↦
                 let out : o ≡ Some q → ⊥ = λ t. let both : Some p ≡ Some q = sym is_parent_of ∙ t in s.1 (let same : q ≡ p = cc in same) in
-                let apart_from : (y : ℕ) → IsIn (below q) y → follower ≡ Some y → ⊥ = λ y i t. let both : Some q ≡ Some p = sym (l.bound q y held i) ∙ l.bound p y parent_held (follower-below y t) in s.1 (let same : q ≡ p = cc in same) in
-                subst (λ t. IsRow next_after previous_after None (next_of first_after q) t) (sym (grown-other below c o q e.1 out)) (subst (λ f. IsRow next_after previous_after None f (below q)) (sym (first-kept q e.1 s.1)) (IsRow-same links.next links.previous next_after previous_after None (next_of links.first q) (below q) (λ y i. next-kept y (not_below q y held i)) (λ y i. previous-kept y (not_below q y held i) (apart_from y i)) (l.rows q held)))
+                let apart_from : (y : ℕ) → IsIn (below q) y → follower ≡ Some y → ⊥ = λ y i t. let both : Some q ≡ Some p = sym (l.bound q y held i) ∙ l.bound p y parent_held (follower-below y t) in
+                s.1 (let same : q ≡ p = cc in same) in
+                subst (λ t. IsRow next_after previous_after None (next_of first_after q) t) (sym (grown-other below c o q e.1 out))
+                (subst (λ f. IsRow next_after previous_after None f (below q)) (sym (first-kept q e.1 s.1))
+                (IsRow-same links.next links.previous next_after previous_after None (next_of links.first q) (below q) (λ y i. next-kept y (not_below q y held i))
+                (λ y i. previous-kept y (not_below q y held i) (apart_from y i)) (l.rows q held)))
           ]
         ]
 
     linked_under : IsLinked (with_bound forest c o) (joined links c (Some p))
     unfolding next_after previous_after first_after follower
-    linked_under = with_rows (joined links c (Some p)) (length-set (slice_set links.first c None) p (Some c) ∙ length-set links.first c None) (length-set links.next c _) (length-set_at (slice_set links.previous c None) _ (Some c) ∙ length-set links.previous c None) rows_under
+    linked_under = with_rows (joined links c (Some p)) (length-set (slice_set links.first c None) p (Some c) ∙ length-set links.first c None) (length-set links.next c _)
+        (length-set_at (slice_set links.previous c None) _ (Some c) ∙ length-set links.previous c None) rows_under
 
-pub IsLinked-with_bound : (forest : Forest) (c : ℕ) (o : Option ℕ) (links : Links) → c < length forest → binding forest c ≡ None → ((q : ℕ) → o ≡ Some q → IsHeld forest q) → HasBindingOrder forest → IsLinked forest links → IsLinked (with_bound forest c o) (joined links c o)
-IsLinked-with_bound forest c None links within free parents ordered l = with_rows forest c None links l.below within free parents ordered l.lists (joined links c None) (length-set links.first c None) refl refl (rows_alone forest c None links l.below within free parents ordered l.lists refl)
+pub IsLinked-with_bound : (forest : Forest) (c : ℕ) (o : Option ℕ) (links : Links) → c < length forest → binding forest c ≡ None → ((q : ℕ) → o ≡ Some q → IsHeld forest q) → HasBindingOrder forest →
+    IsLinked forest links → IsLinked (with_bound forest c o) (joined links c o)
+IsLinked-with_bound forest c None links within free parents ordered l =
+    with_rows forest c None links l.below within free parents ordered l.lists (joined links c None) (length-set links.first c None) refl refl
+    (rows_alone forest c None links l.below within free parents ordered l.lists refl)
 IsLinked-with_bound forest c (Some p) links within free parents ordered l = linked_under forest c (Some p) links l.below within free parents ordered l.lists p refl
 
 -- what is bound to another context than the one that goes stays so
@@ -310,7 +329,10 @@ module _ (forest : Forest) (c : ℕ) (links : Links) (below : ℕ → List ℕ) 
       (omega (arith, l.next_size), omega (arith, l.previous_size))
 
   -- the links of a row that the context is in, by whether it is the first
-  row_left : (p : ℕ) → parent forest c ≡ Some p → IsHeld forest p → (xs : List ℕ) → below p ≡ xs → IsIn xs c → IsRow links.next links.previous None (next_of links.first p) xs → IsOnce xs → ((y : ℕ) → IsIn xs y → (y < length links.next) × (y < length links.previous)) → IsRow (next_left links.next links.previous c) (previous_left links.next links.previous c) None (next_of (first_left links.first p (next_of links.previous c) (next_of links.next c)) p) (except c xs)
+  row_left : (p : ℕ) → parent forest c ≡ Some p → IsHeld forest p → (xs : List ℕ) → below p ≡ xs → IsIn xs c → IsRow links.next links.previous None (next_of links.first p) xs → IsOnce xs →
+      ((y : ℕ) → IsIn xs y → (y < length links.next) × (y < length links.previous)) →
+      IsRow (next_left links.next links.previous c) (previous_left links.next links.previous c) None (next_of (first_left links.first p (next_of links.previous c) (next_of links.next c)) p)
+      (except c xs)
   row_left p e h [] is i r o within = absurd i
   row_left p e h (x ∷ xs) is i r o within =
       elim (eqb_tells x c) [
@@ -319,15 +341,21 @@ module _ (forest : Forest) (c : ℕ) (links : Links) (below : ℕ → List ℕ) 
             let rest : IsRow links.next links.previous (Some c) (next_of links.next c) xs = subst (λ t. IsRow links.next links.previous (Some t) (next_of links.next t) xs) s.1 r.2 in
             let moved = left-first links.next links.previous c None xs back (λ y t j. let wrong : None ≡ Some y = t in cc) (λ y j. (within y (inr j)).1) o.1 rest in
             let inside : p < length links.first = let low = IsHeld-within forest p h in omega (arith, l.first_size) in
-            let to : next_of (first_left links.first p (next_of links.previous c) (next_of links.next c)) p ≡ next_of links.next c = ap (λ b. next_of (first_left links.first p b (next_of links.next c)) p) back ∙ get_or-set_same links.first p (next_of links.next c) None inside in
+            let to : next_of (first_left links.first p (next_of links.previous c) (next_of links.next c)) p ≡ next_of links.next c =
+            ap (λ b. next_of (first_left links.first p b (next_of links.next c)) p) back ∙ get_or-set_same links.first p (next_of links.next c) None inside in
             let gone : except c (x ∷ xs) ≡ xs = except-same c x xs s.1 ∙ except-none c xs (λ j. o.0 (subst (λ t. IsIn xs t) (sym s.1) j)) in
-            subst (λ t. IsRow (next_left links.next links.previous c) (previous_left links.next links.previous c) None (next_of (first_left links.first p (next_of links.previous c) (next_of links.next c)) p) t) (sym gone) (subst (λ f. IsRow (next_left links.next links.previous c) (previous_left links.next links.previous c) None f xs) (sym to) moved)
+            subst (λ t. IsRow (next_left links.next links.previous c) (previous_left links.next links.previous c) None
+            (next_of (first_left links.first p (next_of links.previous c) (next_of links.next c)) p) t) (sym gone)
+            (subst (λ f. IsRow (next_left links.next links.previous c) (previous_left links.next links.previous c) None f xs) (sym to) moved)
         | inr s ↦
             let later : IsIn xs c = elim i [ inl t ↦ absurd (s.1 t) | inr j ↦ j ] in
             let before = before-in links.next links.previous None (next_of links.first p) x xs c r later in
-            let to : next_of (first_left links.first p (next_of links.previous c) (next_of links.next c)) p ≡ next_of links.first p = ap (λ b. next_of (first_left links.first p b (next_of links.next c)) p) before.1.0 in
+            let to : next_of (first_left links.first p (next_of links.previous c) (next_of links.next c)) p ≡ next_of links.first p =
+            ap (λ b. next_of (first_left links.first p b (next_of links.next c)) p) before.1.0 in
             let moved = left-later links.next links.previous c None (next_of links.first p) x xs within o s.1 later r in
-            subst (λ t. IsRow (next_left links.next links.previous c) (previous_left links.next links.previous c) None (next_of (first_left links.first p (next_of links.previous c) (next_of links.next c)) p) t) (sym (except-other c x xs s.1)) (subst (λ f. IsRow (next_left links.next links.previous c) (previous_left links.next links.previous c) None f (x ∷ except c xs)) (sym to) moved)
+            subst (λ t. IsRow (next_left links.next links.previous c) (previous_left links.next links.previous c) None
+            (next_of (first_left links.first p (next_of links.previous c) (next_of links.next c)) p) t) (sym (except-other c x xs s.1))
+            (subst (λ f. IsRow (next_left links.next links.previous c) (previous_left links.next links.previous c) None f (x ∷ except c xs)) (sym to) moved)
       ]
 
   -- what comes before and after the context is in its parent's list
@@ -355,7 +383,8 @@ module _ (forest : Forest) (c : ℕ) (links : Links) (below : ℕ → List ℕ) 
   without_row : (q : ℕ) → IsHeld forest q → (parent forest c ≡ Some q → ⊥) → except c (below q) ≡ below q
   without_row q h out = except-none c (below q) (λ i. out (l.bound q c h i))
 
-  with_left : (after : Links) → length after.first ≡ length links.first → length after.next ≡ length links.next → length after.previous ≡ length links.previous → ((q : ℕ) → IsHeld forest q → IsRow after.next after.previous None (next_of after.first q) (except c (below q))) → IsLinked (without forest c) after
+  with_left : (after : Links) → length after.first ≡ length links.first → length after.next ≡ length links.next → length after.previous ≡ length links.previous →
+      ((q : ℕ) → IsHeld forest q → IsRow after.next after.previous None (next_of after.first q) (except c (below q))) → IsLinked (without forest c) after
   with_left after f n p rows = record {
     below = λ q. except c (below q);
     lists = record {
@@ -392,42 +421,62 @@ module _ (forest : Forest) (c : ℕ) (links : Links) (below : ℕ → List ℕ) 
     elsewhere : (q y : ℕ) → q ≢ p → IsHeld forest q → IsIn (below q) y → IsIn (below p) y → ⊥
     elsewhere q y ne hq i j = let both : Some q ≡ Some p = sym (l.bound q y hq i) ∙ l.bound p y h j in ne (let same : q ≡ p = cc in same)
 
-    rows_left : (q : ℕ) → IsHeld forest q → IsRow (next_left links.next links.previous c) (previous_left links.next links.previous c) None (next_of (first_left links.first p (next_of links.previous c) (next_of links.next c)) q) (except c (below q))
+    rows_left : (q : ℕ) → IsHeld forest q →
+        IsRow (next_left links.next links.previous c) (previous_left links.next links.previous c) None (next_of (first_left links.first p (next_of links.previous c) (next_of links.next c)) q)
+        (except c (below q))
     rows_left q hq =
         elim (eqb_tells q p) [
           | inl s ↦
               let at : parent forest c ≡ Some q = e ∙ ap Some (sym s.1) in
-              subst (λ t. IsRow (next_left links.next links.previous c) (previous_left links.next links.previous c) None (next_of (first_left links.first t (next_of links.previous c) (next_of links.next c)) q) (except c (below q))) s.1 (row_left q at hq (below q) refl (l.all q c at) (l.rows q hq) (l.once q hq) (not_own q at hq))
+              subst (λ t. IsRow (next_left links.next links.previous c) (previous_left links.next links.previous c) None
+              (next_of (first_left links.first t (next_of links.previous c) (next_of links.next c)) q) (except c (below q))) s.1
+              (row_left q at hq (below q) refl (l.all q c at) (l.rows q hq) (l.once q hq) (not_own q at hq))
           | inr s ↦
               let out : parent forest c ≡ Some q → ⊥ = λ t. let both : Some p ≡ Some q = sym e ∙ t in s.1 (let same : q ≡ p = cc in same) in
-              let n : (y : ℕ) → IsIn (below q) y → next_of (next_left links.next links.previous c) y ≡ next_of links.next y = λ y i. set_at-other links.next (next_of links.previous c) (next_of links.next c) y (λ t. elsewhere q y s.1 hq i (before_there p e h (below p) refl y t).0) in
-              let v : (y : ℕ) → IsIn (below q) y → next_of (previous_left links.next links.previous c) y ≡ next_of links.previous y = λ y i. set_at-other links.previous (next_of links.next c) (next_of links.previous c) y (λ t. elsewhere q y s.1 hq i (after_there p e h y t)) in
-              subst (λ t. IsRow (next_left links.next links.previous c) (previous_left links.next links.previous c) None (next_of (first_left links.first p (next_of links.previous c) (next_of links.next c)) q) t) (sym (without_row q hq out)) (subst (λ f. IsRow (next_left links.next links.previous c) (previous_left links.next links.previous c) None f (below q)) (sym (first_other (next_of links.previous c) q s.1)) (IsRow-same links.next links.previous (next_left links.next links.previous c) (previous_left links.next links.previous c) None (next_of links.first q) (below q) n v (l.rows q hq)))
+              let n : (y : ℕ) → IsIn (below q) y → next_of (next_left links.next links.previous c) y ≡ next_of links.next y =
+              λ y i. set_at-other links.next (next_of links.previous c) (next_of links.next c) y (λ t. elsewhere q y s.1 hq i (before_there p e h (below p) refl y t).0) in
+              let v : (y : ℕ) → IsIn (below q) y → next_of (previous_left links.next links.previous c) y ≡ next_of links.previous y =
+              λ y i. set_at-other links.previous (next_of links.next c) (next_of links.previous c) y (λ t. elsewhere q y s.1 hq i (after_there p e h y t)) in
+              subst (λ t. IsRow (next_left links.next links.previous c) (previous_left links.next links.previous c) None
+              (next_of (first_left links.first p (next_of links.previous c) (next_of links.next c)) q) t) (sym (without_row q hq out))
+              (subst (λ f. IsRow (next_left links.next links.previous c) (previous_left links.next links.previous c) None f (below q)) (sym (first_other (next_of links.previous c) q s.1))
+              (IsRow-same links.next links.previous (next_left links.next links.previous c) (previous_left links.next links.previous c) None (next_of links.first q) (below q) n v (l.rows q hq)))
         ]
 
     linked_left : IsLinked (without forest c) (left links c (Some p))
-    linked_left = with_left (left links c (Some p)) (first_size-left (next_of links.previous c)) (length-set_at links.next (next_of links.previous c) (next_of links.next c)) (length-set_at links.previous _ (next_of links.previous c)) (λ q hq. subst (λ t. IsRow (next_left links.next links.previous c) t None (next_of (first_left links.first p (next_of links.previous c) (next_of links.next c)) q) (except c (below q))) (sym previous-is) (rows_left q hq))
+    linked_left = with_left (left links c (Some p)) (first_size-left (next_of links.previous c)) (length-set_at links.next (next_of links.previous c) (next_of links.next c))
+        (length-set_at links.previous _ (next_of links.previous c))
+        (λ q hq. subst (λ t. IsRow (next_left links.next links.previous c) t None (next_of (first_left links.first p (next_of links.previous c) (next_of links.next c)) q) (except c (below q)))
+        (sym previous-is) (rows_left q hq))
 
-IsLinked-left : (forest : Forest) (c : ℕ) (links : Links) (o : Option ℕ) → parent forest c ≡ o → IsHeld forest c → HasBindingOrder forest → IsLinked forest links → IsLinked (without forest c) (left links c o)
-IsLinked-left forest c links None e held ordered l = with_left forest c links l.below held l.lists links refl refl refl (λ q h. subst (λ t. IsRow links.next links.previous None (next_of links.first q) t) (sym (without_row forest c links l.below held l.lists q h (λ t. let wrong : None ≡ Some q = sym e ∙ t in cc))) (l.lists.rows q h))
+IsLinked-left : (forest : Forest) (c : ℕ) (links : Links) (o : Option ℕ) → parent forest c ≡ o → IsHeld forest c → HasBindingOrder forest → IsLinked forest links →
+    IsLinked (without forest c) (left links c o)
+IsLinked-left forest c links None e held ordered l =
+    with_left forest c links l.below held l.lists links refl refl refl
+    (λ q h. subst (λ t. IsRow links.next links.previous None (next_of links.first q) t) (sym (without_row forest c links l.below held l.lists q h (λ t. let wrong : None ≡ Some q = sym e ∙ t in cc)))
+    (l.lists.rows q h))
 IsLinked-left forest c links (Some p) e held ordered l = linked_left forest c links l.below held l.lists p e (parents-held forest ordered c p e)
 
 pub IsLinked-without : (forest : Forest) (c : ℕ) (links : Links) → IsHeld forest c → HasBindingOrder forest → IsLinked forest links → IsLinked (without forest c) (left links c (parent forest c))
 IsLinked-without forest c links held ordered l = IsLinked-left forest c links (parent forest c) refl held ordered l
 
 -- what the calls on the lists ask for
-pub join-follower : (forest : Forest) (c : ℕ) (o : Option ℕ) (links : Links) → binding forest c ≡ None → ((q : ℕ) → o ≡ Some q → IsHeld forest q) → IsLinked forest links → (p : ℕ) → o ≡ Some p → (y : ℕ) → next_of (emptied links c).first p ≡ Some y → HasPlace links y
+pub join-follower : (forest : Forest) (c : ℕ) (o : Option ℕ) (links : Links) → binding forest c ≡ None → ((q : ℕ) → o ≡ Some q → IsHeld forest q) → IsLinked forest links → (p : ℕ) → o ≡ Some p →
+    (y : ℕ) → next_of (emptied links c).first p ≡ Some y → HasPlace links y
 join-follower forest c o links free parents l p e y at =
     let held = parents p e in
     let first : next_of links.first p ≡ Some y = sym (get_or-set_other links.first c p None None (apart forest c p free held)) ∙ at in
-    place-held forest links l.below l.lists y (held-below forest links l.below l.lists p y held (head-in links.next links.previous None (next_of links.first p) (l.below p) y (l.lists.rows p held) first))
+    place-held forest links l.below l.lists y
+    (held-below forest links l.below l.lists p y held (head-in links.next links.previous None (next_of links.first p) (l.below p) y (l.lists.rows p held) first))
 
-pub leave-before : (forest : Forest) (c : ℕ) (links : Links) → IsHeld forest c → HasBindingOrder forest → IsLinked forest links → (p : ℕ) → parent forest c ≡ Some p → (y : ℕ) → next_of links.previous c ≡ Some y → HasPlace links y
+pub leave-before : (forest : Forest) (c : ℕ) (links : Links) → IsHeld forest c → HasBindingOrder forest → IsLinked forest links → (p : ℕ) → parent forest c ≡ Some p → (y : ℕ) →
+    next_of links.previous c ≡ Some y → HasPlace links y
 leave-before forest c links held ordered l p e y at =
     let h = parents-held forest ordered c p e in
     place-held forest links l.below l.lists y (held-below forest links l.below l.lists p y h (before_there forest c links l.below held l.lists p e h (l.below p) refl y at).0)
 
-pub leave-after : (forest : Forest) (c : ℕ) (links : Links) → IsHeld forest c → HasBindingOrder forest → IsLinked forest links → (p : ℕ) → parent forest c ≡ Some p → (y : ℕ) → next_of links.next c ≡ Some y → HasPlace links y
+pub leave-after : (forest : Forest) (c : ℕ) (links : Links) → IsHeld forest c → HasBindingOrder forest → IsLinked forest links → (p : ℕ) → parent forest c ≡ Some p → (y : ℕ) →
+    next_of links.next c ≡ Some y → HasPlace links y
 leave-after forest c links held ordered l p e y at =
     let h = parents-held forest ordered c p e in
     place-held forest links l.below l.lists y (held-below forest links l.below l.lists p y h (after_there forest c links l.below held l.lists p e h y at))

@@ -33,7 +33,8 @@ module _ (forest : Forest) (c : ℕ) (flags : List Bool) (held : IsHeld forest c
   noted-settles up = request-settles forest c true flags true held ordered a follows up
 
   -- what is cancelled now and was not had its flag turned
-  pub noted-all : (turned : List Bool) (noted : List ℕ) → AreFlags after turned → ((d : ℕ) → (flag turned d ≡ flag flags d) ⊎ Contains noted d) → (d : ℕ) → is_cancelled after d ≡ true → is_cancelled forest d ≡ false → Contains noted d
+  pub noted-all : (turned : List Bool) (noted : List ℕ) → AreFlags after turned → ((d : ℕ) → (flag turned d ≡ flag flags d) ⊎ Contains noted d) → (d : ℕ) → is_cancelled after d ≡ true →
+      is_cancelled forest d ≡ false → Contains noted d
   noted-all turned noted a_after each d now before =
       elim (bool_cases (is_some (binding after d))) [
         | inl there ↦ elim (each d) [

@@ -1,5 +1,6 @@
 -- A context fewer.
-use Rattle.std.proofs.Common.{◌≡◌, ◌≢◌, ◌≤◌, ◌^◌, ◌<◌, ◌+◌, ◌==◌, ℕ, suc, Bool, true, false, ◌||◌, if◌then◌else◌, List, [], ◌∷◌, Option, Some, None, is_some, map, length, refl, sym, ◌∙◌, ap, subst, inl, inr, arith}
+use Rattle.std.proofs.Common.{◌≡◌, ◌≢◌, ◌≤◌, ◌^◌, ◌<◌, ◌+◌, ◌==◌, ℕ, suc, Bool, true, false, ◌||◌, if◌then◌else◌, List, [], ◌∷◌, Option, Some, None, is_some, map, length, refl, sym, ◌∙◌, ap, subst}
+use Rattle.std.proofs.Common.{inl, inr, arith}
 use Rattle.std.specs.Prelude.{slice_index_or}
 use Rattle.std.specs.Option.{option_map_or}
 use Rattle.std.proofs.Math.Bool.{or-true}
@@ -74,7 +75,8 @@ ParentIn-leaving c b None older e i = subst (λ o. ParentIn o (except c older)) 
 ParentIn-leaving c b (Some p) older e i =
     elim (eqb_tells p c) [
       | inl h ↦ subst (λ t. ParentIn ((if t then record { parent = None; is_asked = b.is_asked; is_orphan = true } else b).parent) (except c older)) (sym h.0) tt
-      | inr h ↦ subst (λ t. ParentIn ((if t then record { parent = None; is_asked = b.is_asked; is_orphan = true } else b).parent) (except c older)) (sym h.0) (subst (λ o. ParentIn o (except c older)) (sym e) (IsIn-except c p older i h.1))
+      | inr h ↦ subst (λ t. ParentIn ((if t then record { parent = None; is_asked = b.is_asked; is_orphan = true } else b).parent) (except c older)) (sym h.0)
+          (subst (λ o. ParentIn o (except c older)) (sym e) (IsIn-except c p older i h.1))
     ]
 
 ParentIn-without_parent : (c : ℕ) (o : Option Binding) (older : List ℕ) → ParentIn (parent_in o) older → ParentIn (parent_in (without_parent c o)) (except c older)
@@ -87,7 +89,11 @@ newest-without forest c [] s = tt
 newest-without forest c (x ∷ older) s =
     elim (eqb_tells x c) [
       | inl e ↦ subst (λ b. IsNewestFirst (without forest c) (if b then except c older else x ∷ except c older)) (sym e.0) (newest-without forest c older s.2)
-      | inr e ↦ subst (λ b. IsNewestFirst (without forest c) (if b then except c older else x ∷ except c older)) (sym e.0) (held_other forest c x e.1 ∙ s.0, subst (λ o. ParentIn (parent_in o) (except c older)) (sym (binding-without_other forest c x e.1)) (ParentIn-without_parent c (binding forest x) older s.1), newest-without forest c older s.2)
+      | inr e ↦ subst (λ b. IsNewestFirst (without forest c) (if b then except c older else x ∷ except c older)) (sym e.0) (
+        held_other forest c x e.1 ∙ s.0,
+        subst (λ o. ParentIn (parent_in o) (except c older)) (sym (binding-without_other forest c x e.1)) (ParentIn-without_parent c (binding forest x) older s.1),
+        newest-without forest c older s.2,
+      )
     ]
 
 held_count-map : (c : ℕ) (forest : Forest) → held_count (map (without_parent c) forest) ≡ held_count forest
@@ -136,18 +142,25 @@ IsSound-without forest c h s = record {
 }
 
 -- what is left of a binding asks, or goes on above, as before
-kept_at : (c : ℕ) (b : Binding) (o : Option ℕ) (after before : ℕ → Bool) → b.parent ≡ o → (o ≡ Some c → before c ≡ true) → ((p : ℕ) → o ≡ Some p → p ≢ c → after p ≡ before p) → (asks_in (Some (leaving c b o)) || option_map_or after ((leaving c b o).parent) false) ≡ (asks_in (Some b) || option_map_or before b.parent false)
+kept_at : (c : ℕ) (b : Binding) (o : Option ℕ) (after before : ℕ → Bool) → b.parent ≡ o → (o ≡ Some c → before c ≡ true) → ((p : ℕ) → o ≡ Some p → p ≢ c → after p ≡ before p) →
+    (asks_in (Some (leaving c b o)) || option_map_or after ((leaving c b o).parent) false) ≡ (asks_in (Some b) || option_map_or before b.parent false)
 kept_at c b None after before e cancelled same = ap (λ o. asks_in (Some b) || option_map_or after o false) e ∙ sym (ap (λ o. asks_in (Some b) || option_map_or before o false) e)
 kept_at c b (Some p) after before e cancelled same =
     elim (eqb_tells p c) [
       | inl h ↦
-          let then_true : (asks_in (Some (leaving c b (Some p))) || option_map_or after ((leaving c b (Some p)).parent) false) ≡ true = ap (λ t. asks_in (Some (if t then record { parent = None; is_asked = b.is_asked; is_orphan = true } else b)) || option_map_or after ((if t then record { parent = None; is_asked = b.is_asked; is_orphan = true } else b).parent) false) h.0 ∙ ap (λ t. t || false) (or-true b.is_asked) in
-          let was_true : (asks_in (Some b) || option_map_or before b.parent false) ≡ true = ap (λ o. asks_in (Some b) || option_map_or before o false) e ∙ ap (λ t. asks_in (Some b) || t) (ap before h.1 ∙ cancelled (ap Some h.1)) ∙ or-true (asks_in (Some b)) in
+          let then_true : (asks_in (Some (leaving c b (Some p))) || option_map_or after ((leaving c b (Some p)).parent) false) ≡ true =
+          ap (λ t. asks_in (Some (if t then record { parent = None; is_asked = b.is_asked; is_orphan = true } else b)) ||
+          option_map_or after ((if t then record { parent = None; is_asked = b.is_asked; is_orphan = true } else b).parent) false) h.0 ∙ ap (λ t. t || false) (or-true b.is_asked) in
+          let was_true : (asks_in (Some b) || option_map_or before b.parent false) ≡ true =
+          ap (λ o. asks_in (Some b) || option_map_or before o false) e ∙ ap (λ t. asks_in (Some b) || t) (ap before h.1 ∙ cancelled (ap Some h.1)) ∙ or-true (asks_in (Some b)) in
           then_true ∙ sym was_true
-      | inr h ↦ ap (λ t. asks_in (Some (if t then record { parent = None; is_asked = b.is_asked; is_orphan = true } else b)) || option_map_or after ((if t then record { parent = None; is_asked = b.is_asked; is_orphan = true } else b).parent) false) h.0 ∙ ap (λ o. asks_in (Some b) || option_map_or after o false) e ∙ ap (λ t. asks_in (Some b) || t) (same p refl h.1) ∙ sym (ap (λ o. asks_in (Some b) || option_map_or before o false) e)
+      | inr h ↦ ap (λ t. asks_in (Some (if t then record { parent = None; is_asked = b.is_asked; is_orphan = true } else b)) ||
+          option_map_or after ((if t then record { parent = None; is_asked = b.is_asked; is_orphan = true } else b).parent) false) h.0 ∙ ap (λ o. asks_in (Some b) || option_map_or after o false) e ∙
+          ap (λ t. asks_in (Some b) || t) (same p refl h.1) ∙ sym (ap (λ o. asks_in (Some b) || option_map_or before o false) e)
     ]
 
-kept_in : (c : ℕ) (o : Option Binding) (after before : ℕ → Bool) → (parent_in o ≡ Some c → before c ≡ true) → ((p : ℕ) → parent_in o ≡ Some p → p ≢ c → after p ≡ before p) → (asks_in (without_parent c o) || option_map_or after (parent_in (without_parent c o)) false) ≡ (asks_in o || option_map_or before (parent_in o) false)
+kept_in : (c : ℕ) (o : Option Binding) (after before : ℕ → Bool) → (parent_in o ≡ Some c → before c ≡ true) → ((p : ℕ) → parent_in o ≡ Some p → p ≢ c → after p ≡ before p) →
+    (asks_in (without_parent c o) || option_map_or after (parent_in (without_parent c o)) false) ≡ (asks_in o || option_map_or before (parent_in o) false)
 kept_in c None after before cancelled same = refl
 kept_in c (Some b) after before cancelled same = kept_at c b b.parent after before refl cancelled same
 
@@ -156,7 +169,8 @@ module _ (forest : Forest) (c : ℕ) (held : IsHeld forest c) (ordered : HasBind
   kept_walk d ne above =
       let before : IsForest forest = IsForest-ordered forest ordered in
       let after : IsForest (without forest c) = IsForest-ordered (without forest c) (ordered-without forest c held ordered) in
-      after.walk d ∙ ap (λ o. asks_in o || option_map_or (is_cancelled (without forest c)) (parent_in o) false) (binding-without_other forest c d ne) ∙ kept_in c (binding forest d) (is_cancelled (without forest c)) (is_cancelled forest) (ends d) above ∙ sym (before.walk d)
+      after.walk d ∙ ap (λ o. asks_in o || option_map_or (is_cancelled (without forest c)) (parent_in o) false) (binding-without_other forest c d ne) ∙
+      kept_in c (binding forest d) (is_cancelled (without forest c)) (is_cancelled forest) (ends d) above ∙ sym (before.walk d)
 
   kept_in_order : (order : List ℕ) → IsNewestFirst forest order → (d : ℕ) → IsIn order d → d ≢ c → is_cancelled (without forest c) d ≡ is_cancelled forest d
   kept_in_order [] s d i ne = absurd i

@@ -1,5 +1,6 @@
 -- A request that is made or taken back.
-use Rattle.std.proofs.Common.{◌≡◌, ◌≢◌, ◌≤◌, ◌^◌, ◌<◌, ◌==◌, ◌⊎◌, ℕ, Bool, true, false, ◌||◌, if◌then◌else◌, List, [], ◌∷◌, Option, Some, None, is_some, length, refl, sym, ◌∙◌, ap, subst, inl, inr, arith}
+use Rattle.std.proofs.Common.{◌≡◌, ◌≢◌, ◌≤◌, ◌^◌, ◌<◌, ◌==◌, ◌⊎◌, ℕ, Bool, true, false, ◌||◌, if◌then◌else◌, List, [], ◌∷◌, Option, Some, None, is_some, length, refl, sym, ◌∙◌, ap, subst, inl, inr}
+use Rattle.std.proofs.Common.{arith}
 use Rattle.std.specs.List.{list_any}
 use Rattle.std.proofs.Math.Bool.{or-true, or-false}
 use Rattle.std.proofs.lemmas.Bool.Decides.{eqb_tells}
@@ -35,13 +36,22 @@ asks-requested forest c h = ap asks_in (binding-with_request forest c c true h r
 
 pub parent-with_request : (forest : Forest) (c : ℕ) (asked : Bool) → IsHeld forest c → (d : ℕ) → parent (with_request forest c asked) d ≡ parent forest d
 parent-with_request forest c asked h d =
-    elim (eqb_tells d c) [ inl e ↦ ap parent_in (binding-with_request forest c d asked h e.1) ∙ parent_in-asking asked (binding forest d) | inr e ↦ ap parent_in (binding-with_request_other forest c d asked e.1) ]
+    elim (eqb_tells d c) [
+      | inl e ↦ ap parent_in (binding-with_request forest c d asked h e.1) ∙ parent_in-asking asked (binding forest d)
+      | inr e ↦
+          ap parent_in (binding-with_request_other forest c d asked e.1)
+    ]
 
 pub is_some-with_request : (forest : Forest) (c : ℕ) (asked : Bool) → IsHeld forest c → (d : ℕ) → is_some (binding (with_request forest c asked) d) ≡ is_some (binding forest d)
 is_some-with_request forest c asked h d =
-    elim (eqb_tells d c) [ inl e ↦ ap is_some (binding-with_request forest c d asked h e.1) ∙ is_some-asking asked (binding forest d) | inr e ↦ ap is_some (binding-with_request_other forest c d asked e.1) ]
+    elim (eqb_tells d c) [
+      | inl e ↦ ap is_some (binding-with_request forest c d asked h e.1) ∙ is_some-asking asked (binding forest d)
+      | inr e ↦
+          ap is_some (binding-with_request_other forest c d asked e.1)
+    ]
 
-newest-kept : (forest after : Forest) (order : List ℕ) → ((d : ℕ) → parent after d ≡ parent forest d) → ((d : ℕ) → is_some (binding after d) ≡ is_some (binding forest d)) → IsNewestFirst forest order → IsNewestFirst after order
+newest-kept : (forest after : Forest) (order : List ℕ) → ((d : ℕ) → parent after d ≡ parent forest d) → ((d : ℕ) → is_some (binding after d) ≡ is_some (binding forest d)) →
+    IsNewestFirst forest order → IsNewestFirst after order
 newest-kept forest after [] parents held s = tt
 newest-kept forest after (x ∷ older) parents held s =
     (held x ∙ s.0, subst (λ o. ParentIn o older) (sym (parents x)) s.1, newest-kept forest after older parents held s.2)
@@ -71,7 +81,8 @@ IsSound-with_request forest c asked h s = record {
 
 pub chain-with_request : (forest : Forest) (c : ℕ) (asked : Bool) → IsHeld forest c → (d : ℕ) → chain (with_request forest c asked) d ≡ chain forest d
 chain-with_request forest c asked h d =
-    ap (λ n. chain_for n (with_request forest c asked) d) (length-set forest c (asking asked (binding forest c))) ∙ chain_for-same_parents forest (with_request forest c asked) (parent-with_request forest c asked h) (length forest) d
+    ap (λ n. chain_for n (with_request forest c asked) d) (length-set forest c (asking asked (binding forest c))) ∙
+    chain_for-same_parents forest (with_request forest c asked) (parent-with_request forest c asked h) (length forest) d
 
 either-swap : (a b s t : Bool) → ((a || b) || (s || t)) ≡ ((a || s) || (b || t))
 either-swap true b s t = refl
@@ -94,7 +105,8 @@ asks-with_request forest c h d =
 -- A request reaches what is within the context, and nothing else.
 pub is_cancelled-with_request : (forest : Forest) (c : ℕ) → IsHeld forest c → (d : ℕ) → is_cancelled (with_request forest c true) d ≡ (is_cancelled forest d || is_within forest d c)
 is_cancelled-with_request forest c h d =
-    ap (list_any (λ x. asks_in (binding (with_request forest c true) x))) (chain-with_request forest c true h d) ∙ list_any-either (λ x. asks_in (binding (with_request forest c true) x)) (λ x. asks_in (binding forest x)) (λ x. x == c) (asks-with_request forest c h) (chain forest d)
+    ap (list_any (λ x. asks_in (binding (with_request forest c true) x))) (chain-with_request forest c true h d) ∙
+    list_any-either (λ x. asks_in (binding (with_request forest c true) x)) (λ x. asks_in (binding forest x)) (λ x. x == c) (asks-with_request forest c h) (chain forest d)
 
 list_any-avoids : (f g : ℕ → Bool) (c : ℕ) → ((d : ℕ) → d ≢ c → f d ≡ g d) → (l : List ℕ) → list_any (λ d. d == c) l ≡ false → list_any f l ≡ list_any g l
 list_any-avoids f g c same [] e = refl
@@ -108,7 +120,9 @@ list_any-avoids f g c same (x ∷ xs) e =
 -- What is not within the context is cancelled as before.
 pub is_cancelled-elsewhere : (forest : Forest) (c : ℕ) (asked : Bool) → IsHeld forest c → (d : ℕ) → is_within forest d c ≡ false → is_cancelled (with_request forest c asked) d ≡ is_cancelled forest d
 is_cancelled-elsewhere forest c asked h d out =
-    ap (list_any (λ x. asks_in (binding (with_request forest c asked) x))) (chain-with_request forest c asked h d) ∙ list_any-avoids (λ x. asks_in (binding (with_request forest c asked) x)) (λ x. asks_in (binding forest x)) c (λ x ne. ap asks_in (binding-with_request_other forest c x asked ne)) (chain forest d) out
+    ap (list_any (λ x. asks_in (binding (with_request forest c asked) x))) (chain-with_request forest c asked h d) ∙
+    list_any-avoids (λ x. asks_in (binding (with_request forest c asked) x)) (λ x. asks_in (binding forest x)) c (λ x ne. ap asks_in (binding-with_request_other forest c x asked ne))
+    (chain forest d) out
 
 asks-taken_back : (o : Option Binding) → asks_in (asking false o) ≡ true → asks_in o ≡ true
 asks-taken_back None e = e

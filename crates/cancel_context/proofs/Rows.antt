@@ -56,12 +56,14 @@ IsOnce-except c (x ∷ xs) o =
     ]
 
 -- what does not touch a row leaves it
-pub IsRow-same : (next previous next_after previous_after : List (Option ℕ)) (back from : Option ℕ) (xs : List ℕ) → ((x : ℕ) → IsIn xs x → next_of next_after x ≡ next_of next x) → ((x : ℕ) → IsIn xs x → next_of previous_after x ≡ next_of previous x) → IsRow next previous back from xs → IsRow next_after previous_after back from xs
+pub IsRow-same : (next previous next_after previous_after : List (Option ℕ)) (back from : Option ℕ) (xs : List ℕ) → ((x : ℕ) → IsIn xs x → next_of next_after x ≡ next_of next x) →
+    ((x : ℕ) → IsIn xs x → next_of previous_after x ≡ next_of previous x) → IsRow next previous back from xs → IsRow next_after previous_after back from xs
 IsRow-same next previous next_after previous_after back from [] n p r = r
 IsRow-same next previous next_after previous_after back from (x ∷ xs) n p r = (
   r.0,
   p x (inl refl) ∙ r.1,
-  subst (λ f. IsRow next_after previous_after (Some x) f xs) (sym (n x (inl refl))) (IsRow-same next previous next_after previous_after (Some x) (next_of next x) xs (λ y i. n y (inr i)) (λ y i. p y (inr i)) r.2),
+  subst (λ f. IsRow next_after previous_after (Some x) f xs) (sym (n x (inl refl)))
+      (IsRow-same next previous next_after previous_after (Some x) (next_of next x) xs (λ y i. n y (inr i)) (λ y i. p y (inr i)) r.2),
 )
 
 -- what follows one of a row is in the row
@@ -72,13 +74,15 @@ after-in next previous back from (x ∷ z ∷ zs) c y r (inl h) e = let same : S
 after-in next previous back from (x ∷ xs) c y r (inr i) e = inr (after-in next previous (Some x) (next_of next x) xs c y r.2 i e)
 
 -- what comes before one that is not the first is in the row
-pub before-in : (next previous : List (Option ℕ)) (back from : Option ℕ) (x : ℕ) (xs : List ℕ) (c : ℕ) → IsRow next previous back from (x ∷ xs) → IsIn xs c → (y : ℕ) × ((next_of previous c ≡ Some y) × IsIn (x ∷ xs) y)
+pub before-in : (next previous : List (Option ℕ)) (back from : Option ℕ) (x : ℕ) (xs : List ℕ) (c : ℕ) → IsRow next previous back from (x ∷ xs) → IsIn xs c →
+    (y : ℕ) × ((next_of previous c ≡ Some y) × IsIn (x ∷ xs) y)
 before-in next previous back from x [] c r i = absurd i
 before-in next previous back from x (z ∷ zs) c r (inl h) = (x, (ap (next_of previous) (sym h) ∙ r.2.1, inl refl))
 before-in next previous back from x (z ∷ zs) c r (inr i) = let there = before-in next previous (Some x) (next_of next x) z zs c r.2 i in (there.0, (there.1.0, inr there.1.1))
 
 -- and it is another
-pub before-apart : (next previous : List (Option ℕ)) (back from : Option ℕ) (x : ℕ) (xs : List ℕ) (c : ℕ) → IsOnce (x ∷ xs) → IsRow next previous back from (x ∷ xs) → IsIn xs c → next_of previous c ≢ Some c
+pub before-apart : (next previous : List (Option ℕ)) (back from : Option ℕ) (x : ℕ) (xs : List ℕ) (c : ℕ) → IsOnce (x ∷ xs) → IsRow next previous back from (x ∷ xs) → IsIn xs c →
+    next_of previous c ≢ Some c
 before-apart next previous back from x [] c o r i e = absurd i
 before-apart next previous back from x (z ∷ zs) c o r (inl h) e =
     let at : Some c ≡ Some x = sym e ∙ ap (next_of previous) (sym h) ∙ r.2.1 in
@@ -130,17 +134,21 @@ module _ (next previous : List (Option ℕ)) (c : ℕ) where
   abbrev pub previous_left : List (Option ℕ)
   previous_left = set_at previous (next_of next c) (next_of previous c)
 
-  pub left-first : (back : Option ℕ) (xs : List ℕ) → next_of previous c ≡ back → ((y : ℕ) → back ≡ Some y → IsIn xs y → ⊥) → ((y : ℕ) → IsIn xs y → y < length previous) → IsOnce xs → IsRow next previous (Some c) (next_of next c) xs → IsRow next_left previous_left back (next_of next c) xs
+  pub left-first : (back : Option ℕ) (xs : List ℕ) → next_of previous c ≡ back → ((y : ℕ) → back ≡ Some y → IsIn xs y → ⊥) → ((y : ℕ) → IsIn xs y → y < length previous) → IsOnce xs →
+      IsRow next previous (Some c) (next_of next c) xs → IsRow next_left previous_left back (next_of next c) xs
   left-first back [] b apart within o r = r
   left-first back (z ∷ zs) b apart within o r =
       let same_next : (y : ℕ) → IsIn (z ∷ zs) y → next_of next_left y ≡ next_of next y = λ y i. set_at-other next (next_of previous c) (next_of next c) y (λ e. apart y (sym b ∙ e) i) in
       let other : (y : ℕ) → IsIn zs y → next_of next c ≡ Some y → ⊥ = λ y i e. let same : z ≡ y = let first = r.0 in cc in o.0 (subst (λ t. IsIn zs t) (sym same) i) in (
         r.0,
         set_at-same previous (next_of next c) (next_of previous c) z r.0 (within z (inl refl)) ∙ b,
-        subst (λ f. IsRow next_left previous_left (Some z) f zs) (sym (same_next z (inl refl))) (IsRow-same next previous next_left previous_left (Some z) (next_of next z) zs (λ y i. same_next y (inr i)) (λ y i. set_at-other previous (next_of next c) (next_of previous c) y (other y i)) r.2),
+        subst (λ f. IsRow next_left previous_left (Some z) f zs) (sym (same_next z (inl refl)))
+            (IsRow-same next previous next_left previous_left (Some z) (next_of next z) zs (λ y i. same_next y (inr i))
+            (λ y i. set_at-other previous (next_of next c) (next_of previous c) y (other y i)) r.2),
       )
 
-  pub left-later : (back from : Option ℕ) (x : ℕ) (xs : List ℕ) → ((y : ℕ) → IsIn (x ∷ xs) y → (y < length next) × (y < length previous)) → IsOnce (x ∷ xs) → x ≢ c → IsIn xs c → IsRow next previous back from (x ∷ xs) → IsRow next_left previous_left back from (x ∷ except c xs)
+  pub left-later : (back from : Option ℕ) (x : ℕ) (xs : List ℕ) → ((y : ℕ) → IsIn (x ∷ xs) y → (y < length next) × (y < length previous)) → IsOnce (x ∷ xs) → x ≢ c → IsIn xs c →
+      IsRow next previous back from (x ∷ xs) → IsRow next_left previous_left back from (x ∷ except c xs)
   left-later back from x [] within o ne i r = absurd i
   left-later back from x (z ∷ zs) within o ne i r =
       let after : next_of next c ≡ Some x → ⊥ = λ e. o.0 (after-in next previous (Some x) (next_of next x) (z ∷ zs) c x r.2 i e) in
@@ -151,13 +159,23 @@ module _ (next previous : List (Option ℕ)) (c : ℕ) where
             let b : next_of previous c ≡ Some x = ap (next_of previous) (sym h.1) ∙ r.2.1 in
             let out : IsIn zs c → ⊥ = λ j. o.1.0 (subst (λ t. IsIn zs t) (sym h.1) j) in
             let rest : IsRow next previous (Some c) (next_of next c) zs = subst (λ t. IsRow next previous (Some t) (next_of next t) zs) h.1 r.2.2 in
-            let moved : IsRow next_left previous_left (Some x) (next_of next c) zs = left-first (Some x) zs b (λ y e j. let same : x ≡ y = cc in o.0 (inr (subst (λ t. IsIn zs t) (sym same) j))) (λ y j. (within y (inr (inr j))).1) o.1.1 rest in
-            let to : next_of next_left x ≡ next_of next c = set_at-same next (next_of previous c) (next_of next c) x b (within x (inl refl)).0 in
-            (r.0, kept, subst (λ l. IsRow next_left previous_left (Some x) (next_of next_left x) l) (sym (except-same c z zs h.1 ∙ except-none c zs out)) (subst (λ f. IsRow next_left previous_left (Some x) f zs) (sym to) moved))
+            let moved : IsRow next_left previous_left (Some x) (next_of next c) zs =
+            left-first (Some x) zs b (λ y e j. let same : x ≡ y = cc in o.0 (inr (subst (λ t. IsIn zs t) (sym same) j))) (λ y j. (within y (inr (inr j))).1) o.1.1 rest in
+            let to : next_of next_left x ≡ next_of next c = set_at-same next (next_of previous c) (next_of next c) x b (within x (inl refl)).0 in (
+              r.0,
+              kept,
+              subst (λ l. IsRow next_left previous_left (Some x) (next_of next_left x) l) (sym (except-same c z zs h.1 ∙ except-none c zs out))
+                  (subst (λ f. IsRow next_left previous_left (Some x) f zs) (sym to) moved),
+            )
         | inr h ↦
             let later : IsIn zs c = elim i [ inl e ↦ absurd (h.1 e) | inr j ↦ j ] in
             let before = before-in next previous (Some x) (next_of next x) z zs c r.2 later in
-            let to : next_of next_left x ≡ next_of next x = set_at-other next (next_of previous c) (next_of next c) x (λ e. let same : before.0 ≡ x = let at = before.1.0 in cc in o.0 (subst (λ t. IsIn (z ∷ zs) t) same before.1.1)) in
-            let moved = left-later (Some x) (next_of next x) z zs (λ y j. within y (inr j)) o.1 h.1 later r.2 in
-            (r.0, kept, subst (λ l. IsRow next_left previous_left (Some x) (next_of next_left x) l) (sym (except-other c z zs h.1)) (subst (λ f. IsRow next_left previous_left (Some x) f (z ∷ except c zs)) (sym to) moved))
+            let to : next_of next_left x ≡ next_of next x =
+            set_at-other next (next_of previous c) (next_of next c) x (λ e. let same : before.0 ≡ x = let at = before.1.0 in cc in o.0 (subst (λ t. IsIn (z ∷ zs) t) same before.1.1)) in
+            let moved = left-later (Some x) (next_of next x) z zs (λ y j. within y (inr j)) o.1 h.1 later r.2 in (
+              r.0,
+              kept,
+              subst (λ l. IsRow next_left previous_left (Some x) (next_of next_left x) l) (sym (except-other c z zs h.1))
+                  (subst (λ f. IsRow next_left previous_left (Some x) f (z ∷ except c zs)) (sym to) moved),
+            )
       ]

@@ -1,5 +1,6 @@
 -- How a change of a flag spreads to what is below.
-use Rattle.std.proofs.Common.{◌≡◌, ◌≢◌, ◌<◌, ◌+◌, ◌⊎◌, ℕ, suc, Bool, true, false, not, ◌||◌, if◌then◌else◌, List, [], ◌∷◌, ◌++◌, Option, Some, None, is_some, length, refl, sym, ◌∙◌, ap, subst, inl, inr, arith}
+use Rattle.std.proofs.Common.{◌≡◌, ◌≢◌, ◌<◌, ◌+◌, ◌⊎◌, ℕ, suc, Bool, true, false, not, ◌||◌, if◌then◌else◌, List, [], ◌∷◌, ◌++◌, Option, Some, None, is_some, length, refl, sym, ◌∙◌, ap, subst, inl}
+use Rattle.std.proofs.Common.{inr, arith}
 use Rattle.std.specs.Prelude.{slice_set, count_by}
 use Rattle.std.specs.Option.{option_map_or}
 use Rattle.std.proofs.lemmas.Bool.Decides.{eqb_tells}
@@ -28,14 +29,16 @@ module _ (forest : Forest) (flags : List Bool) (ordered : HasBindingOrder forest
   says_in right (x ∷ older) s d (inl h) =
       let held : IsHeld forest d = subst (λ y. IsHeld forest y) h s.0 in
       let above : ParentIn (parent forest d) older = subst (λ y. ParentIn (parent forest y) older) h s.1 in
-      right d held ∙ ap (λ b. asks_in (binding forest d) || b) (above_in (flag flags) (is_cancelled forest) (parent forest d) older above (says_in right older s.2)) ∙ sym ((IsForest-ordered forest ordered).walk d)
+      right d held ∙ ap (λ b. asks_in (binding forest d) || b) (above_in (flag flags) (is_cancelled forest) (parent forest d) older above (says_in right older s.2)) ∙
+      sym ((IsForest-ordered forest ordered).walk d)
   says_in right (x ∷ older) s d (inr i) = says_in right older s.2 d i
 
   pub right-says : ((c : ℕ) → IsHeld forest c → IsRight forest flags c) → (c : ℕ) → IsHeld forest c → flag flags c ≡ is_cancelled forest c
   right-says right c held = says_in right ordered.0 ordered.1.newest_first c (ordered.1.has_all c held)
 
   pub says-right : AreFlags forest flags → (c : ℕ) → IsHeld forest c → IsRight forest flags c
-  says-right a c held = a.says c held ∙ (IsForest-ordered forest ordered).walk c ∙ ap (λ b. asks_in (binding forest c) || b) (above-same (is_cancelled forest) (flag flags) (parent forest c) (λ p e. sym (a.says p (parents-held forest ordered c p e))))
+  says-right a c held = a.says c held ∙ (IsForest-ordered forest ordered).walk c ∙
+      ap (λ b. asks_in (binding forest c) || b) (above-same (is_cancelled forest) (flag flags) (parent forest c) (λ p e. sym (a.says p (parents-held forest ordered c p e))))
 
 -- no context is bound to itself
 pub parent-apart : (forest : Forest) → IsForest forest → (c p : ℕ) → parent forest c ≡ Some p → p ≢ c
@@ -59,7 +62,8 @@ same-not_differs false true e = cc
 same-not_differs false false e = refl
 
 -- a flag that turns leaves one fewer that differs
-pub count-turned : (flags : List Bool) (c : ℕ) (value : Bool) → c < length flags → differs value (flag flags c) ≡ true → count_by (differs value) (slice_set flags c value) + 1 ≡ count_by (differs value) flags
+pub count-turned : (flags : List Bool) (c : ℕ) (value : Bool) → c < length flags → differs value (flag flags c) ≡ true →
+    count_by (differs value) (slice_set flags c value) + 1 ≡ count_by (differs value) flags
 count-turned flags c value within d =
     let one : Bool → ℕ = λ b. if differs value b then 1 else 0 in
     let was : one (flag flags c) ≡ 1 = ap (λ b. if b then 1 else 0) d in
@@ -82,13 +86,16 @@ IsIn-split (x ∷ xs) c d (inl e) = inl (inl e)
 IsIn-split (x ∷ xs) c d (inr i) = elim (IsIn-split xs c d i) [ inl j ↦ inl (inr j) | inr e ↦ inr e ]
 
 -- The first flag turns, in a forest that differs at its context alone.
-module _ (forest after : Forest) (c : ℕ) (flags : List Bool) (value : Bool) (forest_after : IsForest after) (ordered : HasBindingOrder forest) (held : IsHeld forest c) (a : AreFlags forest flags) (size : length after ≡ length forest) (same_held : (d : ℕ) → is_some (binding after d) ≡ is_some (binding forest d)) (same_parent : (d : ℕ) → parent after d ≡ parent forest d) (same_binding : (d : ℕ) → d ≢ c → binding after d ≡ binding forest d) (follows : value ≡ (asks_in (binding after c) || option_map_or (flag flags) (parent after c) false)) where
+module _ (forest after : Forest) (c : ℕ) (flags : List Bool) (value : Bool) (forest_after : IsForest after) (ordered : HasBindingOrder forest) (held : IsHeld forest c) (a : AreFlags forest flags)
+    (size : length after ≡ length forest) (same_held : (d : ℕ) → is_some (binding after d) ≡ is_some (binding forest d)) (same_parent : (d : ℕ) → parent after d ≡ parent forest d)
+    (same_binding : (d : ℕ) → d ≢ c → binding after d ≡ binding forest d) (follows : value ≡ (asks_in (binding after c) || option_map_or (flag flags) (parent after c) false)) where
   within_flags : c < length flags
   within_flags = let inside = IsHeld-within forest c held in omega (arith, a.size)
 
   right_before : (d : ℕ) → d ≢ c → IsHeld after d → IsRight after flags d
   right_before d ne h =
-      says-right forest flags ordered a d (sym (same_held d) ∙ h) ∙ ap (λ o. asks_in o || option_map_or (flag flags) (parent forest d) false) (sym (same_binding d ne)) ∙ ap (λ o. asks_in (binding after d) || option_map_or (flag flags) o false) (sym (same_parent d))
+      says-right forest flags ordered a d (sym (same_held d) ∙ h) ∙ ap (λ o. asks_in o || option_map_or (flag flags) (parent forest d) false) (sym (same_binding d ne)) ∙
+      ap (λ o. asks_in (binding after d) || option_map_or (flag flags) o false) (sym (same_parent d))
 
   -- if the flag has its value already, all are right
   pub flags-unturned : HasBindingOrder after → flag flags c ≡ value → AreFlags after flags
@@ -124,10 +131,13 @@ module _ (forest after : Forest) (c : ℕ) (flags : List Bool) (value : Bool) (f
   right_first : (d : ℕ) → IsHeld after d → IsRight after turned_flags d ⊎ Waits after (c ∷ []) [] d
   right_first d h =
       elim (eqb_tells d c) [
-        | inl s ↦ inl (subst (λ y. IsRight after turned_flags y) (sym s.1) (flag-own ∙ follows ∙ ap (λ b. asks_in (binding after c) || b) (above-same (flag flags) (flag turned_flags) (parent after c) (λ p e. sym (flag-other p (parent-apart after forest_after c p e))))))
+        | inl s ↦ inl (subst (λ y. IsRight after turned_flags y) (sym s.1)
+            (flag-own ∙ follows ∙ ap (λ b. asks_in (binding after c) || b)
+            (above-same (flag flags) (flag turned_flags) (parent after c) (λ p e. sym (flag-other p (parent-apart after forest_after c p e))))))
         | inr s ↦ elim (is_parent (parent after d) c) [
           | inl e ↦ inr (inr (c, (e, inl refl)))
-          | inr out ↦ inl (flag-other d s.1 ∙ right_before d s.1 h ∙ ap (λ b. asks_in (binding after d) || b) (above-same (flag flags) (flag turned_flags) (parent after d) (λ p e. sym (flag-other p (λ t. out (e ∙ ap Some t))))))
+          | inr out ↦ inl (flag-other d s.1 ∙ right_before d s.1 h ∙
+              ap (λ b. asks_in (binding after d) || b) (above-same (flag flags) (flag turned_flags) (parent after d) (λ p e. sym (flag-other p (λ t. out (e ∙ ap Some t))))))
         ]
       ]
 
@@ -151,14 +161,16 @@ turns value b asks e =
     ]
 
 -- One context is looked at.
-module _ (forest : Forest) (flags : List Bool) (reached : List ℕ) (x : ℕ) (xs : List ℕ) (d : ℕ) (value : Bool) (bound : parent forest x ≡ Some d) (above : flag flags d ≡ value) (held : IsHeld forest x) (s : IsSpreading forest flags reached (x ∷ xs) value) where
+module _ (forest : Forest) (flags : List Bool) (reached : List ℕ) (x : ℕ) (xs : List ℕ) (d : ℕ) (value : Bool) (bound : parent forest x ≡ Some d) (above : flag flags d ≡ value)
+    (held : IsHeld forest x) (s : IsSpreading forest flags reached (x ∷ xs) value) where
   right_skipped : (not (differs value (flag flags x)) || asks_in (binding forest x)) ≡ true → IsRight forest flags x
   right_skipped t =
       elim (bool_cases (asks_in (binding forest x))) [
         | inl asks ↦ s.own x held asks ∙ sym (ap (λ b. b || option_map_or (flag flags) (parent forest x) false) asks)
         | inr quiet ↦ elim (bool_cases (differs value (flag flags x))) [
           | inl differ ↦ let wrong : false ≡ true = sym (ap (λ b. not b || asks_in (binding forest x)) differ ∙ quiet) ∙ t in cc
-          | inr same ↦ same-not_differs value (flag flags x) same ∙ sym above ∙ sym (ap (λ b. b || option_map_or (flag flags) (parent forest x) false) quiet ∙ ap (λ o. option_map_or (flag flags) o false) bound)
+          | inr same ↦ same-not_differs value (flag flags x) same ∙ sym above ∙
+              sym (ap (λ b. b || option_map_or (flag flags) (parent forest x) false) quiet ∙ ap (λ o. option_map_or (flag flags) o false) bound)
         ]
       ]
 
@@ -202,11 +214,14 @@ module _ (forest : Forest) (flags : List Bool) (reached : List ℕ) (x : ℕ) (x
     right_turned : (e : ℕ) → IsHeld forest e → IsRight forest after_turn e ⊎ Waits forest (reached ++ x ∷ []) xs e
     right_turned e h =
         elim (eqb_tells e x) [
-          | inl same ↦ inl (subst (λ y. IsRight forest after_turn y) (sym same.1) (turn-own x refl ∙ sym (ap (λ b. b || option_map_or (flag after_turn) (parent forest x) false) quiet ∙ ap (λ o. option_map_or (flag after_turn) o false) bound ∙ turn-other d above_apart ∙ above)))
+          | inl same ↦ inl (subst (λ y. IsRight forest after_turn y) (sym same.1)
+              (turn-own x refl ∙ sym (ap (λ b. b || option_map_or (flag after_turn) (parent forest x) false) quiet ∙ ap (λ o. option_map_or (flag after_turn) o false) bound ∙
+              turn-other d above_apart ∙ above)))
           | inr ne ↦ elim (s.right e h) [
             | inl r ↦ elim (is_parent (parent forest e) x) [
               | inl at ↦ inr (inr (x, (at, IsIn-last reached x)))
-              | inr out ↦ inl (turn-other e ne.1 ∙ r ∙ ap (λ b. asks_in (binding forest e) || b) (above-same (flag flags) (flag after_turn) (parent forest e) (λ p at. sym (turn-other p (λ t. out (at ∙ ap Some t))))))
+              | inr out ↦ inl (turn-other e ne.1 ∙ r ∙
+                  ap (λ b. asks_in (binding forest e) || b) (above-same (flag flags) (flag after_turn) (parent forest e) (λ p at. sym (turn-other p (λ t. out (at ∙ ap Some t))))))
             ]
             | inr w ↦ elim w [
               | inl i ↦ elim i [
@@ -241,21 +256,26 @@ module _ (forest : Forest) (flags : List Bool) (reached : List ℕ) (x : ℕ) (x
   abbrev state : Flagged
   state = record { flags = flags; reached = reached }
 
-  pub visited-spreading : IsSpreading forest (visited forest state x value).flags (visited forest state x value).reached xs value × (flag (visited forest state x value).flags d ≡ value) × (length (visited forest state x value).reached + count_by (differs value) (visited forest state x value).flags ≡ length reached + count_by (differs value) flags)
+  pub visited-spreading : IsSpreading forest (visited forest state x value).flags (visited forest state x value).reached xs value × (flag (visited forest state x value).flags d ≡ value) ×
+      (length (visited forest state x value).reached + count_by (differs value) (visited forest state x value).flags ≡ length reached + count_by (differs value) flags)
   visited-spreading =
       elim (bool_cases (not (differs value (flag flags x)) || asks_in (binding forest x))) [
         | inl t ↦
             let at : visited forest state x value ≡ state = ap (λ b. if b then state else record { flags = slice_set flags x value; reached = reached ++ x ∷ [] }) t in
-            subst (λ (f : Flagged). IsSpreading forest f.flags f.reached xs value × (flag f.flags d ≡ value) × (length f.reached + count_by (differs value) f.flags ≡ length reached + count_by (differs value) flags)) (sym at) (skipped t, above, refl)
+            subst (λ (f : Flagged). IsSpreading forest f.flags f.reached xs value × (flag f.flags d ≡ value) ×
+            (length f.reached + count_by (differs value) f.flags ≡ length reached + count_by (differs value) flags)) (sym at) (skipped t, above, refl)
         | inr t ↦
             let differ = turns value (flag flags x) (asks_in (binding forest x)) t in
             let to : Flagged = record { flags = slice_set flags x value; reached = reached ++ x ∷ [] } in
             let at : visited forest state x value ≡ to = ap (λ b. if b then state else record { flags = slice_set flags x value; reached = reached ++ x ∷ [] }) t in
-            subst (λ (f : Flagged). IsSpreading forest f.flags f.reached xs value × (flag f.flags d ≡ value) × (length f.reached + count_by (differs value) f.flags ≡ length reached + count_by (differs value) flags)) (sym at) (turned_on differ.0 differ.1, get_or-set_other flags x d value false (above_apart differ.0 differ.1) ∙ above, count_on differ.0 differ.1)
+            subst (λ (f : Flagged). IsSpreading forest f.flags f.reached xs value × (flag f.flags d ≡ value) ×
+            (length f.reached + count_by (differs value) f.flags ≡ length reached + count_by (differs value) flags)) (sym at)
+            (turned_on differ.0 differ.1, get_or-set_other flags x d value false (above_apart differ.0 differ.1) ∙ above, count_on differ.0 differ.1)
       ]
 
 -- A flag that turns is that of a context which is reached then, and what was reached stays so.
-pub visited-turned : (forest : Forest) (f : Flagged) (x : ℕ) (value : Bool) (after : Flagged) → after ≡ visited forest f x value → (c : ℕ) → ((flag after.flags c ≡ flag f.flags c) ⊎ IsIn after.reached c) × (IsIn f.reached c → IsIn after.reached c)
+pub visited-turned : (forest : Forest) (f : Flagged) (x : ℕ) (value : Bool) (after : Flagged) → after ≡ visited forest f x value → (c : ℕ) →
+    ((flag after.flags c ≡ flag f.flags c) ⊎ IsIn after.reached c) × (IsIn f.reached c → IsIn after.reached c)
 visited-turned forest f x value after is c =
     let to : Flagged = record { flags = slice_set f.flags x value; reached = f.reached ++ x ∷ [] } in
     let tells : Flagged → Type 0 = λ (g : Flagged). ((flag g.flags c ≡ flag f.flags c) ⊎ IsIn g.reached c) × (IsIn f.reached c → IsIn g.reached c) in
@@ -272,7 +292,9 @@ visited-turned forest f x value after is c =
     ])
 
 -- so a context whose flag has turned over several visits is reached
-pub turned-more : (before now after : Flagged) → ((c : ℕ) → ((flag now.flags c ≡ flag before.flags c) ⊎ IsIn now.reached c)) → ((c : ℕ) → ((flag after.flags c ≡ flag now.flags c) ⊎ IsIn after.reached c) × (IsIn now.reached c → IsIn after.reached c)) → (c : ℕ) → (flag after.flags c ≡ flag before.flags c) ⊎ IsIn after.reached c
+pub turned-more : (before now after : Flagged) → ((c : ℕ) → ((flag now.flags c ≡ flag before.flags c) ⊎ IsIn now.reached c)) →
+    ((c : ℕ) → ((flag after.flags c ≡ flag now.flags c) ⊎ IsIn after.reached c) × (IsIn now.reached c → IsIn after.reached c)) → (c : ℕ) →
+    (flag after.flags c ≡ flag before.flags c) ⊎ IsIn after.reached c
 turned-more before now after so_far step c =
     elim (so_far c) [
       | inl same ↦ elim ((step c).0) [ inl kept ↦ inl (kept ∙ same) | inr i ↦ inr i ]
@@ -286,7 +308,8 @@ pub record IsVisiting (forest : Forest) (links : Links) (flags : List Bool) (rea
   pub spreads : IsSpreading forest flags reached rest value
   pub above : flag flags d ≡ value
 
-pub visiting-start : (forest : Forest) (links : Links) (flags : List Bool) (reached : List ℕ) (d : ℕ) (value : Bool) → IsLinked forest links → IsSpreading forest flags (reached ++ d ∷ []) [] value → IsVisiting forest links flags reached (next_of links.first d) d value
+pub visiting-start : (forest : Forest) (links : Links) (flags : List Bool) (reached : List ℕ) (d : ℕ) (value : Bool) → IsLinked forest links → IsSpreading forest flags (reached ++ d ∷ []) [] value →
+    IsVisiting forest links flags reached (next_of links.first d) d value
 visiting-start forest links flags reached d value l s = record {
   rest = l.below d;
   along = along-start forest links d (s.held d (IsIn-last reached d)) l;
@@ -313,15 +336,19 @@ visiting-start forest links flags reached d value l s = record {
 pub visiting-held : (forest : Forest) (links : Links) (flags : List Bool) (reached : List ℕ) (x d : ℕ) (value : Bool) → IsVisiting forest links flags reached (Some x) d value → IsHeld forest x
 visiting-held forest links flags reached x d value v = IsHeld-parent_in (binding forest x) d (along-first forest links d x v.rest v.along)
 
-pub visiting-more : (forest : Forest) (links : Links) (flags : List Bool) (reached : List ℕ) (x d : ℕ) (value : Bool) (after : Flagged) → after ≡ visited forest (record { flags = flags; reached = reached }) x value → IsVisiting forest links flags reached (Some x) d value → IsVisiting forest links after.flags after.reached (next_of links.next x) d value × (length after.reached + count_by (differs value) after.flags ≡ length reached + count_by (differs value) flags)
+pub visiting-more : (forest : Forest) (links : Links) (flags : List Bool) (reached : List ℕ) (x d : ℕ) (value : Bool) (after : Flagged) →
+    after ≡ visited forest (record { flags = flags; reached = reached }) x value → IsVisiting forest links flags reached (Some x) d value →
+    IsVisiting forest links after.flags after.reached (next_of links.next x) d value × (length after.reached + count_by (differs value) after.flags ≡ length reached + count_by (differs value) flags)
 visiting-more forest links flags reached x d value after e v =
     let more = along-more forest links d x v.rest v.along in
     let spreads : IsSpreading forest flags reached (x ∷ more.0) value = subst (λ l. IsSpreading forest flags reached l value) more.1.0 v.spreads in
     let there = visited-spreading forest flags reached x more.0 d value (along-first forest links d x v.rest v.along) v.above (visiting-held forest links flags reached x d value v) spreads in
-    let whole = subst (λ (f : Flagged). IsSpreading forest f.flags f.reached more.0 value × (flag f.flags d ≡ value) × (length f.reached + count_by (differs value) f.flags ≡ length reached + count_by (differs value) flags)) (sym e) there in
+    let whole = subst (λ (f : Flagged). IsSpreading forest f.flags f.reached more.0 value × (flag f.flags d ≡ value) ×
+    (length f.reached + count_by (differs value) f.flags ≡ length reached + count_by (differs value) flags)) (sym e) there in
     (record { rest = more.0; along = more.1.1; spreads = whole.0; above = whole.1 }, whole.2)
 
-pub visiting-end : (forest : Forest) (links : Links) (flags : List Bool) (reached : List ℕ) (d : ℕ) (value : Bool) → IsVisiting forest links flags reached None d value → IsSpreading forest flags reached [] value
+pub visiting-end : (forest : Forest) (links : Links) (flags : List Bool) (reached : List ℕ) (d : ℕ) (value : Bool) → IsVisiting forest links flags reached None d value →
+    IsSpreading forest flags reached [] value
 visiting-end forest links flags reached d value v = subst (λ l. IsSpreading forest flags reached l value) (along-end forest links d v.rest v.along) v.spreads
 
 -- If nothing is left to be looked at, all flags are right.

@@ -49,7 +49,8 @@ entry_said e (Some d) is line says = rw is at says
 entries_said : (es : List Entry) → All HasLine es → All SaysItself es → map said_by (entry_lines es) ≡ map (λ e. Some (said.Entry e)) es
 entries_said [] h k = refl
 entries_said (e ∷ es) h k =
-    ap₂ (λ (x : Option Said) (xs : List (Option Said)). x ∷ xs) (entry_said e (entry_data e) refl (All-head HasLine e es h) (All-head SaysItself e es k)) (entries_said es (All-tail HasLine e es h) (All-tail SaysItself e es k))
+    ap₂ (λ (x : Option Said) (xs : List (Option Said)). x ∷ xs) (entry_said e (entry_data e) refl (All-head HasLine e es h) (All-head SaysItself e es k))
+    (entries_said es (All-tail HasLine e es h) (All-tail SaysItself e es k))
 
 pub dump_reads_back : (c : Tenant) (es : List Entry) → NamesItself c → All HasLine es → All SaysItself es → ReadsBack (dump_text c es) c es
 dump_reads_back c es names h k = record {
@@ -61,6 +62,7 @@ dump_reads_back c es names h k = record {
 }
 
 -- the same where it is written
-pub read_back : {A E : Type 0} (result : Result A E) (c : Tenant) (es : List Entry) → NamesItself c → OnOk result (All HasLine es) → OnOk result (All SaysItself es) → OnOk result (ReadsBack (dump_text c es) c es)
+pub read_back : {A E : Type 0} (result : Result A E) (c : Tenant) (es : List Entry) → NamesItself c → OnOk result (All HasLine es) → OnOk result (All SaysItself es) →
+    OnOk result (ReadsBack (dump_text c es) c es)
 read_back (Ok it) c es names h k = dump_reads_back c es names h k
 read_back (Err e) c es names h k = tt

@@ -37,6 +37,7 @@ part_more before after text rest h =
     elim (leb_tells h.count (length text)) [
       | inl low ↦ record { count = h.count; appended = subst (λ (t : List ℕ). Appends before after t) (sym (take-append-le h.count text rest low.1)) h.appended }
       | inr high ↦
-          let whole : take h.count text ≡ take (length text) (text ++ rest) = take_all h.count text (omega (arith, high.1)) ∙ sym (take-append-le (length text) text rest (omega arith) ∙ take_all (length text) text (omega arith)) in
+          let whole : take h.count text ≡ take (length text) (text ++ rest) =
+          take_all h.count text (omega (arith, high.1)) ∙ sym (take-append-le (length text) text rest (omega arith) ∙ take_all (length text) text (omega arith)) in
           record { count = length text; appended = subst (λ (t : List ℕ). Appends before after t) whole h.appended }
     ]

@@ -114,7 +114,8 @@ request_plain (request.Take job) = leaf _ _ refl (omega arith)
 status_plain : (job : ℕ) (s : Status) → IsPlain 5 (status_data job s)
 status_plain job Running = leaf _ _ refl (omega arith)
 status_plain job Cancelled = leaf _ _ refl (omega arith)
-status_plain job (Complete value) = as_object 4 _ (one_more 4 _ _ _ (leaf _ _ refl (omega arith)) (one_more 4 _ _ _ (leaf _ _ refl (omega arith)) (one_more 4 _ _ _ (number_plain 4 value) (no_more 4))))
+status_plain job (Complete value) =
+    as_object 4 _ (one_more 4 _ _ _ (leaf _ _ refl (omega arith)) (one_more 4 _ _ _ (leaf _ _ refl (omega arith)) (one_more 4 _ _ _ (number_plain 4 value) (no_more 4))))
 status_plain job (Fault fault) = leaf _ _ refl (omega arith)
 
 reply_plain : (r : Reply) → IsPlain 5 (reply_data r)
@@ -123,7 +124,8 @@ reply_plain (reply.Made job) = leaf _ _ refl (omega arith)
 reply_plain (reply.Placed job slot) = leaf _ _ refl (omega arith)
 reply_plain (reply.Job job status) = status_plain job status
 reply_plain (reply.Cancelled job first) = leaf _ _ refl (omega arith)
-reply_plain (reply.Cells key count sum) = as_object 4 _ (one_more 4 _ _ _ (leaf _ _ refl (omega arith)) (one_more 4 _ _ _ (leaf _ _ refl (omega arith)) (one_more 4 _ _ _ (number_plain 4 sum) (no_more 4))))
+reply_plain (reply.Cells key count sum) =
+    as_object 4 _ (one_more 4 _ _ _ (leaf _ _ refl (omega arith)) (one_more 4 _ _ _ (leaf _ _ refl (omega arith)) (one_more 4 _ _ _ (number_plain 4 sum) (no_more 4))))
 reply_plain (reply.Arena level reserved slots) = leaf _ _ refl (omega arith)
 reply_plain (reply.Epoch epoch) = leaf _ _ refl (omega arith)
 reply_plain (reply.Released job) = leaf _ _ refl (omega arith)

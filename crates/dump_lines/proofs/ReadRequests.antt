@@ -25,7 +25,8 @@ not_memory want takes error.Busy other h = sym h
 not_memory want takes error.ConnectionLimit other h = sym h
 
 -- So is one of the job of what a value asks.
-pub refused_read : (asked : Option AskedData) (a : AskedData) (takes : Type 0) (e : Error) → Ok a ≡ ok_or asked error.BadRequest → e ≢ error.NoMemory → Refuses takes e (ready_of a) → Err e ≡ option_map_or ready_of asked (Err error.BadRequest)
+pub refused_read : (asked : Option AskedData) (a : AskedData) (takes : Type 0) (e : Error) → Ok a ≡ ok_or asked error.BadRequest → e ≢ error.NoMemory → Refuses takes e (ready_of a) →
+    Err e ≡ option_map_or ready_of asked (Err error.BadRequest)
 refused_read None a takes e is other h = cc
 refused_read (Some b) a takes e is other h =
     let same : a ≡ b = cc in

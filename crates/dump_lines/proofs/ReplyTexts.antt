@@ -11,7 +11,8 @@ use Rattle.job_language.specs.declared.answers.Reply.{Reply}
 use Rattle.job_language.specs.declared.answers.Reply.TheVariants.{Bound, Made, Placed, Job, Cancelled, Cells, Arena, Epoch, Released, Refused, Pending}
 use Rattle.job_language.specs.declared.answers.Status.TheVariants as status
 use Rattle.job_language.specs.declared.errors.Error.{Error}
-use Rattle.job_language.specs.declared.errors.Error.TheVariants.{LineTooLong, BadJson, BadRequest, BadProgram, UnknownTenant, UnknownJob, JobLimit, HistoryFull, NoMemory, TaskLimit, NoTenant, Busy, ConnectionLimit}
+use Rattle.job_language.specs.declared.errors.Error.TheVariants.{LineTooLong, BadJson, BadRequest, BadProgram, UnknownTenant, UnknownJob, JobLimit, HistoryFull, NoMemory, TaskLimit, NoTenant, Busy}
+use Rattle.job_language.specs.declared.errors.Error.TheVariants.{ConnectionLimit}
 use Rattle.job_language.specs.declared.tenants.Level.TheVariants.{Low, Normal, High}
 use Rattle.reply_writer.specs.ReplyText.{reply_text}
 use Rattle.dump_lines.specs.Written.{reply_data, refusal_data}

@@ -8,7 +8,8 @@ use Rattle.request_reader.specs.LineAsks.{value_in}
 use Rattle.job_language.specs.declared.answers.Reply.{Reply}
 use Rattle.job_language.specs.declared.answers.Reply.TheVariants.{Refused}
 use Rattle.job_language.specs.declared.errors.Error.{Error}
-use Rattle.job_language.specs.declared.errors.Error.TheVariants.{LineTooLong, BadJson, BadRequest, BadProgram, UnknownTenant, UnknownJob, JobLimit, HistoryFull, NoMemory, TaskLimit, NoTenant, Busy, ConnectionLimit}
+use Rattle.job_language.specs.declared.errors.Error.TheVariants.{LineTooLong, BadJson, BadRequest, BadProgram, UnknownTenant, UnknownJob, JobLimit, HistoryFull, NoMemory, TaskLimit, NoTenant, Busy}
+use Rattle.job_language.specs.declared.errors.Error.TheVariants.{ConnectionLimit}
 use Rattle.job_language.specs.declared.requests.Request.{Request}
 use Rattle.dump_lines.specs.declared.lines.Said.TheVariants as said
 use Rattle.dump_lines.specs.Lines.{ask, recorded, said_in_value}
@@ -36,5 +37,6 @@ read_refusal NoTenant = refl
 read_refusal Busy = refl
 read_refusal ConnectionLimit = refl
 
-pub read_ask : (d answered asked : Data) (request : Request) (reply : Reply) → d ≡ ask_data answered asked → recorded (request_in asked) ≡ Some request → reply_in answered ≡ Some (Some reply) → said_in_value d ≡ Some (said.Entry (ask request reply))
+pub read_ask : (d answered asked : Data) (request : Request) (reply : Reply) → d ≡ ask_data answered asked → recorded (request_in asked) ≡ Some request → reply_in answered ≡ Some (Some reply) →
+    said_in_value d ≡ Some (said.Entry (ask request reply))
 read_ask d answered asked request reply is p q = rw (is, p, q) refl

@@ -64,7 +64,8 @@ reply_data (reply.Placed job slot) = object (member (codes "job") (count_data jo
 reply_data (reply.Job job status) = status_data job status
 reply_data (reply.Cancelled job first) = object (member (codes "first") (boolean first) (member (codes "job") (count_data job) no_members))
 reply_data (reply.Cells key count sum) = object (member (codes "count") (count_data count) (member (codes "key") (count_data key) (member (codes "sum") (number_data sum) no_members)))
-reply_data (reply.Arena level reserved slots) = object (member (codes "priority") (string (level_word level)) (member (codes "reserved") (count_data reserved) (member (codes "slots") (count_data slots) no_members)))
+reply_data (reply.Arena level reserved slots) =
+    object (member (codes "priority") (string (level_word level)) (member (codes "reserved") (count_data reserved) (member (codes "slots") (count_data slots) no_members)))
 reply_data (reply.Epoch epoch) = object (member (codes "epoch") (count_data epoch) no_members)
 reply_data (reply.Released job) = object (member (codes "released") (count_data job) no_members)
 reply_data (reply.Refused error) = refusal_data error

@@ -1,11 +1,13 @@
 -- A procedure with its registers chosen does the same as before.
-use Rattle.std.proofs.Common.{◌≡◌, ℕ, zero, suc, ◌+◌, ◌<◌, ℤ, pos, negsuc, Bool, true, false, if◌then◌else◌, List, [], ◌∷◌, get_or, set, Option, Some, None, option_map, refl, sym, ap, subst, ◌∙◌, arith, ⊎_elim, length-set, get_or-set_same, get_or-set_other}
+use Rattle.std.proofs.Common.{◌≡◌, ℕ, zero, suc, ◌+◌, ◌<◌, ℤ, pos, negsuc, Bool, true, false, if◌then◌else◌, List, [], ◌∷◌, get_or, set, Option, Some, None, option_map, refl, sym, ap, subst, ◌∙◌}
+use Rattle.std.proofs.Common.{arith, ⊎_elim, length-set, get_or-set_same, get_or-set_other}
 use Rattle.std.specs.Prelude.{slice_get, slice_index_or, int_lt, int_le, int_rem}
 use Rattle.std.specs.Int.{int_wrapping_add, int_wrapping_sub, int_wrapping_mul, int_wrapping_div, int_bit_and, int_bit_or, int_bit_xor, int_shl, int_shr, w64}
 use Rattle.std.specs.Ordering.{int_eq}
 use Rattle.std.proofs.lemmas.Bool.{cases_eq}
 use Rattle.job_language.specs.declared.instructions.Instr.{Instr}
-use Rattle.job_language.specs.declared.instructions.Instr.TheVariants.{Set, Add, Sub, Mul, Div, Lt, Rem, And, Or, Xor, Shl, Shr, Eq, Le, Jz, Jmp, Slot, Width, Spawn, Post, Wait, Cancel, Ask, Isolate, Load, Store, Sum, Count, Ret}
+use Rattle.job_language.specs.declared.instructions.Instr.TheVariants.{Set, Add, Sub, Mul, Div, Lt, Rem, And, Or, Xor, Shl, Shr, Eq, Le, Jz, Jmp, Slot, Width, Spawn, Post, Wait, Cancel, Ask, Isolate}
+use Rattle.job_language.specs.declared.instructions.Instr.TheVariants.{Load, Store, Sum, Count, Ret}
 use Rattle.job_step.specs.declared.frames.Frame.{Frame}
 use Rattle.job_step.specs.declared.effects.Effect.TheVariants.{Moves, DividesByZero}
 use Rattle.job_step.specs.Frame.{effect, is_zero, shift_count}
@@ -123,18 +125,24 @@ module _ (vprocs procs : List (List Instr)) (slot width p most : ℕ) (c : ℕ �
     by_instr (Lt d a b) h = let l = coloured.low k _ h in let w = coloured.flow k _ h in let r = coloured.read k _ h in moves_alike d _ _ w.0 l.0.0 l.0.1
         (two (λ x y. if int_lt x y then pos 1 else pos 0) a b r.0 r.1.0)
     by_instr (Div d a b) h = let l = coloured.low k _ h in let w = coloured.flow k _ h in let r = coloured.read k _ h in
-        divides_alike (Div d a b) (Div (c d) (c a) (c b)) (int_wrapping_div w64) d (get_or vregs b (pos 0)) (get_or regs (c b) (pos 0)) (s.same b r.1.0) (get_or vregs a (pos 0)) (get_or regs (c a) (pos 0)) (s.same a r.0)
+        divides_alike (Div d a b) (Div (c d) (c a) (c b)) (int_wrapping_div w64) d (get_or vregs b (pos 0)) (get_or regs (c b) (pos 0)) (s.same b r.1.0) (get_or vregs a (pos 0))
+        (get_or regs (c a) (pos 0)) (s.same a r.0)
         (λ v v' e. moves_alike d v v' w.0 l.0.0 l.0.1 e)
     by_instr (Rem d a b) h = let l = coloured.low k _ h in let w = coloured.flow k _ h in let r = coloured.read k _ h in
-        divides_alike (Rem d a b) (Rem (c d) (c a) (c b)) int_rem d (get_or vregs b (pos 0)) (get_or regs (c b) (pos 0)) (s.same b r.1.0) (get_or vregs a (pos 0)) (get_or regs (c a) (pos 0)) (s.same a r.0)
+        divides_alike (Rem d a b) (Rem (c d) (c a) (c b)) int_rem d (get_or vregs b (pos 0)) (get_or regs (c b) (pos 0)) (s.same b r.1.0) (get_or vregs a (pos 0)) (get_or regs (c a) (pos 0))
+        (s.same a r.0)
         (λ v v' e. moves_alike d v v' w.0 l.0.0 l.0.1 e)
     by_instr (And d a b) h = let l = coloured.low k _ h in let w = coloured.flow k _ h in let r = coloured.read k _ h in moves_alike d _ _ w.0 l.0.0 l.0.1 (two (int_bit_and w64) a b r.0 r.1.0)
     by_instr (Or d a b) h = let l = coloured.low k _ h in let w = coloured.flow k _ h in let r = coloured.read k _ h in moves_alike d _ _ w.0 l.0.0 l.0.1 (two (int_bit_or w64) a b r.0 r.1.0)
     by_instr (Xor d a b) h = let l = coloured.low k _ h in let w = coloured.flow k _ h in let r = coloured.read k _ h in moves_alike d _ _ w.0 l.0.0 l.0.1 (two (int_bit_xor w64) a b r.0 r.1.0)
-    by_instr (Shl d a b) h = let l = coloured.low k _ h in let w = coloured.flow k _ h in let r = coloured.read k _ h in moves_alike d _ _ w.0 l.0.0 l.0.1 (two (λ x y. int_shl w64 x (shift_count y)) a b r.0 r.1.0)
-    by_instr (Shr d a b) h = let l = coloured.low k _ h in let w = coloured.flow k _ h in let r = coloured.read k _ h in moves_alike d _ _ w.0 l.0.0 l.0.1 (two (λ x y. int_shr x (shift_count y)) a b r.0 r.1.0)
-    by_instr (Eq d a b) h = let l = coloured.low k _ h in let w = coloured.flow k _ h in let r = coloured.read k _ h in moves_alike d _ _ w.0 l.0.0 l.0.1 (two (λ x y. if int_eq x y then pos 1 else pos 0) a b r.0 r.1.0)
-    by_instr (Le d a b) h = let l = coloured.low k _ h in let w = coloured.flow k _ h in let r = coloured.read k _ h in moves_alike d _ _ w.0 l.0.0 l.0.1 (two (λ x y. if int_le x y then pos 1 else pos 0) a b r.0 r.1.0)
+    by_instr (Shl d a b) h = let l = coloured.low k _ h in let w = coloured.flow k _ h in let r = coloured.read k _ h in
+        moves_alike d _ _ w.0 l.0.0 l.0.1 (two (λ x y. int_shl w64 x (shift_count y)) a b r.0 r.1.0)
+    by_instr (Shr d a b) h = let l = coloured.low k _ h in let w = coloured.flow k _ h in let r = coloured.read k _ h in
+        moves_alike d _ _ w.0 l.0.0 l.0.1 (two (λ x y. int_shr x (shift_count y)) a b r.0 r.1.0)
+    by_instr (Eq d a b) h = let l = coloured.low k _ h in let w = coloured.flow k _ h in let r = coloured.read k _ h in
+        moves_alike d _ _ w.0 l.0.0 l.0.1 (two (λ x y. if int_eq x y then pos 1 else pos 0) a b r.0 r.1.0)
+    by_instr (Le d a b) h = let l = coloured.low k _ h in let w = coloured.flow k _ h in let r = coloured.read k _ h in
+        moves_alike d _ _ w.0 l.0.0 l.0.1 (two (λ x y. if int_le x y then pos 1 else pos 0) a b r.0 r.1.0)
     by_instr (Jz a t) h = let w = coloured.flow k _ h in let r = coloured.read k _ h in
         subst (λ (z : ℤ). frame_events vprocs slot width n (at (if is_zero (get_or vregs a (pos 0)) then t else k + 1) vregs) answers
         ≡ frame_events procs slot width n (at (if is_zero z then t else k + 1) regs) answers) (s.same a r.0)

@@ -21,9 +21,11 @@ three_parts c0 c1 c2 c3 a b d e1 e2 e3 =
 pub two_size : (op : Operator) (p : Box (Unit {0}) Global) (a : Expr) (q : Box (Unit {0}) Global) (b : Expr) (into : Option ℕ) (t : ℕ)
     → length (wanted_code (Two' op p a q b) into t) ≡ length (operand_code a t) + length (operand_code b (above a t)) + 1
 two_size op p a q b None t =
-    let last = op_instr op t (operand a t) (operand b (above a t)) ∷ [] in omega (arith, length-append (operand_code a t) (operand_code b (above a t) ++ last), length-append (operand_code b (above a t)) last)
+    let last = op_instr op t (operand a t) (operand b (above a t)) ∷ [] in
+    omega (arith, length-append (operand_code a t) (operand_code b (above a t) ++ last), length-append (operand_code b (above a t)) last)
 two_size op p a q b (Some d) t =
-    let last = op_instr op d (operand a t) (operand b (above a t)) ∷ [] in omega (arith, length-append (operand_code a t) (operand_code b (above a t) ++ last), length-append (operand_code b (above a t)) last)
+    let last = op_instr op d (operand a t) (operand b (above a t)) ∷ [] in
+    omega (arith, length-append (operand_code a t) (operand_code b (above a t) ++ last), length-append (operand_code b (above a t)) last)
 
 pub two_low : (m : ℕ) (op : Operator) (p : Box (Unit {0}) Global) (a : Expr) (q : Box (Unit {0}) Global) (b : Expr) (into : Option ℕ) (t : ℕ) → IsWantedLow m (Two' op p a q b) into t
     → IsOperandLow m a t × IsOperandLow m b (above a t)

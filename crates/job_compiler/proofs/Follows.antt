@@ -1,5 +1,6 @@
 -- A frame that has come to where a function is does what the function does next.
-use Rattle.std.proofs.Common.{◌≡◌, ℕ, ◌+◌, ◌<◌, ◌≤◌, ◌^◌, ℤ, pos, Bool, true, false, true≢false, List, [], ◌∷◌, ◌++◌, length, get_or, set, Option, Some, None, refl, sym, ap, subst, ◌∙◌, arith, inl, inr, length-set, FitsSigned}
+use Rattle.std.proofs.Common.{◌≡◌, ℕ, ◌+◌, ◌<◌, ◌≤◌, ◌^◌, ℤ, pos, Bool, true, false, true≢false, List, [], ◌∷◌, ◌++◌, length, get_or, set, Option, Some, None, refl, sym, ap, subst, ◌∙◌, arith, inl}
+use Rattle.std.proofs.Common.{inr, length-set, FitsSigned}
 use Rattle.std.specs.Prelude.{slice_get, slice_set, slice_index_or}
 use Rattle.std.specs.Int.{w64}
 use Rattle.job_compiler.specs.Colours.{WritesBelow}
@@ -16,13 +17,16 @@ use Rattle.source_language.specs.declared.syntax.Maker.{Maker}
 use Rattle.source_language.specs.declared.syntax.Maker.TheVariants.{Spawn, Post, Isolate}
 use Rattle.source_language.specs.declared.syntax.Question.{Question}
 use Rattle.source_language.specs.declared.syntax.Question.TheVariants.{Cancelled, Cell, CellSum, CellCount}
-use Rattle.source_language.specs.Meaning.{Returns, Stores, Todo, Do, Turn, Next, Point, Act, Does, next_turn, past_loop, with_value, with_test, goes, made_by, asked_by, put_into, act_of, act_on, answered, value_of, test_of}
+use Rattle.source_language.specs.Meaning.{Returns, Stores, Todo, Do, Turn, Next, Point, Act, Does, next_turn, past_loop, with_value, with_test, goes, made_by, asked_by, put_into, act_of, act_on}
+use Rattle.source_language.specs.Meaning.{answered, value_of, test_of}
 use Rattle.job_compiler.specs.Within.{IsStmtWithin, IsMakerWithin}
-use Rattle.job_compiler.specs.Code.{operand, operand_code, above, value_code, make_instr, read_instr, test_size, test_code, stmt_size, loop_test, loop_end, loop_label, after_of, next_of, register_for, stmt_code}
+use Rattle.job_compiler.specs.Code.{operand, operand_code, above, value_code, make_instr, read_instr, test_size, test_code, stmt_size, loop_test, loop_end, loop_label, after_of, next_of, register_for}
+use Rattle.job_compiler.specs.Code.{stmt_code}
 use Rattle.job_compiler.specs.declared.labels.Label.{Label}
 use Rattle.job_compiler.specs.Operations.{operation_of, resumed}
 use Rattle.job_compiler.proofs.Values.{FitsIf, value_fits}
-use Rattle.job_compiler.proofs.Steps.{AreAllKept, Agree, at, HasAt, has_front, has_back, Comes, comes_on, fails_on, stays, one_step, write, WritesIf, BringsIf, value_runs, operand_runs, operand_low, above_high, still}
+use Rattle.job_compiler.proofs.Steps.{AreAllKept, Agree, at, HasAt, has_front, has_back, Comes, comes_on, fails_on, stays, one_step, write, WritesIf, BringsIf, value_runs, operand_runs, operand_low}
+use Rattle.job_compiler.proofs.Steps.{above_high, still}
 use Rattle.job_compiler.proofs.Conditions.{JumpsIf, test_runs, test_length}
 use Rattle.job_compiler.proofs.Stands.{stmt_length, agree_written, agree_set, agree_put, put_long, Reaches, IsLoop, IsAt, past_place, next_place, Stands, Stops, Follows, continues, resumes_at}
 

@@ -1,5 +1,6 @@
 -- How a frame of a procedure goes on, and what the code of an expression and of a condition does.
-use Rattle.std.proofs.Common.{◌≡◌, ◌≢◌, ℕ, zero, suc, ◌+◌, ◌<◌, ◌≤◌, ◌^◌, ℤ, pos, negsuc, List, [], ◌∷◌, ◌++◌, length, get_or, Option, Some, None, refl, ap, subst, ◌∙◌, arith, length-append, length-set, get_or-set_same, get_or-set_other, FitsSigned}
+use Rattle.std.proofs.Common.{◌≡◌, ◌≢◌, ℕ, zero, suc, ◌+◌, ◌<◌, ◌≤◌, ◌^◌, ℤ, pos, negsuc, List, [], ◌∷◌, ◌++◌, length, get_or, Option, Some, None, refl, ap, subst, ◌∙◌, arith, length-append}
+use Rattle.std.proofs.Common.{length-set, get_or-set_same, get_or-set_other, FitsSigned}
 use Rattle.std.specs.Prelude.{slice_get, slice_set, slice_index_or, option_and_then}
 use Rattle.std.specs.Int.{int_wrapping_add, w64}
 use Rattle.job_compiler.specs.Colours.{WritesBelow}

@@ -38,7 +38,8 @@ pub compiled_program : (fs : List Function) → MakeProgram fs → IsCompiledPro
 compiled_program fs make = record { each = each_compiled fs (λ k d low. (make.each k d low).compiles); valid = valid_program fs make }
 
 -- the first function that does not fit
-pub wrong_refused : (fs : List Function) (k : ℕ) (f : Function) (e : ProgramError) → HasCount fs → All (FitsProgram (length fs)) (take k fs) → slice_get fs k ≡ Some f → IsWrong (length fs) f k e → IsRefusedProgram fs e
+pub wrong_refused : (fs : List Function) (k : ℕ) (f : Function) (e : ProgramError) → HasCount fs → All (FitsProgram (length fs)) (take k fs) → slice_get fs k ≡ Some f → IsWrong (length fs) f k e →
+    IsRefusedProgram fs e
 wrong_refused fs k f NoMemory count fits is h = tt
 wrong_refused fs k f Count count fits is h = absurd h
 wrong_refused fs k f (Refused j r) count fits is h =

@@ -18,7 +18,8 @@ use Rattle.serde_json.specs.Written.{outline, items_outline, compact_text}
 use Rattle.serde_json.proofs.Numbers.{number_of-decimal, number_of-negative}
 use Rattle.serde_json.proofs.Texts.{print-outline}
 use Rattle.job_language.specs.declared.instructions.Instr.{Instr}
-use Rattle.job_language.specs.declared.instructions.Instr.TheVariants.{Set, Add, Sub, Mul, Div, Lt, Rem, And, Or, Xor, Shl, Shr, Eq, Le, Jz, Jmp, Slot, Width, Spawn, Post, Wait, Cancel, Ask, Isolate, Load, Store, Sum, Count, Ret}
+use Rattle.job_language.specs.declared.instructions.Instr.TheVariants.{Set, Add, Sub, Mul, Div, Lt, Rem, And, Or, Xor, Shl, Shr, Eq, Le, Jz, Jmp, Slot, Width, Spawn, Post, Wait, Cancel, Ask, Isolate}
+use Rattle.job_language.specs.declared.instructions.Instr.TheVariants.{Load, Store, Sum, Count, Ret}
 use Rattle.job_language.specs.declared.jobs.Job.{Job}
 use Rattle.job_language.specs.Program.{IsInRange, Calls, IsValidProc, IsValidProgram}
 use Rattle.job_json.specs.Canonical.{IsCanonical}
@@ -80,7 +81,8 @@ canonical_array deep ds h = record {
   depth = omega (arith, items_depth deep ds h);
 }
 
-each_mapped : {A : Type 0} (P : A → Type 0) (deep : ℕ) (data_of : A → Data) → ((x : A) → P x → IsCanonical deep (data_of x)) → (xs : List A) → AllByRecursion P xs → AllByRecursion (IsCanonical deep) (map data_of xs)
+each_mapped : {A : Type 0} (P : A → Type 0) (deep : ℕ) (data_of : A → Data) → ((x : A) → P x → IsCanonical deep (data_of x)) → (xs : List A) → AllByRecursion P xs →
+    AllByRecursion (IsCanonical deep) (map data_of xs)
 each_mapped P deep data_of f [] h = tt
 each_mapped P deep data_of f (x ∷ xs) h = (f x h.0, each_mapped P deep data_of f xs h.1)
 
@@ -122,7 +124,8 @@ operands_fit procs instrs (Ret a) most_procs most_instrs h calls = (small a (ome
 
 canonical_instr : (procs instrs : ℕ) (i : Instr) → procs ≤ 256 → instrs ≤ 256 → IsInRange instrs i × Calls procs i → IsCanonical 1 (instr_data i)
 canonical_instr procs instrs i p q h =
-    canonical_array 0 (string (name_of (operation_of i)) ∷ map number_data (operands_of i)) (canonical_string _, each_mapped (FitsSigned w64) 0 number_data canonical_number (operands_of i) (operands_fit procs instrs i p q h.0 h.1))
+    canonical_array 0 (string (name_of (operation_of i)) ∷ map number_data (operands_of i))
+    (canonical_string _, each_mapped (FitsSigned w64) 0 number_data canonical_number (operands_of i) (operands_fit procs instrs i p q h.0 h.1))
 
 both_each : {A : Type 0} (P Q : A → Type 0) (xs : List A) → AllByRecursion P xs → AllByRecursion Q xs → AllByRecursion (λ x. P x × Q x) xs
 both_each P Q [] h k = tt
@@ -130,13 +133,15 @@ both_each P Q (x ∷ xs) h k = ((h.0, k.0), both_each P Q xs h.1 k.1)
 
 canonical_proc : (procs : ℕ) (is : List Instr) → procs ≤ 256 → IsValidProc is × All (Calls procs) is → IsCanonical 2 (proc_data is)
 canonical_proc procs is p h =
-    let within : AllByRecursion (λ i. IsInRange (length is) i × Calls procs i) is = both_each (IsInRange (length is)) (Calls procs) is (recursion_from_All _ is h.0.each) (recursion_from_All _ is h.1) in
+    let within : AllByRecursion (λ i. IsInRange (length is) i × Calls procs i) is =
+    both_each (IsInRange (length is)) (Calls procs) is (recursion_from_All _ is h.0.each) (recursion_from_All _ is h.1) in
     canonical_array 1 (map instr_data is) (each_mapped (λ i. IsInRange (length is) i × Calls procs i) 1 instr_data (λ i x. canonical_instr procs (length is) i p h.0.most x) is within)
 
 canonical_program : (ps : List (List Instr)) → IsValidProgram ps → IsCanonical 3 (program_data ps)
 canonical_program ps v =
     let procs : length ps ≤ 256 = omega (arith, v.most) in
-    let each : AllByRecursion (λ is. IsValidProc is × All (Calls (length ps)) is) ps = both_each IsValidProc (All (Calls (length ps))) ps (recursion_from_All _ ps v.each) (recursion_from_All _ ps v.calls) in
+    let each : AllByRecursion (λ is. IsValidProc is × All (Calls (length ps)) is) ps =
+    both_each IsValidProc (All (Calls (length ps))) ps (recursion_from_All _ ps v.each) (recursion_from_All _ ps v.calls) in
     canonical_array 2 (map proc_data ps) (each_mapped (λ is. IsValidProc is × All (Calls (length ps)) is) 2 proc_data (λ is x. canonical_proc (length ps) is procs x) ps each)
 
 -- ---- jobs
@@ -156,7 +161,8 @@ canonical_job j args fuel program =
     canonical_object 3 (array_of (map number_data j.args)) (program_data j.program) j.fuel fuel (deeper 1 3 _ (omega arith) numbers) (canonical_program j.program program)
 
 -- two arguments of 64 bits are read as they are written
-pub two_fit : (zs : List ℤ) → length zs ≡ 2 → FitsSigned w64 (get_or zs 0 (pos 0)) → FitsSigned w64 (get_or zs 1 (pos 0)) → (args_of (array_of (map number_data zs)) ≡ Some zs) × AllByRecursion (FitsSigned w64) zs
+pub two_fit : (zs : List ℤ) → length zs ≡ 2 → FitsSigned w64 (get_or zs 0 (pos 0)) → FitsSigned w64 (get_or zs 1 (pos 0)) →
+    (args_of (array_of (map number_data zs)) ≡ Some zs) × AllByRecursion (FitsSigned w64) zs
 unfolding one two
 two_fit [] len x y = absurd (omega arith)
 two_fit (a ∷ []) len x y = absurd (omega arith)

@@ -7,7 +7,8 @@ use Rattle.serde_json.specs.Written.{compact_text, items_text}
 use Rattle.job_language.specs.declared.instructions.Instr.{Instr}
 use Rattle.job_language.specs.declared.jobs.Job.{Job}
 use Rattle.job_json.specs.declared.operations.Operation.{Operation}
-use Rattle.job_json.specs.declared.operations.Operation.TheVariants.{Set, Add, Sub, Mul, Div, Lt, Rem, And, Or, Xor, Shl, Shr, Eq, Le, Jz, Jmp, Slot, Width, Spawn, Post, Wait, Cancel, Ask, Isolate, Load, Store, Sum, Count, Ret}
+use Rattle.job_json.specs.declared.operations.Operation.TheVariants.{Set, Add, Sub, Mul, Div, Lt, Rem, And, Or, Xor, Shl, Shr, Eq, Le, Jz, Jmp, Slot, Width, Spawn, Post, Wait, Cancel, Ask, Isolate}
+use Rattle.job_json.specs.declared.operations.Operation.TheVariants.{Load, Store, Sum, Count, Ret}
 use Rattle.job_json.specs.CanonicalText.{more_then, listed, number_then, instr_then, proc_then, program_then, job_then}
 use Rattle.job_json.specs.JobData.{operation_of, operands_of, number_data, array_of, instr_data, proc_data, program_data, job_data}
 use Rattle.job_json.specs.Operation.{name_of}
@@ -17,13 +18,15 @@ module _ {A : Type 0} (item_then : A → List ℕ → List ℕ) (data_of : A →
   unfolding more_then
   more_text [] rest = refl
   more_text (x ∷ xs) rest =
-      ap (λ (s : List ℕ). 44 ∷ s) (same x (more_then item_then xs rest) ∙ ap (λ (s : List ℕ). compact_text (data_of x) ++ s) (more_text xs rest) ∙ sym (append_assoc (compact_text (data_of x)) (items_text true (items_of (map data_of xs))) rest))
+      ap (λ (s : List ℕ). 44 ∷ s) (same x (more_then item_then xs rest) ∙ ap (λ (s : List ℕ). compact_text (data_of x) ++ s) (more_text xs rest) ∙
+      sym (append_assoc (compact_text (data_of x)) (items_text true (items_of (map data_of xs))) rest))
 
   list_text : (xs : List A) (rest : List ℕ) → 91 ∷ listed item_then xs rest ≡ compact_text (array_of (map data_of xs)) ++ rest
   unfolding listed
   list_text [] rest = refl
   list_text (x ∷ xs) rest =
-      ap (λ (s : List ℕ). 91 ∷ s) (same x (more_then item_then xs rest) ∙ ap (λ (s : List ℕ). compact_text (data_of x) ++ s) (more_text xs rest) ∙ sym (append_assoc (compact_text (data_of x)) (items_text true (items_of (map data_of xs))) rest))
+      ap (λ (s : List ℕ). 91 ∷ s) (same x (more_then item_then xs rest) ∙ ap (λ (s : List ℕ). compact_text (data_of x) ++ s) (more_text xs rest) ∙
+      sym (append_assoc (compact_text (data_of x)) (items_text true (items_of (map data_of xs))) rest))
 
 number_text : (z : ℤ) (rest : List ℕ) → number_then z rest ≡ compact_text (number_data z) ++ rest
 number_text (pos n) rest = refl
@@ -68,7 +71,8 @@ instr_text : (i : Instr) (rest : List ℕ) → instr_then i rest ≡ compact_tex
 instr_text i rest =
     let name = name_of (operation_of i) in
     let operands = items_text true (items_of (map number_data (operands_of i))) in
-    ap (λ (s : List ℕ). 91 ∷ 34 ∷ (name ++ 34 ∷ s)) (more_text number_then number_data number_text (operands_of i) rest) ∙ ap (λ (s : List ℕ). 91 ∷ s) (around (quoted name) name operands rest (quoted_name (operation_of i)))
+    ap (λ (s : List ℕ). 91 ∷ 34 ∷ (name ++ 34 ∷ s)) (more_text number_then number_data number_text (operands_of i) rest) ∙
+    ap (λ (s : List ℕ). 91 ∷ s) (around (quoted name) name operands rest (quoted_name (operation_of i)))
 
 proc_text : (is : List Instr) (rest : List ℕ) → proc_then is rest ≡ compact_text (proc_data is) ++ rest
 proc_text is rest = list_text instr_then instr_data instr_text is rest
@@ -76,7 +80,9 @@ proc_text is rest = list_text instr_then instr_data instr_text is rest
 program_text : (ps : List (List Instr)) (rest : List ℕ) → program_then ps rest ≡ compact_text (program_data ps) ++ rest
 program_text ps rest = list_text proc_then proc_data proc_text ps rest
 
-members_text : (a f p rest : List ℕ) → codes "{\"args\":" ++ (a ++ (codes ",\"fuel\":" ++ (f ++ (codes ",\"procs\":" ++ (p ++ 125 ∷ rest))))) ≡ (codes "{\"args\":" ++ (a ++ (codes ",\"fuel\":" ++ (f ++ (codes ",\"procs\":" ++ (p ++ 125 ∷ [])))))) ++ rest
+members_text : (a f p rest : List ℕ) →
+    codes "{\"args\":" ++ (a ++ (codes ",\"fuel\":" ++ (f ++ (codes ",\"procs\":" ++ (p ++ 125 ∷ rest))))) ≡
+    (codes "{\"args\":" ++ (a ++ (codes ",\"fuel\":" ++ (f ++ (codes ",\"procs\":" ++ (p ++ 125 ∷ [])))))) ++ rest
 members_text a f p rest = simp append_assoc
 
 pub job_text : (j : Job) (rest : List ℕ) → job_then j rest ≡ compact_text (job_data j) ++ rest

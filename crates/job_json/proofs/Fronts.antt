@@ -42,5 +42,6 @@ ok_or-others x None e = refl
 ok_or-others x (Some xs) e = refl
 
 -- one more item, where the others are read after it
-pub with_front-next : {A E : Type 0} (front : List A) (item : Option A) (x : A) (others : Option (List A)) (e : E) → item ≡ Some x → with_front (front ++ x ∷ []) (ok_or others e) ≡ with_front front (ok_or (item >>= λ x. others >>= λ xs. Some (x ∷ xs)) e)
+pub with_front-next : {A E : Type 0} (front : List A) (item : Option A) (x : A) (others : Option (List A)) (e : E) → item ≡ Some x →
+    with_front (front ++ x ∷ []) (ok_or others e) ≡ with_front front (ok_or (item >>= λ x. others >>= λ xs. Some (x ∷ xs)) e)
 with_front-next front item x others e its = rw its (sym (with_front-map front x (ok_or others e)) ∙ ap (with_front front) (sym (ok_or-others x others e)))

@@ -15,7 +15,8 @@ by_operation : (name : List ℕ) (procs instrs : ℕ) (ds : List Data) → (oper
 unfolding instr_from made_of
 by_operation name procs instrs ds = simp if-then
 
-pub instr_found : (name : List ℕ) (operation : Operation) (procs instrs : ℕ) (ds : List Data) → operation_named name ≡ Some operation → made_of operation procs instrs ds ≡ instr_from name procs instrs ds
+pub instr_found : (name : List ℕ) (operation : Operation) (procs instrs : ℕ) (ds : List Data) → operation_named name ≡ Some operation →
+    made_of operation procs instrs ds ≡ instr_from name procs instrs ds
 instr_found name operation procs instrs ds its =
     sym (ap (λ o. o >>= λ operation. made_of operation procs instrs ds) its) ∙ by_operation name procs instrs ds
 

@@ -13,13 +13,15 @@ make_two None p make = refl
 make_two (Some a) None make = refl
 make_two (Some a) (Some b) make = refl
 
-make_three : {A B C D : Type 0} (o : Option A) (p : Option B) (q : Option C) (make : A → B → C → D) → (o >>= λ a. p >>= λ b. option_map (make a b) q) ≡ option_map (λ (x : A × B × C). make x.0 x.1 x.2) (o >>= λ a. p >>= λ b. option_map (λ c. (a, b, c)) q)
+make_three : {A B C D : Type 0} (o : Option A) (p : Option B) (q : Option C) (make : A → B → C → D) →
+    (o >>= λ a. p >>= λ b. option_map (make a b) q) ≡ option_map (λ (x : A × B × C). make x.0 x.1 x.2) (o >>= λ a. p >>= λ b. option_map (λ c. (a, b, c)) q)
 make_three None p q make = refl
 make_three (Some a) None q make = refl
 make_three (Some a) (Some b) None make = refl
 make_three (Some a) (Some b) (Some c) make = refl
 
-make_four : {A B C D E : Type 0} (o : Option A) (p : Option B) (q : Option C) (r : Option D) (make : A → B → C → D → E) → (o >>= λ a. p >>= λ b. q >>= λ c. option_map (make a b c) r) ≡ option_map (λ (x : A × B × C × D). make x.0 x.1 x.2 x.3) (o >>= λ a. p >>= λ b. q >>= λ c. option_map (λ d. (a, b, c, d)) r)
+make_four : {A B C D E : Type 0} (o : Option A) (p : Option B) (q : Option C) (r : Option D) (make : A → B → C → D → E) →
+    (o >>= λ a. p >>= λ b. q >>= λ c. option_map (make a b c) r) ≡ option_map (λ (x : A × B × C × D). make x.0 x.1 x.2 x.3) (o >>= λ a. p >>= λ b. q >>= λ c. option_map (λ d. (a, b, c, d)) r)
 make_four None p q r make = refl
 make_four (Some a) None q r make = refl
 make_four (Some a) (Some b) None r make = refl
@@ -32,14 +34,16 @@ one_made f make [] = refl
 one_made f make (x ∷ []) = make_one (f x) make
 one_made f make (x ∷ y ∷ ds) = refl
 
-pub two_made : {A B C : Type 0} (f : Data → Option A) (g : Data → Option B) (make : A → B → C) (ds : List Data) → two f g make ds ≡ option_map (λ (x : A × B). make x.0 x.1) (two f g (λ x y. (x, y)) ds)
+pub two_made : {A B C : Type 0} (f : Data → Option A) (g : Data → Option B) (make : A → B → C) (ds : List Data) →
+    two f g make ds ≡ option_map (λ (x : A × B). make x.0 x.1) (two f g (λ x y. (x, y)) ds)
 unfolding one two
 two_made f g make [] = refl
 two_made f g make (x ∷ []) = refl
 two_made f g make (x ∷ y ∷ []) = make_two (f x) (g y) make
 two_made f g make (x ∷ y ∷ z ∷ ds) = refl
 
-pub three_made : {A B C D : Type 0} (f : Data → Option A) (g : Data → Option B) (h : Data → Option C) (make : A → B → C → D) (ds : List Data) → three f g h make ds ≡ option_map (λ (x : A × B × C). make x.0 x.1 x.2) (three f g h (λ x y z. (x, y, z)) ds)
+pub three_made : {A B C D : Type 0} (f : Data → Option A) (g : Data → Option B) (h : Data → Option C) (make : A → B → C → D) (ds : List Data) →
+    three f g h make ds ≡ option_map (λ (x : A × B × C). make x.0 x.1 x.2) (three f g h (λ x y z. (x, y, z)) ds)
 unfolding one two three
 three_made f g h make [] = refl
 three_made f g h make (x ∷ []) = refl
@@ -47,7 +51,8 @@ three_made f g h make (x ∷ y ∷ []) = refl
 three_made f g h make (x ∷ y ∷ z ∷ []) = make_three (f x) (g y) (h z) make
 three_made f g h make (x ∷ y ∷ z ∷ w ∷ ds) = refl
 
-pub four_made : {A B C D E : Type 0} (f : Data → Option A) (g : Data → Option B) (h : Data → Option C) (k : Data → Option D) (make : A → B → C → D → E) (ds : List Data) → four f g h k make ds ≡ option_map (λ (x : A × B × C × D). make x.0 x.1 x.2 x.3) (four f g h k (λ x y z w. (x, y, z, w)) ds)
+pub four_made : {A B C D E : Type 0} (f : Data → Option A) (g : Data → Option B) (h : Data → Option C) (k : Data → Option D) (make : A → B → C → D → E) (ds : List Data) →
+    four f g h k make ds ≡ option_map (λ (x : A × B × C × D). make x.0 x.1 x.2 x.3) (four f g h k (λ x y z w. (x, y, z, w)) ds)
 unfolding one two three four
 four_made f g h k make [] = refl
 four_made f g h k make (x ∷ []) = refl

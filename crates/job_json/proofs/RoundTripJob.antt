@@ -36,7 +36,8 @@ items_of-array_of ds = ap Some (list_of-items_of ds)
 instr_at-instr_data : (procs instrs place : ℕ) (i : Instr) → IsInRange instrs i → Calls procs i → (is_last i || nat_lt (place + 1) instrs) ≡ true → instr_at procs instrs place (instr_data i) ≡ Some i
 instr_at-instr_data procs instrs place i h calls ends = rw (instr_of-instr_data procs instrs i h calls, ends) refl
 
-instrs_from-map : (procs number instrs place : ℕ) (is : List Instr) → All (IsInRange instrs) is → All (Calls procs) is → Ends is → place + length is ≡ instrs → instrs_from procs number instrs place (map instr_data is) ≡ Ok is
+instrs_from-map : (procs number instrs place : ℕ) (is : List Instr) → All (IsInRange instrs) is → All (Calls procs) is → Ends is → place + length is ≡ instrs →
+    instrs_from procs number instrs place (map instr_data is) ≡ Ok is
 instrs_from-map procs number instrs place [] h calls ends at = refl
 instrs_from-map procs number instrs place (i ∷ []) h calls ends at =
     let is_last_one : (is_last i || nat_lt (place + 1) instrs) ≡ true = rw ends refl in
@@ -44,7 +45,8 @@ instrs_from-map procs number instrs place (i ∷ []) h calls ends at =
 instrs_from-map procs number instrs place (i ∷ j ∷ is) h calls ends at =
     let below : place + 1 < instrs = omega arith in
     let goes_on : (is_last i || nat_lt (place + 1) instrs) ≡ true = or_true (is_last i) _ (lt-ltb _ _ below) in
-    let rest : instrs_from procs number instrs (place + 1) (map instr_data (j ∷ is)) ≡ Ok (j ∷ is) = instrs_from-map procs number instrs (place + 1) (j ∷ is) (All-tail (IsInRange instrs) i (j ∷ is) h) (All-tail (Calls procs) i (j ∷ is) calls) (Ends-tail i j is ends) (omega arith) in
+    let rest : instrs_from procs number instrs (place + 1) (map instr_data (j ∷ is)) ≡ Ok (j ∷ is) =
+    instrs_from-map procs number instrs (place + 1) (j ∷ is) (All-tail (IsInRange instrs) i (j ∷ is) h) (All-tail (Calls procs) i (j ∷ is) calls) (Ends-tail i j is ends) (omega arith) in
     rw (instr_at-instr_data procs instrs place i (All-head (IsInRange instrs) i (j ∷ is) h) (All-head (Calls procs) i (j ∷ is) calls) goes_on) (ap (result_map (λ xs. i ∷ xs)) rest)
 
 proc_at-proc_data : (procs number : ℕ) (is : List Instr) → IsValidProc is → All (Calls procs) is → proc_at procs number (proc_data is) ≡ Ok is
@@ -71,12 +73,14 @@ procs_of-program_data ps v =
     let are : are_procs (map proc_data ps) ≡ true = rw (length-map, all_procs-map ps v.each) (rw (le-leb _ _ v.some, le-leb _ _ v.most) refl) in
     rw (list_of-items_of (map proc_data ps)) (rw are refl)
 
-outline_of-job_object : (a p : Data) (fuel : ℕ) (args : List ℤ) (procs : List Data) → args_of a ≡ Some args → leb 1 fuel ≡ true → leb fuel MAX_FUEL ≡ true → procs_of p ≡ Some procs → outline_of (job_object a fuel p) ≡ Some (record { args = args; fuel = fuel; procs = procs })
+outline_of-job_object : (a p : Data) (fuel : ℕ) (args : List ℤ) (procs : List Data) → args_of a ≡ Some args → leb 1 fuel ≡ true → leb fuel MAX_FUEL ≡ true → procs_of p ≡ Some procs →
+    outline_of (job_object a fuel p) ≡ Some (record { args = args; fuel = fuel; procs = procs })
 outline_of-job_object a p fuel args procs has_args some most has_procs = rw (has_args, some, most, has_procs) refl
 
 pub job_of-job_data : (j : Job) → args_of (array_of (map number_data j.args)) ≡ Some j.args → 1 ≤ j.fuel → j.fuel ≤ MAX_FUEL → IsValidProgram j.program → job_of (job_data j) ≡ Ok j
 job_of-job_data j args some most v =
     let outline : outline_of (job_data j) ≡ Some (record { args = j.args; fuel = j.fuel; procs = map proc_data j.program }) =
-    outline_of-job_object (array_of (map number_data j.args)) (program_data j.program) j.fuel j.args (map proc_data j.program) args (le-leb _ _ some) (le-leb _ _ most) (procs_of-program_data j.program v) in
+    outline_of-job_object (array_of (map number_data j.args)) (program_data j.program) j.fuel j.args (map proc_data j.program) args (le-leb _ _ some) (le-leb _ _ most)
+    (procs_of-program_data j.program v) in
     let procs : procs_from (length j.program) 0 (map proc_data j.program) ≡ Ok j.program = procs_from-map (length j.program) 0 j.program v.each v.calls in
     ap (λ o. option_map_or job_in o (Err Head)) outline ∙ rw length-map (ap (result_map (λ ps. record { program = ps; args = j.args; fuel = j.fuel })) procs)

@@ -1,7 +1,8 @@
 -- The codes and names of errors, and the codes of job faults.
 use Rattle.std.specs.Prelude.{ℕ, List, codes}
 use Rattle.job_language.specs.declared.errors.Error.{Error}
-use Rattle.job_language.specs.declared.errors.Error.TheVariants.{LineTooLong, BadJson, BadRequest, BadProgram, UnknownTenant, UnknownJob, JobLimit, HistoryFull, NoMemory, TaskLimit, NoTenant, Busy, ConnectionLimit}
+use Rattle.job_language.specs.declared.errors.Error.TheVariants.{LineTooLong, BadJson, BadRequest, BadProgram, UnknownTenant, UnknownJob, JobLimit, HistoryFull, NoMemory, TaskLimit, NoTenant, Busy}
+use Rattle.job_language.specs.declared.errors.Error.TheVariants.{ConnectionLimit}
 use Rattle.job_language.specs.declared.errors.JobFault.{JobFault}
 use Rattle.job_language.specs.declared.errors.JobFault.TheVariants as fault
 

@@ -61,7 +61,8 @@ abbrev table_from : State → ℕ → List Work → List (ℕ × Status)
 table_from s k jobs = map (λ (p : ℕ × Work). (p.0, status s.rows p.0 p.1)) (filter (λ (p : ℕ × Work). not p.1.retired) (enumerate_from k jobs))
 
 -- one job's part of the table
-table_next : (s : State) (k : ℕ) (w : Work) (jobs : List Work) (rest : List ℕ) (b : Bool) → w.retired ≡ b → at_number s.jobs k ≡ Some w → table_from s (k + 1) jobs ≡ filter_map (outcome_in s) rest → table_from s k (w ∷ jobs) ≡ filter_map (outcome_in s) (k ∷ rest)
+table_next : (s : State) (k : ℕ) (w : Work) (jobs : List Work) (rest : List ℕ) (b : Bool) → w.retired ≡ b → at_number s.jobs k ≡ Some w → table_from s (k + 1) jobs ≡ filter_map (outcome_in s) rest →
+    table_from s k (w ∷ jobs) ≡ filter_map (outcome_in s) (k ∷ rest)
 table_next s k w jobs rest true retired here same = rw (retired, here, retired) same
 table_next s k w jobs rest false current here same = rw (current, here, current) (ap (λ (xs : List (ℕ × Status)). (k, status s.rows k w) ∷ xs) same)
 
@@ -70,7 +71,8 @@ table_by_numbers s k [] here = refl
 table_by_numbers s k (w ∷ jobs) here =
     let first : k + 0 ≡ k = omega arith in
     let at : at_number s.jobs k ≡ Some w = ap (at_number s.jobs) (sym first) ∙ here 0 in
-    table_next s k w jobs (range_with_len (k + 1) (length jobs)) w.retired refl at (table_by_numbers s (k + 1) jobs (λ i. let place : k + 1 + i ≡ k + suc i = omega arith in ap (at_number s.jobs) place ∙ here (suc i)))
+    table_next s k w jobs (range_with_len (k + 1) (length jobs)) w.retired refl at
+    (table_by_numbers s (k + 1) jobs (λ i. let place : k + 1 + i ≡ k + suc i = omega arith in ap (at_number s.jobs) place ∙ here (suc i)))
 
 -- the table of jobs is made of what each number names
 pub table_by_number : (s : State) → job_table s ≡ outcomes_in s 1 (length s.jobs)
@@ -112,9 +114,11 @@ module _ (s : State) (last : ℕ) (held : List JobOutcome) (is : AreSoFar s last
       let one : outcomes_in s n 1 ≡ (n, status) ∷ [] = rw told refl in
       let middle : outcomes_in s (1 + last) between ≡ [] = none_held s (1 + last) between (λ j from to. none_between s last n least j (omega (arith, from)) (omega (arith, to, place))) in
       let rest : outcomes_in s (1 + last) (between + 1) ≡ (n, status) ∷ [] =
-      ap (filter_map f) (range_then (1 + last) between 1) ∙ filter_map-append f (range_with_len (1 + last) between) (range_with_len (1 + last + between) 1) ∙ ap (λ (xs : List (ℕ × Status)). xs ++ outcomes_in s (1 + last + between) 1) middle ∙ ap (λ k. outcomes_in s k 1) place ∙ one in
+      ap (filter_map f) (range_then (1 + last) between 1) ∙ filter_map-append f (range_with_len (1 + last) between) (range_with_len (1 + last + between) 1) ∙
+      ap (λ (xs : List (ℕ × Status)). xs ++ outcomes_in s (1 + last + between) 1) middle ∙ ap (λ k. outcomes_in s k 1) place ∙ one in
       let all : outcomes_in s 1 n ≡ outcomes_in s 1 last ++ (n, status) ∷ [] =
-      ap (outcomes_in s 1) parts ∙ ap (filter_map f) (range_then 1 last (between + 1)) ∙ filter_map-append f (range_with_len 1 last) (range_with_len (1 + last) (between + 1)) ∙ ap (λ (xs : List (ℕ × Status)). outcomes_in s 1 last ++ xs) rest in
+      ap (outcomes_in s 1) parts ∙ ap (filter_map f) (range_then 1 last (between + 1)) ∙ filter_map-append f (range_with_len 1 last) (range_with_len (1 + last) (between + 1)) ∙
+      ap (λ (xs : List (ℕ × Status)). outcomes_in s 1 last ++ xs) rest in
       record {
         within = known_within s n known;
         held = map-append outcome_seen held (record { job = n; status = status } ∷ []) ∙ ap (λ (xs : List (ℕ × Status)). xs ++ (n, status) ∷ []) is.held ∙ sym all;
@@ -126,9 +130,11 @@ module _ (s : State) (last : ℕ) (held : List JobOutcome) (is : AreSoFar s last
       let within = is.within in
       let parts : length s.jobs ≡ last + left = omega (arith, within) in
       let f = outcome_in s in
-      let rest : outcomes_in s (1 + last) left ≡ [] = none_held s (1 + last) left (λ j from to. no_outcome s j (known_job s j) refl (λ known. let found = least j (omega (arith, from)) known in none_some found.0 found.1)) in
+      let rest : outcomes_in s (1 + last) left ≡ [] =
+      none_held s (1 + last) left (λ j from to. no_outcome s j (known_job s j) refl (λ known. let found = least j (omega (arith, from)) known in none_some found.0 found.1)) in
       let all : outcomes_in s 1 (length s.jobs) ≡ outcomes_in s 1 last ++ [] =
-      ap (outcomes_in s 1) parts ∙ ap (filter_map f) (range_then 1 last left) ∙ filter_map-append f (range_with_len 1 last) (range_with_len (1 + last) left) ∙ ap (λ (xs : List (ℕ × Status)). outcomes_in s 1 last ++ xs) rest in
+      ap (outcomes_in s 1) parts ∙ ap (filter_map f) (range_then 1 last left) ∙ filter_map-append f (range_with_len 1 last) (range_with_len (1 + last) left) ∙
+      ap (λ (xs : List (ℕ × Status)). outcomes_in s 1 last ++ xs) rest in
       is.held ∙ sym (append-nil (outcomes_in s 1 last)) ∙ sym all
 
   pub all_held : IsNext s last None → map outcome_seen held ≡ job_table s

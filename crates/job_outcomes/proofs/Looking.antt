@@ -66,7 +66,8 @@ finds_status s (suc n) = elim (cases_lt (length s.jobs) (suc n)) [
   | inr within ↦ found_at s (suc n) 1 (length s.jobs) (omega arith) (omega (arith, within))
 ]
 
-found_first : (j : ℕ) (o : JobOutcome) (os : List JobOutcome) (b : Bool) → (o.job == j) ≡ b → option_map (λ (x : JobOutcome). x.status) (find (is_of j) os) ≡ found_in j (map outcome_seen os) → option_map (λ (x : JobOutcome). x.status) (find (is_of j) (o ∷ os)) ≡ found_in j (map outcome_seen (o ∷ os))
+found_first : (j : ℕ) (o : JobOutcome) (os : List JobOutcome) (b : Bool) → (o.job == j) ≡ b → option_map (λ (x : JobOutcome). x.status) (find (is_of j) os) ≡ found_in j (map outcome_seen os) →
+    option_map (λ (x : JobOutcome). x.status) (find (is_of j) (o ∷ os)) ≡ found_in j (map outcome_seen (o ∷ os))
 found_first j o os true is same = rw is refl
 found_first j o os false is same = rw is same
 
@@ -79,7 +80,9 @@ pub looks_up : (s : State) (j : ℕ) (os : List JobOutcome) → map outcome_seen
 looks_up s j os table = found_seen j os ∙ ap (found_in j) (table ∙ table_by_number s) ∙ finds_status s j
 
 -- A poll is answered with it.
-polled_by : (s : State) (j : ℕ) (o : Option Work) → (option_map_or {U = Reply × State} (λ w. (reply.Job j (status s.rows j w), entry s)) o (reply.Refused UnknownJob, entry s)).0 ≡ option_map_or (λ told. reply.Job j told) (option_map (status s.rows j) o) (reply.Refused UnknownJob)
+polled_by : (s : State) (j : ℕ) (o : Option Work) →
+    (option_map_or {U = Reply × State} (λ w. (reply.Job j (status s.rows j w), entry s)) o (reply.Refused UnknownJob, entry s)).0 ≡
+    option_map_or (λ told. reply.Job j told) (option_map (status s.rows j) o) (reply.Refused UnknownJob)
 polled_by s j None = refl
 polled_by s j (Some w) = refl
 

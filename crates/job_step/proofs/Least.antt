@@ -20,7 +20,8 @@ module _ (procs : List (List Instr)) (slot width : ℕ) (start : Frame) where
   IsLeast r = IsLeastRun procs slot width start r
 
   module _ (c : ℕ) (f : Frame) (reached : IsReached c f) (low : c + 1 ≤ 1000) where
-    turn : (e : Effect) (i : Instr) (next : Frame → Run) → instr_at procs f ≡ Some i → effect i slot width f ≡ e → ((g : Frame) → IsReached (c + 1) g → IsLeast (next g)) → IsLeast (run_on start f c e (Some i) next)
+    turn : (e : Effect) (i : Instr) (next : Frame → Run) → instr_at procs f ≡ Some i → effect i slot width f ≡ e → ((g : Frame) → IsReached (c + 1) g → IsLeast (next g)) →
+        IsLeast (run_on start f c e (Some i) next)
     turn (Moves g) i next here does rest =
         let one : c + 1 ≡ suc c = omega arith in
         let goes : next_of procs slot width f ≡ Some g = rw (here, does) refl in

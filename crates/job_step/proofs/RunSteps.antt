@@ -19,7 +19,8 @@ one_more : (n c : ℕ) → c < n → n - c ≡ suc (n - (c + 1))
 one_more n c below = omega arith
 
 -- the instruction that the code finds
-pub instr_at-found : (procs : List (List Instr)) (is : List Instr) (f : Frame) (k : ℕ) (i : Instr) → slice_index_or procs f.procedure [] ≡ is → k ≡ f.place → k < length is → i ≡ get_or is k i → instr_at procs f ≡ Some i
+pub instr_at-found : (procs : List (List Instr)) (is : List Instr) (f : Frame) (k : ℕ) (i : Instr) → slice_index_or procs f.procedure [] ≡ is → k ≡ f.place → k < length is → i ≡ get_or is k i →
+    instr_at procs f ≡ Some i
 instr_at-found procs is f k i here at within found = rw (here, ← at) (slice_get-get_or is k i within ∙ ap Some (sym found))
 
 -- At a turn c of n, the next instruction is i.
@@ -37,7 +38,8 @@ module _ (n : ℕ) (procs : List (List Instr)) (slot width : ℕ) (start : Frame
   run_for-shared e = rw (one_more n c below, next, e) refl
 
 -- after all turns
-pub run_for-end : (n : ℕ) (procs : List (List Instr)) (slot width : ℕ) (start : Frame) (c : ℕ) (f : Frame) → n ≡ c → run_for (n - c) procs slot width start c f ≡ record { start = start; end = f; count = n; stop = Yield }
+pub run_for-end : (n : ℕ) (procs : List (List Instr)) (slot width : ℕ) (start : Frame) (c : ℕ) (f : Frame) → n ≡ c →
+    run_for (n - c) procs slot width start c f ≡ record { start = start; end = f; count = n; stop = Yield }
 unfolding run_for
 run_for-end n procs slot width start c f e =
     let none : n - c ≡ 0 = omega arith in

@@ -15,7 +15,8 @@ take_all zero (x ∷ xs) few = absurd (omega (arith, few))
 take_all (suc n) (x ∷ xs) few = ap (λ l. x ∷ l) (take_all n xs (omega (arith, few)))
 
 -- Slots are reserved first, and the rest are at home.
-pub first_row : (t : MarketTenant) (a b : List SlotState) → a ≡ replicate t.reserved slot.Reserved → b ≡ take t.slots a ++ replicate (t.slots - length a) slot.Home → t.reserved ≤ t.slots → b ≡ first_slots t
+pub first_row : (t : MarketTenant) (a b : List SlotState) → a ≡ replicate t.reserved slot.Reserved → b ≡ take t.slots a ++ replicate (t.slots - length a) slot.Home → t.reserved ≤ t.slots →
+    b ≡ first_slots t
 first_row t a b reserved whole few =
     let long : length a ≡ t.reserved = ap length reserved ∙ length-replicate t.reserved slot.Reserved in
     let all : take t.slots a ≡ a = take_all t.slots a (omega (arith, long, few)) in

@@ -10,7 +10,8 @@ use Rattle.world_model.specs.declared.calls.SlotState.{SlotState}
 use Rattle.world_model.specs.declared.calls.SlotState.TheVariants as slot
 use Rattle.world_model.specs.declared.calls.WorkerState.{WorkerState}
 use Rattle.world_model.specs.declared.calls.WorkerState.TheVariants as worker
-use Rattle.world_model.specs.Market.{Market, call, slots_of, slot_at, with_slot, with_worker, worker_at, level_of, calls_at, with_calls, is_due, is_free, lowest_home, with_due, wake, push, first_call, hold, hand_over, pop, go_home, go_in, came, left, held_by, call_of}
+use Rattle.world_model.specs.Market.{Market, call, slots_of, slot_at, with_slot, with_worker, worker_at, level_of, calls_at, with_calls, is_due, is_free, lowest_home, with_due, wake, push, first_call}
+use Rattle.world_model.specs.Market.{hold, hand_over, pop, go_home, go_in, came, left, held_by, call_of}
 use Rattle.market_config.specs.Config.{is_level}
 use Rattle.world_model.specs.Orderly.{is_reserved, room, IsOrderly}
 use Rattle.world_model.proofs.Ruling.{due_is, free_is, held_at, in_at, IsFirst, first_is, first_queued, calls_with, calls_at-slots, wake_orderly, push_orderly, pop_orderly, came_orderly, left_orderly}
@@ -52,7 +53,8 @@ pub push_fits : (m : Market) (v : WaitingCalls) (t s : ℕ) → is_due (slot_at 
 push_fits m v t s due is =
     let k = level_of m t in
     let n = push m t s in
-    let calls : calls_at n k ≡ calls_at m k ++ call t s ∷ [] = calls_with (with_slot m t s slot.Queued) k k (calls_at m k ++ call t s ∷ []) ∙ ap (λ b. if b then calls_at m k ++ call t s ∷ [] else calls_at (with_slot m t s slot.Queued) k) (own_level k) in
+    let calls : calls_at n k ≡ calls_at m k ++ call t s ∷ [] =
+    calls_with (with_slot m t s slot.Queued) k k (calls_at m k ++ call t s ∷ []) ∙ ap (λ b. if b then calls_at m k ++ call t s ∷ [] else calls_at (with_slot m t s slot.Queued) k) (own_level k) in
     let long : length (calls_at n k) ≡ length (calls_at m k) + 1 = ap length calls ∙ length_push (calls_at m k) (call t s) in
     omega (arith, long, has_room n (push_counted m t s due is.1) k, push_room m t s due k, is.2 k)
 
@@ -60,7 +62,8 @@ taken_there : (m : Market) (o : Option (Call × Market)) (c : Call) (n : Market)
 taken_there m None c n is first orderly = absurd (grind (arith, is))
 taken_there m (Some p) c n is first orderly =
     let same : p.0 ≡ c = ap (λ (o : Option (Call × Market)). (λ (q : Call × Market). q.0) (from o p)) is in
-    subst (λ (d : Call). (d.tenant < length m.slots) × (d.slot < length (slots_of m d.tenant))) same (there_is m p.0.tenant p.0.slot (ap is_reserved (first_queued m 0 p.0 first.0 first.1 first.2 orderly)))
+    subst (λ (d : Call). (d.tenant < length m.slots) × (d.slot < length (slots_of m d.tenant))) same
+    (there_is m p.0.tenant p.0.slot (ap is_reserved (first_queued m 0 p.0 first.0 first.1 first.2 orderly)))
   where
     from : Option (Call × Market) → Call × Market → Call × Market
     from None q = q
@@ -85,7 +88,8 @@ ring_calls levels slots v workers Normal = refl
 ring_calls levels slots v workers Low = refl
 
 -- the same, of the level that was read
-pub ring_fits : (levels : List Level) (slots : List (List SlotState)) (v : WaitingCalls) (workers : List WorkerState) (t s : ℕ) (k : Level) → k ≡ get_or levels t k → is_due (slot_at (market_of levels slots v workers) t s) ≡ true → IsKept (market_of levels slots v workers) v
+pub ring_fits : (levels : List Level) (slots : List (List SlotState)) (v : WaitingCalls) (workers : List WorkerState) (t s : ℕ) (k : Level) → k ≡ get_or levels t k →
+    is_due (slot_at (market_of levels slots v workers) t s) ≡ true → IsKept (market_of levels slots v workers) v
     → length (ring_at v k).items < (ring_at v k).capacity
 ring_fits levels slots v workers t s k read due is =
     let m = market_of levels slots v workers in
@@ -101,7 +105,8 @@ pub there_row : (slots : List (List SlotState)) (t s : ℕ) (row : List SlotStat
 there_row slots t s row read there = let same : row ≡ get_or slots t [] = get_or_read slots t row there.0 read [] in omega (arith, there.1, ap length same)
 
 -- A slot changed, and a worker, where the slot's row was read.
-pub both_set : (levels : List Level) (slots : List (List SlotState)) (v : WaitingCalls) (workers : List WorkerState) (k : ℕ) (c : Call) (x : SlotState) (y : WorkerState) (row new : List SlotState) → row ≡ get_or slots c.tenant row → c.tenant < length slots → new ≡ slice_set row c.slot x
+pub both_set : (levels : List Level) (slots : List (List SlotState)) (v : WaitingCalls) (workers : List WorkerState) (k : ℕ) (c : Call) (x : SlotState) (y : WorkerState) (row new : List SlotState) →
+    row ≡ get_or slots c.tenant row → c.tenant < length slots → new ≡ slice_set row c.slot x
     → market_of levels (slice_set slots c.tenant new) v (slice_set workers k y) ≡ with_worker (with_slot (market_of levels slots v workers) c.tenant c.slot x) k y
 both_set levels slots v workers k c x y row new read there set =
     let same : row ≡ get_or slots c.tenant [] = get_or_read slots c.tenant row there read [] in
@@ -109,7 +114,8 @@ both_set levels slots v workers k c x y row new read there set =
     ap (λ r. market_of levels (slice_set slots c.tenant r) v (slice_set workers k y)) changed
 
 -- the call of a due slot was pushed
-pub push_is : (levels : List Level) (slots : List (List SlotState)) (v w : WaitingCalls) (workers : List WorkerState) (c : Call) (k : Level) (row new : List SlotState) → row ≡ get_or slots c.tenant row → c.tenant < length slots → new ≡ slice_set row c.slot slot.Queued
+pub push_is : (levels : List Level) (slots : List (List SlotState)) (v w : WaitingCalls) (workers : List WorkerState) (c : Call) (k : Level) (row new : List SlotState) →
+    row ≡ get_or slots c.tenant row → c.tenant < length slots → new ≡ slice_set row c.slot slot.Queued
     → k ≡ get_or levels c.tenant k → c.tenant < length levels → ((m : Market) → holding m w ≡ with_calls (holding m v) k (calls_at (holding m v) k ++ c ∷ []))
     → market_of levels (slice_set slots c.tenant new) w workers ≡ push (market_of levels slots v workers) c.tenant c.slot
 push_is levels slots v w workers c k row new read there set level_read level_there pushes =
@@ -124,23 +130,28 @@ push_is levels slots v w workers c k row new read there set level_read level_the
     ∙ ap (λ cs. with_calls n k (cs ++ c ∷ [])) (calls_at-slots m k c.tenant c.slot slot.Queued)
     ∙ ap (λ l. with_calls n l (calls_at m l ++ c ∷ [])) level
 
-woken_is : (levels : List Level) (slots : List (List SlotState)) (v : WaitingCalls) (workers : List WorkerState) (t : ℕ) (o : Option ℕ) → market_of levels (slice_set slots t (woken (get_or slots t []) o)) v workers ≡ with_due (market_of levels slots v workers) t o
+woken_is : (levels : List Level) (slots : List (List SlotState)) (v : WaitingCalls) (workers : List WorkerState) (t : ℕ) (o : Option ℕ) →
+    market_of levels (slice_set slots t (woken (get_or slots t []) o)) v workers ≡ with_due (market_of levels slots v workers) t o
 woken_is levels slots v workers t None = ap (λ rows. market_of levels rows v workers) (set-get_or slots t [])
 woken_is levels slots v workers t (Some s) = refl
 
 -- a slot of a row that was read became due
-pub wake_is : (levels : List Level) (slots : List (List SlotState)) (v : WaitingCalls) (workers : List WorkerState) (t : ℕ) (row new : List SlotState) → row ≡ get_or slots t row → t < length slots → new ≡ woken row (lowest_home 0 row)
+pub wake_is : (levels : List Level) (slots : List (List SlotState)) (v : WaitingCalls) (workers : List WorkerState) (t : ℕ) (row new : List SlotState) → row ≡ get_or slots t row → t < length slots →
+    new ≡ woken row (lowest_home 0 row)
     → market_of levels (slice_set slots t new) v workers ≡ wake (market_of levels slots v workers) t
 wake_is levels slots v workers t row new read there set =
     let same : row ≡ get_or slots t [] = get_or_read slots t row there read [] in
     let changed : new ≡ woken (get_or slots t []) (lowest_home 0 (get_or slots t [])) = set ∙ ap (λ r. woken r (lowest_home 0 r)) same in
     ap (λ r. market_of levels (slice_set slots t r) v workers) changed ∙ woken_is levels slots v workers t (lowest_home 0 (get_or slots t []))
 
-pub came_in : (m : Market) (k : ℕ) (b : Bool) (c : Call) (p : SlotState × WorkerState) → worker_at m k ≡ Some (worker.Holds c) → b ≡ true → p ≡ (slot.In k, worker.In c) → with_worker (with_slot m c.tenant c.slot p.0) k p.1 ≡ came m k b
+pub came_in : (m : Market) (k : ℕ) (b : Bool) (c : Call) (p : SlotState × WorkerState) → worker_at m k ≡ Some (worker.Holds c) → b ≡ true → p ≡ (slot.In k, worker.In c) →
+    with_worker (with_slot m c.tenant c.slot p.0) k p.1 ≡ came m k b
 came_in m k b c p at is pair = ap (λ (q : SlotState × WorkerState). with_worker (with_slot m c.tenant c.slot q.0) k q.1) pair ∙ sym (ap (λ o. go_in m k (held_by o)) at) ∙ ap (λ d. came m k d) (sym is)
 
-pub came_home : (m : Market) (k : ℕ) (b : Bool) (c : Call) (p : SlotState × WorkerState) → worker_at m k ≡ Some (worker.Holds c) → b ≡ false → p ≡ (slot.Home, worker.Free) → with_worker (with_slot m c.tenant c.slot p.0) k p.1 ≡ came m k b
-came_home m k b c p at is pair = ap (λ (q : SlotState × WorkerState). with_worker (with_slot m c.tenant c.slot q.0) k q.1) pair ∙ sym (ap (λ o. go_home m k (held_by o)) at) ∙ ap (λ d. came m k d) (sym is)
+pub came_home : (m : Market) (k : ℕ) (b : Bool) (c : Call) (p : SlotState × WorkerState) → worker_at m k ≡ Some (worker.Holds c) → b ≡ false → p ≡ (slot.Home, worker.Free) →
+    with_worker (with_slot m c.tenant c.slot p.0) k p.1 ≡ came m k b
+came_home m k b c p at is pair =
+    ap (λ (q : SlotState × WorkerState). with_worker (with_slot m c.tenant c.slot q.0) k q.1) pair ∙ sym (ap (λ o. go_home m k (held_by o)) at) ∙ ap (λ d. came m k d) (sym is)
 
 pub left_home : (m : Market) (k : ℕ) (c : Call) → worker_at m k ≡ Some (worker.In c) → with_worker (with_slot m c.tenant c.slot slot.Home) k worker.Free ≡ left m k
 left_home m k c at = sym (ap (λ o. go_home m k (call_of o)) at)

@@ -49,7 +49,12 @@ abbrev one_if : Bool → ℕ
 one_if b = if b then 1 else 0
 
 row_counted : (t : MarketTenant) → count_by is_for_workers (first_slots t) ≡ t.slots - t.reserved
-row_counted t = omega (arith, sum_by-append (λ (y : SlotState). one_if (is_for_workers y)) (replicate t.reserved slot.Reserved) (replicate (t.slots - t.reserved) slot.Home), counted_none t.reserved, counted_all (t.slots - t.reserved))
+row_counted t = omega (
+  arith,
+  sum_by-append (λ (y : SlotState). one_if (is_for_workers y)) (replicate t.reserved slot.Reserved) (replicate (t.slots - t.reserved) slot.Home),
+  counted_none t.reserved,
+  counted_all (t.slots - t.reserved),
+)
 
 same_level : (k l : Level) → is_level k l ≡ is_level l k
 same_level High High = refl
@@ -65,7 +70,8 @@ same_level Low Low = refl
 tally_first : (level : Level) (config : List MarketTenant) → tally is_for_workers level (map (λ (t : MarketTenant). t.level) config) (map first_slots config) ≡ slots_at level config
 tally_first level [] = refl
 tally_first level (t ∷ ts) =
-    let here : (if is_level level t.level then count_by is_for_workers (first_slots t) else 0) ≡ (if is_level t.level level then t.slots - t.reserved else 0) = λ i. if same_level level t.level i then row_counted t i else 0 in
+    let here : (if is_level level t.level then count_by is_for_workers (first_slots t) else 0) ≡ (if is_level t.level level then t.slots - t.reserved else 0) =
+    λ i. if same_level level t.level i then row_counted t i else 0 in
     omega (arith, here, tally_first level ts, sum_by-cons (λ (u : MarketTenant). if is_level u.level level then u.slots - u.reserved else 0) t ts)
 
 -- the market over rings of these rooms, in which nothing was done yet
@@ -84,8 +90,10 @@ take_all zero (x ∷ xs) few = absurd (omega (arith, few))
 take_all (suc n) (x ∷ xs) few = ap (λ l. x ∷ l) (take_all n xs (omega (arith, few)))
 
 -- the lists when each tenant was taken up
-pub first_is : (config tenants : List MarketTenant) (workers n : ℕ) (w : WaitingCalls) (levels : List Level) (slots : List (List SlotState)) (ws : List WorkerState) → ((l : Level) → ring_at w l ≡ buffer [] (room_at config l)) → tenants ≡ config → length tenants ≤ n
-    → levels ≡ map (λ (t : MarketTenant). t.level) (take n tenants) → slots ≡ map first_slots (take n tenants) → ws ≡ replicate workers worker.Free → market_of levels slots w ws ≡ first_market config workers
+pub first_is : (config tenants : List MarketTenant) (workers n : ℕ) (w : WaitingCalls) (levels : List Level) (slots : List (List SlotState)) (ws : List WorkerState) →
+    ((l : Level) → ring_at w l ≡ buffer [] (room_at config l)) → tenants ≡ config → length tenants ≤ n
+    → levels ≡ map (λ (t : MarketTenant). t.level) (take n tenants) → slots ≡ map first_slots (take n tenants) → ws ≡ replicate workers worker.Free →
+    market_of levels slots w ws ≡ first_market config workers
 first_is config tenants workers n w levels slots ws rings same all levels_are slots_are workers_are =
     let taken : take n tenants ≡ config = take_all n tenants all ∙ same in
     λ i. record {

@@ -10,7 +10,8 @@ use Rattle.nest_stack.specs.declared.stack.Node.{Node}
 use Rattle.nest_stack.specs.declared.stack.Stack.{Stack}
 use Rattle.nest_stack.specs.Chain.{rows_from, rows_of, no_stack, stack_at, IsChain}
 
-pub rows_from-step : (nodes : Slab Node) (n : ℕ) (top : Option ℕ) (key : ℕ) (node : Node) → top ≡ Some key → get nodes key ≡ Some node → rows_from nodes (suc n) top ≡ rows_from nodes n node.below ++ node.nested ∷ []
+pub rows_from-step : (nodes : Slab Node) (n : ℕ) (top : Option ℕ) (key : ℕ) (node : Node) → top ≡ Some key → get nodes key ≡ Some node →
+    rows_from nodes (suc n) top ≡ rows_from nodes n node.below ++ node.nested ∷ []
 rows_from-step nodes n top key node is there =
     ap (rows_from nodes (suc n)) is ∙ ap (λ (o : Option Node). option_map_or (λ (m : Node). rows_from nodes n m.below ++ m.nested ∷ []) o []) there
 
@@ -50,7 +51,8 @@ pub seen : (nodes : Slab Node) (stacks : List Stack) (slot : ℕ) → get_or (ma
 seen nodes stacks slot = get_or-map_same (rows_of nodes) stacks slot no_stack
 
 -- one stack changes, as it is seen
-pub seen-changed : (nodes after : Slab Node) (stacks now : List Stack) (slot : ℕ) (xs : List Nested) → length now ≡ length stacks → slot < length stacks → rows_of after (stack_at now slot) ≡ xs → ((other : ℕ) → other ≢ slot → rows_of after (stack_at now other) ≡ rows_of nodes (stack_at stacks other)) → map (rows_of after) now ≡ slice_set (map (rows_of nodes) stacks) slot xs
+pub seen-changed : (nodes after : Slab Node) (stacks now : List Stack) (slot : ℕ) (xs : List Nested) → length now ≡ length stacks → slot < length stacks → rows_of after (stack_at now slot) ≡ xs →
+    ((other : ℕ) → other ≢ slot → rows_of after (stack_at now other) ≡ rows_of nodes (stack_at stacks other)) → map (rows_of after) now ≡ slice_set (map (rows_of nodes) stacks) slot xs
 seen-changed nodes after stacks now slot xs long within changed others =
     let was = map (rows_of nodes) stacks in
     let there : slot < length was = omega (arith, within, length-map stacks (rows_of nodes)) in

@@ -39,7 +39,8 @@ last-of xs x =
     ap (slice_get (xs ++ x ∷ [])) at ∙ slice_get-get_or (xs ++ x ∷ []) (length xs) x (omega arith) ∙ ap Some (get_or_at xs x [] x (length xs) refl)
 
 -- What stands at the top of a chain is its topmost row.
-pub top-found : (nodes : Slab Node) (owner : ℕ → ℕ × ℕ) (slot n : ℕ) (at : Option ℕ) → IsChain nodes owner slot n at → top (rows_from nodes n at) ≡ option_map (λ (m : Node). m.nested) (option_and_then (get nodes) at)
+pub top-found : (nodes : Slab Node) (owner : ℕ → ℕ × ℕ) (slot n : ℕ) (at : Option ℕ) → IsChain nodes owner slot n at →
+    top (rows_from nodes n at) ≡ option_map (λ (m : Node). m.nested) (option_and_then (get nodes) at)
 top-found nodes owner slot zero at k = sym (ap (λ (o : Option ℕ). option_map (λ (m : Node). m.nested) (option_and_then (get nodes) o)) k)
 top-found nodes owner slot (suc n) at k =
     let t = k.0 in
@@ -122,7 +123,8 @@ module _ (nodes : Slab Node) (stacks : List Stack) (now : Stacks) (view : map (r
         (updates.others key apart ∙ there, owned)
 
     -- the row is taken
-    module _ (slot_there : slot < length stacks) (after : Slab Node) (updates : Updates nodes after t.at.key None) (count : slab_len after + 1 ≡ slab_len nodes) (capacity : after.capacity ≡ nodes.capacity) where
+    module _ (slot_there : slot < length stacks) (after : Slab Node) (updates : Updates nodes after t.at.key None) (count : slab_len after + 1 ≡ slab_len nodes)
+        (capacity : after.capacity ≡ nodes.capacity) where
       abbrev pub lower : Stack
       lower = record { top = t.at.node.below; height = t.below }
 
@@ -139,7 +141,8 @@ module _ (nodes : Slab Node) (stacks : List Stack) (now : Stacks) (view : map (r
       popped-chain s =
           elim (eqb_tells s slot) [
             | inl e ↦ subst (λ (j : ℕ). IsChain after k.owner j (stack_at popped j).height (stack_at popped j).top) (sym e.1)
-                (subst (λ (x : Stack). IsChain after k.owner slot x.height x.top) (sym popped-same) (chain-kept nodes after k.owner k.owner slot t.below t.at.node.below (other-height after None updates) t.chain))
+                (subst (λ (x : Stack). IsChain after k.owner slot x.height x.top) (sym popped-same)
+                (chain-kept nodes after k.owner k.owner slot t.below t.at.node.below (other-height after None updates) t.chain))
             | inr e ↦ subst (λ (x : Stack). IsChain after k.owner s x.height x.top) (sym (popped-other s e.1))
                 (chain-kept nodes after k.owner k.owner s (stack_at stacks s).height (stack_at stacks s).top (other-slot after None updates s (stack_at stacks s).height e.1) (k.chains s))
           ]
@@ -165,11 +168,13 @@ module _ (nodes : Slab Node) (stacks : List Stack) (now : Stacks) (view : map (r
           let kept = rows-kept nodes after k.owner k.owner slot t.below t.at.node.below (other-height after None updates) t.chain in
           seen-changed nodes after stacks popped slot rest (length-set stacks slot lower) slot_there
           (ap (rows_of after) popped-same ∙ kept)
-          (λ s ne. ap (rows_of after) (popped-other s ne) ∙ rows-kept nodes after k.owner k.owner s (stack_at stacks s).height (stack_at stacks s).top (other-slot after None updates s (stack_at stacks s).height ne) (k.chains s))
+          (λ s ne. ap (rows_of after) (popped-other s ne) ∙
+          rows-kept nodes after k.owner k.owner s (stack_at stacks s).height (stack_at stacks s).top (other-slot after None updates s (stack_at stacks s).height ne) (k.chains s))
           ∙ ap (λ (v : Stacks). with_stack v slot rest) view ∙ ap (with_stack now slot) (sym rest-seen)
 
     -- the same, of what the call reads
-    module _ (s : Stack) (there : slot < length now) (read : s ≡ get_or stacks slot s) (key : ℕ) (is : s.top ≡ Some key) (node : Node) (value : get nodes key ≡ Some node) (after : Slab Node) (updates : Updates nodes after key None) (count : slab_len after + 1 ≡ slab_len nodes) (capacity : after.capacity ≡ nodes.capacity) where
+    module _ (s : Stack) (there : slot < length now) (read : s ≡ get_or stacks slot s) (key : ℕ) (is : s.top ≡ Some key) (node : Node) (value : get nodes key ≡ Some node) (after : Slab Node)
+        (updates : Updates nodes after key None) (count : slab_len after + 1 ≡ slab_len nodes) (capacity : after.capacity ≡ nodes.capacity) where
       abbrev pub left : Stack
       left = record { top = node.below; height = s.height - 1 }
 
@@ -180,10 +185,12 @@ module _ (nodes : Slab Node) (stacks : List Stack) (now : Stacks) (view : map (r
           ap (λ (o : Option ℕ). record { top = o; height = s.height - 1 }) (ap (λ (m : Node). m.below) node_same) ∙ ap (λ (h : ℕ). record { top = t.at.node.below; height = h }) high
 
       pub pop-held : HoldsStacks after (slice_set stacks slot left)
-      pop-held = subst (λ (x : Stack). HoldsStacks after (slice_set stacks slot x)) (sym left-is) (popped-held (within there) after (subst (λ (j : ℕ). Updates nodes after j None) (key-is s key there read is) updates) count capacity)
+      pop-held = subst (λ (x : Stack). HoldsStacks after (slice_set stacks slot x)) (sym left-is)
+          (popped-held (within there) after (subst (λ (j : ℕ). Updates nodes after j None) (key-is s key there read is) updates) count capacity)
 
       pub pop-seen : map (rows_of after) (slice_set stacks slot left) ≡ with_stack now slot (below (stack now slot) (length (stack now slot)))
-      pop-seen = ap (λ (x : Stack). map (rows_of after) (slice_set stacks slot x)) left-is ∙ popped-seen (within there) after (subst (λ (j : ℕ). Updates nodes after j None) (key-is s key there read is) updates) count capacity
+      pop-seen = ap (λ (x : Stack). map (rows_of after) (slice_set stacks slot x)) left-is ∙
+          popped-seen (within there) after (subst (λ (j : ℕ). Updates nodes after j None) (key-is s key there read is) updates) count capacity
 
       pub pop-value : top (stack now slot) ≡ Some node.nested
       pop-value = top-seen ∙ ap (λ (m : Node). Some m.nested) (sym (node-is key node (key-is s key there read is) value))

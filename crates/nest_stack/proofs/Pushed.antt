@@ -24,7 +24,8 @@ sum-below m [] slot few there low = absurd (omega arith)
 sum-below m (x ∷ xs) zero few there low = omega (arith, low, sum-at-most m xs (λ s. few (suc s)), sum_by-cons (λ (s : Stack). s.height) x xs)
 sum-below m (x ∷ xs) (suc slot) few there low = omega (arith, few zero, sum-below m xs slot (λ s. few (suc s)) (omega arith) low, sum_by-cons (λ (s : Stack). s.height) x xs)
 
-module _ (nodes : Slab Node) (stacks : List Stack) (now : Stacks) (view : map (rows_of nodes) stacks ≡ now) (k : HoldsStacks nodes stacks) (slot : ℕ) (there : slot < length now) (low : length (stack now slot) < MAX_HEIGHT) where
+module _ (nodes : Slab Node) (stacks : List Stack) (now : Stacks) (view : map (rows_of nodes) stacks ≡ now) (k : HoldsStacks nodes stacks) (slot : ℕ) (there : slot < length now)
+    (low : length (stack now slot) < MAX_HEIGHT) where
   below_most : (stack_at stacks slot).height < MAX_HEIGHT
   below_most = omega (arith, height-is nodes stacks now view k slot, low)
 
@@ -37,7 +38,8 @@ module _ (nodes : Slab Node) (stacks : List Stack) (now : Stacks) (view : map (r
   pub read-low : (s : Stack) → s ≡ get_or stacks slot s → s.height < MAX_HEIGHT
   read-low s read = omega (arith, ap (λ (x : Stack). x.height) (read-is nodes stacks now view k slot s there read), below_most)
 
-  module _ (s : Stack) (read : s ≡ get_or stacks slot s) (nested : Nested) (key : ℕ) (vacant : get nodes key ≡ None) (after : Slab Node) (updates : Updates nodes after key (Some (record { nested = nested; below = s.top }))) (count : slab_len after ≡ slab_len nodes + 1) (capacity : after.capacity ≡ nodes.capacity) where
+  module _ (s : Stack) (read : s ≡ get_or stacks slot s) (nested : Nested) (key : ℕ) (vacant : get nodes key ≡ None) (after : Slab Node)
+      (updates : Updates nodes after key (Some (record { nested = nested; below = s.top }))) (count : slab_len after ≡ slab_len nodes + 1) (capacity : after.capacity ≡ nodes.capacity) where
     same : s ≡ stack_at stacks slot
     same = read-is nodes stacks now view k slot s there read
 
@@ -72,7 +74,10 @@ module _ (nodes : Slab Node) (stacks : List Stack) (now : Stacks) (view : map (r
     old-chain = subst (λ (x : Stack). IsChain nodes k.owner slot x.height x.top) (sym same) (k.chains slot)
 
     new-chain : IsChain after owner slot (suc s.height) (Some key)
-    new-chain = (record { key = key; node = record { nested = nested; below = s.top }; is = refl; there = updates.changed; owned = owner-same }, chain-kept nodes after k.owner owner slot s.height s.top (stays slot s.height) old-chain)
+    new-chain = (
+      record { key = key; node = record { nested = nested; below = s.top }; is = refl; there = updates.changed; owned = owner-same },
+      chain-kept nodes after k.owner owner slot s.height s.top (stays slot s.height) old-chain,
+    )
 
     new-height : suc s.height ≡ s.height + 1
     new-height = omega arith

@@ -37,7 +37,8 @@ pub record HasRow (nodes : Slab Node) (s : Stack) (node : Node) : Type 0 where
   pub whole : IsWhole nodes (lower s node)
   pub long : length (rows_of nodes (lower s node)) + 1 ≡ s.height
 
-has_row : (nodes : Slab Node) (owner : ℕ → ℕ × ℕ) (slot n : ℕ) (top : Option ℕ) (node : Node) → IsChain nodes owner slot n top → found_in nodes top ≡ Some node → HasRow nodes (record { top = top; height = n }) node
+has_row : (nodes : Slab Node) (owner : ℕ → ℕ × ℕ) (slot n : ℕ) (top : Option ℕ) (node : Node) → IsChain nodes owner slot n top → found_in nodes top ≡ Some node →
+    HasRow nodes (record { top = top; height = n }) node
 has_row nodes owner slot zero top node k found = let wrong : None ≡ Some node = ap (found_in nodes) (sym k) ∙ found in cc
 has_row nodes owner slot (suc n) top node k found =
     let t = k.0 in
@@ -97,7 +98,8 @@ pub task-within : (xs : List Nested) → task_height xs ≤ length xs
 task-within xs = omega (arith, task-most 0 1 xs (omega arith))
 
 -- the lowest rows of a stack are left, and then one fewer
-module _ (first now after : Stacks) (slot : ℕ) (there : slot < length first) (left : now ≡ with_stack first slot (take (length (stack now slot)) (stack first slot))) (most : length (stack now slot) ≤ length (stack first slot)) (some : 1 ≤ length (stack now slot)) (popped : after ≡ with_stack now slot (below (stack now slot) (length (stack now slot)))) where
+module _ (first now after : Stacks) (slot : ℕ) (there : slot < length first) (left : now ≡ with_stack first slot (take (length (stack now slot)) (stack first slot)))
+    (most : length (stack now slot) ≤ length (stack first slot)) (some : 1 ≤ length (stack now slot)) (popped : after ≡ with_stack now slot (below (stack now slot) (length (stack now slot)))) where
   now-is : stack now slot ≡ take (length (stack now slot)) (stack first slot)
   now-is = ap (λ (v : Stacks). stack v slot) left ∙ get_or-set_same first slot (take (length (stack now slot)) (stack first slot)) [] there
 
@@ -111,7 +113,8 @@ module _ (first now after : Stacks) (slot : ℕ) (there : slot < length first) (
       ∙ ap (with_stack first slot) rest-is
 
   pub one-fewer : length (stack after slot) ≡ length (stack now slot) - 1
-  one-fewer = ap (λ (v : Stacks). length (stack v slot)) after-is ∙ ap length (get_or-set_same first slot (take (length (stack now slot) - 1) (stack first slot)) [] there) ∙ length-take-le (length (stack now slot) - 1) (stack first slot) (omega (arith, most))
+  one-fewer = ap (λ (v : Stacks). length (stack v slot)) after-is ∙ ap length (get_or-set_same first slot (take (length (stack now slot) - 1) (stack first slot)) [] there) ∙
+      length-take-le (length (stack now slot) - 1) (stack first slot) (omega (arith, most))
 
   pub left-more : after ≡ with_stack first slot (take (length (stack after slot)) (stack first slot))
   left-more = after-is ∙ ap (λ n. with_stack first slot (take n (stack first slot))) (sym one-fewer)

@@ -1,5 +1,6 @@
 -- The stacks as the frame of a topmost row changes, and before any row comes.
-use Rattle.std.proofs.Common.{◌≡◌, ◌<◌, ◌≤◌, ◌*◌, ◌-◌, ℕ, zero, suc, List, [], ◌∷◌, ◌++◌, Option, Some, None, is_some, count_by, Bool, if◌then◌else◌, cond, length, map, replicate, refl, sym, ◌∙◌, ap, subst, inl, inr, arith}
+use Rattle.std.proofs.Common.{◌≡◌, ◌<◌, ◌≤◌, ◌*◌, ◌-◌, ℕ, zero, suc, List, [], ◌∷◌, ◌++◌, Option, Some, None, is_some, count_by, Bool, if◌then◌else◌, cond, length, map, replicate, refl, sym, ◌∙◌, ap}
+use Rattle.std.proofs.Common.{subst, inl, inr, arith}
 use Rattle.std.specs.Prelude.{slice_set, sum_by}
 use Rattle.std.specs.Option.{option_map_or}
 use Rattle.std.proofs.lemmas.Bool.Decides.{eqb_tells}
@@ -24,7 +25,8 @@ len-with_value nodes key node there =
     let one : was ≡ 1 = ap (λ (b : Bool). if b then 1 else 0) there in
     omega (arith, one, sum_by-set (λ (o : Option Node). cond (is_some o) 1 0) nodes.slots key (Some node) None (ContainsKey-within nodes key there))
 
-module _ (nodes : Slab Node) (stacks : List Stack) (now : Stacks) (view : map (rows_of nodes) stacks ≡ now) (k : HoldsStacks nodes stacks) (slot : ℕ) (there : slot < length now) (t : Topmost nodes k.owner slot (stack_at stacks slot)) (frame : Frame) where
+module _ (nodes : Slab Node) (stacks : List Stack) (now : Stacks) (view : map (rows_of nodes) stacks ≡ now) (k : HoldsStacks nodes stacks) (slot : ℕ) (there : slot < length now)
+    (t : Topmost nodes k.owner slot (stack_at stacks slot)) (frame : Frame) where
   abbrev written : Node
   written = record t.at.node { nested = record t.at.node.nested { frame = frame } }
 
@@ -38,14 +40,18 @@ module _ (nodes : Slab Node) (stacks : List Stack) (now : Stacks) (view : map (r
   updates = Updates-with_value nodes t.at.key written has_key
 
   own-chain : IsChain after k.owner slot (suc t.below) (stack_at stacks slot).top
-  own-chain = (record { key = t.at.key; node = written; is = t.at.is; there = updates.changed; owned = t.at.owned }, chain-kept nodes after k.owner k.owner slot t.below t.at.node.below (other-height nodes stacks now view k slot t after (Some written) updates) t.chain)
+  own-chain = (
+    record { key = t.at.key; node = written; is = t.at.is; there = updates.changed; owned = t.at.owned },
+    chain-kept nodes after k.owner k.owner slot t.below t.at.node.below (other-height nodes stacks now view k slot t after (Some written) updates) t.chain,
+  )
 
   chains : (o : ℕ) → IsChain after k.owner o (stack_at stacks o).height (stack_at stacks o).top
   chains o =
       elim (eqb_tells o slot) [
         | inl e ↦ subst (λ (j : ℕ). IsChain after k.owner j (stack_at stacks j).height (stack_at stacks j).top) (sym e.1)
             (subst (λ h. IsChain after k.owner slot h (stack_at stacks slot).top) (sym t.height) own-chain)
-        | inr e ↦ chain-kept nodes after k.owner k.owner o (stack_at stacks o).height (stack_at stacks o).top (other-slot nodes stacks now view k slot t after (Some written) updates o (stack_at stacks o).height e.1) (k.chains o)
+        | inr e ↦ chain-kept nodes after k.owner k.owner o (stack_at stacks o).height (stack_at stacks o).top
+            (other-slot nodes stacks now view k slot t after (Some written) updates o (stack_at stacks o).height e.1) (k.chains o)
       ]
 
   written-held : HoldsStacks after stacks
@@ -69,13 +75,15 @@ module _ (nodes : Slab Node) (stacks : List Stack) (now : Stacks) (view : map (r
   written-seen : map (rows_of after) stacks ≡ with_stack now slot (with_top_frame (stack now slot) frame)
   written-seen =
       seen-changed nodes after stacks stacks slot (with_top_frame (stack now slot) frame) refl (within nodes stacks now view k slot there) new-rows
-      (λ o ne. rows-kept nodes after k.owner k.owner o (stack_at stacks o).height (stack_at stacks o).top (other-slot nodes stacks now view k slot t after (Some written) updates o (stack_at stacks o).height ne) (k.chains o))
+      (λ o ne. rows-kept nodes after k.owner k.owner o (stack_at stacks o).height (stack_at stacks o).top
+      (other-slot nodes stacks now view k slot t after (Some written) updates o (stack_at stacks o).height ne) (k.chains o))
       ∙ ap (λ (v : Stacks). with_stack v slot (with_top_frame (stack now slot) frame)) view
 
   -- the same, of what the call reads
   module _ (key : ℕ) (same : key ≡ t.at.key) (node : Node) (node_same : node ≡ t.at.node) where
     both : with_value nodes key (record node { nested = record node.nested { frame = frame } }) ≡ after
-    both = ap (λ (j : ℕ). with_value nodes j (record node { nested = record node.nested { frame = frame } })) same ∙ ap (λ (m : Node). with_value nodes t.at.key (record m { nested = record m.nested { frame = frame } })) node_same
+    both = ap (λ (j : ℕ). with_value nodes j (record node { nested = record node.nested { frame = frame } })) same ∙
+        ap (λ (m : Node). with_value nodes t.at.key (record m { nested = record m.nested { frame = frame } })) node_same
 
     pub write-held : HoldsStacks (with_value nodes key (record node { nested = record node.nested { frame = frame } })) stacks
     write-held = subst (λ (s : Slab Node). HoldsStacks s stacks) (sym both) written-held

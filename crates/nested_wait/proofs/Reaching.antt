@@ -64,7 +64,11 @@ module _ {D : Type 0} (pauses : D → Bool → D → Type 0) where
       ends Below is deeper = absurd (deeper refl)
       ends Full is deeper = (is.0, (joins (TurnFrom turn heights low) n 0 0 old d is.0 so_far (reaches_lower 0 d is.0 is.1.0) (omega arith), lower is.0 e moved.Full is.1.1))
       ends Stopped is deeper = elim is [
-        | inl idle ↦ inl (idle.0, idle.1, (joins (TurnFrom turn heights low) n 0 0 old d idle.0 so_far (reaches_lower 0 d idle.0 idle.2.0) (omega arith), lower idle.0 idle.1 moved.Idle idle.2.1, idle.2.2))
+        | inl idle ↦ inl (
+          idle.0,
+          idle.1,
+          (joins (TurnFrom turn heights low) n 0 0 old d idle.0 so_far (reaches_lower 0 d idle.0 idle.2.0) (omega arith), lower idle.0 idle.1 moved.Idle idle.2.1, idle.2.2),
+        )
         | inr long ↦ inr (joins (TurnFrom turn heights low) n most_turns most_turns old d e so_far (reaches_lower most_turns d e long) (omega arith))
       ]
 

@@ -1,5 +1,6 @@
 -- What is read of a journal.
-use Rattle.std.proofs.Common.{◌≡◌, ◌≢◌, ℕ, zero, suc, ◌≤◌, ◌==◌, List, [], ◌∷◌, ◌++◌, length, take, Bool, true, false, ◌&&◌, Option, Some, None, option_map, refl, ap, ◌∙◌, arith, inl, inr, ◌⊎◌, append_assoc}
+use Rattle.std.proofs.Common.{◌≡◌, ◌≢◌, ℕ, zero, suc, ◌≤◌, ◌==◌, List, [], ◌∷◌, ◌++◌, length, take, Bool, true, false, ◌&&◌, Option, Some, None, option_map, refl, ap, ◌∙◌, arith, inl, inr, ◌⊎◌}
+use Rattle.std.proofs.Common.{append_assoc}
 use Rattle.std.specs.List.{All}
 use Rattle.std.specs.Prelude.{codes, if◌then◌else◌}
 use Rattle.std.specs.Option.{option_map_or}
@@ -21,7 +22,8 @@ use Rattle.dump_lines.specs.Replies.{is_word, number, only, two}
 use Rattle.dump_lines.specs.Requests.{tenant_in, tenant_in_value}
 use Rattle.dump_lines.specs.Written.{entry_data, first_data}
 use Rattle.part_lines.specs.Parts.{IsTornOf, whole_lines}
-use Rattle.part_lines.specs.Journals.{Mark, names, says, mark_text, marks_text, IsMark, mark_of, mark_in, mark_before, marks_said, journal_in, entries_for, KeepsMarks, InventsNoMarks, FirstLinesHaveFirstEntries}
+use Rattle.part_lines.specs.Journals.{Mark, names, says, mark_text, marks_text, IsMark, mark_of, mark_in, mark_before, marks_said, journal_in, entries_for, KeepsMarks, InventsNoMarks}
+use Rattle.part_lines.specs.Journals.{FirstLinesHaveFirstEntries}
 use Rattle.part_lines.proofs.Printed.{value_printed}
 use Rattle.part_lines.proofs.Torn.{line_off, line_of, entry_off, entry_said, torn_line, torn_entry, only_holes}
 
@@ -57,7 +59,8 @@ moved_none d no3 no4 =
     let freed = is_word (codes "moved") (codes "freed") d in
     let nest = is_word (codes "moved") (codes "nested") d in
     let last : (if nest then nested_in d else None) ≡ None = either_none nest (nested_in d) None nested refl in
-    let later : (if freed then only 3 d (Some (Some Freed)) else if nest then nested_in d else None) ≡ None = either_none freed (only 3 d (Some (Some Freed))) (if nest then nested_in d else None) (plain (Some (Some Freed))) last in
+    let later : (if freed then only 3 d (Some (Some Freed)) else if nest then nested_in d else None) ≡ None =
+    either_none freed (only 3 d (Some (Some Freed))) (if nest then nested_in d else None) (plain (Some (Some Freed))) last in
     either_none ran (only 3 d (Some (Some Ran))) (if freed then only 3 d (Some (Some Freed)) else if nest then nested_in d else None) (plain (Some (Some Ran))) later
 
 advance_none : (d : Data) → moved_in d ≡ None → advance_in d ≡ None
@@ -71,7 +74,8 @@ not_entry d one =
     let arrives = is_word (codes "step") (codes "arrive") d && is_word (codes "moved") (codes "arrived") d in
     let advances = is_word (codes "step") (codes "advance") d in
     let last : (if advances then advance_in d else None) ≡ None = either_none advances (advance_in d) None (advance_none d (moved_none d no3 no4)) refl in
-    let later : (if arrives then arrival_in d else if advances then advance_in d else None) ≡ None = either_none arrives (arrival_in d) (if advances then advance_in d else None) (arrival_none d no4) last in
+    let later : (if arrives then arrival_in d else if advances then advance_in d else None) ≡ None =
+    either_none arrives (arrival_in d) (if advances then advance_in d else None) (arrival_none d no4) last in
     either_none asks (ask_in d) (if arrives then arrival_in d else if advances then advance_in d else None) (ask_none d no3) later
 
 said_nothing : (d : Data) → entry_in d ≡ None → said_in_value d ≡ None

@@ -27,15 +27,19 @@ said_text (e ∷ es) = ap (λ (t : List ℕ). entry_text e ++ t) (said_text es)
 
 said_marks : (es : List Entry) → All HasLine es → All SaysItself es → All IsMark (map (λ (e : Entry). says e) es)
 said_marks [] lines says_so = All-nil IsMark
-said_marks (e ∷ es) lines says_so = All-cons IsMark (says e) (map (λ (e : Entry). says e) es) (All-head HasLine e es lines, All-head SaysItself e es says_so) (said_marks es (All-tail HasLine e es lines) (All-tail SaysItself e es says_so))
+said_marks (e ∷ es) lines says_so =
+    All-cons IsMark (says e) (map (λ (e : Entry). says e) es) (All-head HasLine e es lines, All-head SaysItself e es says_so)
+    (said_marks es (All-tail HasLine e es lines) (All-tail SaysItself e es says_so))
 
-pub slice_marks : {A E : Type 0} (result : Result A E) (c : Tenant) (es : List Entry) (first : List ℕ) → first ≡ compact_text (first_data c) → tenant_in first ≡ Some c → All HasLine es → All SaysItself es → OnOk result (All IsMark (slice c es))
+pub slice_marks : {A E : Type 0} (result : Result A E) (c : Tenant) (es : List Entry) (first : List ℕ) → first ≡ compact_text (first_data c) → tenant_in first ≡ Some c → All HasLine es →
+    All SaysItself es → OnOk result (All IsMark (slice c es))
 slice_marks (Ok it) c es first is names_it lines says_so =
     let named : NamesItself c = rw is at names_it in
     All-cons IsMark (names c) (map (λ (e : Entry). says e) es) named (said_marks es lines says_so)
 slice_marks (Err it) c es first is names_it lines says_so = tt
 
-pub slice_text : {E : Type 0} (result : Result (String Global) E) (c : Tenant) (es : List Entry) (first rest : List ℕ) → first ≡ compact_text (first_data c) → rest ≡ entries_text es → IfOk result (λ text. string_bytes text ≡ line_text first ++ rest) → IfOk result (λ text. string_bytes text ≡ marks_text (slice c es))
+pub slice_text : {E : Type 0} (result : Result (String Global) E) (c : Tenant) (es : List Entry) (first rest : List ℕ) → first ≡ compact_text (first_data c) → rest ≡ entries_text es →
+    IfOk result (λ text. string_bytes text ≡ line_text first ++ rest) → IfOk result (λ text. string_bytes text ≡ marks_text (slice c es))
 slice_text (Ok text) c es first rest is are so =
     so ∙ ap (λ (t : List ℕ). line_text t ++ rest) is ∙ ap (λ (t : List ℕ). first_text c ++ t) are ∙ ap (λ (t : List ℕ). first_text c ++ t) (sym (said_text es))
 slice_text (Err e) c es first rest is are so = tt
@@ -68,10 +72,12 @@ module _ (there more : List Mark) (durable pending : List ℕ) (is : IsJournal t
     pending_is = none;
   }
 
-  pub if_synced : {A E : Type 0} (result : Result A E) (after rest : List ℕ) → OnOk result (after ≡ durable ++ pending) → OnOk result (rest ≡ []) → OnOk result (IsJournal (there ++ more) [] after rest)
+  pub if_synced : {A E : Type 0} (result : Result A E) (after rest : List ℕ) → OnOk result (after ≡ durable ++ pending) → OnOk result (rest ≡ []) →
+      OnOk result (IsJournal (there ++ more) [] after rest)
   if_synced (Ok it) after rest next none = journal_synced after rest next none
   if_synced (Err it) after rest next none = tt
 
-  pub if_added : {A E : Type 0} (result : Result A E) (ms : List Mark) (added still after : List ℕ) → All IsMark ms → added ≡ marks_text ms → still ≡ durable → OnOk result (after ≡ pending ++ added) → OnOk result (IsJournal there (more ++ ms) still after)
+  pub if_added : {A E : Type 0} (result : Result A E) (ms : List Mark) (added still after : List ℕ) → All IsMark ms → added ≡ marks_text ms → still ≡ durable → OnOk result (after ≡ pending ++ added) →
+      OnOk result (IsJournal there (more ++ ms) still after)
   if_added (Ok it) ms added still after marks text same next = rw same (journal_more ms added after marks text next)
   if_added (Err it) ms added still after marks text same next = tt

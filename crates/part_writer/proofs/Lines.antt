@@ -16,9 +16,11 @@ pub texts_append : (es ds : List Entry) → entries_text (es ++ ds) ≡ entries_
 texts_append [] ds = refl
 texts_append (e ∷ es) ds = ap (λ (t : List ℕ). entry_text e ++ t) (texts_append es ds) ∙ sym (append_assoc (entry_text e) (entries_text es) (entries_text ds))
 
-pub text_more : (es : List Entry) (i : ℕ) (e : Entry) (s t : List ℕ) → i < length es → e ≡ get_or es i e → entries_text es ≡ s ++ entries_text (drop i es) → t ≡ s ++ entry_text e → entries_text es ≡ t ++ entries_text (drop (i + 1) es)
+pub text_more : (es : List Entry) (i : ℕ) (e : Entry) (s t : List ℕ) → i < length es → e ≡ get_or es i e → entries_text es ≡ s ++ entries_text (drop i es) → t ≡ s ++ entry_text e →
+    entries_text es ≡ t ++ entries_text (drop (i + 1) es)
 text_more es i e s t within is so_far more =
-    let rest : entries_text (drop i es) ≡ entry_text e ++ entries_text (drop (i + 1) es) = ap entries_text (drop_more es i e within) ∙ ap (λ (d : Entry). entry_text d ++ entries_text (drop (i + 1) es)) (sym is) in
+    let rest : entries_text (drop i es) ≡ entry_text e ++ entries_text (drop (i + 1) es) =
+    ap entries_text (drop_more es i e within) ∙ ap (λ (d : Entry). entry_text d ++ entries_text (drop (i + 1) es)) (sym is) in
     so_far ∙ ap (λ (x : List ℕ). s ++ x) rest ∙ sym (append_assoc s (entry_text e) (entries_text (drop (i + 1) es))) ∙ ap (λ (x : List ℕ). x ++ entries_text (drop (i + 1) es)) (sym more)
 
 pub one_more : (P : Entry → Type 0) (es : List Entry) (i : ℕ) (e : Entry) → i < length es → e ≡ get_or es i e → P e →
@@ -30,10 +32,12 @@ one_more P es i e within is here before k d l =
     ]
 
 -- what the line of an entry is
-pub line_is : (e : Entry) (line : String Global) (d : Option Data) → Some (string_bytes line) ≡ option_map compact_text d → option_map_or (λ (d : Data). line_text (compact_text d)) d [] ≡ line_text (string_bytes line)
+pub line_is : (e : Entry) (line : String Global) (d : Option Data) → Some (string_bytes line) ≡ option_map compact_text d →
+    option_map_or (λ (d : Data). line_text (compact_text d)) d [] ≡ line_text (string_bytes line)
 line_is e line None is = cc
 line_is e line (Some d) is = let same : string_bytes line ≡ compact_text d = cc in rw same refl
 
-pub line_says : (e : Entry) (line : String Global) (d : Option Data) → Some (string_bytes line) ≡ option_map compact_text d → said_by (string_bytes line) ≡ Some (said.Entry e) → IfSome d (λ d. said_by (compact_text d) ≡ Some (said.Entry e))
+pub line_says : (e : Entry) (line : String Global) (d : Option Data) → Some (string_bytes line) ≡ option_map compact_text d → said_by (string_bytes line) ≡ Some (said.Entry e) →
+    IfSome d (λ d. said_by (compact_text d) ≡ Some (said.Entry e))
 line_says e line None is reads = cc
 line_says e line (Some d) is reads = let same : string_bytes line ≡ compact_text d = cc in rw same at reads

@@ -8,7 +8,8 @@ module _ {F : Type 0} (moment : F → ℕ) (left_since : F → ℕ → List ℕ 
   no_call = record { later = omega arith; each = first; before = λ t file le left. inl left }
 
   -- after one
-  pub one_call : (may_leave : List ℕ → Type 0) → Elapses (moment old) (moment new) (left_since old) (left_since new) may_leave → ((file : List ℕ) → may_leave file → P file) → LeavesOnly moment left_since old new P
+  pub one_call : (may_leave : List ℕ → Type 0) → Elapses (moment old) (moment new) (left_since old) (left_since new) may_leave → ((file : List ℕ) → may_leave file → P file) →
+      LeavesOnly moment left_since old new P
   one_call may_leave time then = record {
     later = time.later;
     each = λ file left. ⊎_elim (first file) (then file) (time.nothing_else (moment old) file (omega arith) left);

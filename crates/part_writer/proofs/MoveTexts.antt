@@ -43,10 +43,12 @@ unfolding escape_byte
 arrived_is slot row = two (codes "{\"moved\":\"arrived\",\"row\":") (decimal row) (codes ",\"slot\":") (decimal slot) (codes ",\"step\":\"arrive\"}")
 
 -- what was added is the line of the entry
-pub ran : (e : Entry) (slot : ℕ) (t old : List ℕ) → e.step ≡ step.Advance slot → e.answer ≡ answer.Moved Ran → t ≡ old ++ advance_text (codes "{\"moved\":\"ran\",\"slot\":") slot → t ≡ old ++ entry_text e
+pub ran : (e : Entry) (slot : ℕ) (t old : List ℕ) → e.step ≡ step.Advance slot → e.answer ≡ answer.Moved Ran →
+    t ≡ old ++ advance_text (codes "{\"moved\":\"ran\",\"slot\":") slot → t ≡ old ++ entry_text e
 ran e slot t old is moved more = more ∙ ap (λ (x : List ℕ). old ++ x) (sym (ap entry_text (both e _ _ is moved) ∙ ran_text slot))
 
-pub freed : (e : Entry) (slot : ℕ) (t old : List ℕ) → e.step ≡ step.Advance slot → e.answer ≡ answer.Moved Freed → t ≡ old ++ advance_text (codes "{\"moved\":\"freed\",\"slot\":") slot → t ≡ old ++ entry_text e
+pub freed : (e : Entry) (slot : ℕ) (t old : List ℕ) → e.step ≡ step.Advance slot → e.answer ≡ answer.Moved Freed →
+    t ≡ old ++ advance_text (codes "{\"moved\":\"freed\",\"slot\":") slot → t ≡ old ++ entry_text e
 freed e slot t old is moved more = more ∙ ap (λ (x : List ℕ). old ++ x) (sym (ap entry_text (both e _ _ is moved) ∙ freed_text slot))
 
 pub nested : (e : Entry) (slot row : ℕ) (t old : List ℕ) → e.step ≡ step.Advance slot → e.answer ≡ answer.Moved (Nested row) → t ≡ old ++ nested_text row slot → t ≡ old ++ entry_text e

@@ -42,6 +42,7 @@ module _ (c : Tenant) (there more : List Entry) (durable pending : List ℕ) (is
     there_says = All-append SaysItself there more is.there_says is.more_says;
     more_lines = All-nil HasLine;
     more_says = All-nil SaysItself;
-    durable_is = next ∙ ap (λ (x : List ℕ). x ++ pending) is.durable_is ∙ ap (λ (x : List ℕ). dump_text c there ++ x) is.pending_is ∙ append_assoc (first_text c) (entries_text there) (entries_text more) ∙ ap (λ (x : List ℕ). first_text c ++ x) (sym (texts_append there more));
+    durable_is = next ∙ ap (λ (x : List ℕ). x ++ pending) is.durable_is ∙ ap (λ (x : List ℕ). dump_text c there ++ x) is.pending_is ∙
+        append_assoc (first_text c) (entries_text there) (entries_text more) ∙ ap (λ (x : List ℕ). first_text c ++ x) (sym (texts_append there more));
     pending_is = none;
   }

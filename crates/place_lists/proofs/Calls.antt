@@ -42,7 +42,8 @@ module _ (links : Links) (now : Lists) (list place : ℕ) (view : lists_of links
       push-kept = IsLinked-seen after (pushed (list_of links) list place) after-linked
 
       pub push-pushed : list_in (lists_of after) list ≡ list_in now list ++ place ∷ []
-      push-pushed = seen-is after (pushed (list_of links) list place) after-linked list ∙ pushed-same links (list_of links) list place k list_there place_there free_there list refl ∙ ap (λ xs. xs ++ place ∷ []) (sym (seen list))
+      push-pushed = seen-is after (pushed (list_of links) list place) after-linked list ∙ pushed-same links (list_of links) list place k list_there place_there free_there list refl ∙
+          ap (λ xs. xs ++ place ∷ []) (sym (seen list))
 
       pub push-others : (l : ℕ) → l ≢ list → list_in (lists_of after) l ≡ list_in now l
       push-others l ne = seen-is after (pushed (list_of links) list place) after-linked l ∙ pushed-other links (list_of links) list place k list_there place_there free_there l ne ∙ sym (seen l)

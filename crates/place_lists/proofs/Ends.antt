@@ -74,7 +74,8 @@ module _ (next previous : List (Option ℕ)) (last : Option ℕ) (p : ℕ) (next
   pub next-last : (y : ℕ) → last ≡ Some y → y < length next → link_at next_joined y ≡ Some p
   next-last y e h = set_at-same (slice_set next p None) last (Some p) y e (omega (arith, length-set next p None))
 
-  pub row_joined : (back from : Option ℕ) (x : ℕ) (xs : List ℕ) → last ≡ last_from (Some x) xs → IsOnce (x ∷ xs) → (IsIn (x ∷ xs) p → ⊥) → ((y : ℕ) → IsIn (x ∷ xs) y → y < length next) → IsRow next previous back from (x ∷ xs) → IsRow next_joined previous_joined back from (x ∷ xs ++ p ∷ [])
+  pub row_joined : (back from : Option ℕ) (x : ℕ) (xs : List ℕ) → last ≡ last_from (Some x) xs → IsOnce (x ∷ xs) → (IsIn (x ∷ xs) p → ⊥) → ((y : ℕ) → IsIn (x ∷ xs) y → y < length next) →
+      IsRow next previous back from (x ∷ xs) → IsRow next_joined previous_joined back from (x ∷ xs ++ p ∷ [])
   row_joined back from x [] e o out within r =
       let own : last ≡ Some p → ⊥ = λ t. let both : Some x ≡ Some p = sym e ∙ t in let same : x ≡ p = cc in out (inl same) in
       (r.0, previous-kept x (λ t. out (inl t)) ∙ r.1, (next-last x e (within x (inl refl)), previous-own ∙ e, next-own own))

@@ -48,13 +48,15 @@ filed-within at p l e =
 pub none-filed : (lists : Lists) (n : ℕ) → lists.places ≡ n → ((l : ℕ) → list_in lists l ≡ []) → AreFiled lists (replicate n None)
 none-filed lists n places empty = record {
   places = places ∙ sym (length-replicate {A = Option ℕ} n None);
-  held = λ l p e. let within = filed-within (replicate n None) p l e in let wrong : None ≡ Some l = sym (get_or-replicate n p None None (omega (arith, within, length-replicate {A = Option ℕ} n None))) ∙ e in cc;
+  held = λ l p e. let within = filed-within (replicate n None) p l e in let wrong : None ≡ Some l =
+      sym (get_or-replicate n p None None (omega (arith, within, length-replicate {A = Option ℕ} n None))) ∙ e in cc;
   noted = λ l p i. absurd (subst (λ xs. IsIn xs p) (empty l) i);
 }
 
 module _ (lists after : Lists) (at : List (Option ℕ)) (p : ℕ) (k : AreFiled lists at) (within : p < length at) (places : after.places ≡ lists.places) where
   -- the place is taken out of the list that it was filed in
-  pub unfiled : ((l q : ℕ) → q ≢ p → IsIn (list_in lists l) q → IsIn (list_in after l) q) → ((l q : ℕ) → IsIn (list_in after l) q → IsIn (list_in lists l) q × (q ≢ p)) → AreFiled after (slice_set at p None)
+  pub unfiled : ((l q : ℕ) → q ≢ p → IsIn (list_in lists l) q → IsIn (list_in after l) q) → ((l q : ℕ) → IsIn (list_in after l) q → IsIn (list_in lists l) q × (q ≢ p)) →
+      AreFiled after (slice_set at p None)
   unfiled kept from = record {
     places = places ∙ k.places ∙ sym (length-set at p None);
     held = λ l q e. elim (eqb_tells q p) [
@@ -70,7 +72,8 @@ module _ (lists after : Lists) (at : List (Option ℕ)) (p : ℕ) (k : AreFiled 
       (λ l q i. IsIn-from_without p q (list_in lists l) (subst (λ xs. IsIn xs q) (removed l) i))
 
   -- a place that is filed in no list is filed in one
-  pub filed : (list : ℕ) → link_at at p ≡ None → list_in after list ≡ list_in lists list ++ p ∷ [] → ((l : ℕ) → l ≢ list → list_in after l ≡ list_in lists l) → AreFiled after (slice_set at p (Some list))
+  pub filed : (list : ℕ) → link_at at p ≡ None → list_in after list ≡ list_in lists list ++ p ∷ [] → ((l : ℕ) → l ≢ list → list_in after l ≡ list_in lists l) →
+      AreFiled after (slice_set at p (Some list))
   filed list free pushed others = record {
     places = places ∙ k.places ∙ sym (length-set at p (Some list));
     held = λ l q e. elim (eqb_tells q p) [
@@ -116,11 +119,13 @@ count-filed filing p list to here away =
 abbrev pub Moves : (from to : ℕ) → (before now : Filing) → ℕ → Type 0
 Moves from to before now p = (filed_in now p ≡ filed_in before p) ⊎ ((filed_in before p ≡ Some from) × (filed_in now p ≡ Some to))
 
-pub moves-more : (from to : ℕ) (before now : Filing) (place : ℕ) → ((p : ℕ) → Moves from to before now p) → filed_in now place ≡ Some from → (p : ℕ) → Moves from to before (with_filed now place (Some to)) p
+pub moves-more : (from to : ℕ) (before now : Filing) (place : ℕ) → ((p : ℕ) → Moves from to before now p) → filed_in now place ≡ Some from → (p : ℕ) →
+    Moves from to before (with_filed now place (Some to)) p
 moves-more from to before now place moves here p =
     elim (eqb_tells p place) [
       | inl s ↦
-          let at : filed_in (with_filed now place (Some to)) p ≡ Some to = ap (filed_in (with_filed now place (Some to))) s.1 ∙ get_or-set_same now.by_place place (Some to) None (filed-within now.by_place place from here) in
+          let at : filed_in (with_filed now place (Some to)) p ≡ Some to =
+          ap (filed_in (with_filed now place (Some to))) s.1 ∙ get_or-set_same now.by_place place (Some to) None (filed-within now.by_place place from here) in
           elim (moves p) [
             | inl same ↦ inr (sym same ∙ ap (filed_in now) s.1 ∙ here, at)
             | inr gone ↦ inr (gone.0, at)

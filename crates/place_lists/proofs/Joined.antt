@@ -7,7 +7,8 @@ use Rattle.place_lists.specs.Links.{Links, link_at, end_moved, joined}
 use Rattle.place_lists.specs.Lists.{IsIn, last_of}
 use Rattle.place_lists.specs.Linked.{IsRow, IsOnce, IsLinked}
 use Rattle.place_lists.proofs.Rows.{IsRow-same, length-set_at}
-use Rattle.place_lists.proofs.Ends.{end_moved-other, end_moved-none, end_moved-some, length-end_moved, IsIn-from_push, IsOnce-push, last-push, last-there, last-some, next_joined, previous_joined, next-kept, previous-kept, previous-own, next-own, row_joined}
+use Rattle.place_lists.proofs.Ends.{end_moved-other, end_moved-none, end_moved-some, length-end_moved, IsIn-from_push, IsOnce-push, last-push, last-there, last-some, next_joined, previous_joined}
+use Rattle.place_lists.proofs.Ends.{next-kept, previous-kept, previous-own, next-own, row_joined}
 
 pub pushed : (ℕ → List ℕ) → (list place l : ℕ) → List ℕ
 pushed f list place l = if l == list then f l ++ place ∷ [] else f l
@@ -56,31 +57,37 @@ module _ (links : Links) (f : ℕ → List ℕ) (list p : ℕ) (k : IsLinked lin
   own_previous = previous-own links.next links.previous last p has_place previous_there
 
   -- the list that the place joins, by whether there is something in it
-  row_of : (xs : List ℕ) → last ≡ last_of xs → IsOnce xs → (IsIn xs p → ⊥) → ((y : ℕ) → IsIn xs y → y < length links.next) → IsRow links.next links.previous None (link_at links.heads list) xs → IsRow next_after previous_after None (link_at heads_after list) (xs ++ p ∷ [])
+  row_of : (xs : List ℕ) → last ≡ last_of xs → IsOnce xs → (IsIn xs p → ⊥) → ((y : ℕ) → IsIn xs y → y < length links.next) → IsRow links.next links.previous None (link_at links.heads list) xs →
+      IsRow next_after previous_after None (link_at heads_after list) (xs ++ p ∷ [])
   row_of [] e o out within r = (end_moved-none links.heads list last (Some p) e there, own_previous ∙ e, own_next)
   row_of (x ∷ xs) e o out within r =
       let some = last-some x xs in
       let head : link_at heads_after list ≡ link_at links.heads list = end_moved-some links.heads list last (Some p) some.0 (e ∙ some.1) in
-      subst (λ h. IsRow next_after previous_after None h (x ∷ xs ++ p ∷ [])) (sym head) (row_joined links.next links.previous last p has_place previous_there None (link_at links.heads list) x xs e o out within r)
+      subst (λ h. IsRow next_after previous_after None h (x ∷ xs ++ p ∷ [])) (sym head)
+      (row_joined links.next links.previous last p has_place previous_there None (link_at links.heads list) x xs e o out within r)
 
   rows_after : (l : ℕ) → l < length links.heads → IsRow next_after previous_after None (link_at heads_after l) (pushed f list p l)
   rows_after l h =
       elim (eqb_tells l list) [
         | inl s ↦
             let own = row_of (f list) last-is (k.once list) (free list) (k.within list) (k.rows list there) in
-            let moved : IsRow next_after previous_after None (link_at heads_after l) (f l ++ p ∷ []) = subst (λ m. IsRow next_after previous_after None (link_at heads_after m) (f m ++ p ∷ [])) (sym s.1) own in
+            let moved : IsRow next_after previous_after None (link_at heads_after l) (f l ++ p ∷ []) =
+            subst (λ m. IsRow next_after previous_after None (link_at heads_after m) (f m ++ p ∷ [])) (sym s.1) own in
             subst (λ xs. IsRow next_after previous_after None (link_at heads_after l) xs) (sym (pushed-same l s.1)) moved
         | inr s ↦
             let apart_from : (y : ℕ) → IsIn (f l) y → y ≢ p = λ y i e. free l (subst (λ t. IsIn (f l) t) e i) in
             let not_last : (y : ℕ) → IsIn (f l) y → last ≡ Some y → ⊥ = λ y i e. s.1 (k.apart l list y i (last-in_list y e)) in
-            let kept = IsRow-same links.next links.previous next_after previous_after None (link_at links.heads l) (f l) (λ y i. kept_next y (apart_from y i) (not_last y i)) (λ y i. kept_previous y (apart_from y i)) (k.rows l h) in
-            subst (λ xs. IsRow next_after previous_after None (link_at heads_after l) xs) (sym (pushed-other l s.1)) (subst (λ t. IsRow next_after previous_after None t (f l)) (sym (end_moved-other links.heads list last (Some p) l s.1)) kept)
+            let kept = IsRow-same links.next links.previous next_after previous_after None (link_at links.heads l) (f l) (λ y i. kept_next y (apart_from y i) (not_last y i))
+            (λ y i. kept_previous y (apart_from y i)) (k.rows l h) in
+            subst (λ xs. IsRow next_after previous_after None (link_at heads_after l) xs) (sym (pushed-other l s.1))
+            (subst (λ t. IsRow next_after previous_after None t (f l)) (sym (end_moved-other links.heads list last (Some p) l s.1)) kept)
       ]
 
   tails_after : (l : ℕ) → l < length links.heads → link_at (slice_set links.tails list (Some p)) l ≡ last_of (pushed f list p l)
   tails_after l h =
       elim (eqb_tells l list) [
-        | inl s ↦ ap (link_at (slice_set links.tails list (Some p))) s.1 ∙ get_or-set_same links.tails list (Some p) None (omega (arith, k.tail_size, there)) ∙ sym (last-push None (f l) p) ∙ ap last_of (sym (pushed-same l s.1))
+        | inl s ↦ ap (link_at (slice_set links.tails list (Some p))) s.1 ∙ get_or-set_same links.tails list (Some p) None (omega (arith, k.tail_size, there)) ∙ sym (last-push None (f l) p) ∙
+            ap last_of (sym (pushed-same l s.1))
         | inr s ↦ get_or-set_other links.tails list l (Some p) None s.1 ∙ k.tails l h ∙ ap last_of (sym (pushed-other l s.1))
       ]
 

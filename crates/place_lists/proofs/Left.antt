@@ -4,7 +4,8 @@ use Rattle.std.proofs.lemmas.Bool.Decides.{eqb_tells}
 use Rattle.place_lists.specs.Links.{Links, link_at, end_moved, left}
 use Rattle.place_lists.specs.Lists.{IsIn, last_of, without}
 use Rattle.place_lists.specs.Linked.{IsRow, IsOnce, IsLinked}
-use Rattle.place_lists.proofs.Rows.{set_at-other, length-set_at, without-same, without-other, without-none, IsIn-from_without, IsOnce-without, IsRow-same, after-in, before-in, before-there, next_left, previous_left, left-first, left-later}
+use Rattle.place_lists.proofs.Rows.{set_at-other, length-set_at, without-same, without-other, without-none, IsIn-from_without, IsOnce-without, IsRow-same, after-in, before-in, before-there, next_left}
+use Rattle.place_lists.proofs.Rows.{previous_left, left-first, left-later}
 use Rattle.place_lists.proofs.Ends.{end_moved-other, end_moved-none, end_moved-some, length-end_moved, last-left_end, last-left_more}
 
 module _ (links : Links) (f : ℕ → List ℕ) (list c : ℕ) (k : IsLinked links f) (there : list < length links.heads) (held : IsIn (f list) c) where
@@ -27,7 +28,8 @@ module _ (links : Links) (f : ℕ → List ℕ) (list c : ℕ) (k : IsLinked lin
   after_in y e = after-in links.next links.previous None (link_at links.heads list) (f list) c y (k.rows list there) held e
 
   -- the list that the place leaves, by whether it is the first there
-  row_left : (xs : List ℕ) → IsIn xs c → IsRow links.next links.previous None (link_at links.heads list) xs → IsOnce xs → ((y : ℕ) → IsIn xs y → (y < length links.next) × (y < length links.previous)) → IsRow next_after previous_after None (link_at heads_after list) (without c xs)
+  row_left : (xs : List ℕ) → IsIn xs c → IsRow links.next links.previous None (link_at links.heads list) xs → IsOnce xs →
+      ((y : ℕ) → IsIn xs y → (y < length links.next) × (y < length links.previous)) → IsRow next_after previous_after None (link_at heads_after list) (without c xs)
   row_left [] i r o within = absurd i
   row_left (x ∷ xs) i r o within =
       elim (eqb_tells x c) [
@@ -43,7 +45,8 @@ module _ (links : Links) (f : ℕ → List ℕ) (list c : ℕ) (k : IsLinked lin
             let earlier = before-in links.next links.previous None (link_at links.heads list) x xs c r later in
             let to : link_at heads_after list ≡ link_at links.heads list = end_moved-some links.heads list (link_at links.previous c) (link_at links.next c) earlier.0 earlier.1.0 in
             let moved = left-later links.next links.previous c None (link_at links.heads list) x xs within o s.1 later r in
-            subst (λ t. IsRow next_after previous_after None (link_at heads_after list) t) (sym (without-other c x xs s.1)) (subst (λ t. IsRow next_after previous_after None t (x ∷ without c xs)) (sym to) moved)
+            subst (λ t. IsRow next_after previous_after None (link_at heads_after list) t) (sym (without-other c x xs s.1))
+            (subst (λ t. IsRow next_after previous_after None t (x ∷ without c xs)) (sym to) moved)
       ]
 
   not_in : (l : ℕ) → l ≢ list → IsIn (f l) c → ⊥
@@ -56,17 +59,22 @@ module _ (links : Links) (f : ℕ → List ℕ) (list c : ℕ) (k : IsLinked lin
             let own = row_left (f list) held (k.rows list there) (k.once list) (λ y i. let low : y < length links.next = k.within list y i in (low, omega (arith, k.previous_size))) in
             subst (λ m. IsRow next_after previous_after None (link_at heads_after m) (without c (f m))) (sym s.1) own
         | inr s ↦
-            let n : (y : ℕ) → IsIn (f l) y → link_at next_after y ≡ link_at links.next y = λ y i. set_at-other links.next (link_at links.previous c) (link_at links.next c) y (λ e. s.1 (k.apart l list y i (before_in y e))) in
-            let v : (y : ℕ) → IsIn (f l) y → link_at previous_after y ≡ link_at links.previous y = λ y i. set_at-other links.previous (link_at links.next c) (link_at links.previous c) y (λ e. s.1 (k.apart l list y i (after_in y e))) in
+            let n : (y : ℕ) → IsIn (f l) y → link_at next_after y ≡ link_at links.next y =
+            λ y i. set_at-other links.next (link_at links.previous c) (link_at links.next c) y (λ e. s.1 (k.apart l list y i (before_in y e))) in
+            let v : (y : ℕ) → IsIn (f l) y → link_at previous_after y ≡ link_at links.previous y =
+            λ y i. set_at-other links.previous (link_at links.next c) (link_at links.previous c) y (λ e. s.1 (k.apart l list y i (after_in y e))) in
             let kept = IsRow-same links.next links.previous next_after previous_after None (link_at links.heads l) (f l) n v (k.rows l h) in
-            subst (λ t. IsRow next_after previous_after None (link_at heads_after l) t) (sym (without-none c (f l) (not_in l s.1))) (subst (λ t. IsRow next_after previous_after None t (f l)) (sym (end_moved-other links.heads list (link_at links.previous c) (link_at links.next c) l s.1)) kept)
+            subst (λ t. IsRow next_after previous_after None (link_at heads_after l) t) (sym (without-none c (f l) (not_in l s.1)))
+            (subst (λ t. IsRow next_after previous_after None t (f l)) (sym (end_moved-other links.heads list (link_at links.previous c) (link_at links.next c) l s.1)) kept)
       ]
 
   tail_own : (o : Option ℕ) → link_at links.next c ≡ o → link_at tails_after list ≡ last_of (without c (f list))
   tail_own None e =
-      end_moved-none links.tails list (link_at links.next c) (link_at links.previous c) e (omega (arith, k.tail_size, there)) ∙ sym (last-left_end links.next links.previous c None (link_at links.heads list) (f list) (k.rows list there) held e)
+      end_moved-none links.tails list (link_at links.next c) (link_at links.previous c) e (omega (arith, k.tail_size, there)) ∙
+      sym (last-left_end links.next links.previous c None (link_at links.heads list) (f list) (k.rows list there) held e)
   tail_own (Some y) e =
-      end_moved-some links.tails list (link_at links.next c) (link_at links.previous c) y e ∙ k.tails list there ∙ sym (last-left_more links.next links.previous c None (link_at links.heads list) (f list) y (k.rows list there) (k.once list) e)
+      end_moved-some links.tails list (link_at links.next c) (link_at links.previous c) y e ∙ k.tails list there ∙
+      sym (last-left_more links.next links.previous c None (link_at links.heads list) (f list) y (k.rows list there) (k.once list) e)
 
   tail_after : (l : ℕ) → l < length links.heads → link_at tails_after l ≡ last_of (without c (f l))
   tail_after l h =

@@ -30,7 +30,8 @@ last-or [] x = refl
 last-or (y ∷ ys) x = last-unwrapped y ys x
 
 module _ (seat : Waiting → ℕ) (table : List (Option Waiting)) where
-  last-held : (back : ℕ) (row : RowId) (ws : List Waiting) → id_at table back ≡ Some row → ((w : Waiting) → Waits ws w → row_at table (seat w) ≡ Some w) → (place : ℕ) → last_from (Some back) (positions_of seat ws) ≡ Some place → id_at table place ≡ last_or (Some row) ws
+  last-held : (back : ℕ) (row : RowId) (ws : List Waiting) → id_at table back ≡ Some row → ((w : Waiting) → Waits ws w → row_at table (seat w) ≡ Some w) → (place : ℕ) →
+      last_from (Some back) (positions_of seat ws) ≡ Some place → id_at table place ≡ last_or (Some row) ws
   last-held back row [] at there place e = let same : back ≡ place = cc in subst (λ p. id_at table p ≡ Some row) same at
   last-held back row (w ∷ ws) at there place e = last-held (seat w) w.row ws (ap (option_map (λ (v : Waiting). v.row)) (there w (inl refl))) (λ v i. there v (inr i)) place e
 
@@ -71,7 +72,8 @@ pub same-itself : (r : RowId) → same_region (Some r) (Some r) ≡ true
 same-itself r = ap (λ b. b && (r.place == r.place)) (eqb-same r.number r.number refl) ∙ eqb-same r.place r.place refl
 
 -- The number of a list identifies its place and its slot, which is below the number of slots.
-numbered : (slots slot place : ℕ) (made : Option ℕ) (region : Option ℕ) → slot < slots → ((s : ℕ) → made ≡ Some s → s < slots) → (is_made_on place region && is_made_on slot made) ≡ is_made_on (place * slots + slot) (number_of slots made region)
+numbered : (slots slot place : ℕ) (made : Option ℕ) (region : Option ℕ) → slot < slots → ((s : ℕ) → made ≡ Some s → s < slots) →
+    (is_made_on place region && is_made_on slot made) ≡ is_made_on (place * slots + slot) (number_of slots made region)
 numbered slots slot place None region below few = and-false (is_made_on place region)
 numbered slots slot place (Some s) None below few = refl
 numbered slots slot place (Some s) (Some p) below few =
@@ -107,7 +109,8 @@ last_or-or row (w ∷ ws) = last_or-some w.row ws row
 
 pub outside : (pool : Ready) (table : Table) (slot : ℕ) → option_or (last_or None (filter (λ (w : Waiting). is_made_on slot w.made_on) pool.rows)) (first_of pool.rows) ≡ pick pool table slot None
 outside pool table slot =
-    let all : filter (λ (w : Waiting). is_allowed pool.isolation table None w.region) pool.rows ≡ pool.rows = filter-every (λ (w : Waiting). is_allowed pool.isolation table None w.region) pool.rows (λ w i. refl) in
+    let all : filter (λ (w : Waiting). is_allowed pool.isolation table None w.region) pool.rows ≡ pool.rows =
+    filter-every (λ (w : Waiting). is_allowed pool.isolation table None w.region) pool.rows (λ w i. refl) in
     sym (ap (chosen slot) all ∙ last_or-or (first_of pool.rows) (filter (λ (w : Waiting). is_made_on slot w.made_on) pool.rows))
 
 pub exact-is : (pool : Ready) (table : Table) (slot : ℕ) (r : RowId) → pool.isolation ≡ Exact → pick pool table slot (Some r) ≡ chosen slot (of_region r pool.rows)
@@ -133,7 +136,8 @@ module _ (limit : ℕ) (held : PoolParts) (rows : List Waiting) (k : HoldsRows l
 
       region-none : ((v : Waiting) → Waits rows v → v.region ≡ Some r → ⊥) → None ≡ chosen slot (of_region r rows)
       region-none out =
-          let none : of_region r rows ≡ [] = filter-none (λ (w : Waiting). same_region (Some r) w.region) rows (λ v i. elim (tells (same_region (Some r) v.region)) [ inl h ↦ absurd (out v i (same-is r v.region h)) | inr h ↦ h ]) in
+          let none : of_region r rows ≡ [] =
+          filter-none (λ (w : Waiting). same_region (Some r) w.region) rows (λ v i. elim (tells (same_region (Some r) v.region)) [ inl h ↦ absurd (out v i (same-is r v.region h)) | inr h ↦ h ]) in
           ap (chosen slot) (sym none)
 
       in_place-of : (v : Waiting) → v.region ≡ Some r → in_place v ≡ true
@@ -180,7 +184,8 @@ module _ (limit : ℕ) (held : PoolParts) (rows : List Waiting) (k : HoldsRows l
               let wrong : true ≡ false = sym (same-itself r) ∙ sym (ap (λ o. same_region o (Some r)) here) ∙ ne in
               cc)
 
-          pub exact-chosen : same_region oldest.region (Some r) ≡ true → slot < held.slots → (place : ℕ) → place ≡ unwrap_or (last_of (list_in held.by_both (r.place * held.slots + slot))) first → id_at held.nodes.slots place ≡ chosen slot (of_region r rows)
+          pub exact-chosen : same_region oldest.region (Some r) ≡ true → slot < held.slots → (place : ℕ) → place ≡ unwrap_or (last_of (list_in held.by_both (r.place * held.slots + slot))) first →
+              id_at held.nodes.slots place ≡ chosen slot (of_region r rows)
           exact-chosen eq below place e =
               let here : oldest.region ≡ Some r = same-back oldest.region r eq in
               let number : ℕ = r.place * held.slots + slot in
@@ -195,7 +200,13 @@ module _ (limit : ℕ) (held : PoolParts) (rows : List Waiting) (k : HoldsRows l
                   | inr g ↦ g ∙ sym h
                 ]
               ]) in
-              let newest : filter made (filter in_place rows) ≡ ws = filter-filter made in_place rows ∙ filter-as in_both both rows (λ v i. numbered held.slots slot r.place v.made_on (region_key v) below (λ s f. listed-below k.seat (λ (w : Waiting). w.made_on) held.slots held.nodes.capacity held.by_slot rows k.slots_listed v i s f)) in
-              let all : chosen slot (of_region r rows) ≡ last_or (Some oldest.row) ws = ap (chosen slot) regions ∙ ap (λ o. last_or o (filter made (filter in_place rows))) (oldest-of.1.1.1 ∙ ap (λ (w : Waiting). Some w.row) same) ∙ ap (last_or (Some oldest.row)) newest in
-              let last : last_from (Some first) (positions_of k.seat ws) ≡ Some place = ap (last_from (Some first)) (sym (k.both_listed.listed number)) ∙ last-or (list_in held.by_both number) first ∙ ap Some (sym e) in
+              let newest : filter made (filter in_place rows) ≡ ws =
+              filter-filter made in_place rows ∙
+              filter-as in_both both rows (λ v i. numbered held.slots slot r.place v.made_on (region_key v) below
+              (λ s f. listed-below k.seat (λ (w : Waiting). w.made_on) held.slots held.nodes.capacity held.by_slot rows k.slots_listed v i s f)) in
+              let all : chosen slot (of_region r rows) ≡ last_or (Some oldest.row) ws =
+              ap (chosen slot) regions ∙ ap (λ o. last_or o (filter made (filter in_place rows))) (oldest-of.1.1.1 ∙ ap (λ (w : Waiting). Some w.row) same) ∙
+              ap (last_or (Some oldest.row)) newest in
+              let last : last_from (Some first) (positions_of k.seat ws) ≡ Some place =
+              ap (last_from (Some first)) (sym (k.both_listed.listed number)) ∙ last-or (list_in held.by_both number) first ∙ ap Some (sym e) in
               last-held k.seat held.nodes.slots first oldest.row ws (ap (option_map (λ (v : Waiting). v.row)) is) (there-of both) place last ∙ sym all

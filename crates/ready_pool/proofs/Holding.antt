@@ -1,5 +1,6 @@
 -- What is known of the rows that are held, and that a row that comes or goes leaves them held.
-use Rattle.std.proofs.Common.{◌≡◌, ◌≢◌, ◌<◌, ◌≤◌, ◌+◌, ◌*◌, ◌==◌, ◌&&◌, Bool, true, false, ℕ, suc, not, if◌then◌else◌, List, [], ◌∷◌, ◌++◌, length, Option, Some, None, is_some, count_by, refl, sym, ◌∙◌, ap, subst, inl, inr, filter, arith, length-set}
+use Rattle.std.proofs.Common.{◌≡◌, ◌≢◌, ◌<◌, ◌≤◌, ◌+◌, ◌*◌, ◌==◌, ◌&&◌, Bool, true, false, ℕ, suc, not, if◌then◌else◌, List, [], ◌∷◌, ◌++◌, length, Option, Some, None, is_some, count_by, refl, sym}
+use Rattle.std.proofs.Common.{◌∙◌, ap, subst, inl, inr, filter, arith, length-set}
 use Rattle.std.specs.Prelude.{All, slice_index_or, slice_set}
 use Rattle.std.specs.List.{filter_map, cons_option}
 use Rattle.std.proofs.lemmas.Bool.Decides.{eqb_tells}
@@ -32,9 +33,11 @@ pub record IsNone (count places : ℕ) (lists : Lists) : Type 0 where
   pub places_are : lists.places ≡ places
   pub empty : (l : ℕ) → list_in lists l ≡ []
 
-rows-there : (seat : Waiting → ℕ) (table : List (Option Waiting)) (rows : List Waiting) → ((w : Waiting) → Waits rows w → row_at table (seat w) ≡ Some w) → filter_map (row_at table) (positions_of seat rows) ≡ rows
+rows-there : (seat : Waiting → ℕ) (table : List (Option Waiting)) (rows : List Waiting) → ((w : Waiting) → Waits rows w → row_at table (seat w) ≡ Some w) →
+    filter_map (row_at table) (positions_of seat rows) ≡ rows
 rows-there seat table [] there = refl
-rows-there seat table (x ∷ xs) there = ap (λ o. cons_option o (filter_map (row_at table) (positions_of seat xs))) (there x (inl refl)) ∙ ap (λ l. x ∷ l) (rows-there seat table xs (λ w i. there w (inr i)))
+rows-there seat table (x ∷ xs) there =
+    ap (λ o. cons_option o (filter_map (row_at table) (positions_of seat xs))) (there x (inl refl)) ∙ ap (λ l. x ∷ l) (rows-there seat table xs (λ w i. there w (inr i)))
 
 positions-same : (seat now : Waiting → ℕ) (rows : List Waiting) → ((w : Waiting) → Waits rows w → seat w ≡ now w) → positions_of seat rows ≡ positions_of now rows
 positions-same seat now [] same = refl
@@ -52,7 +55,9 @@ pub record AreLeft (position : ℕ) (before after : Lists) : Type 0 where
   pub count : length after.lists ≡ length before.lists
   pub places : after.places ≡ before.places
 
-joined-listed : (seat now : Waiting → ℕ) (key : Waiting → Option ℕ) (count places after_places : ℕ) (before after : Lists) (rows : List Waiting) (w : Waiting) (position : ℕ) → ((v : Waiting) → Waits rows v → seat v ≡ now v) → now w ≡ position → after_places ≡ places → AreListed seat key count places before rows → AreJoined (key w) position before after → AreListed now key count after_places after (rows ++ w ∷ [])
+joined-listed : (seat now : Waiting → ℕ) (key : Waiting → Option ℕ) (count places after_places : ℕ) (before after : Lists) (rows : List Waiting) (w : Waiting) (position : ℕ) →
+    ((v : Waiting) → Waits rows v → seat v ≡ now v) → now w ≡ position → after_places ≡ places → AreListed seat key count places before rows → AreJoined (key w) position before after →
+    AreListed now key count after_places after (rows ++ w ∷ [])
 joined-listed seat now key count places after_places before after rows w position same here room k j =
     let of : ℕ → Waiting → Bool = λ l v. is_made_on l (key v) in
     let moved : AreListed now key count after_places before rows = record {
@@ -62,7 +67,9 @@ joined-listed seat now key count places after_places before after rows w positio
     } in
     listed-joined now key count after_places before rows moved after j.count j.places w (λ l. j.joined l ∙ ap (λ p. extended (key w) p l (list_in before l)) (sym here))
 
-left-listed : (seat : Waiting → ℕ) (key : Waiting → Option ℕ) (count places after_places : ℕ) (before after : Lists) (rows : List Waiting) (gone : Waiting → Bool) (position : ℕ) → ((w : Waiting) → Waits rows w → gone w ≡ (seat w == position)) → after_places ≡ places → AreListed seat key count places before rows → AreLeft position before after → AreListed seat key count after_places after (filter (λ w. not (gone w)) rows)
+left-listed : (seat : Waiting → ℕ) (key : Waiting → Option ℕ) (count places after_places : ℕ) (before after : Lists) (rows : List Waiting) (gone : Waiting → Bool) (position : ℕ) →
+    ((w : Waiting) → Waits rows w → gone w ≡ (seat w == position)) → after_places ≡ places → AreListed seat key count places before rows → AreLeft position before after →
+    AreListed seat key count after_places after (filter (λ w. not (gone w)) rows)
 left-listed seat key count places after_places before after rows gone position same room k j =
     let moved : AreListed seat key count after_places before rows = record { count_is = k.count_is; places_are = k.places_are ∙ sym room; listed = k.listed } in
     listed-left seat key count after_places before rows moved after j.count j.places gone position same j.left
@@ -74,7 +81,8 @@ rising-tail : (x : Waiting) (xs : List Waiting) → AreRising (x ∷ xs) → Are
 rising-tail x xs rising i j d before below = rising (suc i) (suc j) d (omega (arith, before)) (omega (arith, below))
 
 -- One row is gone, and no other.
-one-gone : (gone : Waiting → Bool) (rows : List Waiting) (w : Waiting) → AreRising rows → Waits rows w → gone w ≡ true → ((v : Waiting) → Waits rows v → gone v ≡ true → v ≡ w) → length (filter (λ v. not (gone v)) rows) + 1 ≡ length rows
+one-gone : (gone : Waiting → Bool) (rows : List Waiting) (w : Waiting) → AreRising rows → Waits rows w → gone w ≡ true → ((v : Waiting) → Waits rows v → gone v ≡ true → v ≡ w) →
+    length (filter (λ v. not (gone v)) rows) + 1 ≡ length rows
 one-gone gone [] w rising i is only = absurd i
 one-gone gone (x ∷ xs) w rising i is only =
     let stays : Waiting → Bool = λ v. not (gone v) in
@@ -108,7 +116,9 @@ module _ (limit : ℕ) (held : PoolParts) (rows : List Waiting) (k : HoldsRows l
   pub only-place : (v w : Waiting) → Waits rows v → Waits rows w → v.row.place ≡ w.row.place → v ≡ w
   only-place v w i j e = only v w i j (sym (k.noted v i).1 ∙ ap (λ n. slice_index_or held.positions n 0) e ∙ (k.noted w j).1)
 
-  module _ (w : Waiting) (newest : All (λ (v : Waiting). v.row.number < w.row.number) rows) (place : w.row.place < limit) (free : All (λ (v : Waiting). v.row.place ≢ w.row.place) rows) (alike : AreAlike (rows ++ w ∷ [])) (position : ℕ) (after : Slab Waiting) (vacant : get held.nodes position ≡ None) (updates : Updates held.nodes after position (Some w)) (more : slab_len after ≡ slab_len held.nodes + 1) (capacity : after.capacity ≡ held.nodes.capacity) where
+  module _ (w : Waiting) (newest : All (λ (v : Waiting). v.row.number < w.row.number) rows) (place : w.row.place < limit) (free : All (λ (v : Waiting). v.row.place ≢ w.row.place) rows)
+      (alike : AreAlike (rows ++ w ∷ [])) (position : ℕ) (after : Slab Waiting) (vacant : get held.nodes position ≡ None) (updates : Updates held.nodes after position (Some w))
+      (more : slab_len after ≡ slab_len held.nodes + 1) (capacity : after.capacity ≡ held.nodes.capacity) where
     -- where the rows are after this one came
     abbrev now : Waiting → ℕ
     now v = if v.row.place == w.row.place then position else k.seat v
@@ -148,11 +158,17 @@ module _ (limit : ℕ) (held : PoolParts) (rows : List Waiting) (k : HoldsRows l
     put-noted v i =
         let long : length put_positions ≡ length held.positions = length-set held.positions w.row.place position in
         elim (Waits-append rows w v i) [
-          | inl j ↦ (omega (arith, long, (k.noted v j).0), get_or-set_other held.positions w.row.place v.row.place position 0 (Waits-of_All (λ (u : Waiting). u.row.place ≢ w.row.place) rows free v j) ∙ (k.noted v j).1 ∙ now-old v j)
-          | inr e ↦ subst (λ (u : Waiting). (u.row.place < length put_positions) × (slice_index_or put_positions u.row.place 0 ≡ now u)) e (omega (arith, long, k.size, place), get_or-set_same held.positions w.row.place position 0 (omega (arith, k.size, place)) ∙ sym now-new)
+          | inl j ↦ (
+            omega (arith, long, (k.noted v j).0),
+            get_or-set_other held.positions w.row.place v.row.place position 0 (Waits-of_All (λ (u : Waiting). u.row.place ≢ w.row.place) rows free v j) ∙ (k.noted v j).1 ∙ now-old v j,
+          )
+          | inr e ↦ subst (λ (u : Waiting). (u.row.place < length put_positions) × (slice_index_or put_positions u.row.place 0 ≡ now u)) e
+              (omega (arith, long, k.size, place), get_or-set_same held.positions w.row.place position 0 (omega (arith, k.size, place)) ∙ sym now-new)
         ]
 
-    pub held-put : (all by_slot by_region by_both : Lists) → AreJoined (Some 0) position held.all all → AreJoined w.made_on position held.by_slot by_slot → AreJoined (place_of w.region) position held.by_region by_region → AreJoined (both_key held.slots w) position held.by_both by_both → HoldsRows limit (record { slots = held.slots; nodes = after; positions = put_positions; all = all; by_slot = by_slot; by_region = by_region; by_both = by_both }) (rows ++ w ∷ [])
+    pub held-put : (all by_slot by_region by_both : Lists) → AreJoined (Some 0) position held.all all → AreJoined w.made_on position held.by_slot by_slot →
+        AreJoined (place_of w.region) position held.by_region by_region → AreJoined (both_key held.slots w) position held.by_both by_both →
+        HoldsRows limit (record { slots = held.slots; nodes = after; positions = put_positions; all = all; by_slot = by_slot; by_region = by_region; by_both = by_both }) (rows ++ w ∷ [])
     held-put all by_slot by_region by_both a s r b = record {
       seat = now;
       size = length-set held.positions w.row.place position ∙ k.size;
@@ -168,11 +184,13 @@ module _ (limit : ℕ) (held : PoolParts) (rows : List Waiting) (k : HoldsRows l
       all_listed = joined-listed k.seat now all_key 1 held.nodes.capacity after.capacity held.all all rows w position now-old now-new capacity k.all_listed a;
       slots_listed = joined-listed k.seat now slot_key held.slots held.nodes.capacity after.capacity held.by_slot by_slot rows w position now-old now-new capacity k.slots_listed s;
       regions_listed = joined-listed k.seat now region_key limit held.nodes.capacity after.capacity held.by_region by_region rows w position now-old now-new capacity k.regions_listed r;
-      both_listed = joined-listed k.seat now (both_key held.slots) (limit * held.slots) held.nodes.capacity after.capacity held.by_both by_both rows w position now-old now-new capacity k.both_listed b;
+      both_listed = joined-listed k.seat now (both_key held.slots) (limit * held.slots) held.nodes.capacity after.capacity held.by_both by_both rows w position now-old now-new capacity k.both_listed
+          b;
     }
 
   -- A row of this handle is held.
-  module _ (row : RowId) (w : Waiting) (here : Waits rows w) (is : is_of row w ≡ true) (after : Slab Waiting) (updates : Updates held.nodes after (k.seat w) None) (fewer : slab_len after + 1 ≡ slab_len held.nodes) (capacity : after.capacity ≡ held.nodes.capacity) where
+  module _ (row : RowId) (w : Waiting) (here : Waits rows w) (is : is_of row w ≡ true) (after : Slab Waiting) (updates : Updates held.nodes after (k.seat w) None)
+      (fewer : slab_len after + 1 ≡ slab_len held.nodes) (capacity : after.capacity ≡ held.nodes.capacity) where
     abbrev position : ℕ
     position = k.seat w
 
@@ -209,7 +227,9 @@ module _ (limit : ℕ) (held : PoolParts) (rows : List Waiting) (k : HoldsRows l
               (Waits-kept stays rows v there.0 (ap not (gone-as v there.0 ∙ eqb-other (k.seat v) position (λ t. h.1 (sym there.1 ∙ t)))), there.1)
         ]
 
-    pub held-left : (all by_slot by_region by_both : Lists) → AreLeft position held.all all → AreLeft position held.by_slot by_slot → AreLeft position held.by_region by_region → AreLeft position held.by_both by_both → HoldsRows limit (record { slots = held.slots; nodes = after; positions = held.positions; all = all; by_slot = by_slot; by_region = by_region; by_both = by_both }) (filter stays rows)
+    pub held-left : (all by_slot by_region by_both : Lists) → AreLeft position held.all all → AreLeft position held.by_slot by_slot → AreLeft position held.by_region by_region →
+        AreLeft position held.by_both by_both →
+        HoldsRows limit (record { slots = held.slots; nodes = after; positions = held.positions; all = all; by_slot = by_slot; by_region = by_region; by_both = by_both }) (filter stays rows)
     held-left all by_slot by_region by_both a s r b = record {
       seat = k.seat;
       size = k.size;
@@ -229,7 +249,10 @@ module _ (limit : ℕ) (held : PoolParts) (rows : List Waiting) (k : HoldsRows l
     }
 
 -- Nothing is held yet.
-pub held-none : (limit slots : ℕ) (nodes : Slab Waiting) (positions : List ℕ) (all by_slot by_region by_both : Lists) → limit ≤ MAX_ROWS → slots ≤ MAX_SLOTS → nodes.slots ≡ [] → limit ≤ nodes.capacity → length positions ≡ limit → IsNone 1 nodes.capacity all → IsNone slots nodes.capacity by_slot → IsNone limit nodes.capacity by_region → IsNone (limit * slots) nodes.capacity by_both → HoldsRows limit (record { slots = slots; nodes = nodes; positions = positions; all = all; by_slot = by_slot; by_region = by_region; by_both = by_both }) []
+pub held-none : (limit slots : ℕ) (nodes : Slab Waiting) (positions : List ℕ) (all by_slot by_region by_both : Lists) → limit ≤ MAX_ROWS → slots ≤ MAX_SLOTS → nodes.slots ≡ [] →
+    limit ≤ nodes.capacity → length positions ≡ limit → IsNone 1 nodes.capacity all → IsNone slots nodes.capacity by_slot → IsNone limit nodes.capacity by_region →
+    IsNone (limit * slots) nodes.capacity by_both →
+    HoldsRows limit (record { slots = slots; nodes = nodes; positions = positions; all = all; by_slot = by_slot; by_region = by_region; by_both = by_both }) []
 held-none limit slots nodes positions all by_slot by_region by_both few few_slots none room long a s r b = record {
   seat = λ w. 0;
   size = long;

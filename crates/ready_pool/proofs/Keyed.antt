@@ -16,7 +16,8 @@ pub named-is : (l : ℕ) (o : Option ℕ) → is_made_on l o ≡ true → o ≡ 
 named-is l None e = cc
 named-is l (Some n) e = elim (eqb_tells n l) [ inl h ↦ ap Some h.1 | inr h ↦ let wrong : true ≡ false = sym e ∙ h.0 in cc ]
 
-pub without-places : (seat : Waiting → ℕ) (f gone : Waiting → Bool) (place : ℕ) (rows : List Waiting) → ((w : Waiting) → Waits rows w → gone w ≡ (seat w == place)) → without place (positions_of seat (filter f rows)) ≡ positions_of seat (filter f (filter (λ w. not (gone w)) rows))
+pub without-places : (seat : Waiting → ℕ) (f gone : Waiting → Bool) (place : ℕ) (rows : List Waiting) → ((w : Waiting) → Waits rows w → gone w ≡ (seat w == place)) →
+    without place (positions_of seat (filter f rows)) ≡ positions_of seat (filter f (filter (λ w. not (gone w)) rows))
 without-places seat f gone place [] same = refl
 without-places seat f gone place (x ∷ xs) same =
     let stays : Waiting → Bool = λ w. not (gone w) in
@@ -25,13 +26,16 @@ without-places seat f gone place (x ∷ xs) same =
     let same_here : stays x ≡ away (seat x) = ap not (same x (inl refl)) in
     elim (tells (f x)) [
       | inl kept ↦
-          let left : without place (positions_of seat (filter f (x ∷ xs))) ≡ filter away (seat x ∷ positions_of seat (filter f xs)) = ap (λ l. without place (positions_of seat l)) (filter-yes f x xs kept) in
+          let left : without place (positions_of seat (filter f (x ∷ xs))) ≡ filter away (seat x ∷ positions_of seat (filter f xs)) =
+          ap (λ l. without place (positions_of seat l)) (filter-yes f x xs kept) in
           elim (tells (stays x)) [
-            | inl h ↦ left ∙ filter-yes away (seat x) (positions_of seat (filter f xs)) (sym same_here ∙ h) ∙ ap (λ l. seat x ∷ l) rest ∙ sym (ap (λ l. positions_of seat (filter f l)) (filter-yes stays x xs h) ∙ ap (positions_of seat) (filter-yes f x (filter stays xs) kept))
+            | inl h ↦ left ∙ filter-yes away (seat x) (positions_of seat (filter f xs)) (sym same_here ∙ h) ∙ ap (λ l. seat x ∷ l) rest ∙
+                sym (ap (λ l. positions_of seat (filter f l)) (filter-yes stays x xs h) ∙ ap (positions_of seat) (filter-yes f x (filter stays xs) kept))
             | inr h ↦ left ∙ filter-no away (seat x) (positions_of seat (filter f xs)) (sym same_here ∙ h) ∙ rest ∙ sym (ap (λ l. positions_of seat (filter f l)) (filter-no stays x xs h))
           ]
       | inr lost ↦
-          let left : without place (positions_of seat (filter f (x ∷ xs))) ≡ positions_of seat (filter f (filter stays xs)) = ap (λ l. without place (positions_of seat l)) (filter-no f x xs lost) ∙ rest in
+          let left : without place (positions_of seat (filter f (x ∷ xs))) ≡ positions_of seat (filter f (filter stays xs)) =
+          ap (λ l. without place (positions_of seat l)) (filter-no f x xs lost) ∙ rest in
           elim (tells (stays x)) [
             | inl h ↦ left ∙ sym (ap (λ l. positions_of seat (filter f l)) (filter-yes stays x xs h) ∙ ap (positions_of seat) (filter-no f x (filter stays xs) lost))
             | inr h ↦ left ∙ sym (ap (λ l. positions_of seat (filter f l)) (filter-no stays x xs h))
@@ -67,7 +71,8 @@ module _ (seat : Waiting → ℕ) (key : Waiting → Option ℕ) (count places :
   places-append : (w : Waiting) (l : ℕ) → positions_of seat (filter (of l) (rows ++ w ∷ [])) ≡ extended (key w) (seat w) l (positions_of seat (filter (of l) rows))
   places-append w l =
       let before : List ℕ = positions_of seat (filter (of l) rows) in
-      let apart : positions_of seat (filter (of l) (rows ++ w ∷ [])) ≡ before ++ positions_of seat (filter (of l) (w ∷ [])) = ap (positions_of seat) (filter-append (of l) rows (w ∷ [])) ∙ map-append seat (filter (of l) rows) (filter (of l) (w ∷ [])) in
+      let apart : positions_of seat (filter (of l) (rows ++ w ∷ [])) ≡ before ++ positions_of seat (filter (of l) (w ∷ [])) =
+      ap (positions_of seat) (filter-append (of l) rows (w ∷ [])) ∙ map-append seat (filter (of l) rows) (filter (of l) (w ∷ [])) in
       elim (tells (of l w)) [
         | inl h ↦ apart ∙ ap (λ ws. before ++ positions_of seat ws) (filter-yes (of l) w [] h) ∙ sym (ap (λ b. if b then before ++ (seat w) ∷ [] else before) h)
         | inr h ↦ apart ∙ ap (λ ws. before ++ positions_of seat ws) (filter-no (of l) w [] h) ∙ append-nil before ∙ sym (ap (λ b. if b then before ++ (seat w) ∷ [] else before) h)
@@ -81,7 +86,8 @@ module _ (seat : Waiting → ℕ) (key : Waiting → Option ℕ) (count places :
       listed = λ l. joined l ∙ ap (extended (key w) (seat w) l) (k.listed l) ∙ sym (places-append w l);
     }
 
-    pub listed-left : (gone : Waiting → Bool) (place : ℕ) → ((w : Waiting) → Waits rows w → gone w ≡ (seat w == place)) → ((l : ℕ) → list_in after l ≡ without place (list_in lists l)) → AreListed seat key count places after (filter (λ w. not (gone w)) rows)
+    pub listed-left : (gone : Waiting → Bool) (place : ℕ) → ((w : Waiting) → Waits rows w → gone w ≡ (seat w == place)) → ((l : ℕ) → list_in after l ≡ without place (list_in lists l)) →
+        AreListed seat key count places after (filter (λ w. not (gone w)) rows)
     listed-left gone place same left = record {
       count_is = count_kept ∙ k.count_is;
       places_are = places_kept ∙ k.places_are;

@@ -30,7 +30,8 @@ pub record IsFound (table : List (Option Waiting)) (row : RowId) (p : ℕ) : Typ
   pub there : row_at table p ≡ Some w
   pub is : is_of row w ≡ true
 
-found_at : (table : List (Option Waiting)) (row : RowId) (o : Option ℕ) (q : ℕ) → option_and_then (λ p. option_and_then (λ w. if is_of row w then Some p else None) (row_at table p)) o ≡ Some q → IsFound table row q
+found_at : (table : List (Option Waiting)) (row : RowId) (o : Option ℕ) (q : ℕ) → option_and_then (λ p. option_and_then (λ w. if is_of row w then Some p else None) (row_at table p)) o ≡ Some q →
+    IsFound table row q
 found_at table row None q e = cc
 found_at table row (Some p) q e =
     let c = checked (is_of row) p (row_at table p) q e in

@@ -66,7 +66,8 @@ regions-same table (Some r) (Some s) x y place e f =
     let same : r.place ≡ s.place = cc in
     ap Some (entered-same table r s first.0 second.0 first.1 second.1 same)
 
-entered-append : (table : Table) (rows : List Waiting) (w : Waiting) → All (λ (v : Waiting). IsRegionEntered table v.region) rows → IsRegionEntered table w.region → (v : Waiting) → Waits (rows ++ w ∷ []) v → IsRegionEntered table v.region
+entered-append : (table : Table) (rows : List Waiting) (w : Waiting) → All (λ (v : Waiting). IsRegionEntered table v.region) rows → IsRegionEntered table w.region → (v : Waiting) →
+    Waits (rows ++ w ∷ []) v → IsRegionEntered table v.region
 entered-append table rows w every here v i =
     elim (Waits-append rows w v i) [
       | inl j ↦ Waits-of_All (λ (u : Waiting). IsRegionEntered table u.region) rows every v j
@@ -79,7 +80,8 @@ AreAlike-entered table rows w every here v u i j place e f =
     regions-same table v.region u.region (entered-append table rows w every here v i) (entered-append table rows w every here u j) place e f
 
 -- the number of the list of a slot and a place
-pub number-below : (slots limit : ℕ) (slot place : Option ℕ) → ((s : ℕ) → slot ≡ Some s → s < slots) → ((p : ℕ) → place ≡ Some p → p < limit) → (n : ℕ) → number_of slots slot place ≡ Some n → n < limit * slots
+pub number-below : (slots limit : ℕ) (slot place : Option ℕ) → ((s : ℕ) → slot ≡ Some s → s < slots) → ((p : ℕ) → place ≡ Some p → p < limit) → (n : ℕ) → number_of slots slot place ≡ Some n →
+    n < limit * slots
 number-below slots limit None place s p n e = cc
 number-below slots limit (Some a) None s p n e = cc
 number-below slots limit (Some a) (Some b) s p n e =

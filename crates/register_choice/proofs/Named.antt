@@ -1,7 +1,8 @@
 -- Other registers name the same procedures.
 use Rattle.std.proofs.Common.{ℕ, zero, suc, List, [], ◌∷◌, map, All, arith}
 use Rattle.job_language.specs.declared.instructions.Instr.{Instr}
-use Rattle.job_language.specs.declared.instructions.Instr.TheVariants.{Set, Add, Sub, Mul, Div, Lt, Rem, And, Or, Xor, Shl, Shr, Eq, Le, Jz, Jmp, Slot, Width, Spawn, Post, Wait, Cancel, Ask, Isolate, Load, Store, Sum, Count, Ret}
+use Rattle.job_language.specs.declared.instructions.Instr.TheVariants.{Set, Add, Sub, Mul, Div, Lt, Rem, And, Or, Xor, Shl, Shr, Eq, Le, Jz, Jmp, Slot, Width, Spawn, Post, Wait, Cancel, Ask, Isolate}
+use Rattle.job_language.specs.declared.instructions.Instr.TheVariants.{Load, Store, Sum, Count, Ret}
 use Rattle.job_language.specs.Program.{Calls}
 use Rattle.job_compiler.specs.Colours.{renamed}
 

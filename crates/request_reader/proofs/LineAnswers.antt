@@ -32,5 +32,6 @@ module _ (line : List ℕ) (short : length line ≤ MAX_REQUEST) where
   pub asked_by-value : (r : Option Data) → r ≡ value_in line → asked_by line ≡ asked_in (ok_or r error.BadJson)
   asked_by-value r is = rw (le-ltb MAX_REQUEST (length line) short) (ap (λ o. asked_in (ok_or o error.BadJson)) (sym is))
 
-  pub exact-line : (d : Data) → Some d ≡ value_in line → (answer : Result Asked Error) → result_map asked_data answer ≡ request_of d → ExactOrNoMemory asked_data (IsShortText line) answer (asked_by line)
+  pub exact-line : (d : Data) → Some d ≡ value_in line → (answer : Result Asked Error) → result_map asked_data answer ≡ request_of d →
+      ExactOrNoMemory asked_data (IsShortText line) answer (asked_by line)
   exact-line d is answer h = Exact-wanted asked_data (IsShortText line) (asked_by line) (IsText-from_value line d (is_utf8 line) refl is, short) answer (h ∙ sym (asked_by-value (Some d) is))

@@ -17,7 +17,8 @@ split_lines-cons : (b : ℕ) (bytes : List ℕ) → split_lines (b ∷ bytes) �
 split_lines-cons b [] =
     elim (nat_eq b newline) as (λ t. cond t ([] ∷ []) ((b ∷ []) ∷ []) ≡ cond t [] (b ∷ []) ∷ split_lines (cond t [] [])) [ true ↦ refl | false ↦ refl ]
 split_lines-cons b (c ∷ bytes) =
-    elim (nat_eq b newline) as (λ t. cond t ([] ∷ split_lines (c ∷ bytes)) (with_first b (split_lines (c ∷ bytes))) ≡ cond t [] (b ∷ first_text (c ∷ bytes)) ∷ split_lines (cond t (c ∷ bytes) (drop_through newline (c ∷ bytes)))) [ true ↦ refl | false ↦ ap (with_first b) (split_lines-cons c bytes) ]
+    elim (nat_eq b newline) as (λ t. cond t ([] ∷ split_lines (c ∷ bytes)) (with_first b (split_lines (c ∷ bytes))) ≡
+    cond t [] (b ∷ first_text (c ∷ bytes)) ∷ split_lines (cond t (c ∷ bytes) (drop_through newline (c ∷ bytes)))) [ true ↦ refl | false ↦ ap (with_first b) (split_lines-cons c bytes) ]
 
 lines_of-first : (limit : ℕ) (bytes : List ℕ) → 0 < length bytes → lines_of limit bytes ≡ line_of limit (first_text bytes) ∷ lines_of limit (drop_through newline bytes)
 lines_of-first limit [] h = absurd (omega arith)
@@ -38,7 +39,8 @@ pub drop_through-none : (text : List ℕ) → HasNoNewline text → drop_through
 drop_through-none text h = ap (drop_through newline) (sym (append-nil text)) ∙ drop_through-append text [] h
 
 -- a line that is too long already
-pub lines_from-long : (limit : ℕ) (is_within_long : Bool) (text more : List ℕ) → HasNoNewline text → (is_within_long || nat_lt limit (length text)) ≡ true → lines_from limit is_within_long (text ++ more) ≡ too_long ∷ lines_of limit (drop_through newline more)
+pub lines_from-long : (limit : ℕ) (is_within_long : Bool) (text more : List ℕ) → HasNoNewline text → (is_within_long || nat_lt limit (length text)) ≡ true →
+    lines_from limit is_within_long (text ++ more) ≡ too_long ∷ lines_of limit (drop_through newline more)
 lines_from-long limit true text more h long = ap (λ bytes. too_long ∷ lines_of limit bytes) (drop_through-append text more h)
 lines_from-long limit false text more h long =
     let longer : limit < length text = ltb-true _ _ long in
@@ -46,7 +48,8 @@ lines_from-long limit false text more h long =
     lines_of-first limit (text ++ more) (simp length-append (omega arith))
     ∙ rw (first_text-append text more h, drop_through-append text more h) (rw (lt-leb _ _ longest) refl)
 
-pub lines_from-whole : (limit : ℕ) (is_within_long : Bool) (text more : List ℕ) → HasNoNewline text → (is_within_long || nat_lt limit (length text)) ≡ false → lines_from limit is_within_long (text ++ newline ∷ more) ≡ whole text ∷ lines_of limit more
+pub lines_from-whole : (limit : ℕ) (is_within_long : Bool) (text more : List ℕ) → HasNoNewline text → (is_within_long || nat_lt limit (length text)) ≡ false →
+    lines_from limit is_within_long (text ++ newline ∷ more) ≡ whole text ∷ lines_of limit more
 lines_from-whole limit true text more h short = cc
 lines_from-whole limit false text more h short =
     let within : length text ≤ limit = ltb-false _ _ short in

@@ -25,7 +25,9 @@ length-part xs start end n ordered within =
     let least : length (slice_range xs start end) ≤ end - start = simp length-take (omega arith) in
     omega arith
 
-pub buffered-cut : (w : Inside) (len end : ℕ) → w.start ≤ w.end → len ≤ end → end ≤ length (buffered w).held → buffered (record { bytes = w.bytes; line_start = w.start; line_end = w.start + len; start = w.start + end; end = w.end }) ≡ record { size = vec_len w.bytes; line = take len (buffered w).held; held = drop end (buffered w).held }
+pub buffered-cut : (w : Inside) (len end : ℕ) → w.start ≤ w.end → len ≤ end → end ≤ length (buffered w).held →
+    buffered (record { bytes = w.bytes; line_start = w.start; line_end = w.start + len; start = w.start + end; end = w.end }) ≡
+    record { size = vec_len w.bytes; line = take len (buffered w).held; held = drop end (buffered w).held }
 buffered-cut w len end ordered inside within =
     let fits : w.start + end ≤ w.end = length-part w.bytes.items w.start w.end end ordered within in
     same_buffered (vec_len w.bytes) _ _ _ _ (part-take w.bytes.items w.start w.end len (omega arith)) (part-drop w.bytes.items w.start w.end end fits)

@@ -20,7 +20,8 @@ pub record IsSameRun (old new : Reading) : Type 0 where
   pub not_ended : old.is_ended ≡ false
   pub goes_on : new.is_ended ≡ false
 
-told_from : (old new : Reading) (told : List Line) → IsSameRun old new → ((more : List ℕ) → lines_from old.limit old.is_within_long (old.held ++ more) ≡ told ++ lines_from old.limit new.is_within_long (new.held ++ more)) → Tells old new [] told
+told_from : (old new : Reading) (told : List Line) → IsSameRun old new →
+    ((more : List ℕ) → lines_from old.limit old.is_within_long (old.held ++ more) ≡ told ++ lines_from old.limit new.is_within_long (new.held ++ more)) → Tells old new [] told
 told_from old new told run same = record {
   limit = run.limit;
   ended = λ e. absurd (both_ways _ run.not_ended e);
@@ -66,7 +67,8 @@ whole-short r place limit e short =
     omega (arith, length-take place r.held)
 
 -- what is held is dropped
-pub Tells-dropped : (old new : Reading) → IsSameRun old new → HasNoNewline old.held → is_long old (length old.held) ≡ true → new.is_within_long ≡ true → new.held ≡ [] → new.line ≡ [] → Tells old new [] [] × IsPending new × (new.turns ≡ old.turns)
+pub Tells-dropped : (old new : Reading) → IsSameRun old new → HasNoNewline old.held → is_long old (length old.held) ≡ true → new.is_within_long ≡ true → new.held ≡ [] → new.line ≡ [] →
+    Tells old new [] [] × IsPending new × (new.turns ≡ old.turns)
 Tells-dropped old new run none long within empty line = (
   told_from old new [] run (λ more. lines_from-long old.limit old.is_within_long old.held more none long ∙ rw (within, empty) refl),
   record {
@@ -79,18 +81,21 @@ Tells-dropped old new run none long within empty line = (
 )
 
 -- what is held is the last line
-told_last : (old new : Reading) (told : List Line) → old.is_ended ≡ false → new.limit ≡ old.limit → new.is_ended ≡ true → new.held ≡ [] → new.is_within_long ≡ false → lines_from old.limit old.is_within_long old.held ≡ told → Tells old new [] told
+told_last : (old new : Reading) (told : List Line) → old.is_ended ≡ false → new.limit ≡ old.limit → new.is_ended ≡ true → new.held ≡ [] → new.is_within_long ≡ false →
+    lines_from old.limit old.is_within_long old.held ≡ told → Tells old new [] told
 told_last old new told open_before limit ended empty not_within same = record {
   limit = limit;
   ended = λ e. absurd (both_ways _ open_before e);
   lines = λ more last. rw (open_before, ended, empty, not_within, last ended, append-nil, append-nil) same;
 }
 
-pub Tells-last_long : (old new : Reading) → IsPending old → old.is_within_long ≡ true → new.limit ≡ old.limit → new.is_ended ≡ true → new.held ≡ [] → new.is_within_long ≡ false → Tells old new [] (too_long ∷ [])
+pub Tells-last_long : (old new : Reading) → IsPending old → old.is_within_long ≡ true → new.limit ≡ old.limit → new.is_ended ≡ true → new.held ≡ [] → new.is_within_long ≡ false →
+    Tells old new [] (too_long ∷ [])
 Tells-last_long old new pending within limit ended empty not_within =
     told_last old new (too_long ∷ []) pending.not_ended limit ended empty not_within (rw within (ap (λ bytes. too_long ∷ lines_of old.limit bytes) (drop_through-none old.held pending.held)))
 
-pub Tells-last_whole : (old new : Reading) → IsPending old → old.is_within_long ≡ false → 0 < length old.held → new.limit ≡ old.limit → new.is_ended ≡ true → new.held ≡ [] → new.is_within_long ≡ false → Tells old new [] (whole old.held ∷ [])
+pub Tells-last_whole : (old new : Reading) → IsPending old → old.is_within_long ≡ false → 0 < length old.held → new.limit ≡ old.limit → new.is_ended ≡ true → new.held ≡ [] →
+    new.is_within_long ≡ false → Tells old new [] (whole old.held ∷ [])
 Tells-last_whole old new pending within some limit ended empty not_within =
     told_last old new (whole old.held ∷ []) pending.not_ended limit ended empty not_within (rw within (lines_from-last old.limit old.held pending.held some pending.short))
 
@@ -108,7 +113,8 @@ Tells-then a b c first next told more_told s t = record {
 }
 
 -- bytes come, and are held
-pub Tells-came : (old new : Reading) (came : List ℕ) → old.is_ended ≡ false → new.limit ≡ old.limit → new.is_ended ≡ false → new.is_within_long ≡ old.is_within_long → new.held ≡ old.held ++ came → Tells old new came []
+pub Tells-came : (old new : Reading) (came : List ℕ) → old.is_ended ≡ false → new.limit ≡ old.limit → new.is_ended ≡ false → new.is_within_long ≡ old.is_within_long → new.held ≡ old.held ++ came →
+    Tells old new came []
 Tells-came old new came not_ended limit goes_on within held = record {
   limit = limit;
   ended = λ e. absurd (both_ways _ not_ended e);
@@ -149,7 +155,8 @@ Consumes-append (Some xs) (Some ys) None first next h k = k
 Consumes-append (Some xs) (Some ys) (Some zs) first next h k = h ∙ ap (λ bytes. first ++ bytes) k ∙ sym (append_assoc first next zs)
 
 -- a call that gives nothing, and does not say that there is no more
-pub TurnsTo-kept : (old new : Reading) (before after : Option (List ℕ)) → Keeps before after → IsPending old → new.limit ≡ old.limit → new.is_ended ≡ old.is_ended → new.is_within_long ≡ old.is_within_long → new.held ≡ old.held → new.line ≡ [] → new.turns ≤ old.turns → Reads old new before after [] × IsPending new
+pub TurnsTo-kept : (old new : Reading) (before after : Option (List ℕ)) → Keeps before after → IsPending old → new.limit ≡ old.limit → new.is_ended ≡ old.is_ended →
+    new.is_within_long ≡ old.is_within_long → new.held ≡ old.held → new.line ≡ [] → new.turns ≤ old.turns → Reads old new before after [] × IsPending new
 TurnsTo-kept old new before after keeps pending limit ended within held line turns =
     let goes_on = ended ∙ pending.not_ended in (
       record {
@@ -187,7 +194,8 @@ Reads-known old new (Some xs) (Some ys) told r h = refl
 left_at_end : (r : Reading) (bytes : List ℕ) → r.is_ended ≡ true → lines_left r bytes ≡ lines_left r []
 left_at_end r bytes ended = rw (ended, append-nil) refl
 
-Reads-lines_some : (old new : Reading) (xs ys : List ℕ) (told : List Line) → Reads old new (Some xs) (Some ys) told → (old.is_ended ≡ true) ⊎ (old.is_ended ≡ false) → lines_left old xs ≡ told ++ lines_left new ys
+Reads-lines_some : (old new : Reading) (xs ys : List ℕ) (told : List Line) → Reads old new (Some xs) (Some ys) told → (old.is_ended ≡ true) ⊎ (old.is_ended ≡ false) →
+    lines_left old xs ≡ told ++ lines_left new ys
 Reads-lines_some old new xs ys told r (inl ended) =
     let none = r.tells.ended ended in
     left_at_end old xs ended ∙ sym (left_at_end old (r.came ++ []) ended) ∙ r.tells.lines [] (λ _. refl) ∙ ap (λ lines. told ++ lines) (sym (left_at_end new ys none.1))
@@ -195,7 +203,8 @@ Reads-lines_some old new xs ys told r (inr not_ended) =
     let at_end : new.is_ended ≡ true → ys ≡ [] = r.end (λ e. absurd (both_ways _ not_ended e)) in
     ap (lines_left old) r.consumed ∙ r.tells.lines ys at_end
 
-pub Reads-lines : (old new : Reading) (before after : Option (List ℕ)) (told : List Line) → Reads old new before after told → IsSome before → lines_left old (unwrap_or before []) ≡ told ++ lines_left new (unwrap_or after [])
+pub Reads-lines : (old new : Reading) (before after : Option (List ℕ)) (told : List Line) → Reads old new before after told → IsSome before →
+    lines_left old (unwrap_or before []) ≡ told ++ lines_left new (unwrap_or after [])
 Reads-lines old new None after told r h = cc
 Reads-lines old new (Some xs) None told r h = absurd r.consumed
 Reads-lines old new (Some xs) (Some ys) told r h = Reads-lines_some old new xs ys told r (cases_Bool old.is_ended)

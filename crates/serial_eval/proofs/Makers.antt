@@ -2,7 +2,8 @@
 use Rattle.std.proofs.Common.{◌≡◌, Option, Some, None, arith}
 use Rattle.std.proofs.lemmas.Bool.{cond_both}
 use Rattle.job_language.specs.declared.instructions.Instr.{Instr}
-use Rattle.job_language.specs.declared.instructions.Instr.TheVariants.{Set, Add, Sub, Mul, Div, Lt, Rem, And, Or, Xor, Shl, Shr, Eq, Le, Jz, Jmp, Slot, Width, Spawn, Post, Wait, Cancel, Ask, Isolate, Load, Store, Sum, Count, Ret}
+use Rattle.job_language.specs.declared.instructions.Instr.TheVariants.{Set, Add, Sub, Mul, Div, Lt, Rem, And, Or, Xor, Shl, Shr, Eq, Le, Jz, Jmp, Slot, Width, Spawn, Post, Wait, Cancel, Ask, Isolate}
+use Rattle.job_language.specs.declared.instructions.Instr.TheVariants.{Load, Store, Sum, Count, Ret}
 use Rattle.job_step.specs.declared.effects.Effect.{Effect}
 use Rattle.job_step.specs.declared.effects.Effect.TheVariants.{Moves, DividesByZero, IsShared}
 use Rattle.job_step.specs.Frame.{register, effect}

@@ -7,7 +7,8 @@ use Rattle.job_language.specs.Serial.{is_serial_instr, is_serial}
 use Rattle.job_language.specs.declared.errors.JobFault.{JobFault}
 use Rattle.job_language.specs.declared.errors.JobFault.TheVariants as fault
 use Rattle.job_language.specs.declared.instructions.Instr.{Instr}
-use Rattle.job_language.specs.declared.instructions.Instr.TheVariants.{Set, Add, Sub, Mul, Div, Lt, Rem, And, Or, Xor, Shl, Shr, Eq, Le, Jz, Jmp, Slot, Width, Spawn, Post, Wait, Cancel, Ask, Isolate, Load, Store, Sum, Count, Ret}
+use Rattle.job_language.specs.declared.instructions.Instr.TheVariants.{Set, Add, Sub, Mul, Div, Lt, Rem, And, Or, Xor, Shl, Shr, Eq, Le, Jz, Jmp, Slot, Width, Spawn, Post, Wait, Cancel, Ask, Isolate}
+use Rattle.job_language.specs.declared.instructions.Instr.TheVariants.{Load, Store, Sum, Count, Ret}
 use Rattle.job_language.specs.declared.instructions.TheConstants.{GROUPS}
 use Rattle.job_language.specs.declared.answers.Moved.{Moved}
 use Rattle.job_language.specs.declared.answers.Came.{Came}
@@ -24,7 +25,8 @@ use Rattle.tenant_model.specs.State.{State, row, job, with_at_number}
 use Rattle.tenant_model.specs.Walks.{is_open, is_unstarted, is_job_cancelled, value_in, height, top, pick}
 use Rattle.tenant_model.specs.Changes.{is_row_limit_met, is_full, with_frame, nest, finish_step, faults}
 use Rattle.tenant_model.specs.Shared.{execute, has_used_group}
-use Rattle.tenant_model.specs.Advance.{begin, nest_pick, work_of, is_poor, with_fuel, with_fuel_paid, pay, move_on, is_blocked, after_run, is_idle_wait, run_on, advance_run, advance_top, would_be_recorded, advance, arrive_at, is_open_to_workers, arrive}
+use Rattle.tenant_model.specs.Advance.{begin, nest_pick, work_of, is_poor, with_fuel, with_fuel_paid, pay, move_on, is_blocked, after_run, is_idle_wait, run_on, advance_run, advance_top}
+use Rattle.tenant_model.specs.Advance.{would_be_recorded, advance, arrive_at, is_open_to_workers, arrive}
 use Rattle.tenant_model.specs.WellFormed.{IsWellFormed}
 use Rattle.tenant_model.proofs.Changed.{at_number-with_same, row-with_same, row-with_other, length-with}
 use Rattle.tenant_model.proofs.Linked.{SameSources-set, IsLinked-set, IsLinked-more_jobs}
@@ -106,7 +108,8 @@ module _ (o : Origin) (s : State) (n fuel : ℕ) (from : 1 ≤ n) (to : n ≤ le
   fuel_other other = record {
     linked = IsLinked-more_jobs s (with_at_number s.jobs (row s.rows n).job work) (omega (arith, fuel_linked)) is.linked;
     one = is.one;
-    follows = Follows-same o s.rows s.rows s.jobs _ 0 (omega (arith, fuel_linked)) (other_work s.jobs (row s.rows n).job o.number work (is.linked.jobs n from to).0 (λ e. other (sym e))) (λ clear before. same_rows) is.follows;
+    follows = Follows-same o s.rows s.rows s.jobs _ 0 (omega (arith, fuel_linked)) (other_work s.jobs (row s.rows n).job o.number work (is.linked.jobs n from to).0 (λ e. other (sym e)))
+        (λ clear before. same_rows) is.follows;
   }
     where
       same_rows : SameJob o.number s.rows s.rows
@@ -124,7 +127,8 @@ module _ (o : Origin) (s : State) (n fuel : ℕ) (from : 1 ≤ n) (to : n ≤ le
   fuel_own : (debt : ℕ) → (row s.rows n).job ≡ o.number → fuel + debt ≤ (work_of s n).fuel → Good o (with_fuel s n fuel) debt
   fuel_own debt own enough =
       let there = is.linked.jobs n from to in
-      let here : job (with_at_number s.jobs (row s.rows n).job work) o.number ≡ work = ap (job (with_at_number s.jobs (row s.rows n).job work)) (sym own) ∙ at_number-with_same s.jobs _ (row s.rows n).job work there.0 there.1 in
+      let here : job (with_at_number s.jobs (row s.rows n).job work) o.number ≡ work =
+      ap (job (with_at_number s.jobs (row s.rows n).job work)) (sym own) ∙ at_number-with_same s.jobs _ (row s.rows n).job work there.0 there.1 in
       let old : job s.jobs (row s.rows n).job ≡ job s.jobs o.number = ap (job s.jobs) own in
       record {
         linked = IsLinked-more_jobs s (with_at_number s.jobs (row s.rows n).job work) (omega (arith, fuel_linked)) is.linked;
@@ -146,12 +150,14 @@ module _ (o : Origin) (serial : is_serial o.program ≡ true) (s : State) (slot 
   fuel_faults : (fuel debt : ℕ) (g : JobFault) → Good o (with_fuel s n fuel) debt → Keeps o (faults slot (row s.rows n).job g (with_fuel s n fuel))
   fuel_faults fuel debt g good = faults_good o (with_fuel s n fuel) slot n debt g top.from top.to top.live top.stacked top.on_makers good
 
-  pay_good : (cost : ℕ) (next : State → Moved × State) → ((row s.rows n).job ≡ o.number → Good o (with_fuel_paid s n cost) cost → Keeps o (next (with_fuel_paid s n cost))) → ((row s.rows n).job ≢ o.number → Good o (with_fuel_paid s n cost) 0 → Keeps o (next (with_fuel_paid s n cost))) →
+  pay_good : (cost : ℕ) (next : State → Moved × State) → ((row s.rows n).job ≡ o.number → Good o (with_fuel_paid s n cost) cost → Keeps o (next (with_fuel_paid s n cost))) →
+      ((row s.rows n).job ≢ o.number → Good o (with_fuel_paid s n cost) 0 → Keeps o (next (with_fuel_paid s n cost))) →
       Keeps o (pay s slot n cost next)
   pay_good cost next own other = elim (cases_eq (row s.rows n).job o.number) [
     | inl mine ↦ either o (is_poor s n cost) _ _ (λ _. fuel_faults 0 0 fault.Fuel (fuel_own o s n 0 top.from top.to is 0 mine (omega arith)))
         (λ rich. own mine (fuel_own o s n ((work_of s n).fuel - cost) top.from top.to is cost mine (let enough : cost ≤ (work_of s n).fuel = grind (arith, rich) in omega (arith, enough))))
-    | inr apart ↦ either o (is_poor s n cost) _ _ (λ _. fuel_faults 0 0 fault.Fuel (fuel_other o s n 0 top.from top.to is apart)) (λ _. other apart (fuel_other o s n ((work_of s n).fuel - cost) top.from top.to is apart))
+    | inr apart ↦ either o (is_poor s n cost) _ _ (λ _. fuel_faults 0 0 fault.Fuel (fuel_other o s n 0 top.from top.to is apart))
+        (λ _. other apart (fuel_other o s n ((work_of s n).fuel - cost) top.from top.to is apart))
   ]
 
   move_on_good : (count : ℕ) (f : Frame) → ((row s.rows n).job ≡ o.number → GoesBack o.program (row s.rows n).frame f count) → Keeps o (move_on s slot n count f)
@@ -167,7 +173,8 @@ module _ (o : Origin) (serial : is_serial o.program ≡ true) (s : State) (slot 
   after_run_good count f (Shared i) back at =
       either o (is_blocked s n i) _ _ (λ _. move_on_good count f (λ own. back own refl))
       (λ open_way. pay_good (count + 1) (λ t. execute t slot n f i)
-      (λ own good. execute_own o serial (with_fuel_paid s n (count + 1)) slot n count f (record { top = top; own = own; back = back own refl }) good i (at own i refl).0 (at own i refl).1 (same_blocked i open_way))
+      (λ own good. execute_own o serial (with_fuel_paid s n (count + 1)) slot n count f (record { top = top; own = own; back = back own refl }) good i (at own i refl).0 (at own i refl).1
+      (same_blocked i open_way))
       (λ other good. execute_other o (with_fuel_paid s n (count + 1)) slot n top good other f i))
     where
       same_blocked : (i : Instr) → is_blocked s n i ≡ false → is_blocked (with_fuel_paid s n (count + 1)) n i ≡ false
@@ -249,7 +256,8 @@ module _ (o : Origin) (serial : is_serial o.program ≡ true) (names : NamesGrou
 
   blocked_good : (n : ℕ) (q : Option ℕ) → OnTop s.rows slot n → pick s slot ≡ q → Keeps o (nest_pick s slot n q)
   blocked_good n None top picked = is
-  blocked_good n (Some m) top picked = either o (height s.rows slot == MAX_HEIGHT) _ _ (λ _. faults_good o s slot n 0 fault.TooDeep top.from top.to top.live top.stacked top.on_makers is) (λ _. entry_good o _ 0 (picked_good m picked))
+  blocked_good n (Some m) top picked =
+      either o (height s.rows slot == MAX_HEIGHT) _ _ (λ _. faults_good o s slot n 0 fault.TooDeep top.from top.to top.live top.stacked top.on_makers is) (λ _. entry_good o _ 0 (picked_good m picked))
 
   begin_good : (q : Option ℕ) → pick s slot ≡ q → Keeps o (begin s slot q)
   begin_good None picked = is

@@ -72,7 +72,8 @@ abbrev is_complete : Status → Bool
 is_complete (Complete v) = true
 is_complete how = false
 
-complete_outcome : (fault : Option JobFault) (cancelled : Bool) (x v : ℤ) → option_map_or (λ f. Fault f) fault (if cancelled then Cancelled else Complete x) ≡ Complete v → ((cancelled || is_some fault) ≡ false) × (x ≡ v)
+complete_outcome : (fault : Option JobFault) (cancelled : Bool) (x v : ℤ) → option_map_or (λ f. Fault f) fault (if cancelled then Cancelled else Complete x) ≡ Complete v →
+    ((cancelled || is_some fault) ≡ false) × (x ≡ v)
 complete_outcome (Some f) cancelled x v is = absurd (grind (arith, ap is_complete is))
 complete_outcome None true x v is = absurd (grind (arith, ap is_complete is))
 complete_outcome None false x v is = (refl, ap value_of is)
@@ -122,7 +123,8 @@ complete_is o s v some is complete = elim (either_way (has_outcome s.rows o.numb
     no_cost false = refl
 
 -- a job that an ask brought after the first steps
-gives_from : (s : State) (ys zs : List Step) (r : Request) (b : Job) (j : ℕ) (v : ℤ) → IsWellFormed s → OneJob s.rows → job_of r ≡ Some b → IsValidProgram b.program → number_made (ask (after s ys) r).0 ≡ Some j →
+gives_from : (s : State) (ys zs : List Step) (r : Request) (b : Job) (j : ℕ) (v : ℤ) → IsWellFormed s → OneJob s.rows → job_of r ≡ Some b → IsValidProgram b.program →
+    number_made (ask (after s ys) r).0 ≡ Some j →
     is_serial b.program ≡ true → let t = after s (ys ++ steps.Ask r ∷ zs) in status t.rows j (job t.jobs j) ≡ Complete v → serial_value b.program b.args b.fuel ≡ Some v
 gives_from s [] zs r b j v well one brings valid made serial complete =
     let born = ask_bears s well.linked one b j r brings made in

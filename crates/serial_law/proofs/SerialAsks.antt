@@ -27,7 +27,8 @@ use Rattle.tenant_model.specs.State.{State, row, job, at_number, with_at_number}
 use Rattle.tenant_model.specs.Walks.{is_open, is_job_cancelled}
 use Rattle.tenant_model.specs.Changes.{new_row, on_job, is_full, is_row_limit_met}
 use Rattle.tenant_model.specs.Linked.{IsLinked}
-use Rattle.tenant_model.specs.Asks.{add_job, new_job, free_slot, unless_limit, submit, submit_placed, collect, cancel_by_request, retire, retired_work, released, reply_to, ask, is_hello, known_job, has_outcome, current_jobs, status}
+use Rattle.tenant_model.specs.Asks.{add_job, new_job, free_slot, unless_limit, submit, submit_placed, collect, cancel_by_request, retire, retired_work, released, reply_to, ask, is_hello, known_job}
+use Rattle.tenant_model.specs.Asks.{has_outcome, current_jobs, status}
 use Rattle.tenant_model.proofs.Changed.{at_number-push_old, at_number-push_new, at_number-with_same, row-push_old, row-push_new, length-with}
 use Rattle.tenant_model.proofs.Linked.{IsLinked-job, IsLinked-more_jobs}
 use Rattle.tenant_model.proofs.UnstuckSteps.{known_there}
@@ -134,7 +135,13 @@ module _ (s : State) (b : Job) (phase : Phase) (linked : IsLinked s) (one : OneJ
         linked = added_linked;
         one = added_one;
         follows = Follows-same o s.rows _ s.jobs _ 0 (omega (arith, length_push s.jobs (new_job s b)))
-            (record { program = ap (λ (w : Work). w.program) old; root = ap (λ (w : Work). w.root) old; goes_on = λ clear. ap is_job_cancelled (sym old) ∙ clear; fuel = λ clear. ap (λ (w : Work). w.fuel) old })
+            (record {
+              program = ap (λ (w : Work). w.program) old;
+              root = ap (λ (w : Work). w.root) old;
+              goes_on = λ clear. ap is_job_cancelled (sym old) ∙ clear;
+              fuel =
+                  λ clear. ap (λ (w : Work). w.fuel) old;
+            })
             (λ clear before. other_push o.number s.rows (root_row s b phase) (let low = is.follows.to in omega (arith, low))) is.follows;
       }
 
@@ -283,7 +290,8 @@ module _ (s : State) (linked : IsLinked s) (one : OneJob s.rows) where
   execute_bears b j (Some slot) = bears_one b j (submit_placed s b (Some slot)) refl (entry_good (origin_of s b) (add_job s b (Live slot 1)) 0 (born_good s b (Live slot 1) linked one refl))
 
   limited_bears : (b : Job) (j : ℕ) (r : Reply × State) → Bears s b j r → Bears s b j (unless_limit s r)
-  limited_bears b j r made = either_bears b j (nat_le MAX_JOBS (current_jobs s)) _ _ (λ told. absurd (grind (arith, ap is_some told))) (either_bears b j (is_row_limit_met s) _ r (λ told. absurd (grind (arith, ap is_some told))) made)
+  limited_bears b j r made = either_bears b j (nat_le MAX_JOBS (current_jobs s)) _ _ (λ told. absurd (grind (arith, ap is_some told)))
+      (either_bears b j (is_row_limit_met s) _ r (λ told. absurd (grind (arith, ap is_some told))) made)
 
   reply_bears : (b : Job) (j : ℕ) (r : Request) → job_of r ≡ Some b → Bears s b j (reply_to s r)
   reply_bears b j (Submit c) is = let same : c ≡ b = ap (λ q. unwrap_or q c) is in rw (← same) (limited_bears c j _ (submit_bears c j))

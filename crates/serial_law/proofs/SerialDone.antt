@@ -14,7 +14,8 @@ use Rattle.tenant_model.specs.State.{row}
 use Rattle.tenant_model.specs.Walks.{is_open, value_in, mark, is_used}
 use Rattle.tenant_model.proofs.Within.{either_way}
 use Rattle.serial_law.proofs.SerialGiving.{Gives, task, GoesBack, gives_ends}
-use Rattle.serial_law.proofs.SerialNow.{fold_to, fold_to-rest, Values, value_by, is_region_by, is_held_by, hand_from, hands_for, sum_for, now, cost_of, cost_for, AreGiven, Leads, Alike, NoneMade, sum-same, now-same}
+use Rattle.serial_law.proofs.SerialNow.{fold_to, fold_to-rest, Values, value_by, is_region_by, is_held_by, hand_from, hands_for, sum_for, now, cost_of, cost_for, AreGiven, Leads, Alike, NoneMade}
+use Rattle.serial_law.proofs.SerialNow.{sum-same, now-same}
 use Rattle.serial_law.proofs.SerialMoves.{sum_except, put, put-here, put-other, IsFree, free-none}
 use Rattle.serial_law.proofs.SerialEnded.{HasChildren, sum-unused}
 
@@ -83,12 +84,14 @@ module _ (procs : List (List Instr)) (start : SerialTask) (j root n : ℕ) (a b 
           | inr is_none ↦ grind (arith, is_none)
         ] in rw no refl)
         (λ x. rw (ended.opened, mine, maker, put-here n v values) refl) in
-        let sum : (h : ℕ) → sum_for j b values p h (mark b p h).rows ≡ sum_for j a (put n v values) p h (mark b p h).rows = λ h. sum-same j p a b (put n v values) values (ended-alike p values) (ended-none p) h (mark b p h).rows in
+        let sum : (h : ℕ) → sum_for j b values p h (mark b p h).rows ≡ sum_for j a (put n v values) p h (mark b p h).rows =
+        λ h. sum-same j p a b (put n v values) values (ended-alike p values) (ended-none p) h (mark b p h).rows in
         rw (free-none j p b values free, waits, ended.handed_frame p from to maker, sum 0, sum 1, sum 2, sum 3, ended.marks p from to apart) refl
   ]
 
   -- The row ended by one instruction more than its run has.
-  pub Leads-ended : (x : ℕ) (f : Frame) (count spent : ℕ) → 1 ≤ root → root ≤ length a → GoesBack procs (row a n).frame f count → instr_at procs f ≡ Some (Ret x) → register f x ≡ v → HasChildren j n a →
+  pub Leads-ended : (x : ℕ) (f : Frame) (count spent : ℕ) → 1 ≤ root → root ≤ length a → GoesBack procs (row a n).frame f count → instr_at procs f ≡ Some (Ret x) → register f x ≡ v →
+      HasChildren j n a →
       is_used a n 0 ≡ false → is_used a n 1 ≡ false → is_used a n 2 ≡ false → is_used a n 3 ≡ false → Leads procs start j root a spent → Leads procs start j root b (spent + (count + 1))
   Leads-ended x f count spent least most goes_back at gives children used0 used1 used2 used3 leads = record {
     leads = λ values costs given.
@@ -98,7 +101,8 @@ module _ (procs : List (List Instr)) (start : SerialTask) (j root n : ℕ) (a b 
           each = λ p from to own opened. elim (cases_eq p n) [
             | inl same ↦
                 let none : Option ℤ = None in
-                let end : Gives procs (task f (none ∷ none ∷ none ∷ none ∷ [])) v 1 = gives_ends procs (task f (none ∷ none ∷ none ∷ none ∷ [])) v (ap (λ o. turn_at o (task f (none ∷ none ∷ none ∷ none ∷ []))) at ∙ ap turn.Gives gives) in
+                let end : Gives procs (task f (none ∷ none ∷ none ∷ none ∷ [])) v 1 =
+                gives_ends procs (task f (none ∷ none ∷ none ∷ none ∷ [])) v (ap (λ o. turn_at o (task f (none ∷ none ∷ none ∷ none ∷ []))) at ∙ ap turn.Gives gives) in
                 rw (
                   same,
                   put-here n v values,

@@ -1,5 +1,6 @@
 -- Waits and ends of rows of a serial job.
-use Rattle.std.proofs.Common.{◌≡◌, ◌≢◌, ℕ, zero, suc, ◌+◌, ◌==◌, ◌<◌, ◌≤◌, List, [], ◌∷◌, ◌++◌, length, Option, Some, None, Bool, true, false, ◌&&◌, nat_lt, refl, sym, ap, ◌∙◌, arith, inl, inr, ℤ, pos, unwrap_or, take, get_or}
+use Rattle.std.proofs.Common.{◌≡◌, ◌≢◌, ℕ, zero, suc, ◌+◌, ◌==◌, ◌<◌, ◌≤◌, List, [], ◌∷◌, ◌++◌, length, Option, Some, None, Bool, true, false, ◌&&◌, nat_lt, refl, sym, ap, ◌∙◌, arith, inl, inr, ℤ}
+use Rattle.std.proofs.Common.{pos, unwrap_or, take, get_or}
 use Rattle.std.specs.Prelude.{if◌then◌else◌, slice_set, slice_index_or, filter, fold}
 use Rattle.std.specs.List.{enumerate_from, list_any}
 use Rattle.std.specs.Int.{int_wrapping_add, w64}
@@ -22,7 +23,8 @@ use Rattle.tenant_model.specs.State.{row}
 use Rattle.tenant_model.specs.Walks.{NumberedRow, is_open, is_spawned_by, mark, members, is_pending, value_in, total, is_used}
 use Rattle.tenant_model.proofs.Changed.{row-get_or}
 use Rattle.serial_law.proofs.SerialGiving.{Gives, task, GoesBack, gives_goes}
-use Rattle.serial_law.proofs.SerialNow.{fold_to, fold_to-same, fold_to-rest, Values, value_by, is_made_by, counts, add_row_to, sum_for, sums_of, now, cost_of, cost_for, Leads, NoneMade, hands-same, sum-same}
+use Rattle.serial_law.proofs.SerialNow.{fold_to, fold_to-same, fold_to-rest, Values, value_by, is_made_by, counts, add_row_to, sum_for, sums_of, now, cost_of, cost_for, Leads, NoneMade, hands-same}
+use Rattle.serial_law.proofs.SerialNow.{sum-same}
 use Rattle.serial_law.proofs.SerialMoves.{IsMoved, moved-alike, moved-regions, moved-costs, Leads-moved, IsFree, free-none}
 
 enumerate_push : {A : Type 0} (k : ℕ) (xs : List A) (x : A) → enumerate_from k (xs ++ x ∷ []) ≡ enumerate_from k xs ++ (k + length xs, x) ∷ []
@@ -116,7 +118,9 @@ module _ (j n : ℕ) (rows : List Row) (children : HasChildren j n rows) where
       go x (p ∷ ps) none =
           let closed : is_open p.1.phase ≡ false = grind (arith, none) in
           let rest : list_any (λ (q : NumberedRow). is_open q.1.phase) ps ≡ false = grind (arith, none) in
-          go (sum_with values x p) ps rest ∙ ap (λ b. fold (λ sum (q : NumberedRow). int_wrapping_add w64 sum (value_in q.1.phase)) (int_wrapping_add w64 (unwrap_or x (pos 0)) (if b then values p.0 else value_in p.1.phase)) ps) closed
+          go (sum_with values x p) ps rest ∙
+          ap (λ b. fold (λ sum (q : NumberedRow). int_wrapping_add w64 sum (value_in q.1.phase)) (int_wrapping_add w64 (unwrap_or x (pos 0)) (if b then values p.0 else value_in p.1.phase)) ps)
+          closed
 
 -- the sums of a task that waited for group g
 waited_sums : (g : ℕ) → g < 4 → (x0 x1 x2 x3 : Option ℤ) →
@@ -158,9 +162,11 @@ sum_past j n g rows values = fold_to-rest (add_row_to j rows values n g (length 
     all_false true false = refl
     all_false false c = refl
 
-module _ (procs : List (List Instr)) (start : SerialTask) (j root n : ℕ) (a b : List Row) (moved : IsMoved n a b) (own : (row a n).job ≡ j) (opened : is_open (row a n).phase ≡ true) (free : IsFree j n a) (children : HasChildren j n a) where
+module _ (procs : List (List Instr)) (start : SerialTask) (j root n : ℕ) (a b : List Row) (moved : IsMoved n a b) (own : (row a n).job ≡ j) (opened : is_open (row a n).phase ≡ true)
+    (free : IsFree j n a) (children : HasChildren j n a) where
   -- a passed wait
-  pub Leads-waited : (d e g : ℕ) (f : Frame) (count spent : ℕ) → 1 ≤ root → root ≤ length a → length b ≡ length a → GoesBack procs (row a n).frame f count → instr_at procs f ≡ Some (Wait d e g) → g < 4 → is_pending a n g ≡ false →
+  pub Leads-waited : (d e g : ℕ) (f : Frame) (count spent : ℕ) → 1 ≤ root → root ≤ length a → length b ≡ length a → GoesBack procs (row a n).frame f count → instr_at procs f ≡ Some (Wait d e g) →
+      g < 4 → is_pending a n g ≡ false →
       (row b n).frame ≡ write_and_step (record f { registers = slice_set f.registers d (total a n g) }) e (pos 1) → length (row a n).marks ≡ 4 →
       (row b n).marks ≡ slice_set (row a n).marks g (record { rows = length a; cancelled = false }) →
       Leads procs start j root a spent → Leads procs start j root b (spent + (count + 1))

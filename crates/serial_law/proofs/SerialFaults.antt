@@ -79,9 +79,16 @@ Good-less o s debt less le is = record {
 pub other_work : (jobs : List Work) (i j : ℕ) (w : Work) → 1 ≤ i → j ≢ i → SameWork (job jobs j) (job (with_at_number jobs i w) j)
 other_work jobs i j w from other =
     let same : job (with_at_number jobs i w) j ≡ job jobs j = at_number-with_other jobs _ i j w from other in
-    record { program = ap (λ (v : Work). v.program) same; root = ap (λ (v : Work). v.root) same; goes_on = λ clear. ap is_job_cancelled (sym same) ∙ clear; fuel = λ clear. ap (λ (v : Work). v.fuel) same }
+    record {
+      program = ap (λ (v : Work). v.program) same;
+      root = ap (λ (v : Work). v.root) same;
+      goes_on = λ clear. ap is_job_cancelled (sym same) ∙ clear;
+      fuel =
+          λ clear. ap (λ (v : Work). v.fuel) same;
+    }
 
-pub faults_good : (o : Origin) (s : State) (slot n debt : ℕ) (f : JobFault) → 1 ≤ n → n ≤ length s.rows → (row s.rows n).phase ≡ Live slot (height s.rows slot) → AreStacked s.rows → StandOnMakers s.rows →
+pub faults_good : (o : Origin) (s : State) (slot n debt : ℕ) (f : JobFault) → 1 ≤ n → n ≤ length s.rows → (row s.rows n).phase ≡ Live slot (height s.rows slot) → AreStacked s.rows →
+    StandOnMakers s.rows →
     Good o s debt → Good o (faults slot (row s.rows n).job f s).1 0
 faults_good o s slot n debt f from to top stacked on_makers is =
     let fault = faulted_row slot (task_height s.rows slot) in

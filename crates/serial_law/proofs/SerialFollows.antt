@@ -137,7 +137,8 @@ with_clear : (p : ℕ → Bool) (n : ℕ) (o : Option ℕ) (f : ℕ → List ℕ
 with_clear p n None f here rest = rw here refl
 with_clear p n (Some m) f here rest = rw here rest
 
-module _ (j : ℕ) (rows : List Row) (precede : MakersPrecede rows) (one : OneJob rows) (marks : (n : ℕ) → 1 ≤ n → n ≤ length rows → (row rows n).job ≡ j → (g : ℕ) → (mark rows n g).cancelled ≡ false) where
+module _ (j : ℕ) (rows : List Row) (precede : MakersPrecede rows) (one : OneJob rows)
+    (marks : (n : ℕ) → 1 ≤ n → n ≤ length rows → (row rows n).job ≡ j → (g : ℕ) → (mark rows n g).cancelled ≡ false) where
   group_clear : (n : ℕ) (k : Kind) → (row rows n).kind ≡ k → 1 ≤ n → n ≤ length rows → (row rows n).job ≡ j → is_group_cancelled rows k ≡ false
   group_clear n Root is from to own = refl
   group_clear n Posted is from to own = refl
@@ -147,8 +148,10 @@ module _ (j : ℕ) (rows : List Row) (precede : MakersPrecede rows) (one : OneJo
       marks m before.0 (omega (arith, before, to)) (same ∙ own) g
   group_clear n (Region m) is from to own = refl
 
-  makers_clear : (k n : ℕ) → n ≤ length rows → (row rows n).job ≡ j → ((m : ℕ) → 1 ≤ m → m ≤ length rows → (row rows m).job ≡ j → list_any (λ i. is_group_cancelled rows (row rows i).kind) (chain_for k rows m) ≡ false) →
-      (o : Option ℕ) → IfSome o (λ m. (1 ≤ m) × (m < n)) → IfSome o (λ m. (row rows m).job ≡ (row rows n).job) → IfSome o (λ m. list_any (λ i. is_group_cancelled rows (row rows i).kind) (chain_for k rows m) ≡ false)
+  makers_clear : (k n : ℕ) → n ≤ length rows → (row rows n).job ≡ j →
+      ((m : ℕ) → 1 ≤ m → m ≤ length rows → (row rows m).job ≡ j → list_any (λ i. is_group_cancelled rows (row rows i).kind) (chain_for k rows m) ≡ false) →
+      (o : Option ℕ) → IfSome o (λ m. (1 ≤ m) × (m < n)) → IfSome o (λ m. (row rows m).job ≡ (row rows n).job) →
+      IfSome o (λ m. list_any (λ i. is_group_cancelled rows (row rows i).kind) (chain_for k rows m) ≡ false)
   makers_clear k n to own each None before same = tt
   makers_clear k n to own each (Some m) before same = each m before.0 (omega (arith, before, to)) (same ∙ own)
 
@@ -180,7 +183,8 @@ settle_good o s debt is =
       one = OneJob-same s.rows (settle s).rows same is.linked.makers is.one;
       follows = Follows-same o s.rows (settle s).rows s.jobs s.jobs debt (omega arith) (same_work (job s.jobs o.number)) (λ clear before.
           let kept : (k : ℕ) → 1 ≤ k → k ≤ length s.rows → (row s.rows k).job ≡ o.number → row (settle s).rows k ≡ row s.rows k = λ k from to own.
-          row-settle s k from to ∙ ap (settled_row (row s.rows k)) (context_clear o s (job s.jobs o.number).fuel debt is.linked.makers is.one before clear k from to own) ∙ settled_clear (row s.rows k) in
+          row-settle s k from to ∙ ap (settled_row (row s.rows k)) (context_clear o s (job s.jobs o.number).fuel debt is.linked.makers is.one before clear k from to own) ∙
+          settled_clear (row s.rows k) in
           record {
             long = omega (arith, same.long);
             kinds = λ k from to. same.kinds k;
@@ -202,7 +206,8 @@ entry_good o s debt is = settle_good o (record s { entries = s.entries + 1 }) de
 })
 
 -- a row changed that is of another job, with the same maker
-pub other_row : (j : ℕ) (rows : List Row) (n : ℕ) (r : Row) → 1 ≤ n → n ≤ length rows → r.kind ≡ (row rows n).kind → r.job ≡ (row rows n).job → (row rows n).job ≢ j → SameJob j rows (with_at_number rows n r)
+pub other_row : (j : ℕ) (rows : List Row) (n : ℕ) (r : Row) → 1 ≤ n → n ≤ length rows → r.kind ≡ (row rows n).kind → r.job ≡ (row rows n).job → (row rows n).job ≢ j →
+    SameJob j rows (with_at_number rows n r)
 other_row j rows n r from to kind job other =
     let long = length-with rows n r in
     let same : (k : ℕ) → (row rows k).job ≡ j → row (with_at_number rows n r) k ≡ row rows k = λ k own. elim (cases_eq k n) [

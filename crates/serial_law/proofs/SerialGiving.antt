@@ -3,7 +3,8 @@ use Rattle.std.proofs.Common.{◌≡◌, ℕ, zero, suc, ◌+◌, List, [], ◌�
 use Rattle.std.specs.Prelude.{slice_get, slice_index_or, is_some}
 use Rattle.std.specs.List.{list_all}
 use Rattle.job_language.specs.declared.instructions.Instr.{Instr}
-use Rattle.job_language.specs.declared.instructions.Instr.TheVariants.{Set, Add, Sub, Mul, Div, Lt, Rem, And, Or, Xor, Shl, Shr, Eq, Le, Jz, Jmp, Slot, Width, Spawn, Post, Wait, Cancel, Ask, Isolate, Load, Store, Sum, Count, Ret}
+use Rattle.job_language.specs.declared.instructions.Instr.TheVariants.{Set, Add, Sub, Mul, Div, Lt, Rem, And, Or, Xor, Shl, Shr, Eq, Le, Jz, Jmp, Slot, Width, Spawn, Post, Wait, Cancel, Ask, Isolate}
+use Rattle.job_language.specs.declared.instructions.Instr.TheVariants.{Load, Store, Sum, Count, Ret}
 use Rattle.job_language.specs.Serial.{is_serial_instr, is_serial}
 use Rattle.job_step.specs.declared.frames.Frame.{Frame}
 use Rattle.job_step.specs.declared.runs.Run.{Run}
@@ -34,7 +35,8 @@ module _ (procs : List (List Instr)) (t : SerialTask) where
   }
 
   -- a task that makes another one, and continues with its value
-  pub gives_makes : (u : SerialTask) (m : SerialMaker) (w v : ℤ) (c d : ℕ) → turn_at (instr_at procs t.frame) t ≡ turn.Makes u m → Gives procs u w c → Gives procs (with_value m w) v d → Gives procs t v (c + d + 1)
+  pub gives_makes : (u : SerialTask) (m : SerialMaker) (w v : ℤ) (c d : ℕ) → turn_at (instr_at procs t.frame) t ≡ turn.Makes u m → Gives procs u w c → Gives procs (with_value m w) v d →
+      Gives procs t v (c + d + 1)
   gives_makes u m w v c d makes first second = record {
     gives = λ more.
         let e : c + d + 1 + more ≡ suc (c + (d + more)) = omega arith in
@@ -133,7 +135,8 @@ module _ (procs : List (List Instr)) (serial : is_serial procs ≡ true) where
         omega (arith, rest.1),
         λ sums v d gives.
             let e : d + (rest.0 + 1) ≡ d + rest.0 + 1 = omega arith in
-            rw e (gives_goes procs (task f sums) (task g sums) v (d + rest.0) (ap (λ o. turn_at o (task f sums)) at ∙ effect_turn i (task f sums) slot width g (serial_at procs serial f i at) is) (rest.2 sums v d gives)),
+            rw e (gives_goes procs (task f sums) (task g sums) v (d + rest.0) (ap (λ o. turn_at o (task f sums)) at ∙ effect_turn i (task f sums) slot width g (serial_at procs serial f i at) is)
+            (rest.2 sums v d gives)),
       )
   one_back f c i slot width start DividesByZero next is at goes_on = λ no_fault. absurd (grind (arith, no_fault))
   one_back f c i slot width start IsShared next is at goes_on = λ no_fault. none_back procs f c
@@ -142,7 +145,8 @@ module _ (procs : List (List Instr)) (serial : is_serial procs ≡ true) where
   unfolding run_for
   run_for_back zero slot width start c f o at = λ no_fault. none_back procs f c
   run_for_back (suc left) slot width start c f None at = rw at (λ no_fault. none_back procs f c)
-  run_for_back (suc left) slot width start c f (Some i) at = rw at (one_back f c i slot width start (effect i slot width f) (run_for left procs slot width start (c + 1)) refl at (λ g. run_for_back left slot width start (c + 1) g (instr_at procs g) refl))
+  run_for_back (suc left) slot width start c f (Some i) at =
+      rw at (one_back f c i slot width start (effect i slot width f) (run_for left procs slot width start (c + 1)) refl at (λ g. run_for_back left slot width start (c + 1) g (instr_at procs g) refl))
 
   -- a private run, taken back
   pub run_back : (slot width : ℕ) (f : Frame) → let r = run_of procs slot width f in is_fault r.stop ≡ false → GoesBack procs f r.end r.count

@@ -19,7 +19,8 @@ use Rattle.tenant_model.specs.Walks.{maker_of, is_open, is_spawned_by, mark}
 use Rattle.tenant_model.specs.Linked.{MakersPrecede}
 use Rattle.tenant_model.specs.WellFormed.{AreMarked}
 use Rattle.serial_law.proofs.SerialGiving.{Gives, task, GoesBack, gives_makes}
-use Rattle.serial_law.proofs.SerialNow.{fold_to, fold_to-rest, Values, value_by, is_region_by, is_made_by, counts, added, add_row_to, sum_for, is_held_by, hand_from, hands_for, sums_of, now, cost_of, cost_for, Leads, sum-old, hands-old}
+use Rattle.serial_law.proofs.SerialNow.{fold_to, fold_to-rest, Values, value_by, is_region_by, is_made_by, counts, added, add_row_to, sum_for, is_held_by, hand_from, hands_for, sums_of, now, cost_of}
+use Rattle.serial_law.proofs.SerialNow.{cost_for, Leads, sum-old, hands-old}
 use Rattle.serial_law.proofs.SerialMoves.{IsMoved, moved-alike, moved-regions, moved-costs, Leads-moved, IsFree, free-none}
 
 -- a maker stands before what it made
@@ -107,10 +108,12 @@ module _ (procs : List (List Instr)) (start : SerialTask) (j root n : ℕ) (a b 
   hands-last values =
       ap (fold_to (hand_from j b values n) None) made.long ∙
       ap (λ (q : Row). if is_held_by j n q then Some (value_by q.phase (values new)) else fold_to (hand_from j b values n) None (length a)) made.last ∙
-      ap (λ x. if is_held_by j n r then Some (value_by r.phase (values new)) else x) (hands-old j n a b values values (moved-alike j n a b made.moved n values) (moved-regions j n a b made.moved n) ∙ free-none j n a values made.free)
+      ap (λ x. if is_held_by j n r then Some (value_by r.phase (values new)) else x)
+      (hands-old j n a b values values (moved-alike j n a b made.moved n values) (moved-regions j n a b made.moved n) ∙ free-none j n a values made.free)
 
   now-last : (values : Values) → now procs j b values new ≡ new_task r.frame
-  now-last values = now-childless j new b (λ k from to own. made_before (row b k).kind k new (made.makers k from to) (omega (arith, to, made.long))) procs values ∙ ap (λ (q : Row). new_task q.frame) made.last
+  now-last values = now-childless j new b (λ k from to own. made_before (row b k).kind k new (made.makers k from to) (omega (arith, to, made.long))) procs values ∙
+      ap (λ (q : Row). new_task q.frame) made.last
 
   mine : (r.job == j) ≡ true
   mine = grind (arith, made.its)
@@ -120,7 +123,8 @@ module _ (procs : List (List Instr)) (start : SerialTask) (j root n : ℕ) (a b 
 
   -- Row n made the row by one instruction more than its run has.
   Leads-made : (spent count : ℕ) → 1 ≤ root → root ≤ length a →
-      ((values : Values) (d e : ℕ) → Gives procs (new_task r.frame) (values new) d → Gives procs (now procs j b values n) (values n) e → Gives procs (task (row a n).frame (sums_of j a values n)) (values n) (d + e + 1 + count)) →
+      ((values : Values) (d e : ℕ) → Gives procs (new_task r.frame) (values new) d → Gives procs (now procs j b values n) (values n) e →
+      Gives procs (task (row a n).frame (sums_of j a values n)) (values n) (d + e + 1 + count)) →
       Leads procs start j root a spent → Leads procs start j root b (spent + (count + 1))
   Leads-made spent count least most back leads =
       Leads-moved procs start j root n a b made.moved made.own made.opened spent (count + 1) (λ costs. costs new + 1 + count) least most
@@ -154,7 +158,8 @@ module _ (procs : List (List Instr)) (start : SerialTask) (j root n : ℕ) (a b 
       let same : now procs j b values n ≡ task (next_place f) (slice_set sums g (Some (int_wrapping_add w64 (unwrap_or (slice_index_or sums g None) (pos 0)) (values new)))) =
       rw (made.marks, handed_none, frame, sum 0, sum 1, sum 2, sum 3) (ap (task (next_place f)) (spawned_sums g low _ _ _ _ (values new))) in
       goes_back sums (values n) (d + e + 1)
-      (gives_makes procs (task f sums) (new_task (called_frame f p x y)) (record { task = task (next_place f) sums; to = to.Group g }) (values new) (values n) d e (ap (λ o. turn_at o (task f sums)) at) (rw child at first) (rw same at second)))
+      (gives_makes procs (task f sums) (new_task (called_frame f p x y)) (record { task = task (next_place f) sums; to = to.Group g }) (values new) (values n) d e
+      (ap (λ o. turn_at o (task f sums)) at) (rw child at first) (rw same at second)))
       leads
     where
       and_true : (c : Bool) → (c && true) ≡ c
@@ -175,5 +180,6 @@ module _ (procs : List (List Instr)) (start : SerialTask) (j root n : ℕ) (a b 
       let same : now procs j b values n ≡ task (write_and_step f t (values new)) sums =
       rw (made.marks, handed_one, frame, sum 0, sum 1, sum 2, sum 3) (ap (λ o. task (handed_frame o (values new) f) sums) at) in
       goes_back sums (values n) (d + e + 1)
-      (gives_makes procs (task f sums) (new_task (called_frame f p x y)) (record { task = task (next_place f) sums; to = to.Register t }) (values new) (values n) d e (ap (λ o. turn_at o (task f sums)) at) (rw child at first) (rw same at second)))
+      (gives_makes procs (task f sums) (new_task (called_frame f p x y)) (record { task = task (next_place f) sums; to = to.Register t }) (values new) (values n) d e
+      (ap (λ o. turn_at o (task f sums)) at) (rw child at first) (rw same at second)))
       leads

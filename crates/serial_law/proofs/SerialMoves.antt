@@ -8,7 +8,8 @@ use Rattle.tenant_model.specs.declared.serials.SerialTask.{SerialTask}
 use Rattle.tenant_model.specs.State.{row}
 use Rattle.tenant_model.specs.Walks.{is_open, value_in}
 use Rattle.serial_law.proofs.SerialGiving.{Gives, task, GoesBack}
-use Rattle.serial_law.proofs.SerialNow.{fold_to, fold_to-same, fold_to-rest, Values, Counts, value_by, is_region_by, is_made_by, hand_from, hands_for, sums_of, now, cost_of, cost_for, AreGiven, Leads, Alike, NoneMade, SameRegions, hands-same, sum-same, now-same}
+use Rattle.serial_law.proofs.SerialNow.{fold_to, fold_to-same, fold_to-rest, Values, Counts, value_by, is_region_by, is_made_by, hand_from, hands_for, sums_of, now, cost_of, cost_for, AreGiven, Leads}
+use Rattle.serial_law.proofs.SerialNow.{Alike, NoneMade, SameRegions, hands-same, sum-same, now-same}
 
 -- two sums that differ at one number
 pub sum_except : (t u : ℕ → ℕ) (n most : ℕ) → 1 ≤ n → n ≤ most → ((k : ℕ) → 1 ≤ k → k ≤ most → k ≢ n → t k ≡ u k) → fold_to (λ k x. x + t k) 0 most + u n ≡ fold_to (λ k x. x + u k) 0 most + t n
@@ -38,7 +39,8 @@ module _ (procs : List (List Instr)) (start : SerialTask) (j root : ℕ) (a b : 
   pub Leads-same : (spent : ℕ) → 1 ≤ root → root ≤ length a → (row a root).job ≡ j → SameJob j a b → Leads procs start j root a spent → Leads procs start j root b spent
   Leads-same spent least most own same leads = record {
     leads = λ values costs given.
-        let worth : (k : ℕ) → 1 ≤ k → k ≤ length a → (row a k).job ≡ j → value_by (row b k).phase (values k) ≡ value_by (row a k).phase (values k) = λ k from to mine. rw (same.opens k from to mine, same.values k from to mine) refl in
+        let worth : (k : ℕ) → 1 ≤ k → k ≤ length a → (row a k).job ≡ j → value_by (row b k).phase (values k) ≡ value_by (row a k).phase (values k) =
+        λ k from to mine. rw (same.opens k from to mine, same.values k from to mine) refl in
         let alike : (p : ℕ) → Alike j p a b values values = λ p. record { long = same.long; kinds = same.kinds; jobs = same.jobs; values = worth } in
         let none : (p : ℕ) → NoneMade j p a b = λ p k after to mine. absurd (same.news k after to mine) in
         let before : AreGiven procs j a values costs = record {
@@ -51,7 +53,8 @@ module _ (procs : List (List Instr)) (start : SerialTask) (j root : ℕ) (a b : 
         let other : ((row b k).job == j) ≡ false = grind (arith, same.news k after to) in
         let none_there : cost_of j costs k (row b k) ≡ 0 = rw other (nothing (is_open (row b k).phase) (costs k)) in
         omega (arith, none_there)) ∙
-        fold_to-same (λ k x. x + cost_of j costs k (row b k)) (λ k x. x + cost_of j costs k (row a k)) 0 (length a) (λ k x from to. ap (λ y. x + y) (cost_same costs k from to (same.jobs k from to) (λ mine. same.opens k from to mine))) in
+        fold_to-same (λ k x. x + cost_of j costs k (row b k)) (λ k x. x + cost_of j costs k (row a k)) 0 (length a)
+        (λ k x from to. ap (λ y. x + y) (cost_same costs k from to (same.jobs k from to) (λ mine. same.opens k from to mine))) in
         rw (worth root least most own, cost) (leads.leads values costs before);
   }
     where
@@ -59,7 +62,8 @@ module _ (procs : List (List Instr)) (start : SerialTask) (j root : ℕ) (a b : 
       nothing true n = refl
       nothing false n = refl
 
-      cost_same : (costs : Counts) (k : ℕ) → 1 ≤ k → k ≤ length a → (row b k).job ≡ (row a k).job → ((row a k).job ≡ j → is_open (row b k).phase ≡ is_open (row a k).phase) → cost_of j costs k (row b k) ≡ cost_of j costs k (row a k)
+      cost_same : (costs : Counts) (k : ℕ) → 1 ≤ k → k ≤ length a → (row b k).job ≡ (row a k).job → ((row a k).job ≡ j → is_open (row b k).phase ≡ is_open (row a k).phase) →
+          cost_of j costs k (row b k) ≡ cost_of j costs k (row a k)
       cost_same costs k from to jobs opens = elim (cases_eq (row a k).job j) [
         | inl mine ↦ rw (jobs, opens mine) refl
         | inr other ↦
@@ -141,7 +145,8 @@ module _ (procs : List (List Instr)) (start : SerialTask) (j root n : ℕ) (a b 
             | inr other ↦
                 let old = moved.others p from to other in
                 let here = given.each p from (omega (arith, to, moved.long)) (ap (λ (r : Row). r.job) old ∙ mine) (ap (λ (r : Row). is_open r.phase) old ∙ is) in
-                let same = now-same j p a b values values (moved-alike j n a b moved p values) procs (λ k after le owned. moved.news k p after le other) (moved-regions j n a b moved p) (ap (λ (r : Row). r.frame) old) (ap (λ (r : Row). r.marks) old) in
+                let same = now-same j p a b values values (moved-alike j n a b moved p values) procs (λ k after le owned. moved.news k p after le other) (moved-regions j n a b moved p)
+                (ap (λ (r : Row). r.frame) old) (ap (λ (r : Row). r.marks) old) in
                 rw (put-other n p (costs n + extra costs) costs other) (rw same at here)
           ];
         } in
@@ -167,7 +172,8 @@ free-none j n rows values free = fold_to-rest (hand_from j rows values n) None 0
     both true = inl refl
     both false = inr refl
 
-module _ (procs : List (List Instr)) (start : SerialTask) (j root n : ℕ) (a b : List Row) (moved : IsMoved n a b) (own : (row a n).job ≡ j) (opened : is_open (row a n).phase ≡ true) (free : IsFree j n a) where
+module _ (procs : List (List Instr)) (start : SerialTask) (j root n : ℕ) (a b : List Row) (moved : IsMoved n a b) (own : (row a n).job ≡ j) (opened : is_open (row a n).phase ≡ true)
+    (free : IsFree j n a) where
   -- private instructions
   pub Leads-private : (spent count : ℕ) → 1 ≤ root → root ≤ length a → length b ≡ length a → (row b n).marks ≡ (row a n).marks → GoesBack procs (row a n).frame (row b n).frame count →
       Leads procs start j root a spent → Leads procs start j root b (spent + count)
@@ -181,6 +187,14 @@ module _ (procs : List (List Instr)) (start : SerialTask) (j root n : ℕ) (a b 
       let alike = moved-alike j n a b moved n values in
       let here = given.each n moved.from (omega (arith, moved.to, moved.long)) (moved.job ∙ own) (ap is_open moved.phase ∙ opened) in
       let same : now procs j b values n ≡ task (row b n).frame (sums_of j a values n) =
-      rw (marks, hands-same j n a b values values alike none (moved-regions j n a b moved n), free-none j n a values free, sum-same j n a b values values alike none 0, sum-same j n a b values values alike none 1, sum-same j n a b values values alike none 2, sum-same j n a b values values alike none 3) refl in
+      rw (
+        marks,
+        hands-same j n a b values values alike none (moved-regions j n a b moved n),
+        free-none j n a values free,
+        sum-same j n a b values values alike none 0,
+        sum-same j n a b values values alike none 1,
+        sum-same j n a b values values alike none 2,
+        sum-same j n a b values values alike none 3,
+      ) refl in
       rw (free-none j n a values free) (goes_back (sums_of j a values n) (values n) (costs n) (rw same at here)))
       leads

@@ -1,5 +1,6 @@
 -- How far the rows of a serial job have come, if each open row returns some value after some number of instructions.
-use Rattle.std.proofs.Common.{◌≡◌, ℕ, zero, suc, ◌+◌, ◌==◌, ◌<◌, ◌≤◌, List, [], ◌∷◌, length, Option, Some, None, Bool, true, false, ◌&&◌, nat_lt, refl, ap, ◌∙◌, arith, inl, inr, ◌⊎◌, ℤ, pos, unwrap_or}
+use Rattle.std.proofs.Common.{◌≡◌, ℕ, zero, suc, ◌+◌, ◌==◌, ◌<◌, ◌≤◌, List, [], ◌∷◌, length, Option, Some, None, Bool, true, false, ◌&&◌, nat_lt, refl, ap, ◌∙◌, arith, inl, inr, ◌⊎◌, ℤ, pos}
+use Rattle.std.proofs.Common.{unwrap_or}
 use Rattle.std.specs.Prelude.{if◌then◌else◌}
 use Rattle.std.specs.Int.{int_wrapping_add, w64}
 use Rattle.std.proofs.lemmas.Bool.{cases_eq}
@@ -84,7 +85,8 @@ handed_by procs (Some v) f = handed_frame (instr_at procs f) v f
 
 abbrev pub sums_of : (j : ℕ) → List Row → Values → ℕ → List (Option ℤ)
 sums_of j rows values n =
-    sum_for j rows values n 0 (mark rows n 0).rows ∷ sum_for j rows values n 1 (mark rows n 1).rows ∷ sum_for j rows values n 2 (mark rows n 2).rows ∷ sum_for j rows values n 3 (mark rows n 3).rows ∷ []
+    sum_for j rows values n 0 (mark rows n 0).rows ∷ sum_for j rows values n 1 (mark rows n 1).rows ∷ sum_for j rows values n 2 (mark rows n 2).rows ∷ sum_for j rows values n 3 (mark rows n 3).rows ∷
+    []
 
 -- how far a row is, as a task
 abbrev pub now : List (List Instr) → (j : ℕ) → List Row → Values → ℕ → SerialTask

@@ -6,7 +6,8 @@ use Rattle.std.proofs.lemmas.Option.{IfSome_then}
 use Rattle.job_language.specs.declared.errors.JobFault.{JobFault}
 use Rattle.job_language.specs.declared.errors.JobFault.TheVariants as fault
 use Rattle.job_language.specs.declared.instructions.Instr.{Instr}
-use Rattle.job_language.specs.declared.instructions.Instr.TheVariants.{Set, Add, Sub, Mul, Div, Lt, Rem, And, Or, Xor, Shl, Shr, Eq, Le, Jz, Jmp, Slot, Width, Spawn, Post, Wait, Cancel, Ask, Isolate, Load, Store, Sum, Count, Ret}
+use Rattle.job_language.specs.declared.instructions.Instr.TheVariants.{Set, Add, Sub, Mul, Div, Lt, Rem, And, Or, Xor, Shl, Shr, Eq, Le, Jz, Jmp, Slot, Width, Spawn, Post, Wait, Cancel, Ask, Isolate}
+use Rattle.job_language.specs.declared.instructions.Instr.TheVariants.{Load, Store, Sum, Count, Ret}
 use Rattle.job_language.specs.declared.answers.Moved.{Moved}
 use Rattle.job_step.specs.declared.frames.Frame.{Frame}
 use Rattle.job_step.specs.Frame.{register, write_and_step, instr_at}
@@ -40,7 +41,8 @@ pub cells_good : (o : Origin) (s : State) (cells : Table) (debt : ℕ) → Good 
 cells_good o s cells debt is = record { linked = record { makers = is.linked.makers; jobs = is.linked.jobs; epoch = is.linked.epoch }; one = is.one; follows = is.follows }
 
 -- a row of another job changed
-pub set_other : (o : Origin) (s : State) (n debt : ℕ) (f : Row → Row) → 1 ≤ n → n ≤ length s.rows → (f (row s.rows n)).kind ≡ (row s.rows n).kind → (f (row s.rows n)).job ≡ (row s.rows n).job → (row s.rows n).job ≢ o.number →
+pub set_other : (o : Origin) (s : State) (n debt : ℕ) (f : Row → Row) → 1 ≤ n → n ≤ length s.rows → (f (row s.rows n)).kind ≡ (row s.rows n).kind → (f (row s.rows n)).job ≡ (row s.rows n).job →
+    (row s.rows n).job ≢ o.number →
     Good o s debt → Good o (on_row s n f) debt
 set_other o s n debt f from to kind job_same other is =
     let r = f (row s.rows n) in
@@ -51,7 +53,8 @@ set_other o s n debt f from to kind job_same other is =
     }
 
 -- a row of another job made
-pub push_other : (o : Origin) (s : State) (r : Row) (debt : ℕ) → IfSome (maker_of r.kind) (λ m. (1 ≤ m) × (m ≤ length s.rows) × ((row s.rows m).job ≡ r.job)) → (1 ≤ r.job) × (r.job ≤ length s.jobs) → r.job ≢ o.number →
+pub push_other : (o : Origin) (s : State) (r : Row) (debt : ℕ) → IfSome (maker_of r.kind) (λ m. (1 ≤ m) × (m ≤ length s.rows) × ((row s.rows m).job ≡ r.job)) → (1 ≤ r.job) × (r.job ≤ length s.jobs) →
+    r.job ≢ o.number →
     Good o s debt → Good o (add_row s r) debt
 push_other o s r debt maker there other is = record {
   linked = IsLinked-push s r is.linked (IfSome_then (maker_of r.kind) maker (λ m its. (its.0, its.1))) there;
@@ -81,7 +84,8 @@ module _ (o : Origin) (s : State) (slot n : ℕ) (top : OnTop s.rows slot n) (is
         let r = record (row s.rows n) { frame = f } in
         let here : row (with_frame s n f).rows n ≡ r = row-with_same s.rows n r top.from top.to in
         push_other o (with_frame s n f) (new_row k (row s.rows n).job made_on g p) 0
-        (IfSome_then (maker_of k) maker (λ m same. (omega (arith, same, top.from), omega (arith, same, top.to, length-with s.rows n r), ap (λ i. (row (with_frame s n f).rows i).job) same ∙ ap (λ (q : Row). q.job) here)))
+        (IfSome_then (maker_of k) maker
+        (λ m same. (omega (arith, same, top.from), omega (arith, same, top.to, length-with s.rows n r), ap (λ i. (row (with_frame s n f).rows i).job) same ∙ ap (λ (q : Row). q.job) here)))
         (is.linked.jobs n top.from top.to) other (moved_other f)
 
     done_other : (f : Frame) (v : ℤ) (k : Kind) → (row s.rows n).kind ≡ k → Good o (hand_back (on_row s n (λ r. record r { frame = f; phase = Done v })) k v) 0

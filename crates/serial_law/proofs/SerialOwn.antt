@@ -73,7 +73,8 @@ pub record AreClear (marks : List Mark) : Type 0 where
   pub long : length marks ≡ 4
 
 -- the region on top of a row is the only one
-region_on_top : (rows : List Row) (slot n : ℕ) → OnTop rows slot n → (k m : ℕ) → (row rows k).kind ≡ Region m → is_open (row rows k).phase ≡ true → (t : ℕ) × (h : ℕ) × ((row rows k).phase ≡ Live t h) × ((row rows m).phase ≡ Live t (h - 1)) × (1 ≤ h) × (h ≤ height rows t)
+region_on_top : (rows : List Row) (slot n : ℕ) → OnTop rows slot n → (k m : ℕ) → (row rows k).kind ≡ Region m → is_open (row rows k).phase ≡ true →
+    (t : ℕ) × (h : ℕ) × ((row rows k).phase ≡ Live t h) × ((row rows m).phase ≡ Live t (h - 1)) × (1 ≤ h) × (h ≤ height rows t)
 region_on_top rows slot n top k m kind opened =
     let live = open_live (row rows k).phase opened (top.on_makers.started k m kind) in
     let low = live_low rows top.stacked k live.0 live.1 live.2 in
@@ -151,7 +152,8 @@ module _ (o : Origin) (s : State) (slot n count debt : ℕ) (f : Frame) (run : H
       sym same ∙ run.own
 
   -- the state after it, by its rows
-  followed_next : (t : State) → t.jobs ≡ s.jobs → IsLinked t → OneJob t.rows → (is_job_cancelled (job s.jobs o.number) ≡ false → IsFollowed o s.rows left debt → IsFollowed o t.rows left 0) → Good o t 0
+  followed_next : (t : State) → t.jobs ≡ s.jobs → IsLinked t → OneJob t.rows → (is_job_cancelled (job s.jobs o.number) ≡ false → IsFollowed o s.rows left debt → IsFollowed o t.rows left 0) →
+      Good o t 0
   followed_next t same linked one next = record {
     linked = linked;
     one = one;
@@ -188,7 +190,8 @@ module _ (o : Origin) (s : State) (slot n count debt : ℕ) (f : Frame) (run : H
     set_one : OneJob (with_at_number s.rows n r)
     set_one = OneJob-same s.rows _ (SameSources-set s.rows n r run.top.from run.top.to kind own) is.linked.makers is.one
 
-    set_clear : IsFollowed o s.rows left debt → AreClear r.marks → (k : ℕ) → 1 ≤ k → k ≤ length (with_at_number s.rows n r) → (row (with_at_number s.rows n r) k).job ≡ o.number → AreClear (row (with_at_number s.rows n r) k).marks
+    set_clear : IsFollowed o s.rows left debt → AreClear r.marks → (k : ℕ) → 1 ≤ k → k ≤ length (with_at_number s.rows n r) → (row (with_at_number s.rows n r) k).job ≡ o.number →
+        AreClear (row (with_at_number s.rows n r) k).marks
     set_clear its here k from to owned =
         let long = length-with s.rows n r in
         elim (cases_eq k n) [
@@ -206,7 +209,8 @@ module _ (o : Origin) (s : State) (slot n count debt : ℕ) (f : Frame) (run : H
       let here = row-with_same s.rows n r run.top.from run.top.to in
       let long = length-with s.rows n r in
       followed_next (with_frame s n f) refl (set_linked r refl refl) (set_one r refl refl) (λ clear its.
-      next_is _ count le (omega (arith, long)) (λ k from to. (SameSources-set s.rows n r run.top.from run.top.to refl refl).jobs k) its (set_clear r refl refl its (clear_before its n run.top.from run.top.to run.own))
+      next_is _ count le (omega (arith, long)) (λ k from to. (SameSources-set s.rows n r run.top.from run.top.to refl refl).jobs k) its
+      (set_clear r refl refl its (clear_before its n run.top.from run.top.to run.own))
       (Leads-private o.program (root_task o.args) o.number o.root n s.rows _ moved run.own opened (free_on_top o.number s.rows slot n run.top) its.spent count its.from its.to long
       (ap (λ (q : Row). q.marks) here) (rw here run.back) its.leads))
 
@@ -228,9 +232,15 @@ module _ (o : Origin) (s : State) (slot n count debt : ℕ) (f : Frame) (run : H
       let not_cancelled = context_clear o s left debt is.linked.makers is.one its clear n run.top.from run.top.to run.own in
       let status : group_status s n g ≡ pos 1 = rw (own_marks.clear g, not_cancelled) refl in
       next_is _ (count + 1) le (omega (arith, long)) (λ k from to. (SameSources-set s.rows n r run.top.from run.top.to refl refl).jobs k) its
-      (set_clear r refl refl its (record { clear = mark_clears (row s.rows n).marks g (record { rows = length s.rows; cancelled = false }) refl own_marks.clear; long = length-set (row s.rows n).marks g (record { rows = length s.rows; cancelled = false }) ∙ own_marks.long }))
-      (Leads-waited o.program (root_task o.args) o.number o.root n s.rows _ moved run.own opened (free_on_top o.number s.rows slot n run.top) children d e g f count its.spent its.from its.to long run.back at low settled_row
-      (ap (λ (q : Row). q.frame) here ∙ ap (λ v. write_and_step (record f { registers = slice_set f.registers d (total s.rows n g) }) e v) status) own_marks.long (ap (λ (q : Row). q.marks) here) its.leads))
+      (set_clear r refl refl its (record {
+        clear = mark_clears (row s.rows n).marks g (record { rows = length s.rows; cancelled = false }) refl own_marks.clear;
+        long =
+            length-set (row s.rows n).marks g (record { rows = length s.rows; cancelled = false }) ∙ own_marks.long;
+      }))
+      (Leads-waited o.program (root_task o.args) o.number o.root n s.rows _ moved run.own opened (free_on_top o.number s.rows slot n run.top) children d e g f count its.spent its.from its.to long
+      run.back at low settled_row
+      (ap (λ (q : Row). q.frame) here ∙ ap (λ v. write_and_step (record f { registers = slice_set f.registers d (total s.rows n g) }) e v) status) own_marks.long (ap (λ (q : Row). q.marks) here)
+      its.leads))
 
   -- a row made
   module _ (next g : Frame) (k : Kind) (made_on : Option ℕ) (p : Phase) (made : maker_of k ≡ Some n) (none : (m : ℕ) → m ≢ n → is_made_by m k ≡ false) (p_open : is_open p ≡ true) where
@@ -296,7 +306,8 @@ module _ (o : Origin) (s : State) (slot n count debt : ℕ) (f : Frame) (run : H
         let more = length_push (with_at_number s.rows n mover) child in
         followed_next grown refl grown_linked grown_one (λ clear its.
         next_is grown.rows (count + 1) le (omega (arith, long, more))
-        (λ i from to. ap (λ (q : Row). q.job) (row-push_old (with_at_number s.rows n mover) i child (omega (arith, to, long))) ∙ (SameSources-set s.rows n mover run.top.from run.top.to refl refl).jobs i) its (grown_clear its) (leads its))
+        (λ i from to. ap (λ (q : Row). q.job) (row-push_old (with_at_number s.rows n mover) i child (omega (arith, to, long))) ∙
+        (SameSources-set s.rows n mover run.top.from run.top.to refl refl).jobs i) its (grown_clear its) (leads its))
 
   not_made : (m g : ℕ) → m ≢ n → is_made_by m (Spawned n g) ≡ false
   not_made m g apart = grind (arith, apart)
@@ -304,24 +315,29 @@ module _ (o : Origin) (s : State) (slot n count debt : ℕ) (f : Frame) (run : H
   not_made_region : (m : ℕ) → m ≢ n → is_made_by m (Region n) ≡ false
   not_made_region m apart = grind (arith, apart)
 
-  pub spawned_own : (g p x y : ℕ) → count + 1 ≤ debt → instr_at o.program f ≡ Some (Spawn g p x y) → g < 4 → Good o (add_row (with_frame s n (next_place f)) (new_row (Spawned n g) (row s.rows n).job (Some slot) (called_frame f p x y) Unstarted)) 0
+  pub spawned_own : (g p x y : ℕ) → count + 1 ≤ debt → instr_at o.program f ≡ Some (Spawn g p x y) → g < 4 →
+      Good o (add_row (with_frame s n (next_place f)) (new_row (Spawned n g) (row s.rows n).job (Some slot) (called_frame f p x y) Unstarted)) 0
   spawned_own g p x y le at low =
       let none : (m : ℕ) → m ≢ n → is_made_by m (Spawned n g) ≡ false = λ m apart. not_made m g apart in
       grown_good (next_place f) (called_frame f p x y) (Spawned n g) (Some slot) Unstarted refl none refl le (λ its.
-      Leads-spawned o.program (root_task o.args) o.number o.root n s.rows _ _ (grown_made (next_place f) (called_frame f p x y) (Spawned n g) (Some slot) Unstarted refl none refl its) g p x y f count its.spent its.from its.to run.back at low
+      Leads-spawned o.program (root_task o.args) o.number o.root n s.rows _ _ (grown_made (next_place f) (called_frame f p x y) (Spawned n g) (Some slot) Unstarted refl none refl its) g p x y f count
+      its.spent its.from its.to run.back at low
       (grown_frame (next_place f) (called_frame f p x y) (Spawned n g) (Some slot) Unstarted refl none refl) refl refl its.leads)
 
-  pub isolated_own : (d p x y : ℕ) → count + 1 ≤ debt → instr_at o.program f ≡ Some (Isolate d p x y) → Good o (add_row (with_frame s n f) (new_row (Region n) (row s.rows n).job (Some slot) (called_frame f p x y) (Live slot (height s.rows slot + 1)))) 0
+  pub isolated_own : (d p x y : ℕ) → count + 1 ≤ debt → instr_at o.program f ≡ Some (Isolate d p x y) →
+      Good o (add_row (with_frame s n f) (new_row (Region n) (row s.rows n).job (Some slot) (called_frame f p x y) (Live slot (height s.rows slot + 1)))) 0
   isolated_own d p x y le at =
       grown_good f (called_frame f p x y) (Region n) (Some slot) (Live slot (height s.rows slot + 1)) refl not_made_region refl le (λ its.
-      Leads-isolated o.program (root_task o.args) o.number o.root n s.rows _ _ (grown_made f (called_frame f p x y) (Region n) (Some slot) (Live slot (height s.rows slot + 1)) refl not_made_region refl its) d p x y f count its.spent its.from its.to run.back at
+      Leads-isolated o.program (root_task o.args) o.number o.root n s.rows _ _
+      (grown_made f (called_frame f p x y) (Region n) (Some slot) (Live slot (height s.rows slot + 1)) refl not_made_region refl its) d p x y f count its.spent its.from its.to run.back at
       (grown_frame f (called_frame f p x y) (Region n) (Some slot) (Live slot (height s.rows slot + 1)) refl not_made_region refl) refl refl its.leads)
 
   abbrev done : ℤ → Row
   done v = record (row s.rows n) { frame = f; phase = Done v }
 
   -- The row ended, and its maker continues if the row is a region.
-  ended_good : (t : State) (x : ℕ) (v : ℤ) → count + 1 ≤ debt → instr_at o.program f ≡ Some (Ret x) → register f x ≡ v → has_used_group s n ≡ false → t.jobs ≡ s.jobs → IsLinked t → OneJob t.rows → HasEnded o.program o.number n s.rows t.rows v →
+  ended_good : (t : State) (x : ℕ) (v : ℤ) → count + 1 ≤ debt → instr_at o.program f ≡ Some (Ret x) → register f x ≡ v → has_used_group s n ≡ false → t.jobs ≡ s.jobs → IsLinked t → OneJob t.rows →
+      HasEnded o.program o.number n s.rows t.rows v →
       (IsFollowed o s.rows left debt → (k : ℕ) → 1 ≤ k → k ≤ length t.rows → (row t.rows k).job ≡ o.number → AreClear (row t.rows k).marks) → Good o t 0
   ended_good t x v le at gives unused same linked one ended clear =
       followed_next t same linked one (λ clears its.
@@ -329,7 +345,8 @@ module _ (o : Origin) (s : State) (slot n count debt : ℕ) (f : Frame) (run : H
       (Leads-ended o.program (root_task o.args) o.number o.root n s.rows t.rows v ended x f count its.spent its.from its.to run.back at gives children
       (grind (arith, unused)) (grind (arith, unused)) (grind (arith, unused)) (grind (arith, unused)) its.leads))
 
-  plain_good : (x : ℕ) → count + 1 ≤ debt → instr_at o.program f ≡ Some (Ret x) → has_used_group s n ≡ false → ((m : ℕ) → is_region_by m (row s.rows n).kind ≡ false) → Good o (on_row s n (λ r. record r { frame = f; phase = Done (register f x) })) 0
+  plain_good : (x : ℕ) → count + 1 ≤ debt → instr_at o.program f ≡ Some (Ret x) → has_used_group s n ≡ false → ((m : ℕ) → is_region_by m (row s.rows n).kind ≡ false) →
+      Good o (on_row s n (λ r. record r { frame = f; phase = Done (register f x) })) 0
   plain_good x le at unused plain =
       let v = register f x in
       let r = done v in
@@ -355,7 +372,8 @@ module _ (o : Origin) (s : State) (slot n count debt : ℕ) (f : Frame) (run : H
       })
       (λ its. set_clear r refl refl its (clear_before its n run.top.from run.top.to run.own))
 
-  region_good : (x m : ℕ) → count + 1 ≤ debt → instr_at o.program f ≡ Some (Ret x) → has_used_group s n ≡ false → (row s.rows n).kind ≡ Region m → Good o (hand_back (on_row s n (λ r. record r { frame = f; phase = Done (register f x) })) (Region m) (register f x)) 0
+  region_good : (x m : ℕ) → count + 1 ≤ debt → instr_at o.program f ≡ Some (Ret x) → has_used_group s n ≡ false → (row s.rows n).kind ≡ Region m →
+      Good o (hand_back (on_row s n (λ r. record r { frame = f; phase = Done (register f x) })) (Region m) (register f x)) 0
   region_good x m le at unused kind =
       let v = register f x in
       let r = done v in
@@ -409,7 +427,8 @@ module _ (o : Origin) (s : State) (slot n count debt : ℕ) (f : Frame) (run : H
         ];
         handed_frame = λ k from to region.
             let same = is_m k region in
-            rw same (ap (λ (z : Row). z.frame) at_m ∙ ap (λ j. handed_frame (instr_at (job s.jobs j).program (row s.rows m).frame) v (row s.rows m).frame) m_own ∙ ap (λ procs. handed_frame (instr_at procs (row s.rows m).frame) v (row s.rows m).frame) is.follows.program);
+            rw same (ap (λ (z : Row). z.frame) at_m ∙ ap (λ j. handed_frame (instr_at (job s.jobs j).program (row s.rows m).frame) v (row s.rows m).frame) m_own ∙
+            ap (λ procs. handed_frame (instr_at procs (row s.rows m).frame) v (row s.rows m).frame) is.follows.program);
         only = λ i k region from to away is_one.
             let same = is_m i region in
             only_on_top s.rows slot n m run.top kind k away (rw same at is_one);
@@ -422,7 +441,8 @@ module _ (o : Origin) (s : State) (slot n count debt : ℕ) (f : Frame) (run : H
         | inr away ↦ rw (marks k away) (clear_before its k from there before)
       ])
 
-  pub done_own : (x : ℕ) (k : Kind) → count + 1 ≤ debt → instr_at o.program f ≡ Some (Ret x) → has_used_group s n ≡ false → (row s.rows n).kind ≡ k → Good o (hand_back (on_row s n (λ r. record r { frame = f; phase = Done (register f x) })) k (register f x)) 0
+  pub done_own : (x : ℕ) (k : Kind) → count + 1 ≤ debt → instr_at o.program f ≡ Some (Ret x) → has_used_group s n ≡ false → (row s.rows n).kind ≡ k →
+      Good o (hand_back (on_row s n (λ r. record r { frame = f; phase = Done (register f x) })) k (register f x)) 0
   done_own x Root le at unused kind = plain_good x le at unused (λ m. rw kind refl)
   done_own x Posted le at unused kind = plain_good x le at unused (λ m. rw kind refl)
   done_own x (Spawned i g) le at unused kind = plain_good x le at unused (λ m. rw kind refl)

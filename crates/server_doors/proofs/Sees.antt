@@ -7,7 +7,8 @@ use Rattle.tenant_lock.specs.Doors.{DoorData, IsFrontOf}
 use Rattle.server_doors.specs.Slots.{AreFronts, SeesOn}
 
 -- A front that is set in its place was seen on from there.
-pub sees_on : (tenant : ℕ) (before after : List FrontData) (seen now : FrontData) (sees : FrontData → FrontData → Type 0) → tenant < length before → seen ≡ slice_index_or before tenant seen → after ≡ slice_set before tenant now → sees seen now → SeesOn tenant before after sees
+pub sees_on : (tenant : ℕ) (before after : List FrontData) (seen now : FrontData) (sees : FrontData → FrontData → Type 0) → tenant < length before → seen ≡ slice_index_or before tenant seen →
+    after ≡ slice_set before tenant now → sees seen now → SeesOn tenant before after sees
 sees_on tenant before after seen now sees low is others holds = record {
   now = now;
   others = others;
@@ -15,7 +16,8 @@ sees_on tenant before after seen now sees low is others holds = record {
 }
 
 -- A front of the same life in the place of one of them is one of the life's.
-pub fronts_set : (doors : List DoorData) (before after : List FrontData) (tenant : ℕ) (d : DoorData) (now : FrontData) → AreFronts doors before → d ≡ slice_index_or doors tenant d → IsFrontOf d now → after ≡ slice_set before tenant now → AreFronts doors after
+pub fronts_set : (doors : List DoorData) (before after : List FrontData) (tenant : ℕ) (d : DoorData) (now : FrontData) → AreFronts doors before → d ≡ slice_index_or doors tenant d → IsFrontOf d now →
+    after ≡ slice_set before tenant now → AreFronts doors after
 fronts_set doors before after tenant d now are door is others = subst (λ (fs : List FrontData). AreFronts doors fs) (sym others) (record {
   count = length-set before tenant now ∙ are.count;
   each = λ k e f low. elim (cases_eq k tenant) [

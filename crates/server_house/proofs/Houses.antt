@@ -1,5 +1,6 @@
 -- The doors and the seats of tenants.
-use Rattle.std.proofs.Common.{◌≡◌, ◌≢◌, ◌<◌, ◌≤◌, ◌+◌, Bool, not, ℕ, zero, suc, if◌then◌else◌, List, [], ◌∷◌, ◌++◌, Result, Ok, Err, IfOk, length, map, filter, refl, sym, ◌∙◌, ap, subst, inl, inr, arith}
+use Rattle.std.proofs.Common.{◌≡◌, ◌≢◌, ◌<◌, ◌≤◌, ◌+◌, Bool, not, ℕ, zero, suc, if◌then◌else◌, List, [], ◌∷◌, ◌++◌, Result, Ok, Err, IfOk, length, map, filter, refl, sym, ◌∙◌, ap, subst, inl, inr}
+use Rattle.std.proofs.Common.{arith}
 use Rattle.std.specs.Prelude.{All, slice_index_or}
 use Rattle.std.specs.List.{enumerate_from}
 use Rattle.std.proofs.lemmas.Bool.Decides.{eqb_tells}
@@ -50,7 +51,8 @@ plain_more [] d rest = refl
 plain_more (c ∷ doors) d rest = ap (λ ds. plain c ∷ ds) (plain_more doors d rest)
 
 -- Doors are numbered as their tenants are.
-pub numbered_from : (seats n : ℕ) (ts : List Tenant) (k : ℕ) (d : DoorData) → k < length (map (door_of seats) (enumerate_from n ts)) → (slice_index_or (map (door_of seats) (enumerate_from n ts)) k d).tenant ≡ n + k
+pub numbered_from : (seats n : ℕ) (ts : List Tenant) (k : ℕ) (d : DoorData) → k < length (map (door_of seats) (enumerate_from n ts)) →
+    (slice_index_or (map (door_of seats) (enumerate_from n ts)) k d).tenant ≡ n + k
 numbered_from seats n [] k d low = absurd (omega (arith, low))
 numbered_from seats n (t ∷ ts) zero d low = omega arith
 numbered_from seats n (t ∷ ts) (suc k) d low = let rest = numbered_from seats (n + 1) ts k d (omega (arith, low)) in omega (arith, rest)
@@ -79,7 +81,8 @@ own_history d seats history slots closes = record {
   serial = serial_from_empty d.config (steps_of history) slots;
 }
 
-pub own_end : (d : DoorData) (seats : List SeatData) (end : Result Closed CloseFault) → d.config.slots ≤ MAX_SLOTS → IfOk end (λ (closed : Closed). Closes d seats closed.history.items) → IfOk end (λ (closed : Closed). IsOwnHistory d.config closed.history.items)
+pub own_end : (d : DoorData) (seats : List SeatData) (end : Result Closed CloseFault) → d.config.slots ≤ MAX_SLOTS → IfOk end (λ (closed : Closed). Closes d seats closed.history.items) →
+    IfOk end (λ (closed : Closed). IsOwnHistory d.config closed.history.items)
 own_end d seats (Ok closed) slots closes = own_history d seats closed.history.items slots closes
 own_end d seats (Err fault) slots closes = tt
 

@@ -61,7 +61,8 @@ both_given_back all seen seats own before after =
 pub before_given_back : (all seen : List FrontData) (seats : List SeatData) → All (IsGivenBack all) seats → All (IsGivenBack (all ++ seen)) seats
 before_given_back all seen seats before = more_fronts all (all ++ seen) seats (within_left all seen) before
 
-pub session_given_back : (c : ClientSeen) (bytes left written out : Option (List ℕ)) (seats : List SeatData) (fronts : List FrontData) (end : SessionEnd) → IsClient c → ServesClient c bytes left written out seats fronts end → All (IsGivenBack fronts) seats
+pub session_given_back : (c : ClientSeen) (bytes left written out : Option (List ℕ)) (seats : List SeatData) (fronts : List FrontData) (end : SessionEnd) → IsClient c →
+    ServesClient c bytes left written out seats fronts end → All (IsGivenBack fronts) seats
 session_given_back c bytes left written out seats fronts end begins serves k s low = inr (record {
   client = c;
   begins = begins;
@@ -78,7 +79,8 @@ session_given_back c bytes left written out seats fronts end begins serves k s l
 })
 
 module _ (are : SeatData → Type 0) where
-  asked_end : (d : DoorData) (seats : List SeatData) (end : Result Closed CloseFault) → All are seats → IsEnd d (filter (is_of d.tenant) seats) end → IfOk end (λ (closed : Closed). IsAskedBy are d closed.history.items)
+  asked_end : (d : DoorData) (seats : List SeatData) (end : Result Closed CloseFault) → All are seats → IsEnd d (filter (is_of d.tenant) seats) end →
+      IfOk end (λ (closed : Closed). IsAskedBy are d closed.history.items)
   asked_end d seats (Ok closed) each e = record {
     seats = filter (is_of d.tenant) seats;
     closes = e.closed;

@@ -15,7 +15,8 @@ head_same d e ds es is = cc is
 tail_same : (d e : DoorData) (ds es : List DoorData) → d ∷ ds ≡ e ∷ es → ds ≡ es
 tail_same d e ds es is = cc is
 
-pub own_from : (n k : ℕ) (ts : List Tenant) (doors : List DoorData) (seats : List SeatData) (ends : List (Result Closed CloseFault)) → map plain doors ≡ map (door_of n) (enumerate_from k ts) → AllZip (λ (d : DoorData) end. IsEnd d (filter (is_of d.tenant) seats) end) doors ends → AreOwnEnds ts ends
+pub own_from : (n k : ℕ) (ts : List Tenant) (doors : List DoorData) (seats : List SeatData) (ends : List (Result Closed CloseFault)) → map plain doors ≡ map (door_of n) (enumerate_from k ts) →
+    AllZip (λ (d : DoorData) end. IsEnd d (filter (is_of d.tenant) seats) end) doors ends → AreOwnEnds ts ends
 own_from n k [] [] seats [] are all = tt
 own_from n k [] [] seats (e ∷ es) are all = absurd all
 own_from n k [] (d ∷ ds) seats ends are all = absurd (cc are)

@@ -9,7 +9,8 @@ use Rattle.session_core.specs.Replies.{RepliesTo}
 use Rattle.job_language.specs.Collecting.{IsCollect}
 
 module _ {D : Type 0} (asks : D → Request → Answered → D → Type 0) (waits : D → ℕ → Bool → D → Type 0) (attends : Attended → D → D → Type 0) where
-  pub replies_other : (request : Request) (a : Answered) (d e : D) → ((job : Job) → request ≡ Execute job → ⊥) → (IsCollect request → ⊥) → asks d request a e → RepliesTo asks waits attends request (Some a.reply) d e
+  pub replies_other : (request : Request) (a : Answered) (d e : D) → ((job : Job) → request ≡ Execute job → ⊥) → (IsCollect request → ⊥) → asks d request a e →
+      RepliesTo asks waits attends request (Some a.reply) d e
   replies_other (Hello name) a d e not_execute not_collect asked = (a.reply, (refl, (a.placed, asked)))
   replies_other (Submit job) a d e not_execute not_collect asked = (a.reply, (refl, (a.placed, asked)))
   replies_other (Execute job) a d e not_execute not_collect asked = absurd (not_execute job refl)

@@ -14,6 +14,7 @@ written_alone failed spent written TurnLimit none = absurd none
 written_alone failed spent written Stopped is = tt
 
 -- The end of an answer that failed.
-pub cause_of_answer : (failed spent written : Type 0) (answered : Result (Unit {0}) SessionEnd) (end : SessionEnd) → answered ≡ Err end → IfErr answered (HasCause ⊥ ⊥ written) → HasCause failed spent written end
+pub cause_of_answer : (failed spent written : Type 0) (answered : Result (Unit {0}) SessionEnd) (end : SessionEnd) → answered ≡ Err end → IfErr answered (HasCause ⊥ ⊥ written) →
+    HasCause failed spent written end
 cause_of_answer failed spent written answered end is cause =
     written_alone failed spent written end (subst (λ (r : Result (Unit {0}) SessionEnd). IfErr r (HasCause ⊥ ⊥ written)) is cause)

@@ -22,8 +22,10 @@ pub same_end : (answered : Result (Unit {0}) SessionEnd) (a b : SessionEnd) → 
 same_end answered a b first then_on = ap end_in (sym first ∙ then_on)
 
 module _ {S : Type 0} (replies : List ℕ → S → Option Reply → S → Type 0) where
-  says_snoc : (lines : List Line) (line : Line) (d e f : S) (first rest : List ℕ) → SaysAll replies lines d first e → Says replies line e rest f → SaysAll replies (lines ++ line ∷ []) d (first ++ rest) f
-  says_snoc [] line d e f first rest none says = (f, rest, [], (let P : S → Type 0 = λ x. Says replies line x rest f in subst P none.1 says, (refl, refl), ap (λ t. t ++ rest) none.0 ∙ sym (append-nil rest)))
+  says_snoc : (lines : List Line) (line : Line) (d e f : S) (first rest : List ℕ) → SaysAll replies lines d first e → Says replies line e rest f →
+      SaysAll replies (lines ++ line ∷ []) d (first ++ rest) f
+  says_snoc [] line d e f first rest none says =
+      (f, rest, [], (let P : S → Type 0 = λ x. Says replies line x rest f in subst P none.1 says, (refl, refl), ap (λ t. t ++ rest) none.0 ∙ sym (append-nil rest)))
   says_snoc (x ∷ lines) line d e f first rest some says =
       (some.0, some.1, some.2 ++ rest, (some.3.0, says_snoc lines line some.0 e f some.2 rest some.3.1 says, ap (λ t. t ++ rest) some.3.2 ∙ append_assoc some.1 some.2 rest))
 
@@ -47,7 +49,8 @@ module _ {S : Type 0} (replies : List ℕ → S → Option Reply → S → Type 
       wrote = so_far.wrote;
     }
 
-    pub goes_on : (line : Line) (said : List ℕ) (new2 : S) (out2 : Option (List ℕ)) → Reads now next left left2 (line ∷ []) → Says replies line new said new2 → Appends out out2 said → Served replies next bytes left2 written out2 old new2
+    pub goes_on : (line : Line) (said : List ℕ) (new2 : S) (out2 : Option (List ℕ)) → Reads now next left left2 (line ∷ []) → Says replies line new said new2 → Appends out out2 said →
+        Served replies next bytes left2 written out2 old new2
     goes_on line said new2 out2 reads says wrote = record {
       lines = so_far.lines ++ line ∷ [];
       said = so_far.said ++ said;
@@ -56,7 +59,8 @@ module _ {S : Type 0} (replies : List ℕ → S → Option Reply → S → Type 
       wrote = Appends-trans written out out2 so_far.said said so_far.wrote wrote;
     }
 
-    pub breaks : (line : Line) (said : List ℕ) (sent : ℕ) (new2 : S) (out2 : Option (List ℕ)) → Reads now next left left2 (line ∷ []) → Says replies line new said new2 → sent < length said → Appends out out2 (take sent said) → Broke replies next bytes left2 written out2 old new2 sent
+    pub breaks : (line : Line) (said : List ℕ) (sent : ℕ) (new2 : S) (out2 : Option (List ℕ)) → Reads now next left left2 (line ∷ []) → Says replies line new said new2 → sent < length said →
+        Appends out out2 (take sent said) → Broke replies next bytes left2 written out2 old new2 sent
     breaks line said sent new2 out2 reads says short wrote = record {
       lines = so_far.lines;
       last = line;
@@ -70,7 +74,8 @@ module _ {S : Type 0} (replies : List ℕ → S → Option Reply → S → Type 
       wrote = Appends-trans written out out2 so_far.said (take sent said) so_far.wrote wrote;
     }
 
-    pub stops_at : (text : List ℕ) (new2 : S) (out2 : Option (List ℕ)) → Reads now next left left2 (whole text ∷ []) → Stops replies text new new2 → Appends out out2 [] → Waited replies next bytes left2 written out2 old new2
+    pub stops_at : (text : List ℕ) (new2 : S) (out2 : Option (List ℕ)) → Reads now next left left2 (whole text ∷ []) → Stops replies text new new2 → Appends out out2 [] →
+        Waited replies next bytes left2 written out2 old new2
     stops_at text new2 out2 reads stops wrote = record {
       lines = so_far.lines;
       last = text;
@@ -83,15 +88,18 @@ module _ {S : Type 0} (replies : List ℕ → S → Option Reply → S → Type 
     }
 
     -- what is answered is whole, and the session goes on
-    pub line_goes_on : (text : List ℕ) (new2 : S) (out2 : Option (List ℕ)) (answered : Result (Unit {0}) SessionEnd) → ((end : SessionEnd) → answered ≡ Err end → ⊥) → Reads now next left left2 (whole text ∷ []) → Answers replies text new new2 out out2 answered → Served replies next bytes left2 written out2 old new2
+    pub line_goes_on : (text : List ℕ) (new2 : S) (out2 : Option (List ℕ)) (answered : Result (Unit {0}) SessionEnd) → ((end : SessionEnd) → answered ≡ Err end → ⊥) →
+        Reads now next left left2 (whole text ∷ []) → Answers replies text new new2 out out2 answered → Served replies next bytes left2 written out2 old new2
     line_goes_on text new2 out2 (Ok u) not_err reads h = goes_on (whole text) h.0 new2 out2 reads h.1.0 h.1.1
     line_goes_on text new2 out2 (Err end) not_err reads h = absurd (not_err end refl)
 
-    pub long_goes_on : (out2 : Option (List ℕ)) (answered : Result (Unit {0}) SessionEnd) → ((end : SessionEnd) → answered ≡ Err end → ⊥) → Reads now next left left2 (too_long ∷ []) → RefusesLong out out2 answered → Served replies next bytes left2 written out2 old new
+    pub long_goes_on : (out2 : Option (List ℕ)) (answered : Result (Unit {0}) SessionEnd) → ((end : SessionEnd) → answered ≡ Err end → ⊥) → Reads now next left left2 (too_long ∷ []) →
+        RefusesLong out out2 answered → Served replies next bytes left2 written out2 old new
     long_goes_on out2 (Ok u) not_err reads h = goes_on too_long refusal new out2 reads (refl, refl) h
     long_goes_on out2 (Err end) not_err reads h = absurd (not_err end refl)
 
-    line_ends_in : (text : List ℕ) (new2 : S) (out2 : Option (List ℕ)) (end : SessionEnd) → Reads now next left left2 (whole text ∷ []) → Answers replies text new new2 out out2 (Err end) → ServesTo replies next bytes left2 written out2 old new2 end
+    line_ends_in : (text : List ℕ) (new2 : S) (out2 : Option (List ℕ)) (end : SessionEnd) → Reads now next left left2 (whole text ∷ []) → Answers replies text new new2 out out2 (Err end) →
+        ServesTo replies next bytes left2 written out2 old new2 end
     line_ends_in text new2 out2 (WriteFault sent) reads h = breaks (whole text) h.0 sent new2 out2 reads h.1.0 h.1.1 h.1.2
     line_ends_in text new2 out2 Stopped reads h = stops_at text new2 out2 reads h.0 h.1
     line_ends_in text new2 out2 Ended reads h = absurd h
@@ -99,7 +107,8 @@ module _ {S : Type 0} (replies : List ℕ → S → Option Reply → S → Type 
     line_ends_in text new2 out2 TurnLimit reads h = absurd h
 
     -- the answer is cut short, or there is none
-    pub line_ends : (text : List ℕ) (new2 : S) (out2 : Option (List ℕ)) (answered : Result (Unit {0}) SessionEnd) (end : SessionEnd) → answered ≡ Err end → Reads now next left left2 (whole text ∷ []) → Answers replies text new new2 out out2 answered → ServesTo replies next bytes left2 written out2 old new2 end
+    pub line_ends : (text : List ℕ) (new2 : S) (out2 : Option (List ℕ)) (answered : Result (Unit {0}) SessionEnd) (end : SessionEnd) → answered ≡ Err end →
+        Reads now next left left2 (whole text ∷ []) → Answers replies text new new2 out out2 answered → ServesTo replies next bytes left2 written out2 old new2 end
     line_ends text new2 out2 answered end is reads h =
         let P : Result (Unit {0}) SessionEnd → Type 0 = λ x. Answers replies text new new2 out out2 x in
         line_ends_in text new2 out2 end reads (subst P is h)
@@ -111,7 +120,8 @@ module _ {S : Type 0} (replies : List ℕ → S → Option Reply → S → Type 
     long_ends_in out2 ReadFault reads h = absurd h
     long_ends_in out2 TurnLimit reads h = absurd h
 
-    pub long_ends : (out2 : Option (List ℕ)) (answered : Result (Unit {0}) SessionEnd) (end : SessionEnd) → answered ≡ Err end → Reads now next left left2 (too_long ∷ []) → RefusesLong out out2 answered → ServesTo replies next bytes left2 written out2 old new end
+    pub long_ends : (out2 : Option (List ℕ)) (answered : Result (Unit {0}) SessionEnd) (end : SessionEnd) → answered ≡ Err end → Reads now next left left2 (too_long ∷ []) →
+        RefusesLong out out2 answered → ServesTo replies next bytes left2 written out2 old new end
     long_ends out2 answered end is reads h =
         let P : Result (Unit {0}) SessionEnd → Type 0 = λ x. RefusesLong out out2 x in
         long_ends_in out2 end reads (subst P is h)

@@ -11,7 +11,8 @@ module _ {D : Type 0} (asks : D → Request → Answered → D → Type 0) (wait
   pub gives : (request : Request) (r : Reply) (a : Answered) (d e : D) → a.reply ≡ r → asks d request a e → Gives asks request r d e
   gives request r a d e is asked = (a.placed, subst (λ x. asks d request (record { reply = x; placed = a.placed }) e) is asked)
 
-  pub pends_more : (releases : Bool) (job n : ℕ) (d f g e : D) → Pends asks waits releases job n d f → Gives asks (collecting releases job) reply.Pending f g → waits g job false e → Pends asks waits releases job (n + 1) d e
+  pub pends_more : (releases : Bool) (job n : ℕ) (d f g e : D) → Pends asks waits releases job n d f → Gives asks (collecting releases job) reply.Pending f g → waits g job false e →
+      Pends asks waits releases job (n + 1) d e
   pends_more releases job n d f g e so_far pending goes_on =
       let next : suc n ≡ n + 1 = omega arith in
       subst (λ k. Pends asks waits releases job k d e) next (f, g, (so_far, pending, goes_on))

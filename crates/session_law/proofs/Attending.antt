@@ -93,7 +93,8 @@ formed d ts s at is = elim (slice_get_cases d.arenas.items d.tenant).1 [
 ]
 
 -- the bound tenant's state after an advance
-moved_state : (ts : Tenants) (s : State) → bound_state ts ≡ Some s → ((moved_by ts).0 ≡ (advance s ts.slot).0) × (bound_state (moved_by ts).1 ≡ Some (advance s ts.slot).1) × (height_in ts ≡ height s.rows ts.slot)
+moved_state : (ts : Tenants) (s : State) → bound_state ts ≡ Some s →
+    ((moved_by ts).0 ≡ (advance s ts.slot).0) × (bound_state (moved_by ts).1 ≡ Some (advance s ts.slot).1) × (height_in ts ≡ height s.rows ts.slot)
 moved_state ts s is =
     let t = (advance s ts.slot).1 in
     let within = slice_get_within ts.states ts.bound s is in
@@ -134,7 +135,8 @@ few (m ∷ ms) d e ts leads at = elim (slice_get_cases ts.states ts.bound).1 [
       absurd (on.1 (one.1 ∙ ap (λ o. (moved_of ts o).0) past.1))
 ]
 
-pub attends_at : (d e : ArenaDoors) (ts : Tenants) (how : Attended) → AreAt d ts → Attends (Turn Sees Commits Advances) IsAsHigh Pauses 1 how d e → (us : Tenants) × (AttendsSlot how ts us × AreAt e us)
+pub attends_at : (d e : ArenaDoors) (ts : Tenants) (how : Attended) → AreAt d ts → Attends (Turn Sees Commits Advances) IsAsHigh Pauses 1 how d e →
+    (us : Tenants) × (AttendsSlot how ts us × AreAt e us)
 attends_at d e ts Below at is =
     let ms = is.0.answers in
     let there = led ms d e ts is.0.leads at in

@@ -17,7 +17,8 @@ use Rattle.session_law.proofs.Simulating.{Both, replies, serves_beside}
 abbrev pub RepliesAt : (text : List ℕ) → Bool × ArenaDoors → Option Reply → Bool × ArenaDoors → Type 0
 RepliesAt text s r t = Replies Finds Binds Asks Waits (Attends (Turn Sees Commits Advances) IsAsHigh Pauses 1) text s r t
 
-pub served_at : (d e : ArenaDoors) (ts : Tenants) (bytes left written out : Option (List ℕ)) (how : SessionEnd) → AreAt d ts → Serves RepliesAt bytes left written out (false, d) e how → ServesTenants bytes left written out ts e how
+pub served_at : (d e : ArenaDoors) (ts : Tenants) (bytes left written out : Option (List ℕ)) (how : SessionEnd) → AreAt d ts → Serves RepliesAt bytes left written out (false, d) e how →
+    ServesTenants bytes left written out ts e how
 served_at d e ts bytes left written out how at is =
     let one = replies AreAt Finds Binds Asks Waits (Attends (Turn Sees Commits Advances) IsAsHigh Pauses 1) FindsTenant BindsTenant AsksTenant WaitsForJob AttendsSlot
     (λ d x name t at finds. finds x at)

@@ -28,7 +28,8 @@ use Rattle.session_core.specs.declared.serving.SessionEnd.TheVariants as end
 abbrev pub Both : {D E : Type 0} → (D → E → Type 0) → Bool × D → Bool × E → Type 0
 Both {D = D} {E = E} at s t = (t.0 ≡ s.0) × at s.1 t.1
 
-module _ {D E : Type 0} (at : D → E → Type 0) (finds : Finds D) (binds : Binds D) (asks : Asks D) (waits : Waits D) (attends : AttendsTo D) (finds_by : Finds E) (binds_by : Binds E) (asks_by : Asks E) (waits_by : Waits E) (attends_by : AttendsTo E)
+module _ {D E : Type 0} (at : D → E → Type 0) (finds : Finds D) (binds : Binds D) (asks : Asks D) (waits : Waits D) (attends : AttendsTo D) (finds_by : Finds E) (binds_by : Binds E) (asks_by : Asks E)
+    (waits_by : Waits E) (attends_by : AttendsTo E)
     (found : (d : D) (x : E) (name : List ℕ) (t : Option ℕ) → at d x → finds d name t → finds_by x name t)
     (bound : (d e : D) (x : E) (t : ℕ) (u : Unit {0}) → at d x → binds d t (Ok u) e → (y : E) × (binds_by x t (Ok u) y × at e y))
     (unbound : (d : D) (x : E) (t : ℕ) (error : Error) → at d x → binds d t (Err error) d → binds_by x t (Err error) x)
@@ -64,19 +65,22 @@ module _ {D E : Type 0} (at : D → E → Type 0) (finds : Finds D) (binds : Bin
         (all.0, (inr (c.0, (c.1.0, all.1.0)), all.1.1))
   ]
 
-  after_attending : (job : ℕ) (how : Attended) (r : Option Reply) (d e : D) (x : E) → at d x → AfterAttending asks waits job how r d e → (y : E) × (AfterAttending asks_by waits_by job how r x y × at e y)
+  after_attending : (job : ℕ) (how : Attended) (r : Option Reply) (d e : D) (x : E) → at d x → AfterAttending asks waits job how r d e →
+      (y : E) × (AfterAttending asks_by waits_by job how r x y × at e y)
   after_attending job Below r d e x is c = collects false job r d e x is c
   after_attending job Full r d e x is c = (x, ((c.0, refl), subst (λ f. at f x) (sym c.1) is))
   after_attending job Stopped r d e x is c = (x, ((c.0, refl), subst (λ f. at f x) (sym c.1) is))
 
-  follows : (job : ℕ) (placed : Bool) (r : Option Reply) (d e : D) (x : E) → at d x → Follows asks waits attends job placed r d e → (y : E) × (Follows asks_by waits_by attends_by job placed r x y × at e y)
+  follows : (job : ℕ) (placed : Bool) (r : Option Reply) (d e : D) (x : E) → at d x → Follows asks waits attends job placed r d e →
+      (y : E) × (Follows asks_by waits_by attends_by job placed r x y × at e y)
   follows job true r d e x is f =
       let first = attended d f.1 x f.0 is f.2.0 in
       let next = after_attending job f.0 r f.1 e first.0 first.1.1 f.2.1 in
       (next.0, ((f.0, first.0, (first.1.0, next.1.0)), next.1.1))
   follows job false r d e x is f = collects false job r d e x is f
 
-  after_execute : (made : Reply) (placed : Bool) (r : Option Reply) (d e : D) (x : E) → at d x → AfterExecute asks waits attends made placed r d e → (y : E) × (AfterExecute asks_by waits_by attends_by made placed r x y × at e y)
+  after_execute : (made : Reply) (placed : Bool) (r : Option Reply) (d e : D) (x : E) → at d x → AfterExecute asks waits attends made placed r d e →
+      (y : E) × (AfterExecute asks_by waits_by attends_by made placed r x y × at e y)
   after_execute (reply.Made job) placed r d e x is f = follows job placed r d e x is f
   after_execute (reply.Placed job slot) placed r d e x is f = follows job placed r d e x is f
   after_execute (reply.Bound name) placed r d e x is f = (x, ((f.0, refl), subst (λ g. at g x) (sym f.1) is))
@@ -89,7 +93,8 @@ module _ {D E : Type 0} (at : D → E → Type 0) (finds : Finds D) (binds : Bin
   after_execute reply.Pending placed r d e x is f = (x, ((f.0, refl), subst (λ g. at g x) (sym f.1) is))
   after_execute (reply.Refused error) placed r d e x is f = (x, ((f.0, refl), subst (λ g. at g x) (sym f.1) is))
 
-  answers : (q : Request) (r : Option Reply) (d e : D) (x : E) → at d x → ((given : Reply) × ((r ≡ Some given) × Gives asks q given d e)) → (y : E) × (((given : Reply) × ((r ≡ Some given) × Gives asks_by q given x y)) × at e y)
+  answers : (q : Request) (r : Option Reply) (d e : D) (x : E) → at d x → ((given : Reply) × ((r ≡ Some given) × Gives asks q given d e)) →
+      (y : E) × (((given : Reply) × ((r ≡ Some given) × Gives asks_by q given x y)) × at e y)
   answers q r d e x is g =
       let next = gives q g.0 d e x is g.1.1 in
       (next.0, ((g.0, (g.1.0, next.1.0)), next.1.1))
@@ -113,55 +118,64 @@ module _ {D E : Type 0} (at : D → E → Type 0) (finds : Finds D) (binds : Bin
   stays : (s u : Bool × D) (t : Bool × E) → Both at s t → u ≡ s → Both at u t
   stays s u t is same = subst (λ v. Both at v t) (sym same) is
 
-  greets_binding : (name : List ℕ) (n : ℕ) (answer : Result (Unit {0}) Error) (d : D) (x : E) (r : Reply) (u : Bool × D) → at d x → GreetsBinding binds name n answer d r u → (v : Bool × E) × (GreetsBinding binds_by name n answer x r v × Both at u v)
+  greets_binding : (name : List ℕ) (n : ℕ) (answer : Result (Unit {0}) Error) (d : D) (x : E) (r : Reply) (u : Bool × D) → at d x → GreetsBinding binds name n answer d r u →
+      (v : Bool × E) × (GreetsBinding binds_by name n answer x r v × Both at u v)
   greets_binding name n (Ok a) d x r u is g =
       let next = bound d u.1 x n a is g.2 in
       ((true, next.0), ((g.0, refl, next.1.0), (sym g.1, next.1.1)))
   greets_binding name n (Err error) d x r u is g = ((false, x), ((g.0, refl, unbound d x n error is g.2), stays (false, d) u (false, x) (refl, is) g.1))
 
-  greets_found : (name : List ℕ) (tenant : Option ℕ) (d : D) (x : E) (r : Reply) (u : Bool × D) → at d x → GreetsFound binds name tenant d r u → (v : Bool × E) × (GreetsFound binds_by name tenant x r v × Both at u v)
+  greets_found : (name : List ℕ) (tenant : Option ℕ) (d : D) (x : E) (r : Reply) (u : Bool × D) → at d x → GreetsFound binds name tenant d r u →
+      (v : Bool × E) × (GreetsFound binds_by name tenant x r v × Both at u v)
   greets_found name (Some n) d x r u is g =
       let next = greets_binding name n g.0 d x r u is g.1 in
       (next.0, ((g.0, next.1.0), next.1.1))
   greets_found name None d x r u is g = ((false, x), ((g.0, refl), stays (false, d) u (false, x) (refl, is) g.1))
 
-  greets_first : (name : Option (List ℕ)) (d : D) (x : E) (r : Reply) (u : Bool × D) → at d x → GreetsFirst finds binds name d r u → (v : Bool × E) × (GreetsFirst finds_by binds_by name x r v × Both at u v)
+  greets_first : (name : Option (List ℕ)) (d : D) (x : E) (r : Reply) (u : Bool × D) → at d x → GreetsFirst finds binds name d r u →
+      (v : Bool × E) × (GreetsFirst finds_by binds_by name x r v × Both at u v)
   greets_first (Some name) d x r u is g =
       let next = greets_found name g.0 d x r u is g.1.1 in
       (next.0, ((g.0, (found d x name g.0 is g.1.0, next.1.0)), next.1.1))
   greets_first None d x r u is g = ((false, x), ((g.0, refl), stays (false, d) u (false, x) (refl, is) g.1))
 
-  greets : (b : Bool) (name : Option (List ℕ)) (d : D) (x : E) (r : Reply) (u : Bool × D) → at d x → Greets finds binds name (b, d) r u → (v : Bool × E) × (Greets finds_by binds_by name (b, x) r v × Both at u v)
+  greets : (b : Bool) (name : Option (List ℕ)) (d : D) (x : E) (r : Reply) (u : Bool × D) → at d x → Greets finds binds name (b, d) r u →
+      (v : Bool × E) × (Greets finds_by binds_by name (b, x) r v × Both at u v)
   greets true name d x r u is g = ((true, x), ((g.0, refl), stays (true, d) u (true, x) (refl, is) g.1))
   greets false name d x r u is g = greets_first name d x r u is g
 
   refused : (error : Error) (s : Bool × D) (t : Bool × E) (r : Option Reply) (u : Bool × D) → Both at s t → IsRefused error s r u → (v : Bool × E) × (IsRefused error t r v × Both at u v)
   refused error s t r u is g = (t, ((g.0, refl), stays s u t is g.1))
 
-  ready : (q : Result Request Error) (b : Bool) (d : D) (x : E) (r : Option Reply) (u : Bool × D) → at d x → RepliesReady asks waits attends q (b, d) r u → (v : Bool × E) × (RepliesReady asks_by waits_by attends_by q (b, x) r v × Both at u v)
+  ready : (q : Result Request Error) (b : Bool) (d : D) (x : E) (r : Option Reply) (u : Bool × D) → at d x → RepliesReady asks waits attends q (b, d) r u →
+      (v : Bool × E) × (RepliesReady asks_by waits_by attends_by q (b, x) r v × Both at u v)
   ready (Ok q) b d x r u is g =
       let next = replies_to q r d u.1 x is g.1 in
       ((b, next.0), ((refl, next.1.0), (sym g.0, next.1.1)))
   ready (Err error) b d x r u is g = refused error (b, d) (b, x) r u (refl, is) g
 
-  asked_any : (hello : Option (Option (List ℕ))) (a : AskedData) (b : Bool) (d : D) (x : E) (r : Option Reply) (u : Bool × D) → at d x → RepliesAsked finds binds asks waits attends hello a (b, d) r u → (v : Bool × E) × (RepliesAsked finds_by binds_by asks_by waits_by attends_by hello a (b, x) r v × Both at u v)
+  asked_any : (hello : Option (Option (List ℕ))) (a : AskedData) (b : Bool) (d : D) (x : E) (r : Option Reply) (u : Bool × D) → at d x →
+      RepliesAsked finds binds asks waits attends hello a (b, d) r u → (v : Bool × E) × (RepliesAsked finds_by binds_by asks_by waits_by attends_by hello a (b, x) r v × Both at u v)
   asked_any (Some name) a b d x r u is g =
       let next = greets b name d x g.0 u is g.1.1 in
       (next.0, ((g.0, (g.1.0, next.1.0)), next.1.1))
   asked_any None a true d x r u is g = ready (ready_of a) true d x r u is g
   asked_any None a false d x r u is g = refused error.NoTenant (false, d) (false, x) r u (refl, is) g
 
-  read : (a : Result AskedData Error) (b : Bool) (d : D) (x : E) (r : Option Reply) (u : Bool × D) → at d x → RepliesRead finds binds asks waits attends a (b, d) r u → (v : Bool × E) × (RepliesRead finds_by binds_by asks_by waits_by attends_by a (b, x) r v × Both at u v)
+  read : (a : Result AskedData Error) (b : Bool) (d : D) (x : E) (r : Option Reply) (u : Bool × D) → at d x → RepliesRead finds binds asks waits attends a (b, d) r u →
+      (v : Bool × E) × (RepliesRead finds_by binds_by asks_by waits_by attends_by a (b, x) r v × Both at u v)
   read (Ok a) b d x r u is g = asked_any (hello_in a) a b d x r u is g
   read (Err error) b d x r u is g = refused error (b, d) (b, x) r u (refl, is) g
 
-  replies_here : (text : List ℕ) (b : Bool) (d : D) (x : E) (r : Option Reply) (u : Bool × D) → at d x → Replies finds binds asks waits attends text (b, d) r u → (v : Bool × E) × (Replies finds_by binds_by asks_by waits_by attends_by text (b, x) r v × Both at u v)
+  replies_here : (text : List ℕ) (b : Bool) (d : D) (x : E) (r : Option Reply) (u : Bool × D) → at d x → Replies finds binds asks waits attends text (b, d) r u →
+      (v : Bool × E) × (Replies finds_by binds_by asks_by waits_by attends_by text (b, x) r v × Both at u v)
   replies_here text b d x r u is g = elim g [
     | inl g ↦ let next = read (asked_by text) b d x r u is g in (next.0, (inl next.1.0, next.1.1))
     | inr g ↦ let next = refused error.NoMemory (b, d) (b, x) r u (refl, is) g.1 in (next.0, (inr (g.0, next.1.0), next.1.1))
   ]
 
-  pub replies : (text : List ℕ) (s : Bool × D) (t : Bool × E) (r : Option Reply) (u : Bool × D) → Both at s t → Replies finds binds asks waits attends text s r u → (v : Bool × E) × (Replies finds_by binds_by asks_by waits_by attends_by text t r v × Both at u v)
+  pub replies : (text : List ℕ) (s : Bool × D) (t : Bool × E) (r : Option Reply) (u : Bool × D) → Both at s t → Replies finds binds asks waits attends text s r u →
+      (v : Bool × E) × (Replies finds_by binds_by asks_by waits_by attends_by text t r v × Both at u v)
   replies text s t r u is g =
       let next = replies_here text s.0 s.1 t.1 r u is.1 g in
       subst (λ b. (v : Bool × E) × (Replies finds_by binds_by asks_by waits_by attends_by text (b, t.1) r v × Both at u v)) (sym is.0) next
@@ -204,8 +218,13 @@ module _ {S T : Type 0} (beside : S → T → Type 0) (replies_s : List ℕ → 
     serves_beside end.TurnLimit g = let all = served g.0 in (all.0, ((all.1.0, g.1, g.2), all.1.1))
     serves_beside (end.WriteFault sent) g =
         let all = says_all g.lines old g.mid begins g.said is g.says in
-        let last = says g.last g.mid new all.0 g.cut all.1.1 g.says_last in
-        (last.0, (record { lines = g.lines; last = g.last; said = g.said; cut = g.cut; mid = all.0; reads = g.reads; says = all.1.0; says_last = last.1.0; short = g.short; wrote = g.wrote }, last.1.1))
+        let last = says g.last g.mid new all.0 g.cut all.1.1 g.says_last in (
+          last.0,
+          (
+            record { lines = g.lines; last = g.last; said = g.said; cut = g.cut; mid = all.0; reads = g.reads; says = all.1.0; says_last = last.1.0; short = g.short; wrote = g.wrote },
+            last.1.1,
+          ),
+        )
     serves_beside end.Stopped g =
         let all = says_all g.lines old g.mid begins g.said is g.says in
         let last = stops_by g.last (is_blank_line g.last) g.mid new all.0 all.1.1 g.stops in

@@ -54,7 +54,8 @@ module _ (d e : ArenaDoors) (x b : Held) (within : d.tenant < length d.arenas.it
       let there = stood d.arenas.items ts.states at.stand d.tenant x (empty x.config) within in
       (s, (subst (λ t. slice_get ts.states t ≡ Some s) at.bound there.0, subst (λ a. StandsFor a s) (sym is) there.1))
 
-  set_at : (ts : Tenants) (s : State) (slot : ℕ) → AreAt d ts → e.arenas.items ≡ slice_set d.arenas.items d.tenant b → e.tenant ≡ d.tenant → e.slot ≡ slot → StandsFor b s → AreAt e (record (with_state ts s) { slot = slot })
+  set_at : (ts : Tenants) (s : State) (slot : ℕ) → AreAt d ts → e.arenas.items ≡ slice_set d.arenas.items d.tenant b → e.tenant ≡ d.tenant → e.slot ≡ slot → StandsFor b s →
+      AreAt e (record (with_state ts s) { slot = slot })
   set_at ts s slot at arenas tenant same stands = record {
     stand =
         let whole = stand_set d.arenas.items ts.states at.stand d.tenant b s stands in
@@ -80,7 +81,8 @@ module _ (d e : ArenaDoors) (x b : Held) (within : d.tenant < length d.arenas.it
         subst (λ o. (us : Tenants) × (CommitsOf seen m ts us o × AreAt e us)) (sym there.1.0)
         (with_state ts takes.0, ((takes.0, (takes.1.0, refl)), set_at ts takes.0 ts.slot at arenas tenant (same ∙ at.slot) takes.1.1))
 
-    pub asks_at : (request : Request) (r : Reply) (placed : Bool) → placed ≡ is_some (placed_on r) → e.slot ≡ unwrap_or (placed_on r) d.slot → ((s : State) → StandsFor x s → Takes b r (ask s request)) → Asks d request (record { reply = r; placed = placed }) e
+    pub asks_at : (request : Request) (r : Reply) (placed : Bool) → placed ≡ is_some (placed_on r) → e.slot ≡ unwrap_or (placed_on r) d.slot →
+        ((s : State) → StandsFor x s → Takes b r (ask s request)) → Asks d request (record { reply = r; placed = placed }) e
     asks_at request r placed told led took = λ ts at.
         let there = bound_at ts at in
         let takes = took there.0 there.1.1 in
@@ -116,7 +118,8 @@ unplaced reply.Pending none = refl
 unplaced (reply.Refused error) none = refl
 
 -- the tenant of a number, which has an arena
-pub item_at : (d : ArenaDoors) (ts : Tenants) (n : ℕ) (x : Held) → AreAt d ts → n < length d.arenas.items → x ≡ slice_index_or d.arenas.items n x → (s : State) × ((slice_get ts.states n ≡ Some s) × StandsFor x s)
+pub item_at : (d : ArenaDoors) (ts : Tenants) (n : ℕ) (x : Held) → AreAt d ts → n < length d.arenas.items → x ≡ slice_index_or d.arenas.items n x →
+    (s : State) × ((slice_get ts.states n ≡ Some s) × StandsFor x s)
 item_at d ts n x at within is =
     let there = stood d.arenas.items ts.states at.stand n x (empty x.config) within in
     (slice_index_or ts.states n (empty x.config), (there.0, subst (λ a. StandsFor a (slice_index_or ts.states n (empty x.config))) (sym is) there.1))

@@ -44,7 +44,8 @@ takes b m s t slot seen is commits stands = elim commits [
   | inr stale ↦ absurd (stale.0 is)
 ]
 
-moves : (d e : ArenaDoor) (seen : View) (m : Moved) (s : State) → SeesSlot d seen → MovesBy CommitsSlot AdvancesSlot seen d m e → StandsFor d.arena.now s → IsSameDoor d e × Takes e.arena.now m (advance s d.slot)
+moves : (d e : ArenaDoor) (seen : View) (m : Moved) (s : State) → SeesSlot d seen → MovesBy CommitsSlot AdvancesSlot seen d m e → StandsFor d.arena.now s →
+    IsSameDoor d e × Takes e.arena.now m (advance s d.slot)
 moves d e (view.Top t) m s sees by stands =
     let commits = by.1 s stands in
     (by.0, takes e.arena.now m s commits.0 d.slot t (topmost s d.slot (top s.rows d.slot) t refl (sees s stands)) commits.1.0 commits.1.1)
@@ -115,7 +116,8 @@ module _ (floor : ℕ) (base : ArenaDoor) where
       let moved = moves d e step.0 m s step.1.0 step.1.1 stands in
       (same_after base d e same moved.0, subst (λ (slot : ℕ). Takes e.arena.now m (advance s slot)) same.1 moved.1)
 
-  led : (ms : List Moved) (d e : ArenaDoor) (s : State) → Leads turn PausesSlot ms d e → IsSameDoor base d → StandsFor d.arena.now s → IsSameDoor base e × StandsFor e.arena.now (advanced s base.slot (length ms))
+  led : (ms : List Moved) (d e : ArenaDoor) (s : State) → Leads turn PausesSlot ms d e → IsSameDoor base d → StandsFor d.arena.now s →
+      IsSameDoor base e × StandsFor e.arena.now (advanced s base.slot (length ms))
   led [] d e s leads same stands = subst (λ (x : ArenaDoor). IsSameDoor base x × StandsFor x.arena.now s) (sym leads) (same, stands)
   led (m ∷ ms) d e s leads same stands =
       let one = turned d leads.0 m s leads.2.0 same stands in
@@ -134,7 +136,8 @@ module _ (floor : ℕ) (base : ArenaDoor) where
       (last.0, (subst (StandsFor e.arena.now) (ap (λ (r : Moved × State). r.1) still) last.1.1, still))
 
   -- Turns that are counted are entries, so there are no more of them than the history has room for.
-  counts : (ms : List Moved) (d e : ArenaDoor) (s : State) → 1 ≤ floor → Leads turn PausesSlot ms d e → IsSameDoor base d → StandsFor d.arena.now s → (length ms ≡ 0) ⊎ (s.entries + length ms ≤ s.config.steps)
+  counts : (ms : List Moved) (d e : ArenaDoor) (s : State) → 1 ≤ floor → Leads turn PausesSlot ms d e → IsSameDoor base d → StandsFor d.arena.now s →
+      (length ms ≡ 0) ⊎ (s.entries + length ms ≤ s.config.steps)
   counts [] d e s from leads same stands = inl refl
   counts (m ∷ ms) d e s from leads same stands =
       let t = (advance s base.slot).1 in
@@ -157,7 +160,8 @@ module _ (floor : ℕ) (base : ArenaDoor) where
     | inr more ↦ omega (arith, more, limit)
   ]
 
-  pub ends : (how : Attended) (e : ArenaDoor) (s : State) → 1 ≤ floor → s.config.steps ≤ MAX_STEPS → Ends turn IsSlotAsHigh PausesSlot floor how base e → StandsFor base.arena.now s → Attends floor how base.slot s e.arena.now
+  pub ends : (how : Attended) (e : ArenaDoor) (s : State) → 1 ≤ floor → s.config.steps ≤ MAX_STEPS → Ends turn IsSlotAsHigh PausesSlot floor how base e → StandsFor base.arena.now s →
+      Attends floor how base.slot s e.arena.now
   ends Below e s from limit is stands =
       let ms = is.0.answers in
       let there = led ms base e s is.0.leads (refl, refl) stands in

@@ -6,7 +6,8 @@ use Rattle.source_reader.specs.Trees.{FunctionTree}
 use Rattle.source_reader.specs.Lines.{after_line_ends}
 use Rattle.source_reader.specs.Functions.{one_more, no_more, functions_from}
 
-pub functions_none : (n : ℕ) (names : Scope) (known : List (Option ℕ)) (before : List FunctionTree) (ts : List Token) → n ≡ 0 → functions_from n names known before ts ≡ no_more before (after_line_ends ts)
+pub functions_none : (n : ℕ) (names : Scope) (known : List (Option ℕ)) (before : List FunctionTree) (ts : List Token) → n ≡ 0 →
+    functions_from n names known before ts ≡ no_more before (after_line_ends ts)
 unfolding functions_from
 functions_none zero names known before ts e = refl
 functions_none (suc n) names known before ts e = absurd (omega arith)

@@ -11,7 +11,8 @@ use Rattle.source_reader.specs.declared.functions.Named.{Named}
 use Rattle.source_reader.specs.declared.functions.Parameters.{Parameters}
 use Rattle.source_reader.specs.declared.functions.TheConstants.{BODY_FUEL}
 use Rattle.source_reader.specs.Faults.{◌>>=◌, fault_at}
-use Rattle.source_reader.specs.Trees.{StmtTree, FunctionTree, function_tree_of, SkipTree, ThenTree, AssignTree, IfTree, LoopTree, RepeatTree, BreakTree, ContinueTree, ReturnTree, MakeTree, WaitTree, CancelTree, ReadTree, StoreTree}
+use Rattle.source_reader.specs.Trees.{StmtTree, FunctionTree, function_tree_of, SkipTree, ThenTree, AssignTree, IfTree, LoopTree, RepeatTree, BreakTree, ContinueTree, ReturnTree, MakeTree, WaitTree}
+use Rattle.source_reader.specs.Trees.{CancelTree, ReadTree, StoreTree}
 use Rattle.source_reader.specs.Values.{unexpected, after_open, after_close}
 use Rattle.source_reader.specs.declared.names.Meaning.TheVariants as meaning
 use Rattle.source_reader.specs.Names.{Scope, WithName, number_after}

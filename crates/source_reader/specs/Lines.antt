@@ -4,7 +4,8 @@ use Rattle.source_tokens.specs.declared.tokens.Kind.{Kind}
 use Rattle.source_tokens.specs.declared.tokens.Kind.TheVariants as kind
 use Rattle.source_tokens.specs.declared.tokens.Token.{Token}
 use Rattle.source_reader.specs.declared.faults.Fault.{Fault}
-use Rattle.source_reader.specs.Trees.{ValueTree, StmtTree, Constant, NumberTree, TruthTree, SkipTree, ThenTree, AssignTree, IfTree, LoopTree, RepeatTree, BreakTree, ContinueTree, ReturnTree, MakeTree, WaitTree, CancelTree, ReadTree, StoreTree}
+use Rattle.source_reader.specs.Trees.{ValueTree, StmtTree, Constant, NumberTree, TruthTree, SkipTree, ThenTree, AssignTree, IfTree, LoopTree, RepeatTree, BreakTree, ContinueTree, ReturnTree, MakeTree}
+use Rattle.source_reader.specs.Trees.{WaitTree, CancelTree, ReadTree, StoreTree}
 use Rattle.source_reader.specs.declared.faults.Wrong.TheVariants as wrong
 use Rattle.source_reader.specs.declared.names.Meaning.{Meaning}
 use Rattle.source_reader.specs.Faults.{◌>>=◌, fault_at}

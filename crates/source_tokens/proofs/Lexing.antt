@@ -17,7 +17,8 @@ begins at b bs = refl
 here : (at : ℕ) (text : List ℕ) → at < length text → drop at text ≡ get_or text at 0 ∷ drop (at + 1) text
 here at text h = rw (add-one, drop-cons text at 0) refl
 
-pub goes_on : (front : List (ℕ × List ℕ)) (skip at : ℕ) (text : List ℕ) → 0 < skip → at < length text → front ++ lexemes_at (skip - 1) (at + 1) (drop (at + 1) text) ≡ front ++ lexemes_at skip at (drop at text)
+pub goes_on : (front : List (ℕ × List ℕ)) (skip at : ℕ) (text : List ℕ) → 0 < skip → at < length text →
+    front ++ lexemes_at (skip - 1) (at + 1) (drop (at + 1) text) ≡ front ++ lexemes_at skip at (drop at text)
 goes_on front skip at text more h =
     ap (λ (x : List (ℕ × List ℕ)). front ++ x) (inside skip at (get_or text at 0) (drop (at + 1) text) more ∙ ap (λ (t : List ℕ). lexemes_at skip at t) (sym (here at text h)))
 

@@ -45,6 +45,7 @@ replied c valid law text j x y fx fy program serial args n given all is = record
   value = λ v complete.
       let moves = replicate n (Advance 0) in
       let numbers : AreNumbers j.args = subst AreNumbers (sym args) (arguments_fit x y fx fy) in
-      let value : HasValue text j.args v = law (Ask (Execute j) ∷ moves ++ Ask (Poll 1) ∷ []) [] moves [] (Execute j) (Poll 1) j 1 v text refl refl program numbers serial (first_number c j valid) refl (sym is ∙ complete) in
+      let value : HasValue text j.args v =
+      law (Ask (Execute j) ∷ moves ++ Ask (Poll 1) ∷ []) [] moves [] (Execute j) (Poll 1) j 1 v text refl refl program numbers serial (first_number c j valid) refl (sym is ∙ complete) in
       subst (λ (l : List ℤ). HasValue text l v) args value;
 }

@@ -46,7 +46,8 @@ collected t j Cancelled v e = same_Some Cancelled (Complete v) e
 collected t j (Complete w) v e = same_Some (Complete w) (Complete v) e
 collected t j (Fault f) v e = same_Some (Fault f) (Complete v) e
 
-taken : (t u : State) (j : ℕ) (s : Status) (v : ℤ) (b : Bool) → status_told (if◌then◌else◌ {A = Reply × State} b (reply.Job j s, u) (reply.Pending, t)).0 ≡ Some (Complete v) → (if b then s else Running) ≡ Complete v
+taken : (t u : State) (j : ℕ) (s : Status) (v : ℤ) (b : Bool) → status_told (if◌then◌else◌ {A = Reply × State} b (reply.Job j s, u) (reply.Pending, t)).0 ≡ Some (Complete v) →
+    (if b then s else Running) ≡ Complete v
 taken t u j s v true e = same_Some s (Complete v) e
 taken t u j s v false e = absurd (none-some (Complete v) e)
 

@@ -12,8 +12,12 @@ use Rattle.source_language.specs.declared.syntax.Maker.TheVariants.{Spawn, Post,
 use Rattle.source_language.specs.declared.syntax.Stmt.{Stmt}
 use Rattle.source_language.specs.declared.syntax.Stmt.TheVariants as stmt
 use Rattle.source_language.specs.declared.syntax.Function.{Function}
-use Rattle.source_language.specs.Meaning.{value_of, test_of, on_both, result_of, if_true, if_false, is_nought, Operation, Spawns, Posts, Isolates, Waits, Cancels, Asks, Loads, Sums, Counts, Stores, Returns, Todo, Do, Turn, Next, Point, Act, Goes, Divides, Does, next_turn, past_loop, with_value, with_test, goes, act_of, act_on, act, vars_answered, answered_on, answered}
-use Rattle.source_reader.specs.Trees.{ExprTree, Constant, Variable, SlotTree, WidthTree, TwoTree, TestTree, HoldsTree, NotTree, BothTree, EitherTree, StmtTree, SkipTree, ThenTree, AssignTree, IfTree, LoopTree, RepeatTree, BreakTree, ContinueTree, ReturnTree, MakeTree, WaitTree, CancelTree, ReadTree, StoreTree, FunctionTree, tree_of, test_tree_of, stmt_tree_of, function_tree_of}
+use Rattle.source_language.specs.Meaning.{value_of, test_of, on_both, result_of, if_true, if_false, is_nought, Operation, Spawns, Posts, Isolates, Waits, Cancels, Asks, Loads, Sums, Counts, Stores}
+use Rattle.source_language.specs.Meaning.{Returns, Todo, Do, Turn, Next, Point, Act, Goes, Divides, Does, next_turn, past_loop, with_value, with_test, goes, act_of, act_on, act, vars_answered}
+use Rattle.source_language.specs.Meaning.{answered_on, answered}
+use Rattle.source_reader.specs.Trees.{ExprTree, Constant, Variable, SlotTree, WidthTree, TwoTree, TestTree, HoldsTree, NotTree, BothTree, EitherTree, StmtTree, SkipTree, ThenTree, AssignTree, IfTree}
+use Rattle.source_reader.specs.Trees.{LoopTree, RepeatTree, BreakTree, ContinueTree, ReturnTree, MakeTree, WaitTree, CancelTree, ReadTree, StoreTree, FunctionTree, tree_of, test_tree_of, stmt_tree_of}
+use Rattle.source_reader.specs.Trees.{function_tree_of}
 use Rattle.source_reader.specs.declared.faults.Fault.{Fault}
 use Rattle.source_serial.proofs.Back.{longer}
 use Rattle.source_value.specs.TextValues.{HasValue}
@@ -243,5 +247,6 @@ one_value text args v w a b =
     let long : m + n ≡ n + m = omega arith in
     let first : source_value fs args (n + m) ≡ Some v = value_longer fs args n m v a.gives in
     let second : source_value gs args (n + m) ≡ Some w = ap (source_value gs args) (sym long) ∙ value_longer gs args m n w b.gives in
-    let moves : source_value fs args (n + m) ≡ source_value gs args (n + m) = sym (value_moved fs args (n + m)) ∙ ap (λ (ts : List FunctionTree). source_value (map function_of ts) args (n + m)) same ∙ value_moved gs args (n + m) in
+    let moves : source_value fs args (n + m) ≡ source_value gs args (n + m) =
+    sym (value_moved fs args (n + m)) ∙ ap (λ (ts : List FunctionTree). source_value (map function_of ts) args (n + m)) same ∙ value_moved gs args (n + m) in
     same_Some v w (sym first ∙ moves ∙ second)

@@ -44,7 +44,8 @@ of_one_life seen whole now log one is =
     (subst (λ (b : Book). now ≡ record { life = seen.life; book = b; config = whole.config; log = log }) (sym one.book)
     (subst (λ (l : ℕ). now ≡ record { life = l; book = whole.book; config = whole.config; log = log }) (sym one.life) is))
 
-pub follows_last : (seen now whole : FrontData) (c d : CellData) → IsOneLife seen whole → IsPrefix seen.log whole.log → now ≡ record whole { log = whole.log ++ d ∷ [] } → GoesFrom whole.log d → d.config ≡ whole.config → IsLast whole.log c → Follows seen now c d
+pub follows_last : (seen now whole : FrontData) (c d : CellData) → IsOneLife seen whole → IsPrefix seen.log whole.log → now ≡ record whole { log = whole.log ++ d ∷ [] } → GoesFrom whole.log d →
+    d.config ≡ whole.config → IsLast whole.log c → Follows seen now c d
 follows_last seen now whole c d one pre is goes given last = record {
   logged = last.0;
   goes_on = subst (λ (log : List CellData). IsPrefix seen.log log) last.1 pre;
@@ -63,7 +64,8 @@ last_moment config log c are last =
     let here : slice_index_or log (length last.0) c ≡ c = rw last.1 (get_or_push last.0 c c (length last.0) refl) in
     subst (λ (x : CellData). IsMoment config x) here (are.each (length last.0) c (omega (arith, long)))
 
-pub finds_last : (seen now whole : FrontData) (c : CellData) → IsOneLife seen whole → IsPrefix seen.log whole.log → now ≡ whole → AreMoments whole.config whole.log → IsLast whole.log c → Finds seen now c
+pub finds_last : (seen now whole : FrontData) (c : CellData) → IsOneLife seen whole → IsPrefix seen.log whole.log → now ≡ whole → AreMoments whole.config whole.log → IsLast whole.log c →
+    Finds seen now c
 finds_last seen now whole c one pre is are last = record {
   logged = last.0;
   goes_on = subst (λ (log : List CellData). IsPrefix seen.log log) last.1 pre;

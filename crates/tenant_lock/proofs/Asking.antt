@@ -40,10 +40,12 @@ never s (request.Release j) is = grind (arith, is)
 never s (request.Take j) is = grind (arith, is)
 
 never_asked : (s : State) (r : Request) → (ask s r).0 ≡ reply.Refused NoMemory → ⊥
-never_asked s r = cond_both (is_full s && not (is_hello r)) (reply.Refused HistoryFull, s) (reply_to s r) (λ q. q.0 ≡ reply.Refused NoMemory → ⊥) (λ _ is. let no : reply.Refused HistoryFull ≡ reply.Refused NoMemory = is in cc) (λ _. never s r)
+never_asked s r = cond_both (is_full s && not (is_hello r)) (reply.Refused HistoryFull, s) (reply_to s r) (λ q. q.0 ≡ reply.Refused NoMemory → ⊥)
+    (λ _ is. let no : reply.Refused HistoryFull ≡ reply.Refused NoMemory = is in cc) (λ _. never s r)
 
 never_within : (b : Bool) (s : State) (r : Request) → (ask_within b s r).0 ≡ reply.Refused NoMemory → ⊥
-never_within b s r = cond_both (not b && not (is_hello r)) (reply.Refused HistoryFull, s) (ask s r) (λ q. q.0 ≡ reply.Refused NoMemory → ⊥) (λ _ is. let no : reply.Refused HistoryFull ≡ reply.Refused NoMemory = is in cc) (λ _. never_asked s r)
+never_within b s r = cond_both (not b && not (is_hello r)) (reply.Refused HistoryFull, s) (ask s r) (λ q. q.0 ≡ reply.Refused NoMemory → ⊥)
+    (λ _ is. let no : reply.Refused HistoryFull ≡ reply.Refused NoMemory = is in cc) (λ _. never_asked s r)
 
 -- Error 9 comes only to a request that brings a job.
 pub memory_of : (c : CellData) (seat : SeatData) (r : Request) (y : Reply) (d : CellData) → AnswersAsk c seat r y d → y ≡ reply.Refused NoMemory → IsSome (job_of r)

@@ -20,7 +20,8 @@ or_true true = refl
 or_true false = refl
 
 -- One slot more, which is named.
-pub named_more : (c : CellData) (is_over : Bool) (noted named left : List Bool) (at : ℕ) → at < 16 → ToldBelow c is_over noted named left at → is_in left at ≡ true → CanMove c is_over at → ToldBelow c is_over noted (slice_set named at true) (slice_set left at false) (at + 1)
+pub named_more : (c : CellData) (is_over : Bool) (noted named left : List Bool) (at : ℕ) → at < 16 → ToldBelow c is_over noted named left at → is_in left at ≡ true → CanMove c is_over at →
+    ToldBelow c is_over noted (slice_set named at true) (slice_set left at false) (at + 1)
 named_more c is_over noted named left at low told is can =
     let inside : at < length named = omega (arith, low, told.named_long) in
     let within : at < length left = omega (arith, low, told.left_long) in
@@ -48,7 +49,8 @@ named_more c is_over noted named left at low told is can =
     }
 
 -- One slot more, which is left, or was not noted.
-pub left_more : (c : CellData) (is_over : Bool) (noted named left : List Bool) (at : ℕ) → ToldBelow c is_over noted named left at → (is_in left at ≡ true → IsIdle c is_over at) → ToldBelow c is_over noted named left (at + 1)
+pub left_more : (c : CellData) (is_over : Bool) (noted named left : List Bool) (at : ℕ) → ToldBelow c is_over noted named left at → (is_in left at ≡ true → IsIdle c is_over at) →
+    ToldBelow c is_over noted named left (at + 1)
 left_more c is_over noted named left at told idle = record {
   each = told.each;
   once = told.once;
@@ -101,7 +103,8 @@ told_from c is_over noted long = record {
 }
 
 -- One slot more is noted, at which there is nothing to do.
-pub noted_more : (c : CellData) (is_over : Bool) (noted : List Bool) (at : ℕ) → ((slot : ℕ) → is_in noted slot ≡ true → IsIdle c is_over slot) → IsIdle c is_over at → (slot : ℕ) → is_in (slice_set noted at true) slot ≡ true → IsIdle c is_over slot
+pub noted_more : (c : CellData) (is_over : Bool) (noted : List Bool) (at : ℕ) → ((slot : ℕ) → is_in noted slot ≡ true → IsIdle c is_over slot) → IsIdle c is_over at → (slot : ℕ) →
+    is_in (slice_set noted at true) slot ≡ true → IsIdle c is_over slot
 noted_more c is_over noted at before idle slot there = elim (cases_eq slot at) [
   | inl same ↦ rw same idle
   | inr other ↦ before slot (sym (get_or-set_other noted at slot true false other) ∙ there)

@@ -21,7 +21,8 @@ noted_open c is_over None is = refl
 noted_open c is_over (Some jobs) is = is
 
 -- So it is when the job of one more seat is noted, or is among the others, that has to be waited for.
-pub added_open : (c : CellData) (is_over : Bool) (before : Option Jobs) (seat job : ℕ) → are_open c is_over before ≡ true → is_open c is_over job ≡ true → are_open c is_over (Some (added (jobs_of before) seat job)) ≡ true
+pub added_open : (c : CellData) (is_over : Bool) (before : Option Jobs) (seat job : ℕ) → are_open c is_over before ≡ true → is_open c is_over job ≡ true →
+    are_open c is_over (Some (added (jobs_of before) seat job)) ≡ true
 added_open c is_over before seat job opens is =
     let jobs = jobs_of before in
     let open_before = noted_open c is_over before opens in

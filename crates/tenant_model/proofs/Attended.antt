@@ -1,5 +1,6 @@
 -- Makers stay while what they made is open, unless their job has a fault.
-use Rattle.std.proofs.Common.{◌≡◌, ◌≢◌, ℕ, zero, suc, ◌+◌, ◌-◌, ◌==◌, ◌<◌, ◌≤◌, List, [], ◌∷◌, ◌++◌, length, get_or, Some, None, IsSome, true, false, ◌&&◌, refl, sym, ap, ◌∙◌, arith, inl, inr, ◌⊎◌, map, nat_lt, ℤ}
+use Rattle.std.proofs.Common.{◌≡◌, ◌≢◌, ℕ, zero, suc, ◌+◌, ◌-◌, ◌==◌, ◌<◌, ◌≤◌, List, [], ◌∷◌, ◌++◌, length, get_or, Some, None, IsSome, true, false, ◌&&◌, refl, sym, ap, ◌∙◌, arith, inl, inr, ◌⊎◌}
+use Rattle.std.proofs.Common.{map, nat_lt, ℤ}
 use Rattle.std.specs.Prelude.{nat_le, filter}
 use Rattle.std.specs.List.{enumerate_from}
 use Rattle.std.proofs.lemmas.Bool.{cases_eq, cases_lt}
@@ -50,7 +51,8 @@ MakersStay-beside s entries epoch cells is = record { groups = is.groups; makers
 
 -- some rows have ended, and each that made an open one has a fault in its job
 pub MakersStay-ends : (s : State) (rows : List Row) → EndsSome s.rows rows →
-    ((n m : ℕ) → is_open (row rows n).phase ≡ true → maker_of (row s.rows n).kind ≡ Some m → is_open (row s.rows m).phase ≡ true → is_open (row rows m).phase ≡ false → IsSome (job s.jobs (row s.rows n).job).fault) →
+    ((n m : ℕ) → is_open (row rows n).phase ≡ true → maker_of (row s.rows n).kind ≡ Some m → is_open (row s.rows m).phase ≡ true → is_open (row rows m).phase ≡ false →
+    IsSome (job s.jobs (row s.rows n).job).fault) →
     MakersStay s → MakersStay (record s { rows = rows })
 MakersStay-ends s rows ends orphans is = record {
   groups = λ n m g kind. is.groups n m g (sym (ends.kinds n) ∙ kind);
@@ -66,7 +68,8 @@ MakersStay-ends s rows ends orphans is = record {
 }
 
 -- a row changed, of the same kind and job; if it has ended, the job of what it made has a fault
-pub MakersStay-set : (s : State) (n : ℕ) (r : Row) → 1 ≤ n → n ≤ length s.rows → r.kind ≡ (row s.rows n).kind → r.job ≡ (row s.rows n).job → (is_open r.phase ≡ true → is_open (row s.rows n).phase ≡ true) →
+pub MakersStay-set : (s : State) (n : ℕ) (r : Row) → 1 ≤ n → n ≤ length s.rows → r.kind ≡ (row s.rows n).kind → r.job ≡ (row s.rows n).job →
+    (is_open r.phase ≡ true → is_open (row s.rows n).phase ≡ true) →
     (is_open r.phase ≡ false → (x : ℕ) → is_open (row s.rows x).phase ≡ true → maker_of (row s.rows x).kind ≡ Some n → IsSome (job s.jobs (row s.rows x).job).fault) →
     MakersStay s → MakersStay (record s { rows = with_at_number s.rows n r })
 MakersStay-set s n r from to kind job_same opens orphans is =
@@ -101,7 +104,8 @@ MakersStay-set s n r from to kind job_same opens orphans is =
     }
 
 -- a new row, whose maker is open
-pub MakersStay-push : (s : State) (r : Row) → IsWellFormed s → ((m : ℕ) → maker_of r.kind ≡ Some m → (m ≤ length s.rows) × (is_open (row s.rows m).phase ≡ true)) → ((m g : ℕ) → r.kind ≡ Spawned m g → g < GROUPS) →
+pub MakersStay-push : (s : State) (r : Row) → IsWellFormed s → ((m : ℕ) → maker_of r.kind ≡ Some m → (m ≤ length s.rows) × (is_open (row s.rows m).phase ≡ true)) →
+    ((m g : ℕ) → r.kind ≡ Spawned m g → g < GROUPS) →
     MakersStay s → MakersStay (record s { rows = s.rows ++ r ∷ [] })
 MakersStay-push s r well maker group is =
     let rows = s.rows ++ r ∷ [] in
@@ -130,7 +134,8 @@ MakersStay-push s r well maker group is =
     none_made (suc n) m made = let none : None ≡ Some m = made in cc
 
     -- a row of the longer list that was made is the new one, or was there with its maker
-    made_or_new : (s : State) (r : Row) → IsWellFormed s → (n m : ℕ) → maker_of (row (s.rows ++ r ∷ []) n).kind ≡ Some m → (row (s.rows ++ r ∷ []) n ≡ r) ⊎ ((row (s.rows ++ r ∷ []) n ≡ row s.rows n) × (m ≤ length s.rows))
+    made_or_new : (s : State) (r : Row) → IsWellFormed s → (n m : ℕ) → maker_of (row (s.rows ++ r ∷ []) n).kind ≡ Some m →
+        (row (s.rows ++ r ∷ []) n ≡ r) ⊎ ((row (s.rows ++ r ∷ []) n ≡ row s.rows n) × (m ≤ length s.rows))
     made_or_new s r well n m made = elim (cases_lt (length s.rows) n) [
       | inl after ↦ elim (cases_eq n (length s.rows + 1)) [
         | inl is ↦ inl (row-push_new s.rows n r is)
@@ -180,7 +185,9 @@ closed_or p slot h live closed = let opened : is_open p ≡ true = rw live refl 
 module _ (s : State) (slot n : ℕ) (at : IsAt s slot n) (is : Both s) where
   -- a change of the topmost row that leaves it where it is
   pub kept_at : (r : Row) → r.kind ≡ (row s.rows n).kind → r.job ≡ (row s.rows n).job → r.phase ≡ (row s.rows n).phase → MakersStay (record s { rows = with_at_number s.rows n r })
-  kept_at r kind job_same phase = MakersStay-set s n r at.from at.to kind job_same (λ opened. ap is_open (sym phase) ∙ opened) (λ closed x opened made. absurd (closed_or r.phase slot (height s.rows slot) (phase ∙ at.live) closed)) is.1
+  kept_at r kind job_same phase =
+      MakersStay-set s n r at.from at.to kind job_same (λ opened. ap is_open (sym phase) ∙ opened)
+      (λ closed x opened made. absurd (closed_or r.phase slot (height s.rows slot) (phase ∙ at.live) closed)) is.1
 
   pub framed_kept : (f : Frame) → MakersStay (with_frame s n f)
   framed_kept f = kept_at (record (row s.rows n) { frame = f }) refl refl refl
@@ -188,7 +195,8 @@ module _ (s : State) (slot n : ℕ) (at : IsAt s slot n) (is : Both s) where
   top_open : (f : Frame) → is_open (row (with_frame s n f).rows n).phase ≡ true
   top_open f = rw (row-with_same s.rows n (record (row s.rows n) { frame = f }) at.from at.to) (rw at.live refl)
 
-  pub made_kept : (f : Frame) (r : Row) → IsWellFormed (with_frame s n f) → ((m : ℕ) → maker_of r.kind ≡ Some m → m ≡ n) → ((m g : ℕ) → r.kind ≡ Spawned m g → g < GROUPS) → MakersStay (add_row (with_frame s n f) r)
+  pub made_kept : (f : Frame) (r : Row) → IsWellFormed (with_frame s n f) → ((m : ℕ) → maker_of r.kind ≡ Some m → m ≡ n) → ((m g : ℕ) → r.kind ≡ Spawned m g → g < GROUPS) →
+      MakersStay (add_row (with_frame s n f) r)
   made_kept f r well maker group = MakersStay-push (with_frame s n f) r well (λ m made.
       let e = maker m made in
       (omega (arith, e, at.to, length-with s.rows n (record (row s.rows n) { frame = f })), rw e (top_open f))) group (framed_kept f)
@@ -227,11 +235,15 @@ module _ (s : State) (slot n : ℕ) (at : IsAt s slot n) (is : Both s) where
           let lives = open_lives x (row s.rows x).phase refl opened (at.well.on_makers.started x n own) in
           top_is_bare s slot n at.well at.live x lives.0 lives.1 own lives.2
 
-same_row : (t : State) (m : ℕ) (f : Row → Row) → 1 ≤ m → m ≤ length t.rows → (f (row t.rows m)).kind ≡ (row t.rows m).kind → (f (row t.rows m)).job ≡ (row t.rows m).job → (f (row t.rows m)).phase ≡ (row t.rows m).phase → MakersStay t → is_open (row t.rows m).phase ≡ true → MakersStay (on_row t m f)
-same_row t m f from to kind job_same phase is opened = MakersStay-set t m (f (row t.rows m)) from to kind job_same (λ now. ap is_open (sym phase) ∙ now) (λ closed x now made. absurd (let no : is_open (row t.rows m).phase ≡ false = ap is_open (sym phase) ∙ closed in grind (arith, no, opened))) is
+same_row : (t : State) (m : ℕ) (f : Row → Row) → 1 ≤ m → m ≤ length t.rows → (f (row t.rows m)).kind ≡ (row t.rows m).kind → (f (row t.rows m)).job ≡ (row t.rows m).job →
+    (f (row t.rows m)).phase ≡ (row t.rows m).phase → MakersStay t → is_open (row t.rows m).phase ≡ true → MakersStay (on_row t m f)
+same_row t m f from to kind job_same phase is opened =
+    MakersStay-set t m (f (row t.rows m)) from to kind job_same (λ now. ap is_open (sym phase) ∙ now)
+    (λ closed x now made. absurd (let no : is_open (row t.rows m).phase ≡ false = ap is_open (sym phase) ∙ closed in grind (arith, no, opened))) is
 
 -- the maker of a region that ended is open
-pub done_kept_by : (s : State) (slot n : ℕ) → IsAt s slot n → (f : Frame) (v : ℤ) (k : Kind) → (row s.rows n).kind ≡ k → MakersStay (on_row s n (λ r. record r { frame = f; phase = Done v })) → MakersStay (hand_back (on_row s n (λ r. record r { frame = f; phase = Done v })) k v)
+pub done_kept_by : (s : State) (slot n : ℕ) → IsAt s slot n → (f : Frame) (v : ℤ) (k : Kind) → (row s.rows n).kind ≡ k → MakersStay (on_row s n (λ r. record r { frame = f; phase = Done v })) →
+    MakersStay (hand_back (on_row s n (λ r. record r { frame = f; phase = Done v })) k v)
 done_kept_by s slot n at f v Root kind is = is
 done_kept_by s slot n at f v Posted kind is = is
 done_kept_by s slot n at f v (Spawned m g) kind is = is
@@ -245,10 +257,12 @@ done_kept_by s slot n at f v (Region m) kind is =
     same_row t m (λ q. record q { frame = handed_frame (instr_at (job t.jobs q.job).program q.frame) v q.frame }) there.2 (omega (arith, there, length-with s.rows n r)) refl refl refl is opened
 
 -- rows of other jobs are not faulted
-pub faulted_of : (s : State) (slot n : ℕ) → IsAt s slot n → IsTended s → (m : ℕ) → is_open (row s.rows m).phase ≡ true → is_open (row (map (faulted_row slot (task_height s.rows slot)) s.rows) m).phase ≡ false → (row s.rows m).job ≡ (row s.rows n).job
+pub faulted_of : (s : State) (slot n : ℕ) → IsAt s slot n → IsTended s → (m : ℕ) → is_open (row s.rows m).phase ≡ true →
+    is_open (row (map (faulted_row slot (task_height s.rows slot)) s.rows) m).phase ≡ false → (row s.rows m).job ≡ (row s.rows n).job
 faulted_of s slot n at is m opened closed =
     let there = open_there s.rows m opened in
-    let now : (row (map (faulted_row slot (task_height s.rows slot)) s.rows) m).phase ≡ faulted_phase slot (task_height s.rows slot) (row s.rows m).phase = ap (λ (r : Row). r.phase) (row-map (faulted_row slot (task_height s.rows slot)) s.rows m there.0 there.1) in
+    let now : (row (map (faulted_row slot (task_height s.rows slot)) s.rows) m).phase ≡ faulted_phase slot (task_height s.rows slot) (row s.rows m).phase =
+    ap (λ (r : Row). r.phase) (row-map (faulted_row slot (task_height s.rows slot)) s.rows m there.0 there.1) in
     by_phase (row s.rows m).phase refl opened (ap is_open (sym now) ∙ closed)
   where
     open_there : (rows : List Row) (m : ℕ) → is_open (row rows m).phase ≡ true → (1 ≤ m) × (m ≤ length rows)

@@ -37,7 +37,8 @@ use Rattle.tenant_model.proofs.Invariance.{IsAt, KeepsAdvances, KeepsAsks, advan
 use Rattle.tenant_model.proofs.Unstuck.{on_job_unstuck}
 use Rattle.tenant_model.proofs.UnstuckSteps.{known_there}
 use Rattle.tenant_model.proofs.Tended.{EndsSome-settle, EndsSome-faulted, entry_tended, tended_advances, tended_asks, no_row_made}
-use Rattle.tenant_model.proofs.Attended.{KeepFaults, Both, MakersStay-jobs, MakersStay-beside, MakersStay-ends, MakersStay-set, MakersStay-push, kept_at, framed_kept, made_kept, over_kept, done_kept_by, faulted_of}
+use Rattle.tenant_model.proofs.Attended.{KeepFaults, Both, MakersStay-jobs, MakersStay-beside, MakersStay-ends, MakersStay-set, MakersStay-push, kept_at, framed_kept, made_kept, over_kept}
+use Rattle.tenant_model.proofs.Attended.{done_kept_by, faulted_of}
 
 pub KeepFaults-set : (jobs : List Work) (j : ℕ) (w : Work) → 1 ≤ j → j ≤ length jobs → (IsSome (job jobs j).fault → IsSome w.fault) → KeepFaults jobs (with_at_number jobs j w)
 KeepFaults-set jobs j w from to keeps = record {
@@ -76,7 +77,8 @@ KeepFaults-retired jobs = record { faults = retired_faults jobs }
     retired_faults : (jobs : List Work) (k : ℕ) → IsSome (job jobs k).fault → IsSome (job (map retired_work jobs) k).fault
     retired_faults jobs zero fault = fault
     retired_faults jobs (suc k) fault =
-        let its : (job (map retired_work jobs) (suc k)).fault ≡ (job jobs (suc k)).fault = ap (λ o. (unwrap_or o (job [] 0)).fault) (slice_get-map retired_work jobs k) ∙ same_fault (slice_get jobs k) in
+        let its : (job (map retired_work jobs) (suc k)).fault ≡ (job jobs (suc k)).fault =
+        ap (λ o. (unwrap_or o (job [] 0)).fault) (slice_get-map retired_work jobs k) ∙ same_fault (slice_get jobs k) in
         rw its fault
 
 some_fault : (o : Option JobFault) (e : JobFault) → IsSome (first_fault o e)
@@ -131,7 +133,8 @@ framed_well s slot n at f = on_row_kept s n (λ r. record r { frame = f }) at.fr
 pub nested_stays : (s : State) (slot m : ℕ) → IsWellFormed s → pick s slot ≡ Some m → Both s → MakersStay (nest s slot m)
 nested_stays s slot m well picked is =
     let its = pick_is s.config.isolation s.rows slot m picked in
-    MakersStay-set s m (record (row s.rows m) { phase = Live slot (height s.rows slot + 1) }) its.0 its.1 refl refl (λ opened. waits_open (row s.rows m).phase its.2) (λ closed x opened made. absurd (let no : true ≡ false = closed in grind (arith, no))) is.1
+    MakersStay-set s m (record (row s.rows m) { phase = Live slot (height s.rows slot + 1) }) its.0 its.1 refl refl (λ opened. waits_open (row s.rows m).phase its.2)
+    (λ closed x opened made. absurd (let no : true ≡ false = closed in grind (arith, no))) is.1
   where
     waits_open : (p : Phase) → is_unstarted p ≡ true → is_open p ≡ true
     waits_open Unstarted waits = refl
@@ -175,19 +178,29 @@ attended_advances slot =
         tended.spawn s n f g q a b at tt same here room is.0,
         let there = at.well.linked.jobs n at.from at.to in
             let group : g < GROUPS = names_groups (program_of s n) (p.programs (row s.rows n).job there.0 there.1) f (Spawn g q a b) here in
-            made_kept s slot n at is (next_place f) (new_row (Spawned n g) (row s.rows n).job (Some slot) (called_frame f q a b) Unstarted) (framed_well s slot n at (next_place f)) (λ m made. same_number n m made) (spawned_group n g group),
+            made_kept s slot n at is (next_place f) (new_row (Spawned n g) (row s.rows n).job (Some slot) (called_frame f q a b) Unstarted) (framed_well s slot n at (next_place f))
+            (λ m made. same_number n m made) (spawned_group n g group),
       );
       post = λ s n f q a b at p same room is. (
         tended.post s n f q a b at tt same room is.0,
-        made_kept s slot n at is (next_place f) (new_row Posted (row s.rows n).job None (called_frame f q a b) Unstarted) (framed_well s slot n at (next_place f)) (λ m made. absurd (let no : None ≡ Some m = made in cc)) (λ m g kind. absurd (let no : None ≡ Some m = ap maker_of kind in cc)),
+        made_kept s slot n at is (next_place f) (new_row Posted (row s.rows n).job None (called_frame f q a b) Unstarted) (framed_well s slot n at (next_place f))
+            (λ m made. absurd (let no : None ≡ Some m = made in cc)) (λ m g kind. absurd (let no : None ≡ Some m = ap maker_of kind in cc)),
       );
       isolate = λ s n f d q a b at p same here room low is. (
         tended.isolate s n f d q a b at tt same here room low is.0,
-        made_kept s slot n at is f (new_row (Region n) (row s.rows n).job (Some slot) (called_frame f q a b) (Live slot (height s.rows slot + 1))) (framed_well s slot n at f) (λ m made. same_number n m made) (λ m g kind. absurd (no_region n m g kind)),
+        made_kept s slot n at is f (new_row (Region n) (row s.rows n).job (Some slot) (called_frame f q a b) (Live slot (height s.rows slot + 1))) (framed_well s slot n at f)
+            (λ m made. same_number n m made) (λ m g kind. absurd (no_region n m g kind)),
       );
-      wait = λ s n f g at p same none is. (tended.wait s n f g at tt same none is.0, kept_at s slot n at is (record (row s.rows n) { frame = f; marks = slice_set (row s.rows n).marks g (record { rows = length s.rows; cancelled = false }) }) refl refl refl);
-      cancel = λ s n f g at p same is. (tended.cancel s n f g at tt same is.0, kept_at s slot n at is (record (row s.rows n) { frame = f; marks = slice_set (row s.rows n).marks g (record (mark s.rows n g) { cancelled = true }) }) refl refl refl);
-      done = λ s n f a at p same unused is. (tended.done s n f a at tt same unused is.0, done_kept_by s slot n at f (register f a) (row s.rows n).kind refl (over_kept s slot n at is f (register f a) unused));
+      wait = λ s n f g at p same none is. (
+        tended.wait s n f g at tt same none is.0,
+        kept_at s slot n at is (record (row s.rows n) { frame = f; marks = slice_set (row s.rows n).marks g (record { rows = length s.rows; cancelled = false }) }) refl refl refl,
+      );
+      cancel = λ s n f g at p same is. (
+        tended.cancel s n f g at tt same is.0,
+        kept_at s slot n at is (record (row s.rows n) { frame = f; marks = slice_set (row s.rows n).marks g (record (mark s.rows n g) { cancelled = true }) }) refl refl refl,
+      );
+      done = λ s n f a at p same unused is.
+          (tended.done s n f a at tt same unused is.0, done_kept_by s slot n at f (register f a) (row s.rows n).kind refl (over_kept s slot n at is f (register f a) unused));
       nest = λ s m well low p picked high is. (tended.nest s m well low tt picked high is.0, nested_stays s slot m well picked is);
       enter = entry_stays;
     }
@@ -209,7 +222,10 @@ attended_asks = record {
         let v = retired_work (job s.jobs j) in
         MakersStay-jobs s (with_at_number s.jobs j v) (KeepFaults-set s.jobs j v there.0 there.1 (λ fault. fault)) is.1,
   );
-  retire = λ s well p closed is. (tended_asks.retire s well tt closed is.0, MakersStay-beside (record s { jobs = map retired_work s.jobs }) s.entries (s.epoch + 1) no_cells (MakersStay-jobs s (map retired_work s.jobs) (KeepFaults-retired s.jobs) is.1));
+  retire = λ s well p closed is. (
+    tended_asks.retire s well tt closed is.0,
+    MakersStay-beside (record s { jobs = map retired_work s.jobs }) s.entries (s.epoch + 1) no_cells (MakersStay-jobs s (map retired_work s.jobs) (KeepFaults-retired s.jobs) is.1),
+  );
   enter = entry_stays;
 }
 

@@ -40,7 +40,8 @@ module _ (a b : List Row) (same : SameContexts a b) where
 
   pub has_cancelled_group-same : (n : ℕ) → list_any (λ m. is_group_cancelled b (row b m).kind) (chain b n) ≡ list_any (λ m. is_group_cancelled a (row a m).kind) (chain a n)
   has_cancelled_group-same n =
-      rw (chain-same n) (list_any-same (λ m. is_group_cancelled b (row b m).kind) (λ m. is_group_cancelled a (row a m).kind) (chain a n) (λ m. rw same.sources.kinds (is_group_cancelled-same (row a m).kind)))
+      rw (chain-same n) (list_any-same (λ m. is_group_cancelled b (row b m).kind) (λ m. is_group_cancelled a (row a m).kind) (chain a n)
+      (λ m. rw same.sources.kinds (is_group_cancelled-same (row a m).kind)))
 
 pub is_context_cancelled-same : (s t : State) → SameContexts s.rows t.rows → t.jobs ≡ s.jobs → (n : ℕ) → is_context_cancelled t n ≡ is_context_cancelled s n
 is_context_cancelled-same s t same jobs n =

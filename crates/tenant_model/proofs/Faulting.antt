@@ -144,9 +144,11 @@ IsCut-faults rows stacked slot =
     let low = task_height-le rows stacked slot in
     record {
       within = omega (arith, low);
-      on = count-mapped (λ (r : Row). is_live_on slot r.phase) (λ (r : Row). is_below slot from r.phase) (faulted_row slot from) (λ r. faulted_on slot from r.phase) rows ∙ count_below rows stacked slot from (omega (arith, low));
+      on = count-mapped (λ (r : Row). is_live_on slot r.phase) (λ (r : Row). is_below slot from r.phase) (faulted_row slot from) (λ r. faulted_on slot from r.phase) rows ∙
+          count_below rows stacked slot from (omega (arith, low));
       on_others = λ t other. count-mapped (λ (r : Row). is_live_on t r.phase) (λ (r : Row). is_live_on t r.phase) (faulted_row slot from) (λ r. faulted_on_others slot from t r.phase other) rows;
       kept = λ h below. count-mapped (λ (r : Row). is_live_at slot h r.phase) (λ (r : Row). is_live_at slot h r.phase) (faulted_row slot from) (λ r. faulted_kept slot from h r.phase below) rows;
       gone = λ h above. count-mapped (λ (r : Row). is_live_at slot h r.phase) (λ (r : Row). false) (faulted_row slot from) (λ r. faulted_gone slot from h r.phase above) rows ∙ count-none rows;
-      at_others = λ t h other. count-mapped (λ (r : Row). is_live_at t h r.phase) (λ (r : Row). is_live_at t h r.phase) (faulted_row slot from) (λ r. faulted_at_others slot from t h r.phase other) rows;
+      at_others = λ t h other. count-mapped (λ (r : Row). is_live_at t h r.phase) (λ (r : Row). is_live_at t h r.phase) (faulted_row slot from) (λ r. faulted_at_others slot from t h r.phase other)
+          rows;
     }

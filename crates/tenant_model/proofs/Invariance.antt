@@ -7,7 +7,8 @@ use Rattle.std.proofs.lemmas.Bool.{cond_both}
 use Rattle.job_language.specs.declared.errors.JobFault.{JobFault}
 use Rattle.job_language.specs.declared.errors.JobFault.TheVariants as fault
 use Rattle.job_language.specs.declared.instructions.Instr.{Instr}
-use Rattle.job_language.specs.declared.instructions.Instr.TheVariants.{Set, Add, Sub, Mul, Div, Lt, Rem, And, Or, Xor, Shl, Shr, Eq, Le, Jz, Jmp, Slot, Width, Spawn, Post, Wait, Cancel, Ask, Isolate, Load, Store, Sum, Count, Ret}
+use Rattle.job_language.specs.declared.instructions.Instr.TheVariants.{Set, Add, Sub, Mul, Div, Lt, Rem, And, Or, Xor, Shl, Shr, Eq, Le, Jz, Jmp, Slot, Width, Spawn, Post, Wait, Cancel, Ask, Isolate}
+use Rattle.job_language.specs.declared.instructions.Instr.TheVariants.{Load, Store, Sum, Count, Ret}
 use Rattle.job_language.specs.declared.answers.Moved.{Moved}
 use Rattle.job_language.specs.declared.answers.Came.{Came}
 use Rattle.job_language.specs.declared.answers.Reply.{Reply}
@@ -29,10 +30,13 @@ use Rattle.tenant_model.specs.declared.works.TheConstants.{MAX_JOBS}
 use Rattle.tenant_model.specs.State.{State, row, job}
 use Rattle.thread_cells.specs.Cells.{Table, with_cell, no_cells}
 use Rattle.tenant_model.specs.Walks.{is_open, is_pending, is_job_cancelled, mark, total, height, top, pick}
-use Rattle.tenant_model.specs.Changes.{on_row, on_job, new_row, add_row, is_row_limit_met, is_full, entry, open_rows, with_frame, with_cells, nest, finish_step, faults, task_height, faulted_row, first_fault}
+use Rattle.tenant_model.specs.Changes.{on_row, on_job, new_row, add_row, is_row_limit_met, is_full, entry, open_rows, with_frame, with_cells, nest, finish_step, faults, task_height, faulted_row}
+use Rattle.tenant_model.specs.Changes.{first_fault}
 use Rattle.tenant_model.specs.Shared.{next_place, called_frame, group_status, execute, has_used_group, hand_back}
-use Rattle.tenant_model.specs.Advance.{begin, nest_pick, is_poor, with_fuel, pay, move_on, is_blocked, after_run, is_idle_wait, run_on, advance_run, advance_top, would_be_recorded, advance, arrive_at, is_open_to_workers, arrive}
-use Rattle.tenant_model.specs.Asks.{add_job, free_slot, unless_limit, submit, submit_placed, collect, cancel_by_request, retire, retired_work, reply_to, ask, is_hello, known_job, has_outcome, current_jobs}
+use Rattle.tenant_model.specs.Advance.{begin, nest_pick, is_poor, with_fuel, pay, move_on, is_blocked, after_run, is_idle_wait, run_on, advance_run, advance_top, would_be_recorded, advance, arrive_at}
+use Rattle.tenant_model.specs.Advance.{is_open_to_workers, arrive}
+use Rattle.tenant_model.specs.Asks.{add_job, free_slot, unless_limit, submit, submit_placed, collect, cancel_by_request, retire, retired_work, reply_to, ask, is_hello, known_job, has_outcome}
+use Rattle.tenant_model.specs.Asks.{current_jobs}
 use Rattle.tenant_model.specs.Asks as asks
 use Rattle.tenant_model.specs.WellFormed.{IsTable, IsWellFormed}
 use Rattle.std.specs.Prelude.{All}
@@ -76,11 +80,13 @@ pub record KeepsAdvances (P K J : State → Type 0) (slot : ℕ) : Type 0 where
   pub fault : (s : State) (n : ℕ) (e : JobFault) → IsAt s slot n → P s → K s → J (faulted_at s slot n e)
   pub frame : (s : State) (n : ℕ) (f : Frame) → IsAt s slot n → P s → SameRegisters (row s.rows n).frame f → K s → J (with_frame s n f)
   pub cells : (s : State) (t : Table) → IsTable t → J s → J (with_cells s t)
-  pub spawn : (s : State) (n : ℕ) (f : Frame) (g p a b : ℕ) → IsAt s slot n → P s → SameRegisters (row s.rows n).frame f → instr_at (program_of s n) f ≡ Some (Spawn g p a b) → open_rows s.rows < s.config.rows → K s →
+  pub spawn : (s : State) (n : ℕ) (f : Frame) (g p a b : ℕ) → IsAt s slot n → P s → SameRegisters (row s.rows n).frame f → instr_at (program_of s n) f ≡ Some (Spawn g p a b) →
+      open_rows s.rows < s.config.rows → K s →
       J (add_row (with_frame s n (next_place f)) (new_row (Spawned n g) (row s.rows n).job (Some slot) (called_frame f p a b) Unstarted))
   pub post : (s : State) (n : ℕ) (f : Frame) (p a b : ℕ) → IsAt s slot n → P s → SameRegisters (row s.rows n).frame f → open_rows s.rows < s.config.rows → K s →
       J (add_row (with_frame s n (next_place f)) (new_row Posted (row s.rows n).job None (called_frame f p a b) Unstarted))
-  pub isolate : (s : State) (n : ℕ) (f : Frame) (d p a b : ℕ) → IsAt s slot n → P s → SameRegisters (row s.rows n).frame f → instr_at (program_of s n) f ≡ Some (Isolate d p a b) → open_rows s.rows < s.config.rows → height s.rows slot < MAX_HEIGHT → K s →
+  pub isolate : (s : State) (n : ℕ) (f : Frame) (d p a b : ℕ) → IsAt s slot n → P s → SameRegisters (row s.rows n).frame f → instr_at (program_of s n) f ≡ Some (Isolate d p a b) →
+      open_rows s.rows < s.config.rows → height s.rows slot < MAX_HEIGHT → K s →
       J (add_row (with_frame s n f) (new_row (Region n) (row s.rows n).job (Some slot) (called_frame f p a b) (Live slot (height s.rows slot + 1))))
   pub wait : (s : State) (n : ℕ) (f : Frame) (g : ℕ) → IsAt s slot n → P s → SameRegisters (row s.rows n).frame f → is_pending s.rows n g ≡ false → K s → J (waited_at s n f g)
   pub cancel : (s : State) (n : ℕ) (f : Frame) (g : ℕ) → IsAt s slot n → P s → SameRegisters (row s.rows n).frame f → K s → J (cancelled_at s n f g)
@@ -116,7 +122,8 @@ module _ (P K J : State → Type 0) (slot : ℕ) (keeps : KeepsAdvances P K J sl
         (λ low. limited_keeps _ (λ room. keeps.enter _ (keeps.isolate s n f d q a b at p same here room (grind (arith, low, at.well.stacked.low slot)) k)))
     execute_keeps f (Wait d e g) same here ready =
         let v = total s.rows n g in
-        keeps.enter _ (keeps.wait s n (write_and_step (record f { registers = slice_set f.registers d v }) e (group_status s n g)) g at p (written_same (record f { registers = slice_set f.registers d v }) e (group_status s n g) ∙ length-set f.registers d v ∙ same) ready k)
+        keeps.enter _ (keeps.wait s n (write_and_step (record f { registers = slice_set f.registers d v }) e (group_status s n g)) g at p
+        (written_same (record f { registers = slice_set f.registers d v }) e (group_status s n g) ∙ length-set f.registers d v ∙ same) ready k)
     execute_keeps f (Cancel g) same here ready = keeps.enter _ (keeps.cancel s n (next_place f) g at p same k)
     execute_keeps f (Ask d) same here ready = moved_keeps _ (written_same f d _ ∙ same)
     execute_keeps f (Load d q) same here ready = touched_keeps _ q _ (written_same f d _ ∙ same)
@@ -156,11 +163,15 @@ module _ (P K J : State → Type 0) (slot : ℕ) (keeps : KeepsAdvances P K J sl
     pay_keeps cost next kept = either K (is_poor s n cost) _ _ (λ _. faulted_keeps (with_fuel s n 0) n (fueled_at 0) (keeps.fueled s n 0 at p) (keeps.fuel s n 0 at p k) fault.Fuel) (λ _. kept _)
 
     move_on_keeps : (count : ℕ) (f : Frame) → SameRegisters (row s.rows n).frame f → K (move_on s slot n count f).1
-    move_on_keeps count f same = pay_keeps count (λ t. finish_step slot (with_frame t n f)) (λ fuel. moved_keeps (with_fuel s n fuel) n (fueled_at fuel) (keeps.fueled s n fuel at p) (keeps.fuel s n fuel at p k) f same)
+    move_on_keeps count f same = pay_keeps count (λ t. finish_step slot (with_frame t n f))
+        (λ fuel. moved_keeps (with_fuel s n fuel) n (fueled_at fuel) (keeps.fueled s n fuel at p) (keeps.fuel s n fuel at p k) f same)
 
-    after_run_keeps : (count : ℕ) (f : Frame) (stop : Stop) → SameRegisters (row s.rows n).frame f → ((i : Instr) → stop ≡ Shared i → instr_at (program_of s n) f ≡ Some i) → K (after_run s slot n count f stop).1
+    after_run_keeps : (count : ℕ) (f : Frame) (stop : Stop) → SameRegisters (row s.rows n).frame f → ((i : Instr) → stop ≡ Shared i → instr_at (program_of s n) f ≡ Some i) →
+        K (after_run s slot n count f stop).1
     after_run_keeps count f Yield same here = move_on_keeps count f same
-    after_run_keeps count f Fault same here = pay_keeps count (λ t. faults slot (row t.rows n).job fault.Division t) (λ fuel. faulted_keeps (with_fuel s n fuel) n (fueled_at fuel) (keeps.fueled s n fuel at p) (keeps.fuel s n fuel at p k) fault.Division)
+    after_run_keeps count f Fault same here =
+        pay_keeps count (λ t. faults slot (row t.rows n).job fault.Division t)
+        (λ fuel. faulted_keeps (with_fuel s n fuel) n (fueled_at fuel) (keeps.fueled s n fuel at p) (keeps.fuel s n fuel at p k) fault.Division)
     after_run_keeps count f (Shared i) same here =
         either K (is_blocked s n i) _ _ (λ _. move_on_keeps count f same)
         (λ ready. pay_keeps (count + 1) (λ t. execute t slot n f i) (λ fuel.
@@ -172,7 +183,9 @@ module _ (P K J : State → Type 0) (slot : ℕ) (keeps : KeepsAdvances P K J sl
 
     nest_pick_keeps : (o : Option ℕ) → pick s slot ≡ o → K (nest_pick s slot n o).1
     nest_pick_keeps None picked = k
-    nest_pick_keeps (Some m) picked = either K (height s.rows slot == MAX_HEIGHT) _ _ (λ _. faulted_keeps s n at p k fault.TooDeep) (λ low. keeps.enter _ (keeps.nest s m at.well at.slots p picked (grind (arith, low, at.well.stacked.low slot)) k))
+    nest_pick_keeps (Some m) picked =
+        either K (height s.rows slot == MAX_HEIGHT) _ _ (λ _. faulted_keeps s n at p k fault.TooDeep)
+        (λ low. keeps.enter _ (keeps.nest s m at.well at.slots p picked (grind (arith, low, at.well.stacked.low slot)) k))
 
     run_keeps : K (advance_run s slot n (run_on s slot n)).1
     run_keeps =
@@ -211,8 +224,10 @@ pub record KeepsAsks (P K J : State → Type 0) : Type 0 where
   pub none : (s : State) → K s → J s
   pub add : (s : State) (j : Job) → IsWellFormed s → P s → open_rows s.rows < s.config.rows → K s → J (add_job s j Unstarted)
   pub place : (s : State) (j : Job) (slot : ℕ) → IsWellFormed s → P s → open_rows s.rows < s.config.rows → slot < s.config.reserved → height s.rows slot ≡ 0 → K s → J (add_job s j (Live slot 1))
-  pub cancel : (s : State) (j : ℕ) (w : Work) → IsWellFormed s → P s → known_job s j ≡ Some w → (is_job_cancelled w || has_outcome s.rows j) ≡ false → K s → J (on_job s j (λ v. record v { cancelled = true }))
-  pub retire : (s : State) → IsWellFormed s → P s → list_any (λ (r : Row). is_open r.phase) s.rows ≡ false → K s → J (record s { jobs = map retired_work s.jobs; cells = no_cells; epoch = s.epoch + 1 })
+  pub cancel : (s : State) (j : ℕ) (w : Work) → IsWellFormed s → P s → known_job s j ≡ Some w → (is_job_cancelled w || has_outcome s.rows j) ≡ false → K s →
+      J (on_job s j (λ v. record v { cancelled = true }))
+  pub retire : (s : State) → IsWellFormed s → P s → list_any (λ (r : Row). is_open r.phase) s.rows ≡ false → K s →
+      J (record s { jobs = map retired_work s.jobs; cells = no_cells; epoch = s.epoch + 1 })
   pub release : (s : State) (j : ℕ) (w : Work) → IsWellFormed s → P s → known_job s j ≡ Some w → has_outcome s.rows j ≡ true → K s → J (on_job s j retired_work)
   pub enter : (s : State) → J s → K (entry s)
 
@@ -237,7 +252,8 @@ module _ (P K J : State → Type 0) (keeps : KeepsAsks P K J) (s : State) (well 
   placed_keeps j (Some slot) free room = let is = free_slot_is s slot free in keeps.enter _ (keeps.place s j slot well p room is.0 is.1 k)
 
   unless_limit_keeps : (r : Reply × State) → (open_rows s.rows < s.config.rows → K r.1) → K (unless_limit s r).1
-  unless_limit_keeps r made = either_reply K (nat_le MAX_JOBS (current_jobs s)) _ _ (λ _. same_keeps) (λ _. either_reply K (is_row_limit_met s) _ r (λ _. same_keeps) (λ unmet. made (grind (arith, unmet))))
+  unless_limit_keeps r made = either_reply K (nat_le MAX_JOBS (current_jobs s)) _ _ (λ _. same_keeps)
+      (λ _. either_reply K (is_row_limit_met s) _ r (λ _. same_keeps) (λ unmet. made (grind (arith, unmet))))
 
   of_job_keeps : (o : Option Work) (next : Work → Reply × State) (r : Reply × State) → K r.1 → ((w : Work) → o ≡ Some w → K (next w).1) → K (option_map_or next o r).1
   of_job_keeps None next r none some = none
@@ -258,7 +274,9 @@ module _ (P K J : State → Type 0) (keeps : KeepsAsks P K J) (s : State) (well 
   reply_keeps (request.Execute j) = unless_limit_keeps _ (placed_keeps j (free_slot s) refl)
   reply_keeps (request.Poll j) = of_job_keeps (known_job s j) _ _ same_keeps (λ w known. same_keeps)
   reply_keeps (request.Collect j) = of_job_keeps (known_job s j) _ _ same_keeps (λ w known. collect_keeps j (asks.status s.rows j w))
-  reply_keeps (request.Cancel j) = of_job_keeps (known_job s j) _ _ same_keeps (λ w known. either_reply K (is_job_cancelled w || has_outcome s.rows j) _ _ (λ _. same_keeps) (λ first. keeps.enter _ (keeps.cancel s j w well p known first k)))
+  reply_keeps (request.Cancel j) =
+      of_job_keeps (known_job s j) _ _ same_keeps
+      (λ w known. either_reply K (is_job_cancelled w || has_outcome s.rows j) _ _ (λ _. same_keeps) (λ first. keeps.enter _ (keeps.cancel s j w well p known first k)))
   reply_keeps (request.Cells q) = same_keeps
   reply_keeps request.Arena = same_keeps
   reply_keeps request.Retire = either_reply K (list_any (λ (r : Row). is_open r.phase) s.rows) _ _ (λ _. same_keeps) (λ closed. keeps.enter _ (keeps.retire s well p closed k))

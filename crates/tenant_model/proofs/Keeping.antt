@@ -86,7 +86,8 @@ on_job_kept s j f is = record {
   slots = is.slots;
 }
 
-module _ (s : State) (n : ℕ) (f : Row → Row) (from : 1 ≤ n) (to : n ≤ length s.rows) (kind : (f (row s.rows n)).kind ≡ (row s.rows n).kind) (job : (f (row s.rows n)).job ≡ (row s.rows n).job) (marks : (g : ℕ) → (mark_in (f (row s.rows n)).marks g).rows ≤ length s.rows) where
+module _ (s : State) (n : ℕ) (f : Row → Row) (from : 1 ≤ n) (to : n ≤ length s.rows) (kind : (f (row s.rows n)).kind ≡ (row s.rows n).kind) (job : (f (row s.rows n)).job ≡ (row s.rows n).job)
+    (marks : (g : ℕ) → (mark_in (f (row s.rows n)).marks g).rows ≤ length s.rows) where
   -- a row changed, in the same phase
   pub on_row_kept : (f (row s.rows n)).phase ≡ (row s.rows n).phase → IsWellFormed s → IsWellFormed (on_row s n f)
   on_row_kept phase is =
@@ -97,13 +98,15 @@ module _ (s : State) (n : ℕ) (f : Row → Row) (from : 1 ≤ n) (to : n ≤ le
         inside = AreInside-set s.rows n r from to kind (λ slot h live. sym phase ∙ live) is.inside;
         on_makers = StandOnMakers-fewer s.rows _ (StartFewer-set s.rows n r from to kind phase) is.on_makers;
         marked = AreMarked-set s.rows n r from to marks is.marked;
-        limit = let same : one_if (is_open r.phase) ≡ one_if (is_open (row s.rows n).phase) = ap (λ p. one_if (is_open p)) phase in omega (arith, open-set s.rows n r from to kind (omega (arith, same)), is.limit);
+        limit = let same : one_if (is_open r.phase) ≡ one_if (is_open (row s.rows n).phase) = ap (λ p. one_if (is_open p)) phase in
+            omega (arith, open-set s.rows n r from to kind (omega (arith, same)), is.limit);
         table = is.table;
         slots = is.slots;
       }
 
   -- the topmost row done
-  pub done_kept : (slot : ℕ) → (row s.rows n).phase ≡ Live slot (height s.rows slot) → IsOff (f (row s.rows n)).phase → is_open (f (row s.rows n)).phase ≡ false → 1 ≤ height s.rows slot → IsWellFormed s → IsWellFormed (on_row s n f)
+  pub done_kept : (slot : ℕ) → (row s.rows n).phase ≡ Live slot (height s.rows slot) → IsOff (f (row s.rows n)).phase → is_open (f (row s.rows n)).phase ≡ false → 1 ≤ height s.rows slot →
+      IsWellFormed s → IsWellFormed (on_row s n f)
   done_kept slot live off closed some is =
       let r = f (row s.rows n) in
       record {
@@ -119,7 +122,8 @@ module _ (s : State) (n : ℕ) (f : Row → Row) (from : 1 ≤ n) (to : n ≤ le
 
   -- an open row on top of a slot now
   pub nest_kept : (slot : ℕ) → IsOff (row s.rows n).phase → is_open (row s.rows n).phase ≡ true → (f (row s.rows n)).phase ≡ Live slot (height s.rows slot + 1) → height s.rows slot < MAX_HEIGHT →
-      ((x low q : ℕ) → (row s.rows x).phase ≡ Live slot low → is_region (row s.rows q).kind ≡ true → is_within s.rows x q ≡ true → is_within s.rows n q ≡ true) → IsWellFormed s → IsWellFormed (on_row s n f)
+      ((x low q : ℕ) → (row s.rows x).phase ≡ Live slot low → is_region (row s.rows q).kind ≡ true → is_within s.rows x q ≡ true → is_within s.rows n q ≡ true) → IsWellFormed s →
+      IsWellFormed (on_row s n f)
   nest_kept slot off opened live room fits is =
       let r = f (row s.rows n) in
       record {
@@ -133,7 +137,8 @@ module _ (s : State) (n : ℕ) (f : Row → Row) (from : 1 ≤ n) (to : n ≤ le
         slots = is.slots;
       }
 
-module _ (s : State) (r : Row) (maker : IfSome (maker_of r.kind) (λ m. (1 ≤ m) × (m ≤ length s.rows))) (job : (1 ≤ r.job) × (r.job ≤ length s.jobs)) (room : open_rows s.rows < s.config.rows) (none : r.marks ≡ no_marks) where
+module _ (s : State) (r : Row) (maker : IfSome (maker_of r.kind) (λ m. (1 ≤ m) × (m ≤ length s.rows))) (job : (1 ≤ r.job) × (r.job ≤ length s.jobs)) (room : open_rows s.rows < s.config.rows)
+    (none : r.marks ≡ no_marks) where
   -- a new row that has not started
   pub add_row_kept : is_region r.kind ≡ false → IsOff r.phase → IsWellFormed s → IsWellFormed (add_row s r)
   add_row_kept no_region off is =
@@ -150,7 +155,8 @@ module _ (s : State) (r : Row) (maker : IfSome (maker_of r.kind) (λ m. (1 ≤ m
       }
 
   -- a region on top of its maker
-  pub add_region_kept : (slot n : ℕ) → r.phase ≡ Live slot (height s.rows slot + 1) → height s.rows slot < MAX_HEIGHT → maker_of r.kind ≡ Some n → (row s.rows n).phase ≡ Live slot (height s.rows slot) → IsWellFormed s → IsWellFormed (add_row s r)
+  pub add_region_kept : (slot n : ℕ) → r.phase ≡ Live slot (height s.rows slot + 1) → height s.rows slot < MAX_HEIGHT → maker_of r.kind ≡ Some n →
+      (row s.rows n).phase ≡ Live slot (height s.rows slot) → IsWellFormed s → IsWellFormed (add_row s r)
   add_region_kept slot n live low made top is =
       let linked = IsLinked-push s r is.linked maker job in
       record {
@@ -241,7 +247,8 @@ faulted_kept s slot is =
             let there = live_there s.rows m t (h - 1) below in
             let before = lives n t h live in
             let there_n = live_there s.rows n t h before in
-            let kept : faulted_phase slot from (Live t h) ≡ Live t h = ap (faulted_phase slot from) (sym before) ∙ ap (λ (r : Row). r.phase) (sym (row-map (faulted_row slot from) s.rows n there_n.0 there_n.1)) ∙ live in
+            let kept : faulted_phase slot from (Live t h) ≡ Live t h =
+            ap (faulted_phase slot from) (sym before) ∙ ap (λ (r : Row). r.phase) (sym (row-map (faulted_row slot from) s.rows n there_n.0 there_n.1)) ∙ live in
             ap (λ (r : Row). r.phase) (row-map (faulted_row slot from) s.rows m there.0 there.1) ∙ ap (faulted_phase slot from) below ∙ faulted_below slot from t h kept;
       }) is.on_makers;
       marked = AreMarked-map (faulted_row slot from) s.rows (λ r. refl) is.marked;

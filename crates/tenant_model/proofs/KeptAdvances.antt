@@ -6,7 +6,8 @@ use Rattle.std.proofs.lemmas.Option.{IfSome_then}
 use Rattle.job_language.specs.declared.errors.JobFault.{JobFault}
 use Rattle.job_language.specs.declared.errors.JobFault.TheVariants as fault
 use Rattle.job_language.specs.declared.instructions.Instr.{Instr}
-use Rattle.job_language.specs.declared.instructions.Instr.TheVariants.{Set, Add, Sub, Mul, Div, Lt, Rem, And, Or, Xor, Shl, Shr, Eq, Le, Jz, Jmp, Slot, Width, Spawn, Post, Wait, Cancel, Ask, Isolate, Load, Store, Sum, Count, Ret}
+use Rattle.job_language.specs.declared.instructions.Instr.TheVariants.{Set, Add, Sub, Mul, Div, Lt, Rem, And, Or, Xor, Shl, Shr, Eq, Le, Jz, Jmp, Slot, Width, Spawn, Post, Wait, Cancel, Ask, Isolate}
+use Rattle.job_language.specs.declared.instructions.Instr.TheVariants.{Load, Store, Sum, Count, Ret}
 use Rattle.job_language.specs.declared.answers.Moved.{Moved}
 use Rattle.job_language.specs.declared.answers.Came.{Came}
 use Rattle.job_language.specs.declared.steps.Step.{Step}
@@ -28,7 +29,8 @@ use Rattle.tenant_model.specs.Walks.{maker_of, is_region, mark, total, height, t
 use Rattle.tenant_model.specs.Changes.{on_row, new_row, add_row, is_row_limit_met, is_full, open_rows, with_frame, with_cells, finish_step, faults, task_height, faulted_row, first_fault}
 use Rattle.thread_cells.specs.Cells.{with_cell}
 use Rattle.tenant_model.specs.Shared.{next_place, called_frame, group_status, execute, has_used_group, handed_frame, hand_back}
-use Rattle.tenant_model.specs.Advance.{begin, nest_pick, is_poor, with_fuel, pay, move_on, is_blocked, after_run, is_idle_wait, run_on, advance_run, advance_top, would_be_recorded, advance, arrive_at, is_open_to_workers, arrive}
+use Rattle.tenant_model.specs.Advance.{begin, nest_pick, is_poor, with_fuel, pay, move_on, is_blocked, after_run, is_idle_wait, run_on, advance_run, advance_top, would_be_recorded, advance, arrive_at}
+use Rattle.tenant_model.specs.Advance.{is_open_to_workers, arrive}
 use Rattle.tenant_model.specs.Solo.{step, after}
 use Rattle.tenant_model.specs.WellFormed.{IsWellFormed}
 use Rattle.tenant_model.proofs.Changed.{row-with_same, length-with}
@@ -65,7 +67,8 @@ pub record IsTop (s : State) (slot n : ℕ) : Type 0 where
 
 module _ (s : State) (slot n : ℕ) (is : IsWellFormed s) (top : IsTop s slot n) where
   -- a frame moved on, with its marks
-  pub set_kept : (f : Row → Row) → (f (row s.rows n)).kind ≡ (row s.rows n).kind → (f (row s.rows n)).job ≡ (row s.rows n).job → (f (row s.rows n)).phase ≡ (row s.rows n).phase → ((g : ℕ) → (mark_in (f (row s.rows n)).marks g).rows ≤ length s.rows) → IsWellFormed (on_row s n f)
+  pub set_kept : (f : Row → Row) → (f (row s.rows n)).kind ≡ (row s.rows n).kind → (f (row s.rows n)).job ≡ (row s.rows n).job → (f (row s.rows n)).phase ≡ (row s.rows n).phase →
+      ((g : ℕ) → (mark_in (f (row s.rows n)).marks g).rows ≤ length s.rows) → IsWellFormed (on_row s n f)
   set_kept f kind job phase marks = on_row_kept s n f top.from top.to kind job marks phase is
 
   pub moved_kept : (f : Frame) → IsWellFormed (with_frame s n f)
@@ -81,7 +84,8 @@ module _ (s : State) (slot n : ℕ) (is : IsWellFormed s) (top : IsTop s slot n)
       IsWellFormed (add_row (with_frame s n f) (new_row k (row s.rows n).job made_on g Unstarted))
   spawned_kept f g k made_on no_region maker room =
       let job = is.linked.jobs n top.from top.to in
-      add_row_kept (with_frame s n f) (new_row k (row s.rows n).job made_on g Unstarted) (IfSome_then (maker_of k) maker (λ m same. (omega (arith, same, top.from), omega (arith, same, top.to, moved_long f)))) job (moved_room f room) refl no_region unstarted_off (moved_kept f)
+      add_row_kept (with_frame s n f) (new_row k (row s.rows n).job made_on g Unstarted)
+      (IfSome_then (maker_of k) maker (λ m same. (omega (arith, same, top.from), omega (arith, same, top.to, moved_long f)))) job (moved_room f room) refl no_region unstarted_off (moved_kept f)
 
   pub region_kept : (f g : Frame) → height s.rows slot < MAX_HEIGHT → open_rows s.rows < s.config.rows →
       IsWellFormed (add_row (with_frame s n f) (new_row (Region n) (row s.rows n).job (Some slot) g (Live slot (height s.rows slot + 1))))
@@ -96,7 +100,16 @@ module _ (s : State) (slot n : ℕ) (is : IsWellFormed s) (top : IsTop s slot n)
   cells_kept : (f : Frame) (k : ℕ) (v : ℤ) → IsWellFormed (with_cells (with_frame s n f) (with_cell s.cells k slot v))
   cells_kept f k v =
       let moved = moved_kept f in
-      record { linked = record { makers = moved.linked.makers; jobs = moved.linked.jobs; epoch = moved.linked.epoch }; stacked = moved.stacked; inside = moved.inside; on_makers = moved.on_makers; marked = moved.marked; limit = moved.limit; table = with_cell_kept s.cells k slot v is.table; slots = is.slots }
+      record {
+        linked = record { makers = moved.linked.makers; jobs = moved.linked.jobs; epoch = moved.linked.epoch };
+        stacked = moved.stacked;
+        inside = moved.inside;
+        on_makers = moved.on_makers;
+        marked = moved.marked;
+        limit = moved.limit;
+        table = with_cell_kept s.cells k slot v is.table;
+        slots = is.slots;
+      }
 
   pub ended_kept : (f : Frame) (v : ℤ) → IsWellFormed (on_row s n (λ r. record r { frame = f; phase = Done v }))
   ended_kept f v =
@@ -110,7 +123,8 @@ module _ (s : State) (slot n : ℕ) (is : IsWellFormed s) (top : IsTop s slot n)
   handed_kept f v (Region m) kind =
       let t = on_row s n (λ r. record r { frame = f; phase = Done v }) in
       let maker : (1 ≤ m) × (m < n) = rw kind at (is.linked.makers n top.from top.to) in
-      on_row_kept t m (λ r. record r { frame = handed_frame (instr_at (job t.jobs r.job).program r.frame) v r.frame }) maker.0 (omega (arith, maker, top.to, length-with s.rows n (record (row s.rows n) { frame = f; phase = Done v }))) refl refl ((ended_kept f v).marked m) refl (ended_kept f v)
+      on_row_kept t m (λ r. record r { frame = handed_frame (instr_at (job t.jobs r.job).program r.frame) v r.frame }) maker.0
+      (omega (arith, maker, top.to, length-with s.rows n (record (row s.rows n) { frame = f; phase = Done v }))) refl refl ((ended_kept f v).marked m) refl (ended_kept f v)
 
   limited_kept : (r : Moved × State) → (open_rows s.rows < s.config.rows → Keeps r) → Keeps (if is_row_limit_met s then faults slot (row s.rows n).job fault.TaskLimit s else r)
   limited_kept r made = either (is_row_limit_met s) _ r (λ _. faults_kept slot (row s.rows n).job fault.TaskLimit s is) (λ unmet. made (grind (arith, unmet)))
@@ -134,7 +148,8 @@ module _ (s : State) (slot n : ℕ) (is : IsWellFormed s) (top : IsTop s slot n)
   execute_kept f (Store k a) = ran_kept slot _ (cells_kept _ k _)
   execute_kept f (Sum d k) = ran_kept slot _ (moved_kept _)
   execute_kept f (Count d k) = ran_kept slot _ (moved_kept _)
-  execute_kept f (Ret a) = either (has_used_group s n) _ _ (λ _. faults_kept slot (row s.rows n).job fault.MissingWait s is) (λ _. ran_kept slot _ (handed_kept f (register f a) (row s.rows n).kind refl))
+  execute_kept f (Ret a) = either (has_used_group s n) _ _ (λ _. faults_kept slot (row s.rows n).job fault.MissingWait s is)
+      (λ _. ran_kept slot _ (handed_kept f (register f a) (row s.rows n).kind refl))
   execute_kept f (Set d v) = ran_kept slot _ (moved_kept f)
   execute_kept f (Add d a b) = ran_kept slot _ (moved_kept f)
   execute_kept f (Sub d a b) = ran_kept slot _ (moved_kept f)
@@ -155,7 +170,8 @@ module _ (s : State) (slot n : ℕ) (is : IsWellFormed s) (top : IsTop s slot n)
   execute_kept f (Width d) = ran_kept slot _ (moved_kept f)
 
   pay_kept : (cost : ℕ) (next : State → Moved × State) → ((f : ℕ) → Keeps (next (with_fuel s n f))) → Keeps (pay s slot n cost next)
-  pay_kept cost next kept = either (is_poor s n cost) _ _ (λ _. faults_kept slot (row s.rows n).job fault.Fuel (with_fuel s n 0) (on_job_kept s (row s.rows n).job (λ w. record w { fuel = 0 }) is)) (λ _. kept _)
+  pay_kept cost next kept = either (is_poor s n cost) _ _ (λ _. faults_kept slot (row s.rows n).job fault.Fuel (with_fuel s n 0) (on_job_kept s (row s.rows n).job (λ w. record w { fuel = 0 }) is))
+      (λ _. kept _)
 
 module _ (s : State) (slot n : ℕ) (is : IsWellFormed s) (on_top : IsTop s slot n) where
   fueled : (f : ℕ) → IsWellFormed (with_fuel s n f)
@@ -165,16 +181,22 @@ module _ (s : State) (slot n : ℕ) (is : IsWellFormed s) (on_top : IsTop s slot
   fueled_top f = record { from = on_top.from; to = on_top.to; live = on_top.live }
 
   move_on_kept : (count : ℕ) (f : Frame) → Keeps (move_on s slot n count f)
-  move_on_kept count f = pay_kept s slot n is on_top count (λ t. finish_step slot (with_frame t n f)) (λ fuel. ran_kept slot _ (moved_kept (with_fuel s n fuel) slot n (fueled fuel) (fueled_top fuel) f))
+  move_on_kept count f = pay_kept s slot n is on_top count (λ t. finish_step slot (with_frame t n f))
+      (λ fuel. ran_kept slot _ (moved_kept (with_fuel s n fuel) slot n (fueled fuel) (fueled_top fuel) f))
 
   after_run_kept : (count : ℕ) (f : Frame) (stop : Stop) → Keeps (after_run s slot n count f stop)
   after_run_kept count f Yield = move_on_kept count f
-  after_run_kept count f Fault = pay_kept s slot n is on_top count (λ t. faults slot (row t.rows n).job fault.Division t) (λ fuel. faults_kept slot (row s.rows n).job fault.Division (with_fuel s n fuel) (fueled fuel))
-  after_run_kept count f (Shared i) = either (is_blocked s n i) _ _ (λ _. move_on_kept count f) (λ _. pay_kept s slot n is on_top (count + 1) (λ t. execute t slot n f i) (λ fuel. execute_kept (with_fuel s n fuel) slot n (fueled fuel) (fueled_top fuel) f i))
+  after_run_kept count f Fault =
+      pay_kept s slot n is on_top count (λ t. faults slot (row t.rows n).job fault.Division t) (λ fuel. faults_kept slot (row s.rows n).job fault.Division (with_fuel s n fuel) (fueled fuel))
+  after_run_kept count f (Shared i) =
+      either (is_blocked s n i) _ _ (λ _. move_on_kept count f)
+      (λ _. pay_kept s slot n is on_top (count + 1) (λ t. execute t slot n f i) (λ fuel. execute_kept (with_fuel s n fuel) slot n (fueled fuel) (fueled_top fuel) f i))
 
   blocked_kept : (o : Option ℕ) → pick s slot ≡ o → top s.rows slot ≡ Some n → Keeps (nest_pick s slot n o)
   blocked_kept None picked top = is
-  blocked_kept (Some m) picked top = either (height s.rows slot == MAX_HEIGHT) _ _ (λ _. faults_kept slot (row s.rows n).job fault.TooDeep s is) (λ low. entry_kept _ (nest_top_kept s slot m is picked n top (grind (arith, low, is.stacked.low slot))))
+  blocked_kept (Some m) picked top =
+      either (height s.rows slot == MAX_HEIGHT) _ _ (λ _. faults_kept slot (row s.rows n).job fault.TooDeep s is)
+      (λ low. entry_kept _ (nest_top_kept s slot m is picked n top (grind (arith, low, is.stacked.low slot))))
 
   run_kept : (r : Run) → top s.rows slot ≡ Some n → Keeps (advance_run s slot n r)
   run_kept r top = either (is_idle_wait s n r.count r.stop) _ _ (λ _. blocked_kept (pick s slot) refl top) (λ _. after_run_kept r.count r.end r.stop)

@@ -26,7 +26,8 @@ use Rattle.tenant_model.specs.Walks.{height, is_open}
 use Rattle.tenant_model.specs.Changes.{open_rows, is_row_limit_met, new_row, on_job, is_full}
 use Rattle.thread_cells.specs.Cells.{Table, with_cell, no_cells}
 use Rattle.tenant_model.specs.WellFormed.{IsTable, IsWellFormed}
-use Rattle.tenant_model.specs.Asks.{add_job, new_job, free_slot, unless_limit, submit, submit_placed, collect, cancel_by_request, retire, retired_work, released, reply_to, ask, is_hello, known_job, has_outcome, current_jobs, status}
+use Rattle.tenant_model.specs.Asks.{add_job, new_job, free_slot, unless_limit, submit, submit_placed, collect, cancel_by_request, retire, retired_work, released, reply_to, ask, is_hello, known_job}
+use Rattle.tenant_model.specs.Asks.{has_outcome, current_jobs, status}
 use Rattle.tenant_model.specs.Walks.{is_job_cancelled}
 use Rattle.tenant_model.proofs.Linked.{IsLinked-job, IsLinked-more_jobs}
 use Rattle.tenant_model.proofs.Stacking.{count-push, AreStacked-same, AreStacked-pushed}
@@ -143,7 +144,8 @@ retired_kept s is = either (list_any (λ (r : Row). is_open r.phase) s.rows) _ _
     }))
 
 cancelled_kept : (s : State) (j : ℕ) (w : Work) → IsWellFormed s → Keeps (cancel_by_request s j w)
-cancelled_kept s j w is = either (is_job_cancelled w || has_outcome s.rows j) _ _ (λ _. entry_kept s is) (λ _. entry_kept (on_job s j (λ v. record v { cancelled = true })) (on_job_kept s j (λ v. record v { cancelled = true }) is))
+cancelled_kept s j w is = either (is_job_cancelled w || has_outcome s.rows j) _ _ (λ _. entry_kept s is)
+    (λ _. entry_kept (on_job s j (λ v. record v { cancelled = true })) (on_job_kept s j (λ v. record v { cancelled = true }) is))
 
 released_kept : (s : State) (j : ℕ) → IsWellFormed s → IsWellFormed (released s j)
 released_kept s j is = entry_kept (on_job s j retired_work) (on_job_kept s j retired_work is)

@@ -78,7 +78,8 @@ later-rows s rows long each = record {
 }
 
 -- a row that was open changes
-pub later-set : (s : State) (n : ℕ) (r : Row) → 1 ≤ n → n ≤ length s.rows → is_open (row s.rows n).phase ≡ true → r.kind ≡ (row s.rows n).kind → r.job ≡ (row s.rows n).job → r.made_on ≡ (row s.rows n).made_on → IsLater s (record s { rows = with_at_number s.rows n r })
+pub later-set : (s : State) (n : ℕ) (r : Row) → 1 ≤ n → n ≤ length s.rows → is_open (row s.rows n).phase ≡ true → r.kind ≡ (row s.rows n).kind → r.job ≡ (row s.rows n).job →
+    r.made_on ≡ (row s.rows n).made_on → IsLater s (record s { rows = with_at_number s.rows n r })
 later-set s n r from to opened kind job_same made_on =
     later-rows s (with_at_number s.rows n r) (length-with s.rows n r) (λ m. elim (cases_eq m n) [
       | inl same ↦
@@ -124,7 +125,8 @@ later-jobs s jobs long each over = record {
   ended = λ j to ended. let same = over j ended in record { ended = ended; cancelled = same.0; fault = same.1 };
 }
 
-pub later-set_job : (s : State) (j : ℕ) (w : Work) → 1 ≤ j → j ≤ length s.jobs → IsWorkLater (job s.jobs j) w → (HasEnded s j → (w.cancelled ≡ (job s.jobs j).cancelled) × (w.fault ≡ (job s.jobs j).fault)) → IsLater s (record s { jobs = with_at_number s.jobs j w })
+pub later-set_job : (s : State) (j : ℕ) (w : Work) → 1 ≤ j → j ≤ length s.jobs → IsWorkLater (job s.jobs j) w →
+    (HasEnded s j → (w.cancelled ≡ (job s.jobs j).cancelled) × (w.fault ≡ (job s.jobs j).fault)) → IsLater s (record s { jobs = with_at_number s.jobs j w })
 later-set_job s j w from to later over =
     let jobs = with_at_number s.jobs j w in
     let own : (k : ℕ) → k ≡ j → job jobs k ≡ w = λ k same. ap (job jobs) same ∙ at_number-with_same s.jobs _ j w from to in
@@ -150,7 +152,8 @@ retired_later : (o : Option Work) → IsWorkLater (unwrap_or o (job [] 0)) (unwr
 retired_later None = work_later-same (job [] 0)
 retired_later (Some w) = record { program = refl; root = refl; cancelled = λ is. is; fault = λ f is. is; retired = λ is. refl }
 
-retired_over : (o : Option Work) → ((unwrap_or (option_map retired_work o) (job [] 0)).cancelled ≡ (unwrap_or o (job [] 0)).cancelled) × ((unwrap_or (option_map retired_work o) (job [] 0)).fault ≡ (unwrap_or o (job [] 0)).fault)
+retired_over : (o : Option Work) →
+    ((unwrap_or (option_map retired_work o) (job [] 0)).cancelled ≡ (unwrap_or o (job [] 0)).cancelled) × ((unwrap_or (option_map retired_work o) (job [] 0)).fault ≡ (unwrap_or o (job [] 0)).fault)
 retired_over None = (refl, refl)
 retired_over (Some w) = (refl, refl)
 

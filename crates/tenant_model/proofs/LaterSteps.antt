@@ -132,7 +132,9 @@ module _ (s : State) (slot n : ℕ) (at : IsAt s slot n) where
 
   later-made : (f : Frame) (r : Row) → r.job ≡ (row s.rows n).job → IsLater s (add_row (with_frame s n f) r)
   later-made f r of = later-then s (with_frame s n f) (add_row (with_frame s n f) r) (later-framed f)
-      (later-push (with_frame s n f) r (λ j known ended same. open_not_ended (with_frame s n f) n (ap (λ (q : Row). is_open q.phase) (framed f) ∙ opened) (λ m own. ended m (own ∙ ap (λ (q : Row). q.job) (framed f) ∙ sym of ∙ same))))
+      (later-push (with_frame s n f) r
+      (λ j known ended same. open_not_ended (with_frame s n f) n (ap (λ (q : Row). is_open q.phase) (framed f) ∙ opened)
+      (λ m own. ended m (own ∙ ap (λ (q : Row). q.job) (framed f) ∙ sym of ∙ same))))
     where
       framed : (f : Frame) → row (with_frame s n f).rows n ≡ record (row s.rows n) { frame = f }
       framed f = row-with_same s.rows n (record (row s.rows n) { frame = f }) at.from at.to
@@ -140,7 +142,8 @@ module _ (s : State) (slot n : ℕ) (at : IsAt s slot n) where
   later-fuel : (f : ℕ) → IsLater s (with_fuel s n f)
   later-fuel f =
       let there = at.well.linked.jobs n at.from at.to in
-      later-set_job s (row s.rows n).job (record (job s.jobs (row s.rows n).job) { fuel = f }) there.0 there.1 (record { program = refl; root = refl; cancelled = λ is. is; fault = λ e is. is; retired = λ is. is }) (λ ended. (refl, refl))
+      later-set_job s (row s.rows n).job (record (job s.jobs (row s.rows n).job) { fuel = f }) there.0 there.1
+      (record { program = refl; root = refl; cancelled = λ is. is; fault = λ e is. is; retired = λ is. is }) (λ ended. (refl, refl))
 
   later-fault : (e : JobFault) → IsLater s (faulted_at s slot n e)
   later-fault e =
@@ -149,7 +152,8 @@ module _ (s : State) (slot n : ℕ) (at : IsAt s slot n) where
       let w = record (job s.jobs j) { fault = first_fault (job s.jobs j).fault e } in
       let t = record s { jobs = with_at_number s.jobs j w } in
       later-then s t (faulted_at s slot n e)
-      (later-set_job s j w there.0 there.1 (record { program = refl; root = refl; cancelled = λ is. is; fault = λ f is. ap (λ o. first_fault o e) is; retired = λ is. is }) (λ ended. absurd (open_not_ended s n opened ended)))
+      (later-set_job s j w there.0 there.1 (record { program = refl; root = refl; cancelled = λ is. is; fault = λ f is. ap (λ o. first_fault o e) is; retired = λ is. is })
+      (λ ended. absurd (open_not_ended s n opened ended)))
       (later-faulted t slot (task_height s.rows slot))
 
   -- the maker of a region that ended is on a slot
@@ -186,11 +190,15 @@ module _ (s0 : State) where
     fault = λ s n e at p is. later-then s0 s _ is (later-fault s slot n at e);
     frame = λ s n f at p same is. later-then s0 s _ is (later-framed s slot n at f);
     cells = λ s t table is. later-then s0 s _ is (later-beside s s.entries s.epoch t);
-    spawn = λ s n f g q a b at p same here room is. later-then s0 s _ is (later-made s slot n at (next_place f) (new_row (Spawned n g) (row s.rows n).job (Some slot) (called_frame f q a b) Unstarted) refl);
+    spawn = λ s n f g q a b at p same here room is. later-then s0 s _ is
+        (later-made s slot n at (next_place f) (new_row (Spawned n g) (row s.rows n).job (Some slot) (called_frame f q a b) Unstarted) refl);
     post = λ s n f q a b at p same room is. later-then s0 s _ is (later-made s slot n at (next_place f) (new_row Posted (row s.rows n).job None (called_frame f q a b) Unstarted) refl);
-    isolate = λ s n f d q a b at p same here room low is. later-then s0 s _ is (later-made s slot n at f (new_row (Region n) (row s.rows n).job (Some slot) (called_frame f q a b) (Live slot (height s.rows slot + 1))) refl);
-    wait = λ s n f g at p same none is. later-then s0 s _ is (later-top s slot n at (record (row s.rows n) { frame = f; marks = slice_set (row s.rows n).marks g (record { rows = length s.rows; cancelled = false }) }) refl refl refl);
-    cancel = λ s n f g at p same is. later-then s0 s _ is (later-top s slot n at (record (row s.rows n) { frame = f; marks = slice_set (row s.rows n).marks g (record (mark s.rows n g) { cancelled = true }) }) refl refl refl);
+    isolate = λ s n f d q a b at p same here room low is. later-then s0 s _ is
+        (later-made s slot n at f (new_row (Region n) (row s.rows n).job (Some slot) (called_frame f q a b) (Live slot (height s.rows slot + 1))) refl);
+    wait = λ s n f g at p same none is. later-then s0 s _ is
+        (later-top s slot n at (record (row s.rows n) { frame = f; marks = slice_set (row s.rows n).marks g (record { rows = length s.rows; cancelled = false }) }) refl refl refl);
+    cancel = λ s n f g at p same is. later-then s0 s _ is
+        (later-top s slot n at (record (row s.rows n) { frame = f; marks = slice_set (row s.rows n).marks g (record (mark s.rows n g) { cancelled = true }) }) refl refl refl);
     done = λ s n f a at p same unused is. later-then s0 s _ is (later-done s slot n at f (register f a) (row s.rows n).kind refl);
     nest = λ s m well low p picked high is.
         let its = pick_is s.config.isolation s.rows slot m picked in
@@ -205,12 +213,15 @@ module _ (s0 : State) where
     place = λ s j slot well p room low empty is. later-then s0 s _ is (later-added s j (Live slot 1));
     cancel = λ s j w well p known first is.
         let there = known_there s.jobs j (at_number s.jobs j) w refl known in
-        later-then s0 s _ is (later-set_job s j (record (job s.jobs j) { cancelled = true }) there.0 there.1 (record { program = refl; root = refl; cancelled = λ is. refl; fault = λ e is. is; retired = λ is. is })
+        later-then s0 s _ is (later-set_job s j (record (job s.jobs j) { cancelled = true }) there.0 there.1
+        (record { program = refl; root = refl; cancelled = λ is. refl; fault = λ e is. is; retired = λ is. is })
         (λ ended. absurd (let over = ended_outcome s j ended in grind (arith, over, first))));
     release = λ s j w well p known over is.
         let there = known_there s.jobs j (at_number s.jobs j) w refl known in
-        later-then s0 s _ is (later-set_job s j (retired_work (job s.jobs j)) there.0 there.1 (record { program = refl; root = refl; cancelled = λ is. is; fault = λ e is. is; retired = λ is. refl }) (λ ended. (refl, refl)));
-    retire = λ s well p closed is. later-then s0 s _ is (later-then s (record s { jobs = map retired_work s.jobs }) _ (later-retired s) (later-beside (record s { jobs = map retired_work s.jobs }) s.entries (s.epoch + 1) no_cells));
+        later-then s0 s _ is (later-set_job s j (retired_work (job s.jobs j)) there.0 there.1 (record { program = refl; root = refl; cancelled = λ is. is; fault = λ e is. is; retired = λ is. refl })
+        (λ ended. (refl, refl)));
+    retire = λ s well p closed is. later-then s0 s _ is
+        (later-then s (record s { jobs = map retired_work s.jobs }) _ (later-retired s) (later-beside (record s { jobs = map retired_work s.jobs }) s.entries (s.epoch + 1) no_cells));
     enter = λ s is. later-then s0 s _ is (later-entry s);
   }
 

@@ -40,7 +40,8 @@ SameSources-set rows n r from to kind job = record {
 }
 
 -- a new row, whose maker and job are there
-pub IsLinked-push : (s : State) (r : Row) → IsLinked s → IfSome (maker_of r.kind) (λ m. (1 ≤ m) × (m ≤ length s.rows)) → (1 ≤ r.job) × (r.job ≤ length s.jobs) → IsLinked (record s { rows = s.rows ++ r ∷ [] })
+pub IsLinked-push : (s : State) (r : Row) → IsLinked s → IfSome (maker_of r.kind) (λ m. (1 ≤ m) × (m ≤ length s.rows)) → (1 ≤ r.job) × (r.job ≤ length s.jobs) →
+    IsLinked (record s { rows = s.rows ++ r ∷ [] })
 IsLinked-push s r linked maker job =
     let long = length_push s.rows r in
     record {
@@ -60,7 +61,8 @@ IsLinked-push s r linked maker job =
     }
 
 -- a row changed, with the same maker and job
-pub IsLinked-set : (s : State) (n : ℕ) (r : Row) → 1 ≤ n → n ≤ length s.rows → r.kind ≡ (row s.rows n).kind → r.job ≡ (row s.rows n).job → IsLinked s → IsLinked (record s { rows = with_at_number s.rows n r })
+pub IsLinked-set : (s : State) (n : ℕ) (r : Row) → 1 ≤ n → n ≤ length s.rows → r.kind ≡ (row s.rows n).kind → r.job ≡ (row s.rows n).job → IsLinked s →
+    IsLinked (record s { rows = with_at_number s.rows n r })
 IsLinked-set s n r from to kind job linked = IsLinked-same s _ (SameSources-set s.rows n r from to kind job) refl linked.epoch linked
 
 -- all rows changed, with the same makers and jobs

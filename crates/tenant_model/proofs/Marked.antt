@@ -53,7 +53,8 @@ AreMarked-set rows n r from to fits is m g =
     let long = length-with rows n r in
     elim (cases_eq m n) [
       | inl same ↦
-          let new : (mark (with_at_number rows n r) m g).rows ≡ (mark_in r.marks g).rows = ap (λ (x : Row). (mark_in x.marks g).rows) (ap (row (with_at_number rows n r)) same ∙ row-with_same rows n r from to) in
+          let new : (mark (with_at_number rows n r) m g).rows ≡ (mark_in r.marks g).rows =
+          ap (λ (x : Row). (mark_in x.marks g).rows) (ap (row (with_at_number rows n r)) same ∙ row-with_same rows n r from to) in
           omega (arith, new, long, fits g)
       | inr other ↦
           let old : (mark (with_at_number rows n r) m g).rows ≡ (mark rows m g).rows = ap (λ (x : Row). (mark_in x.marks g).rows) (row-with_other rows n m r from other) in
@@ -66,7 +67,8 @@ AreMarked-push rows r none is = marked_there (rows ++ r ∷ []) (λ n g from to.
     let long = length_push rows r in
     elim (cases_lt (length rows) n) [
       | inl after ↦
-          let new : (mark (rows ++ r ∷ []) n g).rows ≡ (mark_in no_marks g).rows = ap (λ (x : Row). (mark_in x.marks g).rows) (row-push_new rows n r (omega (arith, after, to, long))) ∙ ap (λ marks. (mark_in marks g).rows) none in
+          let new : (mark (rows ++ r ∷ []) n g).rows ≡ (mark_in no_marks g).rows =
+          ap (λ (x : Row). (mark_in x.marks g).rows) (row-push_new rows n r (omega (arith, after, to, long))) ∙ ap (λ marks. (mark_in marks g).rows) none in
           omega (arith, new, no_mark g)
       | inr before ↦
           let old : (mark (rows ++ r ∷ []) n g).rows ≡ (mark rows n g).rows = ap (λ (x : Row). (mark_in x.marks g).rows) (row-push_old rows n r before) in
@@ -77,7 +79,8 @@ AreMarked-push rows r none is = marked_there (rows ++ r ∷ []) (λ n g from to.
 pub AreMarked-map : (f : Row → Row) (rows : List Row) → ((r : Row) → (f r).marks ≡ r.marks) → AreMarked rows → AreMarked (map f rows)
 AreMarked-map f rows same is = marked_there (map f rows) (λ n g from to.
     let long = length-map rows f in
-    let as_before : (mark (map f rows) n g).rows ≡ (mark rows n g).rows = ap (λ (x : Row). (mark_in x.marks g).rows) (row-map f rows n from (omega (arith, to, long))) ∙ ap (λ marks. (mark_in marks g).rows) (same (row rows n)) in
+    let as_before : (mark (map f rows) n g).rows ≡ (mark rows n g).rows =
+    ap (λ (x : Row). (mark_in x.marks g).rows) (row-map f rows n from (omega (arith, to, long))) ∙ ap (λ marks. (mark_in marks g).rows) (same (row rows n)) in
     omega (arith, as_before, long, is n g))
 
 -- a mark changed among a row's

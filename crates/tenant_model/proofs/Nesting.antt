@@ -34,7 +34,8 @@ allowed_inside : (mode : Isolation) (rows : List Row) (n m q : ℕ) (o : Option 
 allowed_inside mode rows n m q None precede there there_m region allowed is_one within = absurd (no_region_outside rows precede n n q (omega arith) there.0 there.1 region is_one within)
 allowed_inside Exact rows n m q (Some r) precede there there_m region allowed is_one within =
     let own = same_region_is r (region_of rows m) allowed in
-    within_further rows precede m m r q (omega arith) there_m.0 there_m.1 (region_within rows precede m m r (omega arith) there_m.0 there_m.1 own) (region_inside rows precede n n r q (omega arith) there.0 there.1 region is_one within)
+    within_further rows precede m m r q (omega arith) there_m.0 there_m.1 (region_within rows precede m m r (omega arith) there_m.0 there_m.1 own)
+    (region_inside rows precede n n r q (omega arith) there.0 there.1 region is_one within)
 allowed_inside Within rows n m q (Some r) precede there there_m region allowed is_one within =
     within_further rows precede m m r q (omega arith) there_m.0 there_m.1 allowed (region_inside rows precede n n r q (omega arith) there.0 there.1 region is_one within)
 

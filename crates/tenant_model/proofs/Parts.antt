@@ -85,7 +85,8 @@ settle-lives s n slot h live =
     settled_lives (row s.rows n) (is_context_cancelled s n) slot h (row s.rows n).phase refl here
 
 -- Not more rows are open.
-count-fewer : (p : Row → Bool) (f : ℕ × Row → Row) → ((n : ℕ) (r : Row) → one_if (p (f (n, r))) ≤ one_if (p r)) → (k : ℕ) (rows : List Row) → count_by p (map f (enumerate_from k rows)) ≤ count_by p rows
+count-fewer : (p : Row → Bool) (f : ℕ × Row → Row) → ((n : ℕ) (r : Row) → one_if (p (f (n, r))) ≤ one_if (p r)) → (k : ℕ) (rows : List Row) →
+    count_by p (map f (enumerate_from k rows)) ≤ count_by p rows
 count-fewer p f fewer k [] = omega arith
 count-fewer p f fewer k (x ∷ xs) = omega (arith, count-cons p (f (k, x)) (map f (enumerate_from (k + 1) xs)), count-cons p x xs, fewer k x, count-fewer p f fewer (k + 1) xs)
 
@@ -117,7 +118,8 @@ module _ (rows : List Row) (n : ℕ) (r : Row) (from : 1 ≤ n) (to : n ≤ leng
 
   -- a row that stands on top now
   pub AreInside-set_top : (slot : ℕ) → MakersPrecede rows → AreStacked rows → r.phase ≡ Live slot (height rows slot + 1) →
-      ((x low q : ℕ) → (row rows x).phase ≡ Live slot low → is_region (row rows q).kind ≡ true → is_within rows x q ≡ true → is_within rows n q ≡ true) → AreInside rows → AreInside (with_at_number rows n r)
+      ((x low q : ℕ) → (row rows x).phase ≡ Live slot low → is_region (row rows q).kind ≡ true → is_within rows x q ≡ true → is_within rows n q ≡ true) → AreInside rows →
+      AreInside (with_at_number rows n r)
   AreInside-set_top slot precede stacked on_top fits inside = AreInside-top rows (with_at_number rows n r) slot n precede stacked (record {
     kinds = λ q least most. kinds_set q;
     withins = λ x q least most. is_within-kinds rows (with_at_number rows n r) kinds_set x q;
@@ -146,7 +148,8 @@ module _ (rows : List Row) (r : Row) (precede : MakersPrecede rows) (all : Maker
       ]
 
   push_on_top : (slot m : ℕ) → ((x t h : ℕ) → (row (rows ++ r ∷ []) x).phase ≡ Live t h → ((x ≡ m) × (t ≡ slot) × (h ≡ height rows slot + 1)) ⊎ ((row rows x).phase ≡ Live t h)) →
-      ((x low q : ℕ) → (row rows x).phase ≡ Live slot low → is_region (row rows q).kind ≡ true → is_within rows x q ≡ true → is_within (rows ++ r ∷ []) m q ≡ true) → IsOnTop rows (rows ++ r ∷ []) slot m
+      ((x low q : ℕ) → (row rows x).phase ≡ Live slot low → is_region (row rows q).kind ≡ true → is_within rows x q ≡ true → is_within (rows ++ r ∷ []) m q ≡ true) →
+      IsOnTop rows (rows ++ r ∷ []) slot m
   push_on_top slot m lives fits = record {
     kinds = λ q least most. ap (λ (x : Row). x.kind) (row-push_old rows q r most);
     withins = λ x q least most. is_within-push rows precede r x x q (omega arith) least most all;
@@ -171,7 +174,8 @@ module _ (rows : List Row) (r : Row) (precede : MakersPrecede rows) (all : Maker
   ]
 
   -- a new row on top of the row that made it
-  pub AreInside-push_top : (slot n : ℕ) → AreStacked rows → r.phase ≡ Live slot (height rows slot + 1) → maker_of r.kind ≡ Some n → (row rows n).phase ≡ Live slot (height rows slot) → AreInside rows → AreInside (rows ++ r ∷ [])
+  pub AreInside-push_top : (slot n : ℕ) → AreStacked rows → r.phase ≡ Live slot (height rows slot + 1) → maker_of r.kind ≡ Some n → (row rows n).phase ≡ Live slot (height rows slot) → AreInside rows →
+      AreInside (rows ++ r ∷ [])
   AreInside-push_top slot n stacked on_top made top inside =
       let m = length rows + 1 in
       let there = live_there rows n slot (height rows slot) top in

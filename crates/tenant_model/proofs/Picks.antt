@@ -69,7 +69,8 @@ live_is slot h (Done v) is = absurd (grind (arith, is))
 live_is slot h Dropped is = absurd (grind (arith, is))
 live_is slot h Faulted is = absurd (grind (arith, is))
 
-found_top : (rows : List Row) (slot n : ℕ) (o : Option NumberedRow) → find (λ (p : NumberedRow). is_live_at slot (height rows slot) p.1.phase) (numbered_rows rows) ≡ o → option_map (λ (p : NumberedRow). p.0) o ≡ Some n → (1 ≤ n) × (n ≤ length rows) × ((row rows n).phase ≡ Live slot (height rows slot))
+found_top : (rows : List Row) (slot n : ℕ) (o : Option NumberedRow) → find (λ (p : NumberedRow). is_live_at slot (height rows slot) p.1.phase) (numbered_rows rows) ≡ o →
+    option_map (λ (p : NumberedRow). p.0) o ≡ Some n → (1 ≤ n) × (n ≤ length rows) × ((row rows n).phase ≡ Live slot (height rows slot))
 found_top rows slot n None found is = absurd (grind (arith, ap is_some is))
 found_top rows slot n (Some p) found is =
     let e : p.0 ≡ n = ap (λ o. unwrap_or o 0) is in
@@ -94,12 +95,15 @@ picked_is mode rows slot m found =
     rw (sym found.2) (at_number.0, at_number.1, rw at_number.2 unstarted, allowed)
 
 -- What a slot picks has not started, and it may take it.
-pub pick_is : (mode : Isolation) (rows : List Row) (slot m : ℕ) → pick_of mode rows slot ≡ Some m → (1 ≤ m) × (m ≤ length rows) × (is_unstarted (row rows m).phase ≡ true) × (is_allowed mode rows (region_on rows (top rows slot)) m ≡ true)
+pub pick_is : (mode : Isolation) (rows : List Row) (slot m : ℕ) → pick_of mode rows slot ≡ Some m →
+    (1 ≤ m) × (m ≤ length rows) × (is_unstarted (row rows m).phase ≡ true) × (is_allowed mode rows (region_on rows (top rows slot)) m ≡ true)
 pick_is mode rows slot m is =
     let region = region_on rows (top rows slot) in
     let test : NumberedRow → Bool = λ p. is_unstarted p.1.phase && is_allowed mode rows region p.0 in
     let P : NumberedRow → Type 0 = λ p. IsNumbered rows p × (test p ≡ true) in
-    let all : All P (eligible mode rows slot) = All-both (IsNumbered rows) (λ p. test p ≡ true) (eligible mode rows slot) (All-filter test (IsNumbered rows) (numbered_rows rows) (numbered_all rows)) (filter_passes test (numbered_rows rows)) in
+    let all : All P (eligible mode rows slot) =
+    All-both (IsNumbered rows) (λ p. test p ≡ true) (eligible mode rows slot) (All-filter test (IsNumbered rows) (numbered_rows rows) (numbered_all rows))
+    (filter_passes test (numbered_rows rows)) in
     elim (last_holds P (first_of (eligible mode rows slot)) _ m (All-filter _ P (eligible mode rows slot) all) is) [
       | inl oldest ↦ picked_is mode rows slot m (first_holds P (eligible mode rows slot) m all oldest)
       | inr newest ↦ picked_is mode rows slot m newest

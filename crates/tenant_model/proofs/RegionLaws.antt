@@ -1,5 +1,6 @@
 -- What isolated regions protect.
-use Rattle.std.proofs.Common.{◌≡◌, ◌≢◌, ℕ, zero, suc, ◌+◌, ◌-◌, ◌==◌, ◌<◌, ◌≤◌, List, [], ◌∷◌, ◌++◌, length, Option, Some, None, Bool, true, false, ◌&&◌, ◌||◌, nat_lt, refl, sym, ap, ◌∙◌, arith, inl, inr, get_or, take, drop, ℤ, pos, map}
+use Rattle.std.proofs.Common.{◌≡◌, ◌≢◌, ℕ, zero, suc, ◌+◌, ◌-◌, ◌==◌, ◌<◌, ◌≤◌, List, [], ◌∷◌, ◌++◌, length, Option, Some, None, Bool, true, false, ◌&&◌, ◌||◌, nat_lt, refl, sym, ap, ◌∙◌, arith, inl}
+use Rattle.std.proofs.Common.{inr, get_or, take, drop, ℤ, pos, map}
 use Rattle.std.specs.Prelude.{if◌then◌else◌, not, nat_le, slice_set, slice_index_or, option_to_list, All}
 use Rattle.std.specs.List.{list_any}
 use Rattle.std.specs.Option.{option_map, option_map_or}
@@ -34,7 +35,8 @@ use Rattle.tenant_model.specs.Linked.{MakersPrecede}
 use Rattle.tenant_model.specs.Later.{IsLater}
 use Rattle.tenant_model.specs.Sound.{IsSound}
 use Rattle.tenant_model.specs.WellFormed.{IsTable, IsWellFormed}
-use Rattle.tenant_model.specs.Regions.{Change, Touch, changes, cells_on, cells_after, change_after, touch_by, touch, touch_at, touches, IsInterval, IsolatesRows, AdvancesWithin, CellsFollowTouches, TouchesAreWithin, EqualChangesEqualCells, KeepsRegions}
+use Rattle.tenant_model.specs.Regions.{Change, Touch, changes, cells_on, cells_after, change_after, touch_by, touch, touch_at, touches, IsInterval, IsolatesRows, AdvancesWithin, CellsFollowTouches}
+use Rattle.tenant_model.specs.Regions.{TouchesAreWithin, EqualChangesEqualCells, KeepsRegions}
 use Rattle.tenant_model.proofs.Changed.{row-get_or}
 use Rattle.tenant_model.proofs.Within.{either_way, within_itself}
 use Rattle.tenant_model.proofs.Insides.{live_there, live_low}
@@ -92,7 +94,8 @@ advances_within s is slot r n is_one live top =
     isolates_rows s is slot r n its.0 (height s.rows slot) is_one its.1 high.2 low.1
 
 -- A table after a touch, seen from a slot.
-cells_on-touch : (t : Table) (slot other : ℕ) (o : Option Touch) → IsTable t → slot < MAX_SLOTS → cells_on (with_change t other (change_in o)) slot ≡ cells_after (cells_on t slot) (changes (option_to_list (if other == slot then o else None)))
+cells_on-touch : (t : Table) (slot other : ℕ) (o : Option Touch) → IsTable t → slot < MAX_SLOTS →
+    cells_on (with_change t other (change_in o)) slot ≡ cells_after (cells_on t slot) (changes (option_to_list (if other == slot then o else None)))
 cells_on-touch t slot other None is low = elim (either_way (other == slot)) [
   | inl same ↦ rw same refl
   | inr apart ↦ rw apart refl
@@ -183,7 +186,8 @@ untouched s slot t is past same =
     let no : nat_lt t s.config.slots ≡ false = grind (arith, is.slots, past, same) in
     rw no refl
 
-advance_cells_on : (s : State) (slot t : ℕ) → IsWellFormed s → cells_on (with_change s.cells t (change_in (touch s t))) slot ≡ cells_after (cells_on s.cells slot) (changes (option_to_list (if t == slot then touch s t else None)))
+advance_cells_on : (s : State) (slot t : ℕ) → IsWellFormed s →
+    cells_on (with_change s.cells t (change_in (touch s t))) slot ≡ cells_after (cells_on s.cells slot) (changes (option_to_list (if t == slot then touch s t else None)))
 advance_cells_on s slot t is = elim (cases_lt slot MAX_SLOTS) [
   | inl low ↦ cells_on-touch s.cells slot t (touch s t) is.table low
   | inr past ↦ elim (cases_eq t slot) [
@@ -225,7 +229,8 @@ pub equal_changes : (s : State) (xs : List Step) → IsWellFormed s → EqualCha
 equal_changes s xs is slot r interval c zs ys slot' r' slots interval' cells same =
     let t = after (empty c) zs in
     let is' = after_kept (empty c) zs (empty_kept c slots) in
-    cells_follow_touches t ys is' slot' r' interval' ∙ ap (λ now. cells_after now (changes (touches t slot' ys))) cells ∙ ap (cells_after (cells_on s.cells slot)) same ∙ sym (cells_follow_touches s xs is slot r interval)
+    cells_follow_touches t ys is' slot' r' interval' ∙ ap (λ now. cells_after now (changes (touches t slot' ys))) cells ∙ ap (cells_after (cells_on s.cells slot)) same ∙
+    sym (cells_follow_touches s xs is slot r interval)
 
 -- What is within a row stays so.
 by_maker : (a b : List Row) (k n : ℕ) (o : Option ℕ) → ((m : ℕ) → o ≡ Some m → chain_for k b m ≡ chain_for k a m) → with_makers n o (chain_for k b) ≡ with_makers n o (chain_for k a)
@@ -262,7 +267,8 @@ touch_on_top s slot t some = elim (either_way (nat_lt slot s.config.slots)) [
     tagged None by = absurd (let no : None ≡ Some t = by in cc)
     tagged (Some n) by = let r = run_on s slot n in tag_is n (change_after s slot n r.count r.end r.stop) by
 
-step_touch_within : (s : State) (slot r : ℕ) (x : Step) → IsWellFormed s → is_region (row s.rows r).kind ≡ true → is_live_on slot (row s.rows r).phase ≡ true → (t : Touch) → touch_at s slot x ≡ Some t → (t.0 ≤ length s.rows) × (is_within s.rows t.0 r ≡ true)
+step_touch_within : (s : State) (slot r : ℕ) (x : Step) → IsWellFormed s → is_region (row s.rows r).kind ≡ true → is_live_on slot (row s.rows r).phase ≡ true → (t : Touch) →
+    touch_at s slot x ≡ Some t → (t.0 ≤ length s.rows) × (is_within s.rows t.0 r ≡ true)
 step_touch_within s slot r (Ask q) is region live t some = absurd (let no : None ≡ Some t = some in cc)
 step_touch_within s slot r (Arrive u) is region live t some = absurd (let no : None ≡ Some t = some in cc)
 step_touch_within s slot r (Advance u) is region live t some = elim (cases_eq u slot) [
@@ -294,7 +300,8 @@ touches_are_within s (x ∷ xs) is slot r region interval =
     only (Some c) some =
         let by = step_touch_within s slot r x is region (interval 0 (omega arith)) c some in
         let all = later-then s (step s x).1 (after (step s x).1 xs) (step_later s x is) (after_later (step s x).1 xs (step_kept s x is)) in
-        All-from_get_or (λ (d : Touch). is_within (after (step s x).1 xs).rows d.0 r ≡ true) (c ∷ []) (0, (0, pos 0)) (λ i within. let e : i ≡ 0 = omega (arith, within) in rw e (within_later s (after (step s x).1 xs) is all c.0 r by.0 by.1))
+        All-from_get_or (λ (d : Touch). is_within (after (step s x).1 xs).rows d.0 r ≡ true) (c ∷ []) (0, (0, pos 0))
+        (λ i within. let e : i ≡ 0 = omega (arith, within) in rw e (within_later s (after (step s x).1 xs) is all c.0 r by.0 by.1))
 
 -- What regions protect, at each moment of a run and in each part of it.
 pub keeps_regions : (s : State) (xs : List Step) → IsWellFormed s → KeepsRegions s xs

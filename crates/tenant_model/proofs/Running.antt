@@ -10,7 +10,8 @@ use Rattle.job_language.specs.Program.{IsValidProgram, IsInRange}
 use Rattle.job_language.specs.declared.instructions.TheConstants.{GROUPS}
 use Rattle.job_step.proofs.RunSteps.{instr_at-past_procs}
 use Rattle.job_language.specs.declared.instructions.Instr.{Instr}
-use Rattle.job_language.specs.declared.instructions.Instr.TheVariants.{Set, Add, Sub, Mul, Div, Lt, Rem, And, Or, Xor, Shl, Shr, Eq, Le, Jz, Jmp, Slot, Width, Spawn, Post, Wait, Cancel, Ask, Isolate, Load, Store, Sum, Count, Ret}
+use Rattle.job_language.specs.declared.instructions.Instr.TheVariants.{Set, Add, Sub, Mul, Div, Lt, Rem, And, Or, Xor, Shl, Shr, Eq, Le, Jz, Jmp, Slot, Width, Spawn, Post, Wait, Cancel, Ask, Isolate}
+use Rattle.job_language.specs.declared.instructions.Instr.TheVariants.{Load, Store, Sum, Count, Ret}
 use Rattle.job_step.specs.declared.effects.Effect.{Effect}
 use Rattle.job_step.specs.declared.effects.Effect.TheVariants.{Moves, DividesByZero, IsShared}
 use Rattle.job_step.specs.declared.frames.Frame.{Frame}
@@ -80,7 +81,8 @@ stops_at : (o : Option Instr) (i : Instr) → stop_at o ≡ Shared i → o ≡ S
 stops_at (Some j) i same = ap is_shared same
 stops_at None i same = let no : None ≡ Some i = ap is_shared same in absurd (cc)
 
-turn_ends : (procs : List (List Instr)) (start f : Frame) (c : ℕ) (e : Effect) (o : Option Instr) (next : Frame → Run) → o ≡ instr_at procs f → MovesSo f e → ((g : Frame) → EndsAt procs g (next g)) → EndsAt procs f (run_on start f c e o next)
+turn_ends : (procs : List (List Instr)) (start f : Frame) (c : ℕ) (e : Effect) (o : Option Instr) (next : Frame → Run) → o ≡ instr_at procs f → MovesSo f e → ((g : Frame) → EndsAt procs g (next g)) →
+    EndsAt procs f (run_on start f c e o next)
 turn_ends procs start f c (Moves g) o next here same ends = record { registers = (ends g).registers ∙ same; stop = (ends g).stop }
 turn_ends procs start f c DividesByZero o next here same ends = record { registers = refl; stop = λ i stop. let no : None ≡ Some i = ap is_shared stop in absurd (cc) }
 turn_ends procs start f c IsShared o next here same ends = record { registers = refl; stop = λ i stop. sym here ∙ stops_at o i stop }
@@ -89,7 +91,8 @@ ends_for : (left : ℕ) (procs : List (List Instr)) (slot width : ℕ) (start : 
 unfolding run_for
 ends_for zero procs slot width start c f = record { registers = refl; stop = λ i stop. let no : None ≡ Some i = ap is_shared stop in absurd (cc) }
 ends_for (suc left) procs slot width start c f =
-    turn_ends procs start f c (effect_at (instr_at procs f) slot width f) (instr_at procs f) (run_for left procs slot width start (c + 1)) refl (moves_at (instr_at procs f) slot width f) (λ g. ends_for left procs slot width start (c + 1) g)
+    turn_ends procs start f c (effect_at (instr_at procs f) slot width f) (instr_at procs f) (run_for left procs slot width start (c + 1)) refl (moves_at (instr_at procs f) slot width f)
+    (λ g. ends_for left procs slot width start (c + 1) g)
 
 -- the run of a frame
 pub run_ends_at : (procs : List (List Instr)) (slot width : ℕ) (f : Frame) → EndsAt procs f (run_of procs slot width f)

@@ -54,7 +54,8 @@ counted_more : (s t : State) → length t.rows ≡ length s.rows + 1 → length 
 counted_more s t rows jobs entries is = record { rows = omega (arith, rows, entries, is.rows); jobs = omega (arith, jobs, entries, is.jobs) }
 
 made_more : (s : State) (n : ℕ) (f : Frame) (r : Row) → IsCounted s → IsCountedNext (add_row (with_frame s n f) r)
-made_more s n f r is = counted_more s (add_row (with_frame s n f) r) (length_push (with_frame s n f).rows r ∙ ap (λ k. k + 1) (length-with s.rows n (record (row s.rows n) { frame = f }))) (omega arith) refl is
+made_more s n f r is = counted_more s (add_row (with_frame s n f) r) (length_push (with_frame s n f).rows r ∙ ap (λ k. k + 1) (length-with s.rows n (record (row s.rows n) { frame = f })))
+    (omega arith) refl is
 
 added_more : (s : State) (j : Job) (phase : Phase) → IsCounted s → IsCountedNext (add_job s j phase)
 added_more s j phase is =
@@ -68,7 +69,9 @@ counted_done : (s : State) (n : ℕ) (f : Frame) (v : ℤ) (k : Kind) → IsCoun
 counted_done s n f v Root is = counted_beside s _ (length-with s.rows n _) refl refl is
 counted_done s n f v Posted is = counted_beside s _ (length-with s.rows n _) refl refl is
 counted_done s n f v (Spawned m g) is = counted_beside s _ (length-with s.rows n _) refl refl is
-counted_done s n f v (Region m) is = counted_beside s (hand_back (on_row s n (λ r. record r { frame = f; phase = Done v })) (Region m) v) (length-with (on_row s n (λ r. record r { frame = f; phase = Done v })).rows m _ ∙ length-with s.rows n _) refl refl is
+counted_done s n f v (Region m) is =
+    counted_beside s (hand_back (on_row s n (λ r. record r { frame = f; phase = Done v })) (Region m) v)
+    (length-with (on_row s n (λ r. record r { frame = f; phase = Done v })).rows m _ ∙ length-with s.rows n _) refl refl is
 
 counted_advances : (slot : ℕ) → KeepsAdvances Nothing IsCounted IsCountedNext slot
 counted_advances slot = record {

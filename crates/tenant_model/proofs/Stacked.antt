@@ -18,8 +18,10 @@ module _ (rows : List Row) (n : ℕ) (r : Row) (from : 1 ≤ n) (to : n ≤ leng
   -- the phase stays as it is
   pub AreSame-set : r.phase ≡ (row rows n).phase → AreSame rows (with_at_number rows n r)
   AreSame-set same = record {
-    on = λ slot. let change = count-with (λ (x : Row). is_live_on slot x.phase) rows n r from to in let e : one_if (is_live_on slot r.phase) ≡ one_if (is_live_on slot (row rows n).phase) = ap (λ q. one_if (is_live_on slot q)) same in omega (arith, change, e);
-    at = λ slot h. let change = count-with (λ (x : Row). is_live_at slot h x.phase) rows n r from to in let e : one_if (is_live_at slot h r.phase) ≡ one_if (is_live_at slot h (row rows n).phase) = ap (λ q. one_if (is_live_at slot h q)) same in omega (arith, change, e);
+    on = λ slot. let change = count-with (λ (x : Row). is_live_on slot x.phase) rows n r from to in let e : one_if (is_live_on slot r.phase) ≡ one_if (is_live_on slot (row rows n).phase) =
+        ap (λ q. one_if (is_live_on slot q)) same in omega (arith, change, e);
+    at = λ slot h. let change = count-with (λ (x : Row). is_live_at slot h x.phase) rows n r from to in let e : one_if (is_live_at slot h r.phase) ≡ one_if (is_live_at slot h (row rows n).phase) =
+        ap (λ q. one_if (is_live_at slot h q)) same in omega (arith, change, e);
   }
 
   -- a row that was on no slot stands on top of one
@@ -28,11 +30,16 @@ module _ (rows : List Row) (n : ℕ) (r : Row) (from : 1 ≤ n) (to : n ≤ leng
       let on_change = λ (t : ℕ). count-with (λ (x : Row). is_live_on t x.phase) rows n r from to in
       let at_change = λ (t : ℕ) (h : ℕ). count-with (λ (x : Row). is_live_at t h x.phase) rows n r from to in
       record {
-        on = let after : one_if (is_live_on slot r.phase) ≡ 1 = rw live (grind arith) in let before : one_if (is_live_on slot (row rows n).phase) ≡ 0 = rw off.on refl in omega (arith, on_change slot, after, before);
-        on_others = λ t other. let after : one_if (is_live_on t r.phase) ≡ 0 = rw live (grind (arith, other)) in let before : one_if (is_live_on t (row rows n).phase) ≡ 0 = rw off.on refl in omega (arith, on_change t, after, before);
-        at_top = let after : one_if (is_live_at slot (height rows slot + 1) r.phase) ≡ 1 = rw live (grind arith) in let before : one_if (is_live_at slot (height rows slot + 1) (row rows n).phase) ≡ 0 = rw off.at refl in omega (arith, at_change slot (height rows slot + 1), after, before);
-        at_rest = λ h other. let after : one_if (is_live_at slot h r.phase) ≡ 0 = rw live (grind (arith, other)) in let before : one_if (is_live_at slot h (row rows n).phase) ≡ 0 = rw off.at refl in omega (arith, at_change slot h, after, before);
-        at_others = λ t h other. let after : one_if (is_live_at t h r.phase) ≡ 0 = rw live (grind (arith, other)) in let before : one_if (is_live_at t h (row rows n).phase) ≡ 0 = rw off.at refl in omega (arith, at_change t h, after, before);
+        on = let after : one_if (is_live_on slot r.phase) ≡ 1 = rw live (grind arith) in let before : one_if (is_live_on slot (row rows n).phase) ≡ 0 = rw off.on refl in
+            omega (arith, on_change slot, after, before);
+        on_others = λ t other. let after : one_if (is_live_on t r.phase) ≡ 0 = rw live (grind (arith, other)) in let before : one_if (is_live_on t (row rows n).phase) ≡ 0 = rw off.on refl in
+            omega (arith, on_change t, after, before);
+        at_top = let after : one_if (is_live_at slot (height rows slot + 1) r.phase) ≡ 1 = rw live (grind arith) in
+            let before : one_if (is_live_at slot (height rows slot + 1) (row rows n).phase) ≡ 0 = rw off.at refl in omega (arith, at_change slot (height rows slot + 1), after, before);
+        at_rest = λ h other. let after : one_if (is_live_at slot h r.phase) ≡ 0 = rw live (grind (arith, other)) in let before : one_if (is_live_at slot h (row rows n).phase) ≡ 0 = rw off.at refl in
+            omega (arith, at_change slot h, after, before);
+        at_others = λ t h other. let after : one_if (is_live_at t h r.phase) ≡ 0 = rw live (grind (arith, other)) in let before : one_if (is_live_at t h (row rows n).phase) ≡ 0 = rw off.at refl in
+            omega (arith, at_change t h, after, before);
       }
 
   -- the topmost row leaves its slot
@@ -42,14 +49,20 @@ module _ (rows : List Row) (n : ℕ) (r : Row) (from : 1 ≤ n) (to : n ≤ leng
       let at_change = λ (t : ℕ) (h : ℕ). count-with (λ (x : Row). is_live_at t h x.phase) rows n r from to in
       record {
         within = omega arith;
-        on = let before : one_if (is_live_on slot (row rows n).phase) ≡ 1 = rw live (grind arith) in let after : one_if (is_live_on slot r.phase) ≡ 0 = rw off.on refl in omega (arith, on_change slot, after, before);
-        on_others = λ t other. let before : one_if (is_live_on t (row rows n).phase) ≡ 0 = rw live (grind (arith, other)) in let after : one_if (is_live_on t r.phase) ≡ 0 = rw off.on refl in omega (arith, on_change t, after, before);
-        kept = λ h below. let before : one_if (is_live_at slot h (row rows n).phase) ≡ 0 = rw live (grind (arith, below)) in let after : one_if (is_live_at slot h r.phase) ≡ 0 = rw off.at refl in omega (arith, at_change slot h, after, before);
+        on = let before : one_if (is_live_on slot (row rows n).phase) ≡ 1 = rw live (grind arith) in let after : one_if (is_live_on slot r.phase) ≡ 0 = rw off.on refl in
+            omega (arith, on_change slot, after, before);
+        on_others = λ t other. let before : one_if (is_live_on t (row rows n).phase) ≡ 0 = rw live (grind (arith, other)) in let after : one_if (is_live_on t r.phase) ≡ 0 = rw off.on refl in
+            omega (arith, on_change t, after, before);
+        kept = λ h below. let before : one_if (is_live_at slot h (row rows n).phase) ≡ 0 = rw live (grind (arith, below)) in let after : one_if (is_live_at slot h r.phase) ≡ 0 = rw off.at refl in
+            omega (arith, at_change slot h, after, before);
         gone = λ h above. let after : one_if (is_live_at slot h r.phase) ≡ 0 = rw off.at refl in elim (cases_eq h (height rows slot)) [
-          | inl top ↦ let before : one_if (is_live_at slot h (row rows n).phase) ≡ 1 = rw (live, top) (grind arith) in let one : rows_at rows slot h ≡ 1 = rw top (stacked.one_at_each slot (height rows slot) some (omega arith)) in omega (arith, at_change slot h, after, before, one)
-          | inr higher ↦ let before : one_if (is_live_at slot h (row rows n).phase) ≡ 0 = rw live (grind (arith, higher)) in omega (arith, at_change slot h, after, before, stacked.none_above slot h (omega (arith, above, higher)))
+          | inl top ↦ let before : one_if (is_live_at slot h (row rows n).phase) ≡ 1 = rw (live, top) (grind arith) in let one : rows_at rows slot h ≡ 1 =
+              rw top (stacked.one_at_each slot (height rows slot) some (omega arith)) in omega (arith, at_change slot h, after, before, one)
+          | inr higher ↦ let before : one_if (is_live_at slot h (row rows n).phase) ≡ 0 = rw live (grind (arith, higher)) in
+              omega (arith, at_change slot h, after, before, stacked.none_above slot h (omega (arith, above, higher)))
         ];
-        at_others = λ t h other. let before : one_if (is_live_at t h (row rows n).phase) ≡ 0 = rw live (grind (arith, other)) in let after : one_if (is_live_at t h r.phase) ≡ 0 = rw off.at refl in omega (arith, at_change t h, after, before);
+        at_others = λ t h other. let before : one_if (is_live_at t h (row rows n).phase) ≡ 0 = rw live (grind (arith, other)) in let after : one_if (is_live_at t h r.phase) ≡ 0 = rw off.at refl in
+            omega (arith, at_change t h, after, before);
       }
 
 module _ (rows : List Row) (r : Row) where

@@ -4,7 +4,8 @@ use Rattle.std.specs.Prelude.{if◌then◌else◌, slice_index_or, unwrap_or, �
 use Rattle.std.proofs.lemmas.List.{get_or_default}
 use Rattle.std.proofs.lemmas.Option.{slice_get-get_or}
 use Rattle.job_language.specs.declared.instructions.Instr.{Instr}
-use Rattle.job_language.specs.declared.instructions.Instr.TheVariants.{Set, Add, Sub, Mul, Div, Lt, Rem, And, Or, Xor, Shl, Shr, Eq, Le, Jz, Jmp, Slot, Width, Spawn, Post, Wait, Cancel, Ask, Isolate, Load, Store, Sum, Count, Ret}
+use Rattle.job_language.specs.declared.instructions.Instr.TheVariants.{Set, Add, Sub, Mul, Div, Lt, Rem, And, Or, Xor, Shl, Shr, Eq, Le, Jz, Jmp, Slot, Width, Spawn, Post, Wait, Cancel, Ask, Isolate}
+use Rattle.job_language.specs.declared.instructions.Instr.TheVariants.{Load, Store, Sum, Count, Ret}
 use Rattle.job_language.specs.Program.{IsValidProc, IsInRange, IsValidProgram, Calls, is_last}
 use Rattle.job_step.specs.declared.frames.Frame.{Frame}
 use Rattle.job_step.specs.declared.runs.Run.{Run}
@@ -33,13 +34,20 @@ no_yield j same = grind (arith, ap is_shared_stop same)
 
 module _ (procs : List (List Instr)) (valid : IsValidProgram procs) where
   -- the instruction at which a frame stands
-  pub standing : (f : Frame) → Stands procs f → (i : Instr) × (instr_at procs f ≡ Some i) × (IsInRange (length (slice_index_or procs f.procedure [])) i) × (Calls (length procs) i) × (is_last i ≡ false → f.place + 1 < length (slice_index_or procs f.procedure []))
+  pub standing : (f : Frame) → Stands procs f →
+      (i : Instr) × (instr_at procs f ≡ Some i) × (IsInRange (length (slice_index_or procs f.procedure [])) i) × (Calls (length procs) i) ×
+      (is_last i ≡ false → f.place + 1 < length (slice_index_or procs f.procedure []))
   standing f stands =
       let proc = slice_index_or procs f.procedure [] in
       let its : IsValidProc proc = valid.each f.procedure [] stands.procedure in
       let i = get_or proc f.place (Ret 0) in
-      let found : i ≡ get_or proc f.place i = get_or_default proc f.place (Ret 0) i stands.place in
-      (i, slice_get-get_or proc f.place (Ret 0) stands.place, IsInRange-found proc f.place i its stands.place found, valid.calls f.procedure [] stands.procedure f.place (Ret 0) stands.place, follows proc f.place i its stands.place found)
+      let found : i ≡ get_or proc f.place i = get_or_default proc f.place (Ret 0) i stands.place in (
+        i,
+        slice_get-get_or proc f.place (Ret 0) stands.place,
+        IsInRange-found proc f.place i its stands.place found,
+        valid.calls f.procedure [] stands.procedure f.place (Ret 0) stands.place,
+        follows proc f.place i its stands.place found,
+      )
 
   -- at another place of the procedure
   pub stands_at : (f : Frame) (k : ℕ) → Stands procs f → k < length (slice_index_or procs f.procedure []) → Stands procs (at_place f k)
@@ -52,7 +60,8 @@ module _ (procs : List (List Instr)) (valid : IsValidProgram procs) where
       record { procedure = stands.procedure; place = its.4 (rw same goes_on) }
 
   -- an instruction at which a frame stands is in range
-  pub in_range : (f : Frame) (i : Instr) → Stands procs f → instr_at procs f ≡ Some i → IsInRange (length (slice_index_or procs f.procedure [])) i × Calls (length procs) i × (is_last i ≡ false → f.place + 1 < length (slice_index_or procs f.procedure []))
+  pub in_range : (f : Frame) (i : Instr) → Stands procs f → instr_at procs f ≡ Some i →
+      IsInRange (length (slice_index_or procs f.procedure [])) i × Calls (length procs) i × (is_last i ≡ false → f.place + 1 < length (slice_index_or procs f.procedure []))
   in_range f i stands at =
       let its = standing f stands in
       let same : its.0 ≡ i = ap (λ o. unwrap_or o i) (sym its.1 ∙ at) in
@@ -68,7 +77,8 @@ module _ (procs : List (List Instr)) (valid : IsValidProgram procs) where
   zero_or_not true g stands = tt
   zero_or_not false g stands = stands
 
-  jumped : (f : Frame) (b : Bool) (t : ℕ) → Stands procs f → t < length (slice_index_or procs f.procedure []) → f.place + 1 < length (slice_index_or procs f.procedure []) → Stands procs (at_place f (if b then t else f.place + 1))
+  jumped : (f : Frame) (b : Bool) (t : ℕ) → Stands procs f → t < length (slice_index_or procs f.procedure []) → f.place + 1 < length (slice_index_or procs f.procedure []) →
+      Stands procs (at_place f (if b then t else f.place + 1))
   jumped f true t stands target next = stands_at f t stands target
   jumped f false t stands target next = stands_at f (f.place + 1) stands next
 
@@ -113,7 +123,8 @@ module _ (procs : List (List Instr)) (valid : IsValidProgram procs) where
   stop_is : (i j : Instr) → stop_at (Some i) ≡ Shared j → i ≡ j
   stop_is i j same = ap (λ stop. stopped stop i) same
 
-  run_step : (start f : Frame) (c : ℕ) (i : Instr) (e : Effect) (next : Frame → Run) → Stands procs f → instr_at procs f ≡ Some i → Keeps e → ((g : Frame) → Stands procs g → EndsWell (next g)) → EndsWell (run_on start f c e (Some i) next)
+  run_step : (start f : Frame) (c : ℕ) (i : Instr) (e : Effect) (next : Frame → Run) → Stands procs f → instr_at procs f ≡ Some i → Keeps e → ((g : Frame) → Stands procs g → EndsWell (next g)) →
+      EndsWell (run_on start f c e (Some i) next)
   run_step start f c i (Moves g) next stands at kept goes_on = goes_on g kept
   run_step start f c i DividesByZero next stands at kept goes_on = record { end = stands; stop = λ j same. absurd (no_fault j same) }
   run_step start f c i IsShared next stands at kept goes_on = record { end = stands; stop = λ j same. at ∙ ap Some (stop_is i j same) }
@@ -123,7 +134,8 @@ module _ (procs : List (List Instr)) (valid : IsValidProgram procs) where
   run_for_ends zero slot width start c f stands = record { end = stands; stop = λ j same. absurd (no_yield j same) }
   run_for_ends (suc left) slot width start c f stands =
       let its = standing f stands in
-      rw its.1 (run_step start f c its.0 (effect its.0 slot width f) (run_for left procs slot width start (c + 1)) stands its.1 (effect_stands f its.0 slot width stands its.1) (λ g there. run_for_ends left slot width start (c + 1) g there))
+      rw its.1 (run_step start f c its.0 (effect its.0 slot width f) (run_for left procs slot width start (c + 1)) stands its.1 (effect_stands f its.0 slot width stands its.1)
+      (λ g there. run_for_ends left slot width start (c + 1) g there))
 
   pub run_ends : (slot width : ℕ) (f : Frame) → Stands procs f → EndsWell (run_of procs slot width f)
   run_ends slot width f stands = run_for_ends 1000 slot width f 0 f stands

@@ -39,7 +39,8 @@ use Rattle.tenant_model.proofs.Nesting.{nest_first_kept, nest_top_kept}
 use Rattle.tenant_model.proofs.Running.{SameRegisters}
 use Rattle.tenant_model.proofs.Invariance.{IsAt, program_of, waited_at, cancelled_at}
 use Rattle.tenant_model.proofs.Tending.{IsTended-set, IsTended-jobs}
-use Rattle.tenant_model.proofs.Tended.{SameJobs-set, IsTended-beside, top_is_bare, retired_same, tended_advances, tended_asks, empty_tended, made_tended, new_shaped, same_number, no_number, not_on, over_tended, ended_tended}
+use Rattle.tenant_model.proofs.Tended.{SameJobs-set, IsTended-beside, top_is_bare, retired_same, tended_advances, tended_asks, empty_tended, made_tended, new_shaped, same_number, no_number, not_on}
+use Rattle.tenant_model.proofs.Tended.{over_tended, ended_tended}
 use Rattle.tenant_model.proofs.Attended.{Both, MakersStay-jobs, MakersStay-beside, MakersStay-set, framed_kept, kept_at, made_kept, over_kept, done_kept_by}
 use Rattle.tenant_model.proofs.AttendedSteps.{KeepFaults-set, KeepFaults-retired, nested_stays, added_stay, spawned_group, no_region, empty_attended}
 
@@ -64,33 +65,40 @@ module _ (s : State) (slot n : ℕ) (at : IsAt s slot n) (is : IsSteady s) where
       let formed = spawned_kept s slot n is.formed (at_top s slot n at) f (called_frame f p a b) (Spawned n g) (Some slot) refl refl room in
       record {
         formed = formed;
-        tended = made_tended s slot n at is.tended f (called_frame f p a b) (Spawned n g) (Some slot) Unstarted same (new_shaped (Spawned n g) (row s.rows n).job (Some slot) f p a b Unstarted) (same_number n) (λ t h live. not_on t h slot live)
+        tended = made_tended s slot n at is.tended f (called_frame f p a b) (Spawned n g) (Some slot) Unstarted same (new_shaped (Spawned n g) (row s.rows n).job (Some slot) f p a b Unstarted)
+            (same_number n) (λ t h live. not_on t h slot live)
             (λ m t h kind live. absurd (let no : Unstarted ≡ Live t h = live in grind (arith, ap (is_live_at t h) no)));
-        stay = made_kept s slot n at both f (new_row (Spawned n g) (row s.rows n).job (Some slot) (called_frame f p a b) Unstarted) (moved_kept s slot n is.formed (at_top s slot n at) f) (λ m made. same_number n m made) (spawned_group n g low);
+        stay = made_kept s slot n at both f (new_row (Spawned n g) (row s.rows n).job (Some slot) (called_frame f p a b) Unstarted) (moved_kept s slot n is.formed (at_top s slot n at) f)
+            (λ m made. same_number n m made) (spawned_group n g low);
       }
 
   pub steady_posted : (f : Frame) (p a b : ℕ) → SameRegisters (row s.rows n).frame f → open_rows s.rows < s.config.rows →
       IsSteady (add_row (with_frame s n f) (new_row Posted (row s.rows n).job None (called_frame f p a b) Unstarted))
   steady_posted f p a b same room = record {
     formed = spawned_kept s slot n is.formed (at_top s slot n at) f (called_frame f p a b) Posted None refl tt room;
-    tended = made_tended s slot n at is.tended f (called_frame f p a b) Posted None Unstarted same (new_shaped Posted (row s.rows n).job None f p a b Unstarted) (no_number n) (λ t h live. not_on t h slot live)
+    tended = made_tended s slot n at is.tended f (called_frame f p a b) Posted None Unstarted same (new_shaped Posted (row s.rows n).job None f p a b Unstarted) (no_number n)
+        (λ t h live. not_on t h slot live)
         (λ m t h kind live. absurd (let no : Unstarted ≡ Live t h = live in grind (arith, ap (is_live_at t h) no)));
-    stay = made_kept s slot n at both f (new_row Posted (row s.rows n).job None (called_frame f p a b) Unstarted) (moved_kept s slot n is.formed (at_top s slot n at) f) (λ m made. absurd (let no : None ≡ Some m = made in cc)) (λ m g kind. absurd (let no : None ≡ Some m = ap maker_of kind in cc));
+    stay = made_kept s slot n at both f (new_row Posted (row s.rows n).job None (called_frame f p a b) Unstarted) (moved_kept s slot n is.formed (at_top s slot n at) f)
+        (λ m made. absurd (let no : None ≡ Some m = made in cc)) (λ m g kind. absurd (let no : None ≡ Some m = ap maker_of kind in cc));
   }
 
   -- a region on top of its maker, whose frame stands at the isolate
-  pub steady_isolated : (f : Frame) (d p a b : ℕ) → SameRegisters (row s.rows n).frame f → instr_at (program_of s n) f ≡ Some (Isolate d p a b) → open_rows s.rows < s.config.rows → height s.rows slot < MAX_HEIGHT →
+  pub steady_isolated : (f : Frame) (d p a b : ℕ) → SameRegisters (row s.rows n).frame f → instr_at (program_of s n) f ≡ Some (Isolate d p a b) → open_rows s.rows < s.config.rows →
+      height s.rows slot < MAX_HEIGHT →
       IsSteady (add_row (with_frame s n f) (new_row (Region n) (row s.rows n).job (Some slot) (called_frame f p a b) (Live slot (height s.rows slot + 1))))
   steady_isolated f d p a b same here room low = record {
     formed = region_kept s slot n is.formed (at_top s slot n at) f (called_frame f p a b) low room;
     tended = (tended_advances slot).isolate s n f d p a b at tt same here room low is.tended;
-    stay = made_kept s slot n at both f (new_row (Region n) (row s.rows n).job (Some slot) (called_frame f p a b) (Live slot (height s.rows slot + 1))) (moved_kept s slot n is.formed (at_top s slot n at) f) (λ m made. same_number n m made) (λ m g kind. absurd (no_region n m g kind));
+    stay = made_kept s slot n at both f (new_row (Region n) (row s.rows n).job (Some slot) (called_frame f p a b) (Live slot (height s.rows slot + 1)))
+        (moved_kept s slot n is.formed (at_top s slot n at) f) (λ m made. same_number n m made) (λ m g kind. absurd (no_region n m g kind));
   }
 
   -- a wait that passed
   pub steady_waited : (f : Frame) (g : ℕ) → SameRegisters (row s.rows n).frame f → is_pending s.rows n g ≡ false → IsSteady (waited_at s n f g)
   steady_waited f g same none = record {
-    formed = set_kept s slot n is.formed (at_top s slot n at) (λ r. record r { frame = f; marks = slice_set r.marks g (record { rows = length s.rows; cancelled = false }) }) refl refl refl (mark_fits (row s.rows n).marks g (record { rows = length s.rows; cancelled = false }) (length s.rows) (omega arith) (is.formed.marked n));
+    formed = set_kept s slot n is.formed (at_top s slot n at) (λ r. record r { frame = f; marks = slice_set r.marks g (record { rows = length s.rows; cancelled = false }) }) refl refl refl
+        (mark_fits (row s.rows n).marks g (record { rows = length s.rows; cancelled = false }) (length s.rows) (omega arith) (is.formed.marked n));
     tended = (tended_advances slot).wait s n f g at tt same none is.tended;
     stay = kept_at s slot n at both (record (row s.rows n) { frame = f; marks = slice_set (row s.rows n).marks g (record { rows = length s.rows; cancelled = false }) }) refl refl refl;
   }
@@ -98,7 +106,8 @@ module _ (s : State) (slot n : ℕ) (at : IsAt s slot n) (is : IsSteady s) where
   -- a cancelled group
   pub steady_cancelled : (f : Frame) (g : ℕ) → SameRegisters (row s.rows n).frame f → IsSteady (cancelled_at s n f g)
   steady_cancelled f g same = record {
-    formed = set_kept s slot n is.formed (at_top s slot n at) (λ r. record r { frame = f; marks = slice_set r.marks g (record (mark s.rows n g) { cancelled = true }) }) refl refl refl (mark_fits (row s.rows n).marks g (record (mark s.rows n g) { cancelled = true }) (length s.rows) (is.formed.marked n g) (is.formed.marked n));
+    formed = set_kept s slot n is.formed (at_top s slot n at) (λ r. record r { frame = f; marks = slice_set r.marks g (record (mark s.rows n g) { cancelled = true }) }) refl refl refl
+        (mark_fits (row s.rows n).marks g (record (mark s.rows n g) { cancelled = true }) (length s.rows) (is.formed.marked n g) (is.formed.marked n));
     tended = (tended_advances slot).cancel s n f g at tt same is.tended;
     stay = kept_at s slot n at both (record (row s.rows n) { frame = f; marks = slice_set (row s.rows n).marks g (record (mark s.rows n g) { cancelled = true }) }) refl refl refl;
   }
@@ -112,7 +121,8 @@ module _ (s : State) (slot n : ℕ) (at : IsAt s slot n) (is : IsSteady s) where
   }
 
   -- and its region's value handed to the maker
-  pub steady_done : (f : Frame) (v : ℤ) → SameRegisters (row s.rows n).frame f → has_used_group s n ≡ false → IsSteady (hand_back (on_row s n (λ r. record r { frame = f; phase = Done v })) (row s.rows n).kind v)
+  pub steady_done : (f : Frame) (v : ℤ) → SameRegisters (row s.rows n).frame f → has_used_group s n ≡ false →
+      IsSteady (hand_back (on_row s n (λ r. record r { frame = f; phase = Done v })) (row s.rows n).kind v)
   steady_done f v same unused = record {
     formed = handed_kept s slot n is.formed (at_top s slot n at) f v (row s.rows n).kind refl;
     tended = ended_tended s slot n at is.tended f v same (row s.rows n).kind refl;
@@ -139,12 +149,14 @@ module _ (s : State) (slot n : ℕ) (at : IsAt s slot n) (is : IsSteady s) where
           lives = λ m t h kind live. absurd (let no : Faulted ≡ Live t h = live in grind (arith, ap (is_live_at t h) no));
           bare = top_is_bare s slot n is.formed at.live;
         }) is.formed.linked is.tended;
-        stay = MakersStay-set s n r at.from at.to refl refl (λ opened. absurd (let no : false ≡ true = opened in grind (arith, no))) (λ closed x opened made. rw (is.tended.shared x n made) fault) is.stay;
+        stay = MakersStay-set s n r at.from at.to refl refl (λ opened. absurd (let no : false ≡ true = opened in grind (arith, no))) (λ closed x opened made. rw (is.tended.shared x n made) fault)
+            is.stay;
       }
 
 module _ (s : State) (is : IsSteady s) where
   -- a job changed, but for its program and root; a fault stays
-  pub steady_job : (j : ℕ) (f : Work → Work) → 1 ≤ j → j ≤ length s.jobs → (f (job s.jobs j)).program ≡ (job s.jobs j).program → (f (job s.jobs j)).root ≡ (job s.jobs j).root → (IsSome (job s.jobs j).fault → IsSome (f (job s.jobs j)).fault) → IsSteady (on_job s j f)
+  pub steady_job : (j : ℕ) (f : Work → Work) → 1 ≤ j → j ≤ length s.jobs → (f (job s.jobs j)).program ≡ (job s.jobs j).program → (f (job s.jobs j)).root ≡ (job s.jobs j).root →
+      (IsSome (job s.jobs j).fault → IsSome (f (job s.jobs j)).fault) → IsSteady (on_job s j f)
   steady_job j f from to program root fault = record {
     formed = on_job_kept s j f is.formed;
     tended = IsTended-jobs s (with_at_number s.jobs j (f (job s.jobs j))) (SameJobs-set s.jobs j (f (job s.jobs j)) from to program root) is.tended;
@@ -153,7 +165,16 @@ module _ (s : State) (is : IsSteady s) where
 
   pub steady_cells : (t : Table) → IsTable t → IsSteady (with_cells s t)
   steady_cells t table = record {
-    formed = record { linked = record { makers = is.formed.linked.makers; jobs = is.formed.linked.jobs; epoch = is.formed.linked.epoch }; stacked = is.formed.stacked; inside = is.formed.inside; on_makers = is.formed.on_makers; marked = is.formed.marked; limit = is.formed.limit; table = table; slots = is.formed.slots };
+    formed = record {
+      linked = record { makers = is.formed.linked.makers; jobs = is.formed.linked.jobs; epoch = is.formed.linked.epoch };
+      stacked = is.formed.stacked;
+      inside = is.formed.inside;
+      on_makers = is.formed.on_makers;
+      marked = is.formed.marked;
+      limit = is.formed.limit;
+      table = table;
+      slots = is.formed.slots;
+    };
     tended = IsTended-beside s s.entries s.epoch t is.tended;
     stay = MakersStay-beside s s.entries s.epoch t is.stay;
   }
@@ -161,7 +182,17 @@ module _ (s : State) (is : IsSteady s) where
   -- an entry more
   pub steady_entries : IsSteady (record s { entries = s.entries + 1 })
   steady_entries = record {
-    formed = record { linked = record { makers = is.formed.linked.makers; jobs = is.formed.linked.jobs; epoch = omega (arith, is.formed.linked.epoch) }; stacked = is.formed.stacked; inside = is.formed.inside; on_makers = is.formed.on_makers; marked = is.formed.marked; limit = is.formed.limit; table = is.formed.table; slots = is.formed.slots };
+    formed = record {
+      linked = record { makers = is.formed.linked.makers; jobs = is.formed.linked.jobs; epoch = omega (arith, is.formed.linked.epoch) };
+      stacked = is.formed.stacked;
+      inside =
+          is.formed.inside;
+      on_makers = is.formed.on_makers;
+      marked = is.formed.marked;
+      limit = is.formed.limit;
+      table = is.formed.table;
+      slots = is.formed.slots;
+    };
     tended = IsTended-beside s (s.entries + 1) s.epoch s.cells is.tended;
     stay = MakersStay-beside s (s.entries + 1) s.epoch s.cells is.stay;
   }
@@ -199,7 +230,16 @@ module _ (s : State) (is : IsSteady s) where
       let jobs = map retired_work s.jobs in
       let linked = IsLinked-more_jobs s jobs (omega (arith, (retired_same s.jobs).long)) is.formed.linked in
       record {
-        formed = record { linked = record { makers = linked.makers; jobs = linked.jobs; epoch = omega (arith, is.formed.linked.epoch) }; stacked = is.formed.stacked; inside = is.formed.inside; on_makers = is.formed.on_makers; marked = is.formed.marked; limit = is.formed.limit; table = no_cells_kept; slots = is.formed.slots };
+        formed = record {
+          linked = record { makers = linked.makers; jobs = linked.jobs; epoch = omega (arith, is.formed.linked.epoch) };
+          stacked = is.formed.stacked;
+          inside = is.formed.inside;
+          on_makers = is.formed.on_makers;
+          marked = is.formed.marked;
+          limit = is.formed.limit;
+          table = no_cells_kept;
+          slots = is.formed.slots;
+        };
         tended = IsTended-beside (record s { jobs = jobs }) (s.entries + 1) (s.epoch + 1) no_cells (IsTended-jobs s jobs (retired_same s.jobs) is.tended);
         stay = MakersStay-beside (record s { jobs = jobs }) (s.entries + 1) (s.epoch + 1) no_cells (MakersStay-jobs s jobs (KeepFaults-retired s.jobs) is.stay);
       }
@@ -221,8 +261,10 @@ module _ (s : State) (is : IsSteady s) where
 
     same_stacks : AreSame s.rows (with_at_number s.rows n dropped_row)
     same_stacks = record {
-      on = λ slot. let change = count-with (λ (x : Row). is_live_on slot x.phase) s.rows n dropped_row from to in let none : one_if (is_live_on slot (row s.rows n).phase) ≡ 0 = rw off_before.on refl in omega (arith, change, none);
-      at = λ slot h. let change = count-with (λ (x : Row). is_live_at slot h x.phase) s.rows n dropped_row from to in let none : one_if (is_live_at slot h (row s.rows n).phase) ≡ 0 = rw off_before.at refl in omega (arith, change, none);
+      on = λ slot. let change = count-with (λ (x : Row). is_live_on slot x.phase) s.rows n dropped_row from to in let none : one_if (is_live_on slot (row s.rows n).phase) ≡ 0 =
+          rw off_before.on refl in omega (arith, change, none);
+      at = λ slot h. let change = count-with (λ (x : Row). is_live_at slot h x.phase) s.rows n dropped_row from to in let none : one_if (is_live_at slot h (row s.rows n).phase) ≡ 0 =
+          rw off_before.at refl in omega (arith, change, none);
     }
 
     same_phase_else : (m : ℕ) → m ≢ n → (row (with_at_number s.rows n dropped_row) m).phase ≡ (row s.rows m).phase

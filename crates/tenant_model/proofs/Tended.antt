@@ -1,5 +1,6 @@
 -- Every step keeps a state tended.
-use Rattle.std.proofs.Common.{◌≡◌, ◌≢◌, ℕ, zero, suc, ◌+◌, ◌-◌, ◌==◌, ◌<◌, ◌≤◌, List, [], ◌∷◌, ◌++◌, length, get_or, Option, Some, None, Bool, true, false, ◌&&◌, refl, sym, ap, ◌∙◌, arith, inl, inr, ◌⊎◌, length-set, map, nat_lt, ℤ, pos}
+use Rattle.std.proofs.Common.{◌≡◌, ◌≢◌, ℕ, zero, suc, ◌+◌, ◌-◌, ◌==◌, ◌<◌, ◌≤◌, List, [], ◌∷◌, ◌++◌, length, get_or, Option, Some, None, Bool, true, false, ◌&&◌, refl, sym, ap, ◌∙◌, arith, inl, inr}
+use Rattle.std.proofs.Common.{◌⊎◌, length-set, map, nat_lt, ℤ, pos}
 use Rattle.std.specs.Prelude.{nat_le, slice_set, slice_index_or, slice_get, unwrap_or, filter}
 use Rattle.std.specs.List.{list_any, enumerate_from}
 use Rattle.std.specs.Option.{option_map}
@@ -7,7 +8,8 @@ use Rattle.std.proofs.lemmas.Bool.{cases_eq, cases_lt}
 use Rattle.std.proofs.lemmas.List.{length_push, length-map}
 use Rattle.std.proofs.lemmas.Option.{slice_get-map}
 use Rattle.job_language.specs.declared.instructions.Instr.{Instr}
-use Rattle.job_language.specs.declared.instructions.Instr.TheVariants.{Set, Add, Sub, Mul, Div, Lt, Rem, And, Or, Xor, Shl, Shr, Eq, Le, Jz, Jmp, Slot, Width, Spawn, Post, Wait, Cancel, Ask, Isolate, Load, Store, Sum, Count, Ret}
+use Rattle.job_language.specs.declared.instructions.Instr.TheVariants.{Set, Add, Sub, Mul, Div, Lt, Rem, And, Or, Xor, Shl, Shr, Eq, Le, Jz, Jmp, Slot, Width, Spawn, Post, Wait, Cancel, Ask, Isolate}
+use Rattle.job_language.specs.declared.instructions.Instr.TheVariants.{Load, Store, Sum, Count, Ret}
 use Rattle.job_language.specs.declared.jobs.Job.{Job}
 use Rattle.job_language.specs.declared.tenants.Tenant.{Tenant}
 use Rattle.job_step.specs.declared.frames.Frame.{Frame}
@@ -30,7 +32,8 @@ use Rattle.job_language.specs.declared.requests.Request.{Request}
 use Rattle.tenant_model.specs.WellFormed.{IsWellFormed}
 use Rattle.tenant_model.specs.Sound.{IsTended, IsShaped, IsIsolate}
 use Rattle.tenant_model.proofs.Within.{either_way}
-use Rattle.tenant_model.proofs.Changed.{row-with_same, row-map, row-past, row-get_or, row-with_other, row-push_old, row-push_new, at_number-with_same, at_number-with_other, at_number-push_old, at_number-push_new, length-with}
+use Rattle.tenant_model.proofs.Changed.{row-with_same, row-map, row-past, row-get_or, row-with_other, row-push_old, row-push_new, at_number-with_same, at_number-with_other, at_number-push_old}
+use Rattle.tenant_model.proofs.Changed.{at_number-push_new, length-with}
 use Rattle.tenant_model.proofs.Stacked.{IsOff, IsCut-set}
 use Rattle.tenant_model.proofs.Parts.{same_place, row-settle, SameSources-settle, settle-lives}
 use Rattle.tenant_model.proofs.Linked.{SameSources-map}
@@ -99,7 +102,8 @@ EndsSome-settle s =
       frames = by_place s.rows (settle s).rows same.long (λ q r. r.frame ≡ q.frame) (λ q. refl) (λ n from to. ap (λ (r : Row). r.frame) (row-settle s n from to));
       marks = by_place s.rows (settle s).rows same.long (λ q r. r.marks ≡ q.marks) (λ q. refl) (λ n from to. ap (λ (r : Row). r.marks) (row-settle s n from to));
       waits = fewer.waits;
-      opens = by_place s.rows (settle s).rows same.long (λ q r. is_open r.phase ≡ true → is_open q.phase ≡ true) (λ q opens. opens) (λ n from to opens. settled_opens (row s.rows n) (is_context_cancelled s n) (row s.rows n).phase refl (ap (λ (r : Row). is_open r.phase) (sym (row-settle s n from to)) ∙ opens));
+      opens = by_place s.rows (settle s).rows same.long (λ q r. is_open r.phase ≡ true → is_open q.phase ≡ true) (λ q opens. opens)
+          (λ n from to opens. settled_opens (row s.rows n) (is_context_cancelled s n) (row s.rows n).phase refl (ap (λ (r : Row). is_open r.phase) (sym (row-settle s n from to)) ∙ opens));
       lives = settle-lives s;
     }
 
@@ -135,16 +139,20 @@ pub EndsSome-faulted : (rows : List Row) (slot from : ℕ) → EndsSome rows (ma
 EndsSome-faulted rows slot from =
     let all = map (faulted_row slot from) rows in
     let same = SameSources-map (faulted_row slot from) rows (λ r. refl) (λ r. refl) in
-    let phase : (n : ℕ) → 1 ≤ n → n ≤ length rows → (row all n).phase ≡ faulted_phase slot from (row rows n).phase = λ n low high. ap (λ (r : Row). r.phase) (row-map (faulted_row slot from) rows n low high) in
+    let phase : (n : ℕ) → 1 ≤ n → n ≤ length rows → (row all n).phase ≡ faulted_phase slot from (row rows n).phase =
+    λ n low high. ap (λ (r : Row). r.phase) (row-map (faulted_row slot from) rows n low high) in
     record {
       long = same.long;
       kinds = same.kinds;
       jobs = same.jobs;
       frames = by_place rows all same.long (λ q r. r.frame ≡ q.frame) (λ q. refl) (λ n low high. ap (λ (r : Row). r.frame) (row-map (faulted_row slot from) rows n low high));
       marks = by_place rows all same.long (λ q r. r.marks ≡ q.marks) (λ q. refl) (λ n low high. ap (λ (r : Row). r.marks) (row-map (faulted_row slot from) rows n low high));
-      waits = by_place rows all same.long (λ q r. is_unstarted r.phase ≡ true → is_unstarted q.phase ≡ true) (λ q waits. waits) (λ n low high waits. faulted_waits slot from (row rows n).phase (ap is_unstarted (sym (phase n low high)) ∙ waits));
-      opens = by_place rows all same.long (λ q r. is_open r.phase ≡ true → is_open q.phase ≡ true) (λ q opens. opens) (λ n low high opens. faulted_opens slot from (row rows n).phase (ap is_open (sym (phase n low high)) ∙ opens));
-      lives = by_place rows all same.long (λ q r. (t h : ℕ) → r.phase ≡ Live t h → q.phase ≡ Live t h) (λ q t h live. live) (λ n low high t h live. faulted_lives slot from (row rows n).phase t h (sym (phase n low high) ∙ live));
+      waits = by_place rows all same.long (λ q r. is_unstarted r.phase ≡ true → is_unstarted q.phase ≡ true) (λ q waits. waits)
+          (λ n low high waits. faulted_waits slot from (row rows n).phase (ap is_unstarted (sym (phase n low high)) ∙ waits));
+      opens = by_place rows all same.long (λ q r. is_open r.phase ≡ true → is_open q.phase ≡ true) (λ q opens. opens)
+          (λ n low high opens. faulted_opens slot from (row rows n).phase (ap is_open (sym (phase n low high)) ∙ opens));
+      lives = by_place rows all same.long (λ q r. (t h : ℕ) → r.phase ≡ Live t h → q.phase ≡ Live t h) (λ q t h live. live)
+          (λ n low high t h live. faulted_lives slot from (row rows n).phase t h (sym (phase n low high) ∙ live));
     }
 
 -- No region stands above the topmost row of a slot.
@@ -156,7 +164,8 @@ top_is_bare s slot n well top q t h kind live =
     omega (arith, same.1, low, ap (height s.rows) same.0)
 
 -- Of members none of which is pending, none is open.
-none_open : (f g most k : ℕ) (rows : List Row) → list_any (λ (p : NumberedRow). is_open p.1.phase) (filter (λ (p : NumberedRow). is_spawned_by f g p.1.kind && nat_lt most p.0) (enumerate_from k rows)) ≡ false →
+none_open : (f g most k : ℕ) (rows : List Row) →
+    list_any (λ (p : NumberedRow). is_open p.1.phase) (filter (λ (p : NumberedRow). is_spawned_by f g p.1.kind && nat_lt most p.0) (enumerate_from k rows)) ≡ false →
     (i : ℕ) (d : Row) → i < length rows → is_spawned_by f g (get_or rows i d).kind ≡ true → most < k + i → is_open (get_or rows i d).phase ≡ false
 none_open f g most k [] none i d within spawned later = absurd (omega (arith, within))
 none_open f g most k (x ∷ xs) none zero d within spawned later =
@@ -164,18 +173,21 @@ none_open f g most k (x ∷ xs) none zero d within spawned later =
     let all = rw (spawned, late) at none in
     grind (arith, all)
 none_open f g most k (x ∷ xs) none (suc i) d within spawned later =
-    let rest : list_any (λ (p : NumberedRow). is_open p.1.phase) (filter (λ (p : NumberedRow). is_spawned_by f g p.1.kind && nat_lt most p.0) (enumerate_from (k + 1) xs)) ≡ false = elim (either_way (is_spawned_by f g x.kind && nat_lt most k)) [
+    let rest : list_any (λ (p : NumberedRow). is_open p.1.phase) (filter (λ (p : NumberedRow). is_spawned_by f g p.1.kind && nat_lt most p.0) (enumerate_from (k + 1) xs)) ≡ false =
+    elim (either_way (is_spawned_by f g x.kind && nat_lt most k)) [
       | inl member ↦ let all = rw member at none in grind (arith, all)
       | inr stranger ↦ rw stranger at none
     ] in
     none_open f g most (k + 1) xs rest i d (omega (arith, within)) spawned (omega (arith, later))
 
-pub not_pending : (rows : List Row) (f g : ℕ) → is_pending rows f g ≡ false → (n : ℕ) → 1 ≤ n → n ≤ length rows → (row rows n).kind ≡ Spawned f g → (mark rows f g).rows < n → is_open (row rows n).phase ≡ false
+pub not_pending : (rows : List Row) (f g : ℕ) → is_pending rows f g ≡ false → (n : ℕ) → 1 ≤ n → n ≤ length rows → (row rows n).kind ≡ Spawned f g → (mark rows f g).rows < n →
+    is_open (row rows n).phase ≡ false
 not_pending rows f g none n from to kind later =
     let place : n - 1 + 1 ≡ n = omega (arith, from) in
     let is : get_or rows (n - 1) (row [] 0) ≡ row rows n = row-get_or rows (n - 1) (row [] 0) (omega (arith, from, to)) ∙ ap (row rows) place in
     let spawned : is_spawned_by f g (row rows n).kind ≡ true = rw kind (grind arith) in
-    ap (λ (r : Row). is_open r.phase) (sym is) ∙ none_open f g (mark rows f g).rows 1 rows none (n - 1) (row [] 0) (omega (arith, from, to)) (ap (λ (r : Row). is_spawned_by f g r.kind) is ∙ spawned) (omega (arith, later, from))
+    ap (λ (r : Row). is_open r.phase) (sym is) ∙
+    none_open f g (mark rows f g).rows 1 rows none (n - 1) (row [] 0) (omega (arith, from, to)) (ap (λ (r : Row). is_spawned_by f g r.kind) is ∙ spawned) (omega (arith, later, from))
 
 handed_registers : (o : Option Instr) (v : ℤ) (f : Frame) → SameRegisters f (handed_frame o v f)
 handed_registers None v f = refl
@@ -294,7 +306,8 @@ module _ (s : State) (slot n : ℕ) (at : IsAt s slot n) (is : IsTended s) where
   waited_tended f g same none =
       let m : Mark = record { rows = length s.rows; cancelled = false } in
       let marks = slice_set (row s.rows n).marks g m in
-      IsTended-set s n (record (row s.rows n) { frame = f; marks = marks }) (framed s slot n at is f marks same (length-set (row s.rows n).marks g m) (λ k i kind old. elim (mark_set (row s.rows n).marks g m i) [
+      IsTended-set s n (record (row s.rows n) { frame = f; marks = marks })
+      (framed s slot n at is f marks same (length-set (row s.rows n).marks g m) (λ k i kind old. elim (mark_set (row s.rows n).marks g m i) [
         | inl as_before ↦ is.past k n i kind (omega (arith, old, ap (λ (x : Mark). x.rows) as_before))
         | inr new ↦
             let there = made_there s at.well.linked k n (ap maker_of kind) in
@@ -309,7 +322,8 @@ module _ (s : State) (slot n : ℕ) (at : IsAt s slot n) (is : IsTended s) where
   cancelled_tended f g same =
       let m = record (mark s.rows n g) { cancelled = true } in
       let marks = slice_set (row s.rows n).marks g m in
-      IsTended-set s n (record (row s.rows n) { frame = f; marks = marks }) (framed s slot n at is f marks same (length-set (row s.rows n).marks g m) (λ k i kind old. elim (mark_set (row s.rows n).marks g m i) [
+      IsTended-set s n (record (row s.rows n) { frame = f; marks = marks })
+      (framed s slot n at is f marks same (length-set (row s.rows n).marks g m) (λ k i kind old. elim (mark_set (row s.rows n).marks g m i) [
         | inl as_before ↦ is.past k n i kind (omega (arith, old, ap (λ (x : Mark). x.rows) as_before))
         | inr new ↦
             let same_rows : (mark_in marks i).rows ≡ (mark s.rows n i).rows = ap (λ (x : Mark). x.rows) new.1 ∙ ap (λ j. (mark s.rows n j).rows) (sym new.0) in
@@ -446,10 +460,12 @@ added_tended s j phase well low is =
       reserved = is.reserved;
     }
 
-pub on_job_tended : (s : State) (j : ℕ) (f : Work → Work) → 1 ≤ j → j ≤ length s.jobs → (f (job s.jobs j)).program ≡ (job s.jobs j).program → (f (job s.jobs j)).root ≡ (job s.jobs j).root → IsTended s → IsTended (on_job s j f)
+pub on_job_tended : (s : State) (j : ℕ) (f : Work → Work) → 1 ≤ j → j ≤ length s.jobs → (f (job s.jobs j)).program ≡ (job s.jobs j).program → (f (job s.jobs j)).root ≡ (job s.jobs j).root →
+    IsTended s → IsTended (on_job s j f)
 on_job_tended s j f from to program root is = IsTended-jobs s (with_at_number s.jobs j (f (job s.jobs j))) (SameJobs-set s.jobs j (f (job s.jobs j)) from to program root) is
 
-retired_or : (o : Option Work) → ((unwrap_or (option_map retired_work o) (job [] 0)).program ≡ (unwrap_or o (job [] 0)).program) × ((unwrap_or (option_map retired_work o) (job [] 0)).root ≡ (unwrap_or o (job [] 0)).root)
+retired_or : (o : Option Work) →
+    ((unwrap_or (option_map retired_work o) (job [] 0)).program ≡ (unwrap_or o (job [] 0)).program) × ((unwrap_or (option_map retired_work o) (job [] 0)).root ≡ (unwrap_or o (job [] 0)).root)
 retired_or None = (refl, refl)
 retired_or (Some w) = (refl, refl)
 
@@ -483,14 +499,18 @@ tended_advances slot = record {
   fault = λ s n e at p is.
       let there = at.well.linked.jobs n at.from at.to in
       let rows = map (faulted_row slot (task_height s.rows slot)) s.rows in
-      on_job_tended (record s { rows = rows }) (row s.rows n).job (λ w. record w { fault = first_fault w.fault e }) there.0 there.1 refl refl (IsTended-ends s rows (EndsSome-faulted s.rows slot (task_height s.rows slot)) is);
+      on_job_tended (record s { rows = rows }) (row s.rows n).job (λ w. record w { fault = first_fault w.fault e }) there.0 there.1 refl refl
+      (IsTended-ends s rows (EndsSome-faulted s.rows slot (task_height s.rows slot)) is);
   frame = λ s n f at p same is. with_frame_tended s slot n at is f same;
   cells = λ s t table is. IsTended-beside s s.entries s.epoch t is;
-  spawn = λ s n f g p a b at q same here room is. made_tended s slot n at is (next_place f) (called_frame f p a b) (Spawned n g) (Some slot) Unstarted same (new_shaped (Spawned n g) (row s.rows n).job (Some slot) f p a b Unstarted) (same_number n) (λ t h live. not_on t h slot live)
+  spawn = λ s n f g p a b at q same here room is. made_tended s slot n at is (next_place f) (called_frame f p a b) (Spawned n g) (Some slot) Unstarted same
+      (new_shaped (Spawned n g) (row s.rows n).job (Some slot) f p a b Unstarted) (same_number n) (λ t h live. not_on t h slot live)
       (λ m t h kind live. absurd (let no : Unstarted ≡ Live t h = live in grind (arith, ap (is_live_at t h) no)));
-  post = λ s n f p a b at q same room is. made_tended s slot n at is (next_place f) (called_frame f p a b) Posted None Unstarted same (new_shaped Posted (row s.rows n).job None f p a b Unstarted) (no_number n) (λ t h live. not_on t h slot live)
+  post = λ s n f p a b at q same room is. made_tended s slot n at is (next_place f) (called_frame f p a b) Posted None Unstarted same (new_shaped Posted (row s.rows n).job None f p a b Unstarted)
+      (no_number n) (λ t h live. not_on t h slot live)
       (λ m t h kind live. absurd (let no : Unstarted ≡ Live t h = live in grind (arith, ap (is_live_at t h) no)));
-  isolate = λ s n f d p a b at q same here room low is. made_tended s slot n at is f (called_frame f p a b) (Region n) (Some slot) (Live slot (height s.rows slot + 1)) same (new_shaped (Region n) (row s.rows n).job (Some slot) f p a b (Live slot (height s.rows slot + 1))) (same_number n)
+  isolate = λ s n f d p a b at q same here room low is. made_tended s slot n at is f (called_frame f p a b) (Region n) (Some slot) (Live slot (height s.rows slot + 1)) same
+      (new_shaped (Region n) (row s.rows n).job (Some slot) f p a b (Live slot (height s.rows slot + 1))) (same_number n)
       (λ t h live. sym (same_place slot (height s.rows slot + 1) t h live).0) (λ m t h kind live. rw here tt);
   wait = λ s n f g at p same none is. waited_tended s slot n at is f g same none;
   cancel = λ s n f g at p same is. cancelled_tended s slot n at is f g same;

@@ -70,7 +70,8 @@ pub IsTended-ends : (s : State) (rows : List Row) → EndsSome s.rows rows → I
 IsTended-ends s rows ends is = record {
   shared = λ n m made. ends.jobs n ∙ is.shared n m (sym (ap maker_of (ends.kinds n)) ∙ made) ∙ sym (ends.jobs m);
   started = λ n m made. fewer_true _ _ (ends.waits m) (is.started n m (sym (ap maker_of (ends.kinds n)) ∙ made));
-  past = λ n m g kind old. fewer_true _ _ (ends.opens n) (is.past n m g (sym (ends.kinds n) ∙ kind) (let same : (mark rows m g).rows ≡ (mark s.rows m g).rows = ap (λ marks. (mark_in marks g).rows) (ends.marks m) in omega (arith, same, old)));
+  past = λ n m g kind old. fewer_true _ _ (ends.opens n)
+      (is.past n m g (sym (ends.kinds n) ∙ kind) (let same : (mark rows m g).rows ≡ (mark s.rows m g).rows = ap (λ marks. (mark_in marks g).rows) (ends.marks m) in omega (arith, same, old)));
   shapes = λ n. record { registers = ap (λ f. length f.registers) (ends.frames n) ∙ (is.shapes n).registers; marks = ap length (ends.marks n) ∙ (is.shapes n).marks };
   slots = λ n slot h live. is.slots n slot h (ends.lives n slot h live);
   isolates = λ n m slot h kind live. rw (ends.jobs m, ends.frames m) (is.isolates n m slot h (sym (ends.kinds n) ∙ kind) (ends.lives n slot h live));
@@ -239,6 +240,12 @@ module _ (s : State) (r : Row) (new : IsNewIn s r) (linked : IsLinked s) (marked
         (λ n m slot h kind live. let there = made_there s linked n m (region_maker (row s.rows n).kind m kind) in rw (old m (omega (arith, there))) (is.isolates n m slot h kind live));
     roots = λ j from to.
         let root = is.roots j from to in
-        record { from = root.from; to = omega (arith, root.to, length_push s.rows r); kind = ap (λ (q : Row). q.kind) (old _ root.to) ∙ root.kind; job = ap (λ (q : Row). q.job) (old _ root.to) ∙ root.job };
+        record {
+          from = root.from;
+          to = omega (arith, root.to, length_push s.rows r);
+          kind = ap (λ (q : Row). q.kind) (old _ root.to) ∙ root.kind;
+          job =
+              ap (λ (q : Row). q.job) (old _ root.to) ∙ root.job;
+        };
     reserved = is.reserved;
   }

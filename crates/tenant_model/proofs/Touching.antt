@@ -6,7 +6,8 @@ use Rattle.std.proofs.lemmas.Bool.{cond_both}
 use Rattle.std.proofs.lemmas.List.{set-get_or}
 use Rattle.job_language.specs.declared.errors.JobFault.TheVariants as fault
 use Rattle.job_language.specs.declared.instructions.Instr.{Instr}
-use Rattle.job_language.specs.declared.instructions.Instr.TheVariants.{Set, Add, Sub, Mul, Div, Lt, Rem, And, Or, Xor, Shl, Shr, Eq, Le, Jz, Jmp, Slot, Width, Spawn, Post, Wait, Cancel, Ask, Isolate, Load, Store, Sum, Count, Ret}
+use Rattle.job_language.specs.declared.instructions.Instr.TheVariants.{Set, Add, Sub, Mul, Div, Lt, Rem, And, Or, Xor, Shl, Shr, Eq, Le, Jz, Jmp, Slot, Width, Spawn, Post, Wait, Cancel, Ask, Isolate}
+use Rattle.job_language.specs.declared.instructions.Instr.TheVariants.{Load, Store, Sum, Count, Ret}
 use Rattle.job_language.specs.declared.answers.Moved.{Moved}
 use Rattle.job_step.specs.declared.frames.Frame.{Frame}
 use Rattle.job_step.specs.Frame.{register}
@@ -21,7 +22,8 @@ use Rattle.tenant_model.specs.Walks.{height, top, pick}
 use Rattle.tenant_model.specs.Changes.{is_full, is_row_limit_met, faults}
 use Rattle.thread_cells.specs.Cells.{Table, cell, with_cell}
 use Rattle.tenant_model.specs.Shared.{execute, has_used_group, hand_back}
-use Rattle.tenant_model.specs.Advance.{begin, nest_pick, is_poor, with_fuel_paid, move_on, is_blocked, after_run, is_idle_wait, run_on, advance_run, advance_top, would_be_recorded, unless_full, advance}
+use Rattle.tenant_model.specs.Advance.{begin, nest_pick, is_poor, with_fuel_paid, move_on, is_blocked, after_run, is_idle_wait, run_on, advance_run, advance_top, would_be_recorded, unless_full}
+use Rattle.tenant_model.specs.Advance.{advance}
 use Rattle.tenant_model.specs.Regions.{Change, Touch, change_of, change_after, touch_by, touch}
 use Rattle.tenant_model.proofs.Within.{either_way}
 use Rattle.tenant_model.proofs.Entries.{unless_full-room, unless_full-full, after_run_recorded}
@@ -41,7 +43,8 @@ with_cell-same t k slot v is =
     let row : slice_set (slice_index_or t k []) slot (Some v) ≡ slice_index_or t k [] = ap (slice_set (slice_index_or t k []) slot) (sym is) ∙ set-get_or (slice_index_or t k []) slot None in
     ap (slice_set t k) row ∙ set-get_or t k []
 
-loaded : (t : Table) (k slot : ℕ) (o : Option ℤ) → cell t k slot ≡ o → with_cell t k slot (unwrap_or (cell t k slot) (pos 0)) ≡ with_change t slot (if is_some (cell t k slot) then None else Some (k, pos 0))
+loaded : (t : Table) (k slot : ℕ) (o : Option ℤ) → cell t k slot ≡ o →
+    with_cell t k slot (unwrap_or (cell t k slot) (pos 0)) ≡ with_change t slot (if is_some (cell t k slot) then None else Some (k, pos 0))
 loaded t k slot None is = rw is refl
 loaded t k slot (Some v) is = rw is (with_cell-same t k slot v is)
 
@@ -167,6 +170,7 @@ advance_cells s slot = elim (either_way (nat_lt slot s.config.slots)) [
     | inr room ↦
         let moved : advance s slot ≡ unless_full s (advance_top s slot (top s.rows slot)) = rw there refl in
         let some : touch s slot ≡ touch_by s slot (top s.rows slot) = rw (there, room) refl in
-        ap (λ (q : Moved × State). q.1.cells) (moved ∙ unless_full-room s (advance_top s slot (top s.rows slot)) room) ∙ top_cells s slot (top s.rows slot) ∙ sym (ap (λ o. with_change s.cells slot (change_in o)) some)
+        ap (λ (q : Moved × State). q.1.cells) (moved ∙ unless_full-room s (advance_top s slot (top s.rows slot)) room) ∙ top_cells s slot (top s.rows slot) ∙
+        sym (ap (λ o. with_change s.cells slot (change_in o)) some)
   ]
 ]

@@ -19,7 +19,8 @@ use Rattle.tenant_model.specs.Changes.{on_row, on_job, add_row, entry, new_row, 
 use Rattle.tenant_model.specs.Asks.{add_job, new_job, retired_work}
 use Rattle.tenant_model.specs.Linked.{IsLinked}
 use Rattle.tenant_model.specs.Naming.{Stands, IsUnstuck}
-use Rattle.tenant_model.proofs.Changed.{row-with_same, row-with_other, row-push_old, row-push_new, row-map, at_number-with_same, at_number-with_other, at_number-push_old, at_number-push_new, length-with}
+use Rattle.tenant_model.proofs.Changed.{row-with_same, row-with_other, row-push_old, row-push_new, row-map, at_number-with_same, at_number-with_other, at_number-push_old, at_number-push_new}
+use Rattle.tenant_model.proofs.Changed.{length-with}
 use Rattle.tenant_model.proofs.Parts.{SameSources-settle, row-settle}
 use Rattle.tenant_model.proofs.Standing.{stands_new}
 
@@ -52,7 +53,8 @@ on_job_unstuck s j f from to same is =
     }
 
 -- a row changed, with the same job, whose frame stands
-pub on_row_unstuck : (s : State) (n : ℕ) (f : Row → Row) → 1 ≤ n → n ≤ length s.rows → (f (row s.rows n)).job ≡ (row s.rows n).job → Stands (program_of s n) (f (row s.rows n)).frame → IsUnstuck s → IsUnstuck (on_row s n f)
+pub on_row_unstuck : (s : State) (n : ℕ) (f : Row → Row) → 1 ≤ n → n ≤ length s.rows → (f (row s.rows n)).job ≡ (row s.rows n).job → Stands (program_of s n) (f (row s.rows n)).frame → IsUnstuck s →
+    IsUnstuck (on_row s n f)
 on_row_unstuck s n f from to same stands is =
     let r = f (row s.rows n) in
     record {
@@ -100,7 +102,8 @@ add_job_unstuck s j phase linked valid is =
       ];
       frames = λ n least most. rw (at_number-push_old s.jobs _ (row s.rows n).job w (linked.jobs n least most).1) (is.frames n least most);
     } in
-    add_row_unstuck t (new_row Root (length s.jobs + 1) None (new_frame 0 (slice_index_or j.args 0 (pos 0)) (slice_index_or j.args 1 (pos 0))) phase) (rw new (stands_new j.program valid 0 _ _ valid.some)) more
+    add_row_unstuck t (new_row Root (length s.jobs + 1) None (new_frame 0 (slice_index_or j.args 0 (pos 0)) (slice_index_or j.args 1 (pos 0))) phase)
+    (rw new (stands_new j.program valid 0 _ _ valid.some)) more
 
 retired_or : (o : Option Work) → (unwrap_or (option_map retired_work o) (job [] 0)).program ≡ (unwrap_or o (job [] 0)).program
 retired_or None = refl

@@ -10,7 +10,8 @@ use Rattle.job_language.specs.Program.{IsValidProgram, Calls, is_last}
 use Rattle.job_language.specs.declared.errors.JobFault.{JobFault}
 use Rattle.job_language.specs.declared.errors.JobFault.TheVariants as fault
 use Rattle.job_language.specs.declared.instructions.Instr.{Instr}
-use Rattle.job_language.specs.declared.instructions.Instr.TheVariants.{Set, Add, Sub, Mul, Div, Lt, Rem, And, Or, Xor, Shl, Shr, Eq, Le, Jz, Jmp, Slot, Width, Spawn, Post, Wait, Cancel, Ask, Isolate, Load, Store, Sum, Count, Ret}
+use Rattle.job_language.specs.declared.instructions.Instr.TheVariants.{Set, Add, Sub, Mul, Div, Lt, Rem, And, Or, Xor, Shl, Shr, Eq, Le, Jz, Jmp, Slot, Width, Spawn, Post, Wait, Cancel, Ask, Isolate}
+use Rattle.job_language.specs.declared.instructions.Instr.TheVariants.{Load, Store, Sum, Count, Ret}
 use Rattle.job_language.specs.declared.jobs.Job.{Job}
 use Rattle.job_language.specs.declared.requests.Request.{Request}
 use Rattle.job_language.specs.declared.requests.Request.TheVariants as request
@@ -39,7 +40,8 @@ use Rattle.tenant_model.specs.Walks.{mark, total, is_open, is_job_cancelled, hei
 use Rattle.tenant_model.specs.Changes.{on_row, new_row, add_row, is_row_limit_met, is_full, with_frame, nest, with_cells, finish_step, faults, task_height, faulted_row, first_fault}
 use Rattle.thread_cells.specs.Cells.{Table, no_cells}
 use Rattle.tenant_model.specs.Shared.{next_place, called_frame, group_status, execute, has_used_group, handed_frame, hand_to, hand_back}
-use Rattle.tenant_model.specs.Advance.{begin, nest_pick, is_poor, with_fuel, pay, move_on, is_blocked, after_run, is_idle_wait, run_on, advance_run, advance_top, would_be_recorded, advance, arrive_at, is_open_to_workers, arrive}
+use Rattle.tenant_model.specs.Advance.{begin, nest_pick, is_poor, with_fuel, pay, move_on, is_blocked, after_run, is_idle_wait, run_on, advance_run, advance_top, would_be_recorded, advance, arrive_at}
+use Rattle.tenant_model.specs.Advance.{is_open_to_workers, arrive}
 use Rattle.tenant_model.specs.Asks.{ask, free_slot, unless_limit, submit_placed, collect, cancel_by_request, retire, retired_work, released, reply_to, is_hello, known_job, has_outcome, current_jobs}
 use Rattle.tenant_model.specs.Solo.{step, after}
 use Rattle.tenant_model.specs.Linked.{IsLinked}
@@ -71,7 +73,8 @@ module _ (s : State) (n : ℕ) (there : IsThere s n) (is : IsUnstuck s) where
   faults_unstuck : (slot : ℕ) (f : JobFault) → Keeps (faults slot (row s.rows n).job f s)
   faults_unstuck slot f =
       let job = there.linked.jobs n there.from there.to in
-      entry_unstuck _ (on_job_unstuck (record s { rows = map (faulted_row slot (task_height s.rows slot)) s.rows }) (row s.rows n).job (λ w. record w { fault = first_fault w.fault f }) job.0 job.1 refl (faulted_unstuck s slot (task_height s.rows slot) is))
+      entry_unstuck _ (on_job_unstuck (record s { rows = map (faulted_row slot (task_height s.rows slot)) s.rows }) (row s.rows n).job (λ w. record w { fault = first_fault w.fault f }) job.0 job.1
+      refl (faulted_unstuck s slot (task_height s.rows slot) is))
 
   set_unstuck : (f : Row → Row) → (f (row s.rows n)).job ≡ (row s.rows n).job → Stands (program_of s n) (f (row s.rows n)).frame → IsUnstuck (on_row s n f)
   set_unstuck f same stands = on_row_unstuck s n f there.from there.to same stands is
@@ -168,11 +171,18 @@ module _ (s : State) (n : ℕ) (there : IsThere s n) (is : IsUnstuck s) where
   calls f i stands at = (in_range (program_of s n) (valid_program s n there is) f i stands at).1
 
   execute_unstuck : (slot : ℕ) (f : Frame) (i : Instr) → Stands (program_of s n) f → instr_at (program_of s n) f ≡ Some i → Keeps (execute s slot n f i)
-  execute_unstuck slot f (Spawn g p a b) stands at = limited_unstuck s n there is slot _ (made_unstuck slot (next_place f) (called_frame f p a b) (Spawned n g) (Some slot) Unstarted (next_stands s n there is slot f (Spawn g p a b) stands at refl) (called_stands f p a b (calls f (Spawn g p a b) stands at)))
-  execute_unstuck slot f (Post p a b) stands at = limited_unstuck s n there is slot _ (made_unstuck slot (next_place f) (called_frame f p a b) Posted None Unstarted (next_stands s n there is slot f (Post p a b) stands at refl) (called_stands f p a b (calls f (Post p a b) stands at)))
+  execute_unstuck slot f (Spawn g p a b) stands at =
+      limited_unstuck s n there is slot _
+      (made_unstuck slot (next_place f) (called_frame f p a b) (Spawned n g) (Some slot) Unstarted (next_stands s n there is slot f (Spawn g p a b) stands at refl)
+      (called_stands f p a b (calls f (Spawn g p a b) stands at)))
+  execute_unstuck slot f (Post p a b) stands at =
+      limited_unstuck s n there is slot _
+      (made_unstuck slot (next_place f) (called_frame f p a b) Posted None Unstarted (next_stands s n there is slot f (Post p a b) stands at refl)
+      (called_stands f p a b (calls f (Post p a b) stands at)))
   execute_unstuck slot f (Isolate d p a b) stands at =
       either (height s.rows slot == MAX_HEIGHT) _ _ (λ _. faults_unstuck s n there is slot fault.TooDeep)
-      (λ _. limited_unstuck s n there is slot _ (made_unstuck slot f (called_frame f p a b) (Region n) (Some slot) (Live slot (height s.rows slot + 1)) stands (called_stands f p a b (calls f (Isolate d p a b) stands at))))
+      (λ _. limited_unstuck s n there is slot _
+      (made_unstuck slot f (called_frame f p a b) (Region n) (Some slot) (Live slot (height s.rows slot + 1)) stands (called_stands f p a b (calls f (Isolate d p a b) stands at))))
   execute_unstuck slot f (Wait d e g) stands at = entry_unstuck _ (set_unstuck s n there is (λ r. record r {
     frame = write_and_step (record f { registers = slice_set f.registers d (total s.rows n g) }) e (group_status s n g);
     marks = slice_set r.marks g (record { rows = length s.rows; cancelled = false });
@@ -186,7 +196,8 @@ module _ (s : State) (n : ℕ) (there : IsThere s n) (is : IsUnstuck s) where
   execute_unstuck slot f (Store k a) stands at = entry_unstuck _ (with_cells_unstuck _ _ (next_stands s n there is slot f (Store k a) stands at refl))
   execute_unstuck slot f (Sum d k) stands at = learned slot _ (followed s n there is slot f (Sum d k) stands at refl d _)
   execute_unstuck slot f (Count d k) stands at = learned slot _ (followed s n there is slot f (Count d k) stands at refl d _)
-  execute_unstuck slot f (Ret a) stands at = either (has_used_group s n) _ _ (λ _. faults_unstuck s n there is slot fault.MissingWait) (λ _. entry_unstuck _ (handed_unstuck f (register f a) (row s.rows n).kind refl stands))
+  execute_unstuck slot f (Ret a) stands at =
+      either (has_used_group s n) _ _ (λ _. faults_unstuck s n there is slot fault.MissingWait) (λ _. entry_unstuck _ (handed_unstuck f (register f a) (row s.rows n).kind refl stands))
   execute_unstuck slot f (Set d v) stands at = learned slot f stands
   execute_unstuck slot f (Add d a b) stands at = learned slot f stands
   execute_unstuck slot f (Sub d a b) stands at = learned slot f stands
@@ -213,7 +224,13 @@ module _ (s : State) (n : ℕ) (there : IsThere s n) (is : IsUnstuck s) where
       on_job_unstuck s (row s.rows n).job (λ w. record w { fuel = fuel }) job.0 job.1 refl is
 
   fueled_there : (fuel : ℕ) → IsThere (with_fuel s n fuel) n
-  fueled_there fuel = record { from = there.from; to = there.to; linked = IsLinked-more_jobs s (with_at_number s.jobs (row s.rows n).job (record (job s.jobs (row s.rows n).job) { fuel = fuel })) (omega (arith, length-with s.jobs (row s.rows n).job (record (job s.jobs (row s.rows n).job) { fuel = fuel }))) there.linked }
+  fueled_there fuel = record {
+    from = there.from;
+    to = there.to;
+    linked =
+        IsLinked-more_jobs s (with_at_number s.jobs (row s.rows n).job (record (job s.jobs (row s.rows n).job) { fuel = fuel }))
+        (omega (arith, length-with s.jobs (row s.rows n).job (record (job s.jobs (row s.rows n).job) { fuel = fuel }))) there.linked;
+  }
 
   same_program : (fuel : ℕ) → program_of (with_fuel s n fuel) n ≡ program_of s n
   same_program fuel =
@@ -224,11 +241,16 @@ module _ (s : State) (n : ℕ) (there : IsThere s n) (is : IsUnstuck s) where
   pay_unstuck slot cost next kept = either (is_poor s n cost) _ _ (λ _. faults_unstuck (with_fuel s n 0) n (fueled_there 0) (fueled 0) slot fault.Fuel) (λ _. kept _)
 
   move_on_unstuck : (slot count : ℕ) (f : Frame) → Stands (program_of s n) f → Keeps (move_on s slot n count f)
-  move_on_unstuck slot count f stands = pay_unstuck slot count (λ t. finish_step slot (with_frame t n f)) (λ fuel. let stands_too : Stands (program_of (with_fuel s n fuel) n) f = rw (same_program fuel) stands in entry_unstuck _ (moved_unstuck (with_fuel s n fuel) n (fueled_there fuel) (fueled fuel) f stands_too))
+  move_on_unstuck slot count f stands =
+      pay_unstuck slot count (λ t. finish_step slot (with_frame t n f))
+      (λ fuel. let stands_too : Stands (program_of (with_fuel s n fuel) n) f = rw (same_program fuel) stands in
+      entry_unstuck _ (moved_unstuck (with_fuel s n fuel) n (fueled_there fuel) (fueled fuel) f stands_too))
 
-  after_run_unstuck : (slot count : ℕ) (f : Frame) (stop : Stop) → Stands (program_of s n) f → ((i : Instr) → stop ≡ Shared i → instr_at (program_of s n) f ≡ Some i) → Keeps (after_run s slot n count f stop)
+  after_run_unstuck : (slot count : ℕ) (f : Frame) (stop : Stop) → Stands (program_of s n) f → ((i : Instr) → stop ≡ Shared i → instr_at (program_of s n) f ≡ Some i) →
+      Keeps (after_run s slot n count f stop)
   after_run_unstuck slot count f Yield stands at = move_on_unstuck slot count f stands
-  after_run_unstuck slot count f Fault stands at = pay_unstuck slot count (λ t. faults slot (row t.rows n).job fault.Division t) (λ fuel. faults_unstuck (with_fuel s n fuel) n (fueled_there fuel) (fueled fuel) slot fault.Division)
+  after_run_unstuck slot count f Fault stands at =
+      pay_unstuck slot count (λ t. faults slot (row t.rows n).job fault.Division t) (λ fuel. faults_unstuck (with_fuel s n fuel) n (fueled_there fuel) (fueled fuel) slot fault.Division)
   after_run_unstuck slot count f (Shared i) stands at =
       either (is_blocked s n i) _ _ (λ _. move_on_unstuck slot count f stands)
       (λ _. pay_unstuck slot (count + 1) (λ t. execute t slot n f i) (λ fuel.
@@ -254,7 +276,8 @@ begin_unstuck s slot (Some m) is picked =
 run_unstuck : (s : State) (slot n : ℕ) → IsThere s n → IsUnstuck s → Keeps (advance_run s slot n (run_on s slot n))
 run_unstuck s slot n there is =
     let r = run_on s slot n in
-    let ends : EndsWell (program_of s n) (valid_program s n there is) r = run_ends (program_of s n) (valid_program s n there is) slot s.config.slots (row s.rows n).frame (is.frames n there.from there.to) in
+    let ends : EndsWell (program_of s n) (valid_program s n there is) r =
+    run_ends (program_of s n) (valid_program s n there is) slot s.config.slots (row s.rows n).frame (is.frames n there.from there.to) in
     either (is_idle_wait s n r.count r.stop) _ _ (λ _. blocked_unstuck s slot n (pick s slot) there is refl) (λ _. after_run_unstuck s n there is slot r.count r.end r.stop ends.end ends.stop)
 
 top_unstuck : (s : State) (slot : ℕ) (o : Option ℕ) → IsLinked s → IsUnstuck s → top s.rows slot ≡ o → Keeps (advance_top s slot o)
@@ -306,7 +329,8 @@ numbered_there : (jobs : List Work) (n : ℕ) (w : Work) → at_number jobs n �
 numbered_there jobs zero w is = absurd (grind (arith, ap is_some is))
 numbered_there jobs (suc n) w is = (omega arith, slice_get_within jobs n w is)
 
-pub known_there : (jobs : List Work) (n : ℕ) (o : Option Work) (w : Work) → at_number jobs n ≡ o → option_and_then (λ (v : Work). if v.retired then None else Some v) o ≡ Some w → (1 ≤ n) × (n ≤ length jobs)
+pub known_there : (jobs : List Work) (n : ℕ) (o : Option Work) (w : Work) → at_number jobs n ≡ o → option_and_then (λ (v : Work). if v.retired then None else Some v) o ≡ Some w →
+    (1 ≤ n) × (n ≤ length jobs)
 known_there jobs n None w is known = absurd (grind (arith, ap is_some known))
 known_there jobs n (Some v) w is known = numbered_there jobs n v is
 

@@ -1,7 +1,9 @@
 -- The worked examples compute.
 use Rattle.std.proofs.Common.{refl}
 use Rattle.job_step.specs.Run.{run_for}
-use Rattle.tenant_model.specs.Worked.{FirstJobIsComplete, IsolatedWaiterKeepsItsCell, IsolatedWaiterKeepsItsCellWithin, PlainWaiterMayLoseItsCell, PostLeavesItsRegion, StolenTaskKeepsItsRegion, FibTakes85Advances, FibNests24Times, FibCosts172, FibNeeds172, CancelledGroupTellsOnce, ChainReachesHeight128, ChainIsTooDeep, WaiterLeavesInnerRegion, WaiterTakesInnerRegion, RetiredJobIsForgotten, ReleasedJobIsForgotten}
+use Rattle.tenant_model.specs.Worked.{FirstJobIsComplete, IsolatedWaiterKeepsItsCell, IsolatedWaiterKeepsItsCellWithin, PlainWaiterMayLoseItsCell, PostLeavesItsRegion, StolenTaskKeepsItsRegion}
+use Rattle.tenant_model.specs.Worked.{FibTakes85Advances, FibNests24Times, FibCosts172, FibNeeds172, CancelledGroupTellsOnce, ChainReachesHeight128, ChainIsTooDeep, WaiterLeavesInnerRegion}
+use Rattle.tenant_model.specs.Worked.{WaiterTakesInnerRegion, RetiredJobIsForgotten, ReleasedJobIsForgotten}
 
 pub first_job_is_complete_computes : FirstJobIsComplete
 unfolding run_for FirstJobIsComplete

@@ -98,7 +98,8 @@ freed_enters moved.Idle is = absurd (grind (arith, is))
 freed_enters moved.Stale is = absurd (grind (arith, is))
 freed_enters moved.Full is = absurd (grind (arith, is))
 
-empty_freed : (b : Bool) (s t : State) (slot : ℕ) (m : Moved) → IsWellFormed s → m ≡ (advance_within b s slot).0 → Takes s (steps.Advance slot) (answer.Moved m) t → is_freed (answer.Moved m) ≡ true → height t.rows slot ≡ 0
+empty_freed : (b : Bool) (s t : State) (slot : ℕ) (m : Moved) → IsWellFormed s → m ≡ (advance_within b s slot).0 → Takes s (steps.Advance slot) (answer.Moved m) t → is_freed (answer.Moved m) ≡ true →
+    height t.rows slot ≡ 0
 empty_freed b s t slot m formed answered (inl made) freed = elim (either_way (nat_lt slot s.config.reserved)) [
   | inl low ↦
       let zero = (heights s (steps.Advance slot) (answer.Moved m) t formed made.2).freed slot refl (grind (arith, nat_tests, low)) made.0 in
@@ -111,15 +112,18 @@ empty_freed b s t slot m formed answered (inr none) freed = absurd (both_ways _ 
 -- An advance by which a worker leaves is that of an empty slot, and nothing has changed.
 is_left_within : (b : Bool) (s : State) (slot : ℕ) → is_left (answer.Moved (advance_within b s slot).0) ≡ true → is_left (answer.Moved (advance s slot).0) ≡ true
 is_left_within b s slot left =
-    cond_both (is_entry (answer.Moved (advance s slot).0) && not b) (moved.Full, s) (advance s slot) (λ r. is_left (answer.Moved r.0) ≡ true → is_left (answer.Moved (advance s slot).0) ≡ true) (λ _ full. absurd (grind (arith, full))) (λ _ same. same) left
+    cond_both (is_entry (answer.Moved (advance s slot).0) && not b) (moved.Full, s) (advance s slot) (λ r. is_left (answer.Moved r.0) ≡ true → is_left (answer.Moved (advance s slot).0) ≡ true)
+    (λ _ full. absurd (grind (arith, full))) (λ _ same. same) left
 
-empty_left : (b : Bool) (s t : State) (slot : ℕ) (m : Moved) → IsWellFormed s → m ≡ (advance_within b s slot).0 → Takes s (steps.Advance slot) (answer.Moved m) t → is_left (answer.Moved m) ≡ true → height t.rows slot ≡ 0
+empty_left : (b : Bool) (s t : State) (slot : ℕ) (m : Moved) → IsWellFormed s → m ≡ (advance_within b s slot).0 → Takes s (steps.Advance slot) (answer.Moved m) t → is_left (answer.Moved m) ≡ true →
+    height t.rows slot ≡ 0
 empty_left b s t slot m formed answered (inl made) left = absurd (left_no_entry m made.0 left)
 empty_left b s t slot m formed answered (inr none) left =
     let within : is_left (answer.Moved (advance_within b s slot).0) ≡ true = ap (λ k. is_left (answer.Moved k)) (sym answered) ∙ left in
     ap (λ (v : State). height v.rows slot) none.1 ∙ ((told_of_slots s (steps.Advance slot) formed).left slot refl (is_left_within b s slot within)).0
 
-home_empty : (b : Bool) (s t : State) (slot : ℕ) (m : Moved) → IsWellFormed s → m ≡ (advance_within b s slot).0 → Takes s (steps.Advance slot) (answer.Moved m) t → goes_home m ≡ true → height t.rows slot ≡ 0
+home_empty : (b : Bool) (s t : State) (slot : ℕ) (m : Moved) → IsWellFormed s → m ≡ (advance_within b s slot).0 → Takes s (steps.Advance slot) (answer.Moved m) t → goes_home m ≡ true →
+    height t.rows slot ≡ 0
 home_empty b s t slot moved.Freed formed answered takes home = empty_freed b s t slot moved.Freed formed answered takes refl
 home_empty b s t slot moved.Left formed answered takes home = empty_left b s t slot moved.Left formed answered takes refl
 home_empty b s t slot moved.Ran formed answered takes home = absurd (grind (arith, home))
@@ -140,7 +144,9 @@ apart : (slot o : ℕ) → o ≢ slot → Some slot ≢ Some o
 apart slot o differs same = differs (sym (ap (λ k. unwrap_or k slot) same))
 
 returned_back : (home : List Place) (p : PassData) (m : Moved) (o : ℕ) → o ≢ p.slot → IsIn (place (returned home p m) o) → IsIn (place home o)
-returned_back home p m o differs is = cond_both (goes_home m) (slice_set home p.slot (Home p)) home (λ l. IsIn (place l o) → IsIn (place home o)) (λ _ there. subst IsIn (place_other home p.slot o (Home p) differs) there) (λ _ there. there) is
+returned_back home p m o differs is =
+    cond_both (goes_home m) (slice_set home p.slot (Home p)) home (λ l. IsIn (place l o) → IsIn (place home o)) (λ _ there. subst IsIn (place_other home p.slot o (Home p) differs) there)
+    (λ _ there. there) is
 
 stayed_back : (home : List Place) (p : PassData) (m : Moved) (o : ℕ) → goes_home m ≡ false → IsIn (place (returned home p m) o) → IsIn (place home o)
 stayed_back home p m o stays is = rw stays at is
@@ -150,7 +156,8 @@ out_at c p there =
     grind (arith, there)
 
 -- an advance, or a commit
-pub moved_attended : (c d : CellData) (p : PassData) (m : Moved) (due : Option ℕ) (q : Option PassData) → IsWellFormed (state_of c) → IsMoved c p m due q d → Takes (state_of c) (steps.Advance p.slot) (answer.Moved m) (state_of d) → (goes_home m ≡ true → height (state_of d).rows p.slot ≡ 0) → has_slot_of c p ≡ true → IsAttended c → IsAttended d
+pub moved_attended : (c d : CellData) (p : PassData) (m : Moved) (due : Option ℕ) (q : Option PassData) → IsWellFormed (state_of c) → IsMoved c p m due q d →
+    Takes (state_of c) (steps.Advance p.slot) (answer.Moved m) (state_of d) → (goes_home m ≡ true → height (state_of d).rows p.slot ≡ 0) → has_slot_of c p ≡ true → IsAttended c → IsAttended d
 moved_attended c d p m due q formed is takes empty there are =
     let back = advanced p m (length c.history) in
     let left = woken due (returned c.home back m) in
@@ -176,7 +183,8 @@ arrived_back (came.At n) q is = absurd (let no : false ≡ true = is in grind (a
 arrived_back came.Nothing q is = home_back q is
 arrived_back came.Full q is = home_back q is
 
-pub arrived_attended : (c d : CellData) (slot : ℕ) (m : Came) (due : Option ℕ) (q : Option PassData) → IsWellFormed (state_of c) → slot < length c.home → IsArrived c slot m due q d → Takes (state_of c) (steps.Arrive slot) (answer.Came m) (state_of d) → IsAttended c → IsAttended d
+pub arrived_attended : (c d : CellData) (slot : ℕ) (m : Came) (due : Option ℕ) (q : Option PassData) → IsWellFormed (state_of c) → slot < length c.home → IsArrived c slot m due q d →
+    Takes (state_of c) (steps.Arrive slot) (answer.Came m) (state_of d) → IsAttended c → IsAttended d
 arrived_attended c d slot m due q formed inside is takes are =
     let left = woken due (home_arrived c.home slot m) in
     let keeps : (o : ℕ) → Keeps (steps.Arrive slot) (answer.Came m) c.home left (state_of d) o = λ o held.
@@ -199,7 +207,8 @@ taken_out home (Some slot) o inside is same =
     let held : IsIn (place (slice_set home slot Out) slot) = subst (λ k. IsIn (place (slice_set home slot Out) k)) (sym at) is in
     absurd (let no : false ≡ true = sym (ap is_in (place_same home slot Out (inside slot refl))) ∙ held in grind (arith, no))
 
-pub asked_attended : (c d : CellData) (s t : SeatData) (a : Request) (y : Reply) (due : Option ℕ) (q : Option PassData) → IsWellFormed (state_of c) → ((slot : ℕ) → placed_on y ≡ Some slot → slot < length c.home) → IsAsked c s a y due q d t → Takes (state_of c) (steps.Ask a) (answer.Replied y) (state_of d) → IsAttended c → IsAttended d
+pub asked_attended : (c d : CellData) (s t : SeatData) (a : Request) (y : Reply) (due : Option ℕ) (q : Option PassData) → IsWellFormed (state_of c) →
+    ((slot : ℕ) → placed_on y ≡ Some slot → slot < length c.home) → IsAsked c s a y due q d t → Takes (state_of c) (steps.Ask a) (answer.Replied y) (state_of d) → IsAttended c → IsAttended d
 asked_attended c d s t a y due q formed inside is takes are =
     let left = woken due (taken (placed_on y) c.home) in
     let keeps : (o : ℕ) → Keeps (steps.Ask a) (answer.Replied y) c.home left (state_of d) o = λ o held.

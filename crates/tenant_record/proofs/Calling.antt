@@ -35,7 +35,8 @@ module _ (home : List Place) (slot : ℕ) (p : PassData) where
   refused_by (Due r) c is (inr e) = rw e (refl, ap (λ o. Home (unwrap_or o p)) (sym is))
   refused_by Out c is e = absurd (grind (arith, is))
 
-  pub refused : (c : Came) → pass_in (place home slot) ≡ Some p → (c ≡ came.Nothing) ⊎ (c ≡ came.Full) → (arrived_pass c (pass_in (place home slot)) ≡ None) × (slice_set (slice_set home slot Out) slot (Home p) ≡ slice_set home slot (arrived_place c (place home slot)))
+  pub refused : (c : Came) → pass_in (place home slot) ≡ Some p → (c ≡ came.Nothing) ⊎ (c ≡ came.Full) →
+      (arrived_pass c (pass_in (place home slot)) ≡ None) × (slice_set (slice_set home slot Out) slot (Home p) ≡ slice_set home slot (arrived_place c (place home slot)))
   refused c is e =
       let its = refused_by (place home slot) c is e in
       (its.0, set-set home slot Out (Home p) ∙ ap (λ q. slice_set home slot q) its.1)

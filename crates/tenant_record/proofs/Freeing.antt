@@ -5,7 +5,8 @@ use Rattle.std.proofs.lemmas.Bool.{cond_both}
 use Rattle.job_language.specs.declared.errors.JobFault.{JobFault}
 use Rattle.job_language.specs.declared.errors.JobFault.TheVariants as fault
 use Rattle.job_language.specs.declared.instructions.Instr.{Instr}
-use Rattle.job_language.specs.declared.instructions.Instr.TheVariants.{Set, Add, Sub, Mul, Div, Lt, Rem, And, Or, Xor, Shl, Shr, Eq, Le, Jz, Jmp, Slot, Width, Spawn, Post, Wait, Cancel, Ask, Isolate, Load, Store, Sum, Count, Ret}
+use Rattle.job_language.specs.declared.instructions.Instr.TheVariants.{Set, Add, Sub, Mul, Div, Lt, Rem, And, Or, Xor, Shl, Shr, Eq, Le, Jz, Jmp, Slot, Width, Spawn, Post, Wait, Cancel, Ask, Isolate}
+use Rattle.job_language.specs.declared.instructions.Instr.TheVariants.{Load, Store, Sum, Count, Ret}
 use Rattle.job_language.specs.declared.answers.Answer.TheVariants as answer
 use Rattle.job_language.specs.declared.answers.Moved.{Moved}
 use Rattle.job_language.specs.declared.answers.Moved.TheVariants as moved
@@ -24,7 +25,8 @@ use Rattle.tenant_model.specs.Told.{is_freed}
 use Rattle.tenant_model.specs.Walks.{height, pick, top}
 use Rattle.tenant_model.specs.Changes.{is_full, is_row_limit_met, finish_step, faults, on_row, with_frame}
 use Rattle.tenant_model.specs.Shared.{execute, hand_back, has_used_group}
-use Rattle.tenant_model.specs.Advance.{would_be_recorded, unless_full, pay, is_poor, with_fuel, with_fuel_paid, is_blocked, is_idle_wait, move_on, after_run, nest_pick, begin, run_on, advance_run, advance_top, advance}
+use Rattle.tenant_model.specs.Advance.{would_be_recorded, unless_full, pay, is_poor, with_fuel, with_fuel_paid, is_blocked, is_idle_wait, move_on, after_run, nest_pick, begin, run_on, advance_run}
+use Rattle.tenant_model.specs.Advance.{advance_top, advance}
 use Rattle.arena_steps.specs.Within.{advance_within}
 
 abbrev NotFreed : Moved × State → Type 0
@@ -71,7 +73,8 @@ executed s slot n f (Store k a) is = ran_only (nat_lt slot s.config.reserved) _ 
 executed s slot n f (Sum d k) is = ran_only (nat_lt slot s.config.reserved) _ is
 executed s slot n f (Count d k) is = ran_only (nat_lt slot s.config.reserved) _ is
 executed s slot n f (Ret a) is =
-    either (has_used_group s n) _ _ (faulted slot (row s.rows n).job fault.MissingWait s is) (ran_only _ _ (handed slot (on_row s n (λ r. record r { frame = f; phase = Done (register f a) })) (row s.rows n).kind (register f a) is))
+    either (has_used_group s n) _ _ (faulted slot (row s.rows n).job fault.MissingWait s is)
+    (ran_only _ _ (handed slot (on_row s n (λ r. record r { frame = f; phase = Done (register f a) })) (row s.rows n).kind (register f a) is))
 executed s slot n f (Set d v) is = ran_only (nat_lt slot s.config.reserved) _ is
 executed s slot n f (Add d a b) is = ran_only (nat_lt slot s.config.reserved) _ is
 executed s slot n f (Sub d a b) is = ran_only (nat_lt slot s.config.reserved) _ is

@@ -59,7 +59,8 @@ has_room c h x a t is (inl made) entry =
 has_room c h x a t is (inr none) entry = absurd (grind (arith, none.0, entry))
 
 -- one entry more
-module _ (c : Tenant) (h : List Entry) (e : Entry) (t : State) (valid : IsValidTenant c) (is : IsHistory c h) (entry : is_entry e.answer ≡ true) (room : is_full (state_after c h) ≡ false) (made : step (state_after c h) e.step ≡ (e.answer, t)) where
+module _ (c : Tenant) (h : List Entry) (e : Entry) (t : State) (valid : IsValidTenant c) (is : IsHistory c h) (entry : is_entry e.answer ≡ true) (room : is_full (state_after c h) ≡ false)
+    (made : step (state_after c h) e.step ≡ (e.answer, t)) where
   more_steps : steps_of (h ++ e ∷ []) ≡ steps_of h ++ e.step ∷ []
   more_steps = map-append (λ (x : Entry). x.step) h (e ∷ [])
 
@@ -68,7 +69,9 @@ module _ (c : Tenant) (h : List Entry) (e : Entry) (t : State) (valid : IsValidT
 
   more_answers : answers (empty c) (steps_of (h ++ e ∷ [])) ≡ answers_of (h ++ e ∷ [])
   more_answers =
-      ap (answers (empty c)) more_steps ∙ (answers_push (empty c) (steps_of h) e.step ∙ (ap (λ r. r ++ (step (state_after c h) e.step).0 ∷ []) is.answers_are ∙ (ap (λ r. answers_of h ++ r.0 ∷ []) made ∙ sym (map-append (λ (x : Entry). x.answer) h (e ∷ [])))))
+      ap (answers (empty c)) more_steps ∙
+      (answers_push (empty c) (steps_of h) e.step ∙
+      (ap (λ r. r ++ (step (state_after c h) e.step).0 ∷ []) is.answers_are ∙ (ap (λ r. answers_of h ++ r.0 ∷ []) made ∙ sym (map-append (λ (x : Entry). x.answer) h (e ∷ [])))))
 
   counts : t.entries ≡ (state_after c h).entries + 1
   counts =
@@ -128,7 +131,8 @@ records c h x a t valid is (inr none) = record {
 }
 
 module _ (c : Tenant) (h : List Entry) (valid : IsValidTenant c) (is : IsHistory c h) where
-  pub advance_records : (b : Bool) (slot : ℕ) (m : Moved) → m ≡ (advance_within b (state_after c h) slot).0 → Records c h (steps.Advance slot) (answer.Moved m) (advance_within b (state_after c h) slot).1
+  pub advance_records : (b : Bool) (slot : ℕ) (m : Moved) → m ≡ (advance_within b (state_after c h) slot).0 →
+      Records c h (steps.Advance slot) (answer.Moved m) (advance_within b (state_after c h) slot).1
   advance_records b slot m same = rw same (records c h (steps.Advance slot) _ _ valid is (advance_takes b (state_after c h) slot (well_formed c h valid)))
 
   pub arrive_records : (b : Bool) (slot : ℕ) (m : Came) → m ≡ (arrive_within b (state_after c h) slot).0 → Records c h (steps.Arrive slot) (answer.Came m) (arrive_within b (state_after c h) slot).1

@@ -1,5 +1,6 @@
 -- What locked calls keep right.
-use Rattle.std.proofs.Common.{◌≡◌, ◌≢◌, inl, inr, ℕ, ◌==◌, ◌<◌, ◌≤◌, ◌&&◌, Bool, true, false, List, [], ◌∷◌, ◌++◌, length, refl, sym, ap, ◌∙◌, arith, length-append, length-set, subst, Option, Some, None, get_or, nat_lt}
+use Rattle.std.proofs.Common.{◌≡◌, ◌≢◌, inl, inr, ℕ, ◌==◌, ◌<◌, ◌≤◌, ◌&&◌, Bool, true, false, List, [], ◌∷◌, ◌++◌, length, refl, sym, ap, ◌∙◌, arith, length-append, length-set, subst, Option, Some}
+use Rattle.std.proofs.Common.{None, get_or, nat_lt}
 use Rattle.std.specs.Prelude.{if◌then◌else◌, count_by, slice_set, slice_index_or, unwrap_or, replicate}
 use Rattle.std.specs.Option.{option_map, option_map_or}
 use Rattle.std.proofs.lemmas.Bool.{cond_both, and_right}
@@ -44,7 +45,8 @@ askers_long : (number : ℕ) (y : Reply) (b : Bool) → is_recorded_reply y ≡ 
 askers_long number y true is = rw is refl
 askers_long number y false is = rw is refl
 
-asks_asked : (h : List Entry) (askers : List ℕ) (number : ℕ) (r : Request) (y : Reply) → length askers ≡ count_by (λ (v : Entry). is_ask v.step) h → length (askers ++ askers_of number y) ≡ count_by (λ (v : Entry). is_ask v.step) (h ++ entries_of (steps.Ask r) (answer.Replied y))
+asks_asked : (h : List Entry) (askers : List ℕ) (number : ℕ) (r : Request) (y : Reply) → length askers ≡ count_by (λ (v : Entry). is_ask v.step) h →
+    length (askers ++ askers_of number y) ≡ count_by (λ (v : Entry). is_ask v.step) (h ++ entries_of (steps.Ask r) (answer.Replied y))
 asks_asked h askers number r y same =
     let more = asks_by h (steps.Ask r) (answer.Replied y) (is_recorded_reply y) refl in
     let long = askers_long number y (is_recorded_reply y) refl in
@@ -62,7 +64,8 @@ module _ (c : Tenant) (h : List Entry) (stills : List (Option ℕ)) (slot : ℕ)
   Stills m = AreStill c (h ++ entries_of (steps.Advance slot) (answer.Moved m)) (slice_set stills slot (still_after (slice_index_or stills slot None) m (length h)))
 
   moved_more : (m : Moved) → AreStill c (h ++ (record { step = steps.Advance slot; answer = answer.Moved m }) ∷ []) (slice_set stills slot None)
-  moved_more m = let e : Entry = record { step = steps.Advance slot; answer = answer.Moved m } in stills_more c h e stills (slice_set stills slot None) are (forgotten stills slot e long (λ o differs. apart_moved slot o m differs))
+  moved_more m = let e : Entry = record { step = steps.Advance slot; answer = answer.Moved m } in
+      stills_more c h e stills (slice_set stills slot None) are (forgotten stills slot e long (λ o differs. apart_moved slot o m differs))
 
   unmoved : AreStill c (h ++ []) (slice_set stills slot (slice_index_or stills slot None))
   unmoved = rw (append-nil h, set-get_or stills slot None) are
@@ -77,7 +80,8 @@ module _ (c : Tenant) (h : List Entry) (stills : List (Option ℕ)) (slot : ℕ)
   moved_stills moved.Full idle = unmoved
 
   arrived_stills : (m : Came) → AreStill c (h ++ entries_of (steps.Arrive slot) (answer.Came m)) (touched (entered slot (is_entry (answer.Came m))) stills)
-  arrived_stills (came.At n) = let e : Entry = record { step = steps.Arrive slot; answer = answer.Came (came.At n) } in stills_more c h e stills (slice_set stills slot None) are (forgotten stills slot e long (λ o differs. apart_came slot o (came.At n) differs))
+  arrived_stills (came.At n) = let e : Entry = record { step = steps.Arrive slot; answer = answer.Came (came.At n) } in
+      stills_more c h e stills (slice_set stills slot None) are (forgotten stills slot e long (λ o differs. apart_came slot o (came.At n) differs))
   arrived_stills came.Nothing = rw (append-nil h) are
   arrived_stills came.Full = rw (append-nil h) are
 
@@ -115,11 +119,14 @@ module _ (c : Tenant) (h : List Entry) (stills : List (Option ℕ)) (r : Request
   unplaced : placed_on y ≡ None → (o : ℕ) → touches o TheEntry ≡ false
   unplaced none o = places_by y o ∙ ap (λ k. option_map_or (λ s. s == o) k false) none
 
-  asked_stills : (k : Option ℕ) (b : Bool) → placed_on y ≡ k → is_recorded_reply y ≡ b → ((slot : ℕ) → placed_on y ≡ Some slot → slot < length stills) → AreStill c (h ++ entries_of (steps.Ask r) (answer.Replied y)) (touched (placed_on y) stills)
+  asked_stills : (k : Option ℕ) (b : Bool) → placed_on y ≡ k → is_recorded_reply y ≡ b → ((slot : ℕ) → placed_on y ≡ Some slot → slot < length stills) →
+      AreStill c (h ++ entries_of (steps.Ask r) (answer.Replied y)) (touched (placed_on y) stills)
   asked_stills None true none enters low = rw (entry_recorded (steps.Ask r) (answer.Replied y) enters, none) (stills_more c h TheEntry stills stills are (λ o. inr (unplaced none o, refl)))
   asked_stills None false none quiet low = rw (none_recorded (steps.Ask r) (answer.Replied y) quiet, none, append-nil h) are
   asked_stills (Some slot) true some enters low =
-      rw (entry_recorded (steps.Ask r) (answer.Replied y) enters, some) (stills_more c h TheEntry stills (slice_set stills slot None) are (forgotten stills slot TheEntry (low slot some) (λ o differs. places_by y o ∙ (ap (λ k. option_map_or (λ s. s == o) k false) some ∙ grind (arith, nat_tests)))))
+      rw (entry_recorded (steps.Ask r) (answer.Replied y) enters, some)
+      (stills_more c h TheEntry stills (slice_set stills slot None) are
+      (forgotten stills slot TheEntry (low slot some) (λ o differs. places_by y o ∙ (ap (λ k. option_map_or (λ s. s == o) k false) some ∙ grind (arith, nat_tests)))))
   asked_stills (Some slot) false some quiet low = absurd (let enters = placed_enters y slot some in grind (arith, enters, quiet))
 
 -- Passes that come home, go out or stay.
@@ -136,7 +143,8 @@ freed_in home p moved.Stale o within same is = absurd (grind (arith, is))
 freed_in home p moved.Full o within same is = absurd (grind (arith, is))
 
 returned_placed : (tenant : ℕ) (home : List Place) (p : PassData) (m : Moved) → ArePlaced tenant home → p.tenant ≡ tenant → ArePlaced tenant (returned home p m)
-returned_placed tenant home p m are same = cond_both (goes_home m) (slice_set home p.slot (Home p)) home (λ l. ArePlaced tenant l) (λ _. set_placed tenant home p.slot (Home p) are (record { tenant = same; slot = refl })) (λ _. are)
+returned_placed tenant home p m are same =
+    cond_both (goes_home m) (slice_set home p.slot (Home p)) home (λ l. ArePlaced tenant l) (λ _. set_placed tenant home p.slot (Home p) are (record { tenant = same; slot = refl })) (λ _. are)
 
 returned_long : (home : List Place) (p : PassData) (m : Moved) → length (returned home p m) ≡ length home
 returned_long home p m = cond_both (goes_home m) (slice_set home p.slot (Home p)) home (λ l. length l ≡ length home) (λ _. length-set home p.slot (Home p)) (λ _. refl)
@@ -177,7 +185,8 @@ same_slot : (slot o : ℕ) → Some slot ≡ Some o → slot ≡ o
 same_slot slot o same = ap (λ k. unwrap_or k slot) same
 
 -- an advance, or a commit
-pub moved_right : (c d : CellData) (p : PassData) (m : Moved) (due : Option ℕ) (q : Option PassData) → IsValidTenant c.config → IsRight c → IsMoved c p m due q d → IsHistory d.config d.history → Takes (state_of c) (steps.Advance p.slot) (answer.Moved m) (state_of d)
+pub moved_right : (c d : CellData) (p : PassData) (m : Moved) (due : Option ℕ) (q : Option PassData) → IsValidTenant c.config → IsRight c → IsMoved c p m due q d → IsHistory d.config d.history →
+    Takes (state_of c) (steps.Advance p.slot) (answer.Moved m) (state_of d)
     → p.tenant ≡ c.tenant → p.slot < c.config.slots → p.slot < length c.stills → (m ≡ moved.Idle → (advance (state_of c) p.slot).0 ≡ moved.Idle) → IsRight d
 moved_right c d p m due q valid r is history takes tenant low long idle =
     let n = length c.history in
@@ -193,12 +202,14 @@ moved_right c d p m due q valid r is history takes tenant low long idle =
           (λ o apart in_before. woken_in (returned c.home back m) due o (returned_in c.home back m o in_before))
           (λ o here freed. woken_in (returned c.home back m) due o (freed_in c.home back m o inside (same_slot p.slot o here) freed)) in
           subst (λ k. AreHome k (state_of d) d.home) (sym is.config) (subst (λ l. AreHome c.config (state_of d) l) (sym is.home) kept);
-      places = subst (λ k. ArePlaced k d.home) (sym is.tenant) (subst (λ l. ArePlaced c.tenant l) (sym is.home) (woken_placed c.tenant (returned c.home back m) due (returned_placed c.tenant c.home back m r.places tenant)));
+      places = subst (λ k. ArePlaced k d.home) (sym is.tenant)
+          (subst (λ l. ArePlaced c.tenant l) (sym is.home) (woken_placed c.tenant (returned c.home back m) due (returned_placed c.tenant c.home back m r.places tenant)));
       slots = ap length is.home ∙ (woken_long (returned c.home back m) due ∙ (returned_long c.home back m ∙ (r.slots ∙ ap (λ (k : Tenant). k.slots) (sym is.config))));
     }
 
 -- an arrival
-pub arrived_right : (c d : CellData) (slot : ℕ) (m : Came) (due : Option ℕ) (q : Option PassData) → IsValidTenant c.config → IsRight c → IsArrived c slot m due q d → IsHistory d.config d.history → Takes (state_of c) (steps.Arrive slot) (answer.Came m) (state_of d) → slot < length c.stills → IsRight d
+pub arrived_right : (c d : CellData) (slot : ℕ) (m : Came) (due : Option ℕ) (q : Option PassData) → IsValidTenant c.config → IsRight c → IsArrived c slot m due q d → IsHistory d.config d.history →
+    Takes (state_of c) (steps.Arrive slot) (answer.Came m) (state_of d) → slot < length c.stills → IsRight d
 arrived_right c d slot m due q valid r is history takes long =
     let left = woken due (home_arrived c.home slot m) in
     record {
@@ -210,12 +221,17 @@ arrived_right c d slot m due q valid r is history takes long =
           (λ o apart in_before. woken_in (home_arrived c.home slot m) due o (arrived_in c.home slot m o apart in_before))
           (λ o here freed. absurd (let no : false ≡ true = freed in grind (arith, no))) in
           subst (λ k. AreHome k (state_of d) d.home) (sym is.config) (subst (λ l. AreHome c.config (state_of d) l) (sym is.home) kept);
-      places = subst (λ k. ArePlaced k d.home) (sym is.tenant) (subst (λ l. ArePlaced c.tenant l) (sym is.home) (woken_placed c.tenant (home_arrived c.home slot m) due (set_placed c.tenant c.home slot (arrived_place m (place c.home slot)) r.places (arrived_of c.tenant slot m (place c.home slot) (r.places slot)))));
-      slots = ap length is.home ∙ (woken_long (home_arrived c.home slot m) due ∙ (length-set c.home slot (arrived_place m (place c.home slot)) ∙ (r.slots ∙ ap (λ (k : Tenant). k.slots) (sym is.config))));
+      places = subst (λ k. ArePlaced k d.home) (sym is.tenant)
+          (subst (λ l. ArePlaced c.tenant l) (sym is.home)
+          (woken_placed c.tenant (home_arrived c.home slot m) due
+          (set_placed c.tenant c.home slot (arrived_place m (place c.home slot)) r.places (arrived_of c.tenant slot m (place c.home slot) (r.places slot)))));
+      slots = ap length is.home ∙ (woken_long (home_arrived c.home slot m) due ∙
+          (length-set c.home slot (arrived_place m (place c.home slot)) ∙ (r.slots ∙ ap (λ (k : Tenant). k.slots) (sym is.config))));
     }
 
 -- an ask
-pub asked_right : (c d : CellData) (s t : SeatData) (a : Request) (y : Reply) (due : Option ℕ) (q : Option PassData) → IsValidTenant c.config → IsRight c → IsAsked c s a y due q d t → IsHistory d.config d.history → Takes (state_of c) (steps.Ask a) (answer.Replied y) (state_of d) → ((slot : ℕ) → placed_on y ≡ Some slot → slot < length c.stills) → IsRight d
+pub asked_right : (c d : CellData) (s t : SeatData) (a : Request) (y : Reply) (due : Option ℕ) (q : Option PassData) → IsValidTenant c.config → IsRight c → IsAsked c s a y due q d t →
+    IsHistory d.config d.history → Takes (state_of c) (steps.Ask a) (answer.Replied y) (state_of d) → ((slot : ℕ) → placed_on y ≡ Some slot → slot < length c.stills) → IsRight d
 asked_right c d s t a y due q valid r is history takes long =
     let left = woken due (taken (placed_on y) c.home) in
     record {
@@ -227,7 +243,8 @@ asked_right c d s t a y due q valid r is history takes long =
           (λ o apart in_before. woken_in (taken (placed_on y) c.home) due o (taken_in c.home (placed_on y) o (λ same. apart (placed_enters y o same) same) in_before))
           (λ o here freed. absurd (let no : false ≡ true = freed in grind (arith, no))) in
           subst (λ k. AreHome k (state_of d) d.home) (sym is.config) (subst (λ l. AreHome c.config (state_of d) l) (sym is.home) kept);
-      places = subst (λ k. ArePlaced k d.home) (sym is.tenant) (subst (λ l. ArePlaced c.tenant l) (sym is.home) (woken_placed c.tenant (taken (placed_on y) c.home) due (taken_placed c.tenant c.home (placed_on y) r.places)));
+      places = subst (λ k. ArePlaced k d.home) (sym is.tenant)
+          (subst (λ l. ArePlaced c.tenant l) (sym is.home) (woken_placed c.tenant (taken (placed_on y) c.home) due (taken_placed c.tenant c.home (placed_on y) r.places)));
       slots = ap length is.home ∙ (woken_long (taken (placed_on y) c.home) due ∙ (taken_long c.home (placed_on y) ∙ (r.slots ∙ ap (λ (k : Tenant). k.slots) (sym is.config))));
     }
 
@@ -256,7 +273,9 @@ first_at : (tenant limit n o : ℕ) → o < n → place (first_places tenant lim
 first_at tenant limit n o within = unwrap_or-slice_get (first_places tenant limit n) o Out ∙ get_or-map-range_with_len (λ s. Home (first_pass tenant limit s)) 0 n o o Out within (omega arith)
 
 first_past : (tenant limit n o : ℕ) → n ≤ o → place (first_places tenant limit n) o ≡ Out
-first_past tenant limit n o past = unwrap_or-slice_get (first_places tenant limit n) o Out ∙ get_or_past (first_places tenant limit n) o Out (omega (arith, past, length-map-range_with_len (λ s. Home (first_pass tenant limit s)) 0 n))
+first_past tenant limit n o past =
+    unwrap_or-slice_get (first_places tenant limit n) o Out ∙
+    get_or_past (first_places tenant limit n) o Out (omega (arith, past, length-map-range_with_len (λ s. Home (first_pass tenant limit s)) 0 n))
 
 first_placed : (tenant limit n : ℕ) → ArePlaced tenant (first_places tenant limit n)
 first_placed tenant limit n o = elim (either_way (nat_lt o n)) [

@@ -80,7 +80,8 @@ placed_of tenant slot (Due p) is held = record { tenant = is.tenant; slot = is.s
 placed_of tenant slot Out is held = absurd (grind (arith, held))
 
 -- With a job that is placed on a slot goes the slot's pass.
-module _ (tenant : ℕ) (c : Tenant) (s : State) (home : List Place) (config : s.config ≡ c) (are : AreHome c s home) (places : ArePlaced tenant home) (b : Bool) (r : Request) (y : Reply) (answered : y ≡ (ask_within b s r).0) where
+module _ (tenant : ℕ) (c : Tenant) (s : State) (home : List Place) (config : s.config ≡ c) (are : AreHome c s home) (places : ArePlaced tenant home) (b : Bool) (r : Request) (y : Reply)
+    (answered : y ≡ (ask_within b s r).0) where
   goes_at : (k : Option ℕ) → placed_on y ≡ k → GoesWith tenant k (placed_pass k home)
   goes_at None is = refl
   goes_at (Some slot) is =
@@ -92,7 +93,8 @@ module _ (tenant : ℕ) (c : Tenant) (s : State) (home : List Place) (config : s
   asked_goes = goes_at (placed_on y) refl
 
 -- With an arrival that finds a row goes the slot's pass.
-pub arrived_goes : (tenant slot : ℕ) (m : Came) (q : Place) (room : Bool) → option_map has_room (pass_in q) ≡ Some room → IsPlaceOf tenant slot q → GoesWith tenant (entered slot (is_entry (answer.Came m))) (arrived_pass m (pass_in q))
+pub arrived_goes : (tenant slot : ℕ) (m : Came) (q : Place) (room : Bool) → option_map has_room (pass_in q) ≡ Some room → IsPlaceOf tenant slot q →
+    GoesWith tenant (entered slot (is_entry (answer.Came m))) (arrived_pass m (pass_in q))
 arrived_goes tenant slot (came.At n) (Home p) room held is = record { tenant = is.tenant; slot = is.slot }
 arrived_goes tenant slot (came.At n) (Due p) room held is = record { tenant = is.tenant; slot = is.slot }
 arrived_goes tenant slot (came.At n) Out room held is = absurd (grind (arith, held))

@@ -1,5 +1,6 @@
 -- Cells stay right.
-use Rattle.std.proofs.Common.{◌≡◌, ◌≢◌, ◌⊎◌, inl, inr, ℕ, ◌+◌, ◌==◌, ◌<◌, ◌≤◌, ◌&&◌, zero, suc, Bool, true, false, List, [], ◌∷◌, ◌++◌, length, drop, refl, sym, ap, ◌∙◌, arith, length-append, length-set, get_or, subst, Option, Some, None, nat_lt}
+use Rattle.std.proofs.Common.{◌≡◌, ◌≢◌, ◌⊎◌, inl, inr, ℕ, ◌+◌, ◌==◌, ◌<◌, ◌≤◌, ◌&&◌, zero, suc, Bool, true, false, List, [], ◌∷◌, ◌++◌, length, drop, refl, sym, ap, ◌∙◌, arith, length-append}
+use Rattle.std.proofs.Common.{length-set, get_or, subst, Option, Some, None, nat_lt}
 use Rattle.std.specs.Prelude.{if◌then◌else◌, All, count_by, slice_set, slice_index_or, unwrap_or}
 use Rattle.std.proofs.Math.Seq.{take-length, drop-length}
 use Rattle.std.proofs.lemmas.Bool.{cases_eq}
@@ -74,7 +75,8 @@ woken_in home (Some slot) o is = place_by IsIn home slot o (due_place (place hom
 
 pub woken_placed : (tenant : ℕ) (home : List Place) (due : Option ℕ) → ArePlaced tenant home → ArePlaced tenant (woken due home)
 woken_placed tenant home None are = are
-woken_placed tenant home (Some slot) are = λ o. place_by (IsPlaceOf tenant o) home slot o (due_place (place home slot)) (λ same. due_of tenant o (place home slot) (subst (λ k. IsPlaceOf tenant o (place home k)) same (are o))) (are o)
+woken_placed tenant home (Some slot) are =
+    λ o. place_by (IsPlaceOf tenant o) home slot o (due_place (place home slot)) (λ same. due_of tenant o (place home slot) (subst (λ k. IsPlaceOf tenant o (place home k)) same (are o))) (are o)
 
 pub set_placed : (tenant : ℕ) (home : List Place) (slot : ℕ) (q : Place) → ArePlaced tenant home → IsPlaceOf tenant slot q → ArePlaced tenant (slice_set home slot q)
 set_placed tenant home slot q are is = λ o. place_by (IsPlaceOf tenant o) home slot o q (λ same. subst (λ k. IsPlaceOf tenant k q) (sym same) is) (are o)
@@ -96,7 +98,8 @@ module _ (c : Tenant) (h : List Entry) (x : Step) (a : Answer) (t : State) (home
   abbrev Stays : ℕ → Type 0
   Stays o = IsIn (place home o) → IsIn (place left o)
 
-  entered_at : (o : ℕ) → o < c.reserved → height t.rows o ≡ 0 → is_entry a ≡ true → Tells (state_after c h) x a t → (k : Option ℕ) → slot_of x a ≡ k → ((p : ℕ) → (is_entry a ≡ true → slot_of x a ≢ Some p) → Stays p) → ((p : ℕ) → slot_of x a ≡ Some p → is_freed a ≡ true → IsIn (place left p)) → IsIn (place left o)
+  entered_at : (o : ℕ) → o < c.reserved → height t.rows o ≡ 0 → is_entry a ≡ true → Tells (state_after c h) x a t → (k : Option ℕ) → slot_of x a ≡ k →
+      ((p : ℕ) → (is_entry a ≡ true → slot_of x a ≢ Some p) → Stays p) → ((p : ℕ) → slot_of x a ≡ Some p → is_freed a ≡ true → IsIn (place left p)) → IsIn (place left o)
   entered_at o low empty enters told None at stays back =
       let differs : slot_of x a ≢ Some o = λ some. let no : None ≡ Some o = sym at ∙ some in absurd (grind (arith, no)) in
       stays o (λ _. differs) (are o low (sym (told.others o differs) ∙ empty))
@@ -111,7 +114,8 @@ module _ (c : Tenant) (h : List Entry) (x : Step) (a : Answer) (t : State) (home
         stays o (λ _. differs) (are o low (sym (told.others o differs) ∙ empty))
   ]
 
-  pub home_kept : Takes (state_after c h) x a t → ((p : ℕ) → (is_entry a ≡ true → slot_of x a ≢ Some p) → Stays p) → ((p : ℕ) → slot_of x a ≡ Some p → is_freed a ≡ true → IsIn (place left p)) → AreHome c t left
+  pub home_kept : Takes (state_after c h) x a t → ((p : ℕ) → (is_entry a ≡ true → slot_of x a ≢ Some p) → Stays p) → ((p : ℕ) → slot_of x a ≡ Some p → is_freed a ≡ true → IsIn (place left p)) →
+      AreHome c t left
   home_kept (inl made) stays back o low empty = entered_at o low empty made.0 (tells (state_after c h) x a t (well_formed c h valid) made.2) (slot_of x a) refl stays back
   home_kept (inr none) stays back o low empty = stays o (λ enters. absurd (grind (arith, enters, none.0))) (are o low (ap (λ (s : State). height s.rows o) (sym none.1) ∙ empty))
 
@@ -137,21 +141,24 @@ still_now : (c : Tenant) (h : List Entry) (slot : ℕ) → (advance (state_after
 still_now c h slot idle = record { within = omega arith; untouched = none_left (λ (x : Entry). touches slot x ≡ false) h; idle = rw take-length idle }
 
 -- one entry more: each slot is untouched by it, or not known to be idle
-pub stills_more : (c : Tenant) (h : List Entry) (e : Entry) (stills left : List (Option ℕ)) → AreStill c h stills → ((o : ℕ) → (slice_index_or left o None ≡ None) ⊎ ((touches o e ≡ false) × (slice_index_or left o None ≡ slice_index_or stills o None))) → AreStill c (h ++ e ∷ []) left
+pub stills_more : (c : Tenant) (h : List Entry) (e : Entry) (stills left : List (Option ℕ)) → AreStill c h stills →
+    ((o : ℕ) → (slice_index_or left o None ≡ None) ⊎ ((touches o e ≡ false) × (slice_index_or left o None ≡ slice_index_or stills o None))) → AreStill c (h ++ e ∷ []) left
 stills_more c h e stills left are each o within = elim (each o) [
   | inl unknown ↦ rw unknown tt
   | inr apart ↦ rw apart.1 (still_more c h e o (slice_index_or stills o None) (are o within) apart.0)
 ]
 
 -- a slot is idle now
-pub stills_now : (c : Tenant) (h : List Entry) (stills : List (Option ℕ)) (slot : ℕ) → AreStill c h stills → slot < length stills → (advance (state_after c h) slot).0 ≡ moved.Idle → AreStill c h (slice_set stills slot (Some (length h)))
+pub stills_now : (c : Tenant) (h : List Entry) (stills : List (Option ℕ)) (slot : ℕ) → AreStill c h stills → slot < length stills → (advance (state_after c h) slot).0 ≡ moved.Idle →
+    AreStill c h (slice_set stills slot (Some (length h)))
 stills_now c h stills slot are long idle o within = elim (cases_eq o slot) [
   | inl same ↦ rw (same, get_or-set_same stills slot (Some (length h)) None long) (still_now c h slot idle)
   | inr differs ↦ rw (get_or-set_other stills slot o (Some (length h)) None differs) (are o within)
 ]
 
 -- The slot that an entry touches is not known to be idle.
-pub forgotten : (stills : List (Option ℕ)) (slot : ℕ) (e : Entry) → slot < length stills → ((o : ℕ) → o ≢ slot → touches o e ≡ false) → (o : ℕ) → (slice_index_or (slice_set stills slot None) o None ≡ None) ⊎ ((touches o e ≡ false) × (slice_index_or (slice_set stills slot None) o None ≡ slice_index_or stills o None))
+pub forgotten : (stills : List (Option ℕ)) (slot : ℕ) (e : Entry) → slot < length stills → ((o : ℕ) → o ≢ slot → touches o e ≡ false) → (o : ℕ) →
+    (slice_index_or (slice_set stills slot None) o None ≡ None) ⊎ ((touches o e ≡ false) × (slice_index_or (slice_set stills slot None) o None ≡ slice_index_or stills o None))
 forgotten stills slot e long apart o = elim (cases_eq o slot) [
   | inl same ↦ inl (rw same (get_or-set_same stills slot None None long))
   | inr differs ↦ inr (apart o differs, get_or-set_other stills slot o None None differs)
@@ -162,19 +169,22 @@ counted_more : (slot : ℕ) (h : List Entry) (e : Entry) → count_by (is_on slo
 counted_more slot h e = sum_by-append (λ x. if is_on slot x then 1 else 0) h (e ∷ []) ∙ omega arith
 
 -- an entry of a slot, or none
-pub counts_by : (h : List Entry) (counts : List ℕ) (slot : ℕ) (x : Step) (a : Answer) (b : Bool) → is_entry a ≡ b → AreCounted h counts → slot < length counts → ((o : ℕ) → is_step_on o x ≡ (slot == o)) → AreCounted (h ++ entries_of x a) (counted counts slot (is_entry a))
+pub counts_by : (h : List Entry) (counts : List ℕ) (slot : ℕ) (x : Step) (a : Answer) (b : Bool) → is_entry a ≡ b → AreCounted h counts → slot < length counts →
+    ((o : ℕ) → is_step_on o x ≡ (slot == o)) → AreCounted (h ++ entries_of x a) (counted counts slot (is_entry a))
 counts_by h counts slot x a false is are long on = rw (none_recorded x a is, is, append-nil h) are
 counts_by h counts slot x a true is are long on = rw (entry_recorded x a is, is) (λ o within. elim (cases_eq o slot) [
   | inl same ↦
       let here : is_step_on slot x ≡ true = on slot ∙ grind (arith, nat_tests) in
-      rw same (get_or-set_same counts slot (slice_index_or counts slot 0 + 1) 0 long ∙ (ap (λ n. n + 1) (are slot (subst (λ k. k < 16) same within)) ∙ sym (counted_more slot h (record { step = x; answer = a }) ∙ rw here refl)))
+      rw same (get_or-set_same counts slot (slice_index_or counts slot 0 + 1) 0 long ∙
+      (ap (λ n. n + 1) (are slot (subst (λ k. k < 16) same within)) ∙ sym (counted_more slot h (record { step = x; answer = a }) ∙ rw here refl)))
   | inr differs ↦
       let apart : is_step_on o x ≡ false = on o ∙ grind (arith, nat_tests, differs) in
       get_or-set_other counts slot o (slice_index_or counts slot 0 + 1) 0 differs ∙ (are o within ∙ sym (counted_more o h (record { step = x; answer = a }) ∙ rw apart (omega arith)))
 ])
 
 -- An ask is no entry of a slot.
-pub counts_same : (h : List Entry) (counts : List ℕ) (x : Step) (a : Answer) (b : Bool) → is_entry a ≡ b → AreCounted h counts → ((o : ℕ) → is_step_on o x ≡ false) → AreCounted (h ++ entries_of x a) counts
+pub counts_same : (h : List Entry) (counts : List ℕ) (x : Step) (a : Answer) (b : Bool) → is_entry a ≡ b → AreCounted h counts → ((o : ℕ) → is_step_on o x ≡ false) →
+    AreCounted (h ++ entries_of x a) counts
 counts_same h counts x a false is are off = rw (none_recorded x a is, append-nil h) are
 counts_same h counts x a true is are off = rw (entry_recorded x a is) (λ o within. are o within ∙ sym (counted_more o h (record { step = x; answer = a }) ∙ rw (off o) (omega arith)))
 
@@ -182,6 +192,7 @@ counts_same h counts x a true is are off = rw (entry_recorded x a is) (λ o with
 asks_more : (h : List Entry) (e : Entry) → count_by (λ (v : Entry). is_ask v.step) (h ++ e ∷ []) ≡ count_by (λ (v : Entry). is_ask v.step) h + (if is_ask e.step then 1 else 0)
 asks_more h e = sum_by-append (λ (v : Entry). if is_ask v.step then 1 else 0) h (e ∷ []) ∙ omega arith
 
-pub asks_by : (h : List Entry) (x : Step) (a : Answer) (b : Bool) → is_entry a ≡ b → count_by (λ (v : Entry). is_ask v.step) (h ++ entries_of x a) ≡ count_by (λ (v : Entry). is_ask v.step) h + (if is_entry a && is_ask x then 1 else 0)
+pub asks_by : (h : List Entry) (x : Step) (a : Answer) (b : Bool) → is_entry a ≡ b →
+    count_by (λ (v : Entry). is_ask v.step) (h ++ entries_of x a) ≡ count_by (λ (v : Entry). is_ask v.step) h + (if is_entry a && is_ask x then 1 else 0)
 asks_by h x a false is = rw (none_recorded x a is, is, append-nil h) (omega arith)
 asks_by h x a true is = rw (entry_recorded x a is, is) (asks_more h (record { step = x; answer = a }))

@@ -64,7 +64,8 @@ arrive_at_room s slot (Some n) = cond_both (is_full s) _ _ (λ (q : Came × Stat
 
 arrive_room : (s : State) (slot : ℕ) → HasRoom s (answer.Came (arrive s slot).0)
 arrive_room s slot =
-    cond_both (is_open_to_workers s slot) (arrive_at s slot (pick s slot)) (came.Nothing, s) (λ q. HasRoom s (answer.Came q.0)) (λ _. arrive_at_room s slot (pick s slot)) (λ _. no_entry s (answer.Came came.Nothing) refl)
+    cond_both (is_open_to_workers s slot) (arrive_at s slot (pick s slot)) (came.Nothing, s) (λ q. HasRoom s (answer.Came q.0)) (λ _. arrive_at_room s slot (pick s slot))
+    (λ _. no_entry s (answer.Came came.Nothing) refl)
 
 -- A hello is refused, whether the history is full or not.
 reply_room : (s : State) (r : Request) → (is_full s && not (is_hello r)) ≡ false → HasRoom s (answer.Replied (reply_to s r).0)
@@ -82,7 +83,8 @@ reply_room s (request.Take j) free enters = grind (arith, free)
 
 ask_room : (s : State) (r : Request) → HasRoom s (answer.Replied (ask s r).0)
 ask_room s r =
-    cond_both (is_full s && not (is_hello r)) (reply.Refused HistoryFull, s) (reply_to s r) (λ q. HasRoom s (answer.Replied q.0)) (λ _. no_entry s (answer.Replied (reply.Refused HistoryFull)) refl) (λ free. reply_room s r free)
+    cond_both (is_full s && not (is_hello r)) (reply.Refused HistoryFull, s) (reply_to s r) (λ q. HasRoom s (answer.Replied q.0)) (λ _. no_entry s (answer.Replied (reply.Refused HistoryFull)) refl)
+    (λ free. reply_room s r free)
 
 step_room : (s : State) (x : Step) → HasRoom s (step s x).0
 step_room s (steps.Ask r) = ask_room s r
@@ -99,11 +101,13 @@ step_takes s x is = taken_by s x (entries_counted s x is) (step_room s x)
 
 pub advance_takes : (b : Bool) (s : State) (slot : ℕ) → IsWellFormed s → Takes s (steps.Advance slot) (answer.Moved (advance_within b s slot).0) (advance_within b s slot).1
 advance_takes b s slot is =
-    cond_both (is_entry (answer.Moved (advance s slot).0) && not b) (moved.Full, s) (advance s slot) (λ r. Takes s (steps.Advance slot) (answer.Moved r.0) r.1) (λ _. inr (refl, refl)) (λ _. step_takes s (steps.Advance slot) is)
+    cond_both (is_entry (answer.Moved (advance s slot).0) && not b) (moved.Full, s) (advance s slot) (λ r. Takes s (steps.Advance slot) (answer.Moved r.0) r.1) (λ _. inr (refl, refl))
+    (λ _. step_takes s (steps.Advance slot) is)
 
 pub arrive_takes : (b : Bool) (s : State) (slot : ℕ) → IsWellFormed s → Takes s (steps.Arrive slot) (answer.Came (arrive_within b s slot).0) (arrive_within b s slot).1
 arrive_takes b s slot is =
-    cond_both (is_entry (answer.Came (arrive s slot).0) && not b) (came.Full, s) (arrive s slot) (λ r. Takes s (steps.Arrive slot) (answer.Came r.0) r.1) (λ _. inr (refl, refl)) (λ _. step_takes s (steps.Arrive slot) is)
+    cond_both (is_entry (answer.Came (arrive s slot).0) && not b) (came.Full, s) (arrive s slot) (λ r. Takes s (steps.Arrive slot) (answer.Came r.0) r.1) (λ _. inr (refl, refl))
+    (λ _. step_takes s (steps.Arrive slot) is)
 
 pub ask_takes : (b : Bool) (s : State) (r : Request) → IsWellFormed s → Takes s (steps.Ask r) (answer.Replied (ask_within b s r).0) (ask_within b s r).1
 ask_takes b s r is =
@@ -114,10 +118,12 @@ commit_takes b s slot p m t is (inl same) = rw (same.1, same.2) (advance_takes b
 commit_takes b s slot p m t is (inr stale) = rw (stale.1, stale.2) (inr (refl, refl))
 
 -- the same, where equations give the answer and the state
-pub advance_taken : (b : Bool) (s : State) (slot : ℕ) (m : Moved) (t : State) → IsWellFormed s → m ≡ (advance_within b s slot).0 → t ≡ (advance_within b s slot).1 → Takes s (steps.Advance slot) (answer.Moved m) t
+pub advance_taken : (b : Bool) (s : State) (slot : ℕ) (m : Moved) (t : State) → IsWellFormed s → m ≡ (advance_within b s slot).0 → t ≡ (advance_within b s slot).1 →
+    Takes s (steps.Advance slot) (answer.Moved m) t
 advance_taken b s slot m t is answered led = rw (answered, led) (advance_takes b s slot is)
 
-pub arrive_taken : (b : Bool) (s : State) (slot : ℕ) (m : Came) (t : State) → IsWellFormed s → m ≡ (arrive_within b s slot).0 → t ≡ (arrive_within b s slot).1 → Takes s (steps.Arrive slot) (answer.Came m) t
+pub arrive_taken : (b : Bool) (s : State) (slot : ℕ) (m : Came) (t : State) → IsWellFormed s → m ≡ (arrive_within b s slot).0 → t ≡ (arrive_within b s slot).1 →
+    Takes s (steps.Arrive slot) (answer.Came m) t
 arrive_taken b s slot m t is answered led = rw (answered, led) (arrive_takes b s slot is)
 
 pub ask_taken : (b : Bool) (s : State) (r : Request) (y : Reply) (t : State) → IsWellFormed s → y ≡ (ask_within b s r).0 → t ≡ (ask_within b s r).1 → Takes s (steps.Ask r) (answer.Replied y) t
@@ -126,7 +132,8 @@ ask_taken b s r y t is answered led = rw (answered, led) (ask_takes b s r is)
 -- An idle answer is that of an advance.
 pub advance_idle : (b : Bool) (s : State) (slot : ℕ) (m : Moved) → m ≡ (advance_within b s slot).0 → m ≡ moved.Idle → (advance s slot).0 ≡ moved.Idle
 advance_idle b s slot m answered idle =
-    cond_both (is_entry (answer.Moved (advance s slot).0) && not b) (moved.Full, s) (advance s slot) (λ r. m ≡ r.0 → (advance s slot).0 ≡ moved.Idle) (λ _ full. let no : moved.Full ≡ moved.Idle = sym full ∙ idle in cc) (λ _ same. sym same ∙ idle) answered
+    cond_both (is_entry (answer.Moved (advance s slot).0) && not b) (moved.Full, s) (advance s slot) (λ r. m ≡ r.0 → (advance s slot).0 ≡ moved.Idle)
+    (λ _ full. let no : moved.Full ≡ moved.Idle = sym full ∙ idle in cc) (λ _ same. sym same ∙ idle) answered
 
 pub commit_idle : (b : Bool) (s : State) (slot : ℕ) (p : Top) (m : Moved) (t : State) → Commits b s slot p m t → m ≡ moved.Idle → (advance s slot).0 ≡ moved.Idle
 commit_idle b s slot p m t (inl same) idle = advance_idle b s slot m same.1 idle
@@ -152,4 +159,5 @@ placed_low b s r y n answered few slot is = let low = ((within_asked b s r).plac
 -- A collect alone can be pending.
 pub pending_within : (b : Bool) (s : State) (r : Request) (y : Reply) → y ≡ (ask_within b s r).0 → y ≡ reply.Pending → IsCollect r
 pending_within b s r y answered pending =
-    cond_both (not b && not (is_hello r)) (reply.Refused HistoryFull, s) (ask s r) (λ (a : Reply × State). y ≡ a.0 → IsCollect r) (λ _ full. let no : reply.Refused HistoryFull ≡ reply.Pending = sym full ∙ pending in cc) (λ _ same. pending_asked s r (sym same ∙ pending)) answered
+    cond_both (not b && not (is_hello r)) (reply.Refused HistoryFull, s) (ask s r) (λ (a : Reply × State). y ≡ a.0 → IsCollect r)
+    (λ _ full. let no : reply.Refused HistoryFull ≡ reply.Pending = sym full ∙ pending in cc) (λ _ same. pending_asked s r (sym same ∙ pending)) answered

@@ -1,5 +1,6 @@
 -- What a tenant's lock keeps, and when it is right.
-use Rattle.std.specs.Prelude.{ℕ, ◌≡◌, ◌≤◌, ◌<◌, ◌+◌, ◌==◌, ◌⊎◌, Bool, true, false, not, ◌||◌, ◌&&◌, List, [], ◌∷◌, length, take, drop, replicate, Option, Some, None, IsSome, All, count_by, nat_lt, slice_set, slice_index_or, if◌then◌else◌}
+use Rattle.std.specs.Prelude.{ℕ, ◌≡◌, ◌≤◌, ◌<◌, ◌+◌, ◌==◌, ◌⊎◌, Bool, true, false, not, ◌||◌, ◌&&◌, List, [], ◌∷◌, length, take, drop, replicate, Option, Some, None, IsSome, All, count_by, nat_lt}
+use Rattle.std.specs.Prelude.{slice_set, slice_index_or, if◌then◌else◌}
 use Rattle.job_language.specs.Brought.{job_of}
 use Rattle.job_language.specs.Recorded.{is_entry, is_recorded_reply}
 use Rattle.job_language.specs.declared.answers.Answer.{Answer}

@@ -1,5 +1,6 @@
 -- Once a dump more is there and one that is too old is gone, all that stay are among the newest.
-use Rattle.std.proofs.Common.{ℕ, zero, suc, ◌≡◌, ◌+◌, ◌≤◌, ◌<◌, ◌==◌, ◌++◌, Bool, true, false, List, [], ◌∷◌, cond, not, get_or, Contains, ◌⊎◌, inl, inr, refl, sym, subst, ap, ◌∙◌, Option, Some, None, IfSome, rules, arith, if◌then◌else◌}
+use Rattle.std.proofs.Common.{ℕ, zero, suc, ◌≡◌, ◌+◌, ◌≤◌, ◌<◌, ◌==◌, ◌++◌, Bool, true, false, List, [], ◌∷◌, cond, not, get_or, Contains, ◌⊎◌, inl, inr, refl, sym, subst, ap, ◌∙◌, Option, Some, None}
+use Rattle.std.proofs.Common.{IfSome, rules, arith, if◌then◌else◌}
 use Rattle.std.proofs.lemmas.Bool.{cases_order, leb-true, le-leb, lt-leb, eqb-true, eq-eqb, ne_eqb}
 use Rattle.std.proofs.lemmas.List.Sums.{sum_by-cons, sum_by_push, get_or-le-sum_by}
 use Rattle.std.specs.List.{count_by}

@@ -1,5 +1,6 @@
 -- The outcomes of jobs whose term is closed. Jobs have their numbers outside of their terms.
-use Rattle.std.specs.Prelude.{ℕ, ◌==◌, ◌&&◌, Bool, true, false, not, List, [], ◌∷◌, ◌++◌, Option, Some, None, option_map, option_and_then, map, filter, find, length, nat_lt, nat_le, drop, if◌then◌else◌}
+use Rattle.std.specs.Prelude.{ℕ, ◌==◌, ◌&&◌, Bool, true, false, not, List, [], ◌∷◌, ◌++◌, Option, Some, None, option_map, option_and_then, map, filter, find, length, nat_lt, nat_le, drop}
+use Rattle.std.specs.Prelude.{if◌then◌else◌}
 use Rattle.job_language.specs.declared.answers.Reply.{Reply}
 use Rattle.job_language.specs.declared.answers.Reply.TheVariants as reply
 use Rattle.job_language.specs.declared.answers.Status.{Status}

@@ -41,7 +41,8 @@ pub record IsRanked (rows : List Row) : Type 0 where
   pub spawned : (n m g slot h t k : ℕ) → (row rows n).kind ≡ Spawned m g → (row rows n).phase ≡ Live slot h → (row rows m).phase ≡ Live t k → rank m < rank n
 
 -- Fewer rows are live, each at the place where it was.
-pub ranked-fewer : (a b : List Row) → ((n slot h : ℕ) → (row b n).phase ≡ Live slot h → (row a n).phase ≡ Live slot h) → ((n slot h : ℕ) → (row b n).phase ≡ Live slot h → (row b n).kind ≡ (row a n).kind) → IsRanked a → IsRanked b
+pub ranked-fewer : (a b : List Row) → ((n slot h : ℕ) → (row b n).phase ≡ Live slot h → (row a n).phase ≡ Live slot h) →
+    ((n slot h : ℕ) → (row b n).phase ≡ Live slot h → (row b n).kind ≡ (row a n).kind) → IsRanked a → IsRanked b
 ranked-fewer a b lives kinds is = record {
   rank = is.rank;
   most = is.most;
@@ -133,7 +134,8 @@ module _ (rows : List Row) (n : ℕ) (r : Row) (from : 1 ≤ n) (to : n ≤ leng
   ]) (λ m slot h live. set_kinds m) is
 
   -- A row that waited stands on top now.
-  pub ranked-nest : (slot : ℕ) → AreStacked rows → MakersPrecede rows → MakersStarted rows → is_unstarted (row rows n).phase ≡ true → r.phase ≡ Live slot (height rows slot + 1) → IsRanked rows → IsRanked (with_at_number rows n r)
+  pub ranked-nest : (slot : ℕ) → AreStacked rows → MakersPrecede rows → MakersStarted rows → is_unstarted (row rows n).phase ≡ true → r.phase ≡ Live slot (height rows slot + 1) → IsRanked rows →
+      IsRanked (with_at_number rows n r)
   ranked-nest slot stacks precede started waits on_top is = ranked-top rows (with_at_number rows n r) slot n stacks (record {
     lives = λ x t h live. elim (cases_eq x n) [
       | inl same ↦
@@ -176,7 +178,8 @@ module _ (rows : List Row) (r : Row) where
   ]) is
 
   -- a new row on top of a slot, which was not spawned
-  pub ranked-push_top : (slot : ℕ) → AreStacked rows → MakersPrecede rows → r.phase ≡ Live slot (height rows slot + 1) → ((m g : ℕ) → r.kind ≡ Spawned m g → ⊥) → IsRanked rows → IsRanked (rows ++ r ∷ [])
+  pub ranked-push_top : (slot : ℕ) → AreStacked rows → MakersPrecede rows → r.phase ≡ Live slot (height rows slot + 1) → ((m g : ℕ) → r.kind ≡ Spawned m g → ⊥) → IsRanked rows →
+      IsRanked (rows ++ r ∷ [])
   ranked-push_top slot stacks precede on_top other is =
       let q = length rows + 1 in
       ranked-top rows (rows ++ r ∷ []) slot q stacks (record {
@@ -241,7 +244,8 @@ module _ (s : State) (slot n : ℕ) (at : IsAt s slot n) (is : Ranked s) where
   region_ranked f g =
       let moved = kept.moved_kept s slot n at.well (record { from = at.from; to = at.to; live = at.live }) f in
       let same : height (with_frame s n f).rows slot ≡ height s.rows slot = (AreSame-set s.rows n (record (row s.rows n) { frame = f }) at.from at.to refl).on slot in
-      ranked-push_top (with_frame s n f).rows (new_row (Region n) (row s.rows n).job (Some slot) g (Live slot (height s.rows slot + 1))) slot moved.stacked moved.linked.makers (rw same refl) (λ m h kind. cc) (frame_ranked f)
+      ranked-push_top (with_frame s n f).rows (new_row (Region n) (row s.rows n).job (Some slot) g (Live slot (height s.rows slot + 1))) slot moved.stacked moved.linked.makers (rw same refl)
+      (λ m h kind. cc) (frame_ranked f)
 
   ended_ranked : (f : Frame) (v : ℤ) → Ranked (on_row s n (λ r. record r { frame = f; phase = Done v }))
   ended_ranked f v = ranked-set s.rows n (record (row s.rows n) { frame = f; phase = Done v }) at.from at.to refl (λ t h live. absurd (done_not_live v t h live)) is

@@ -22,7 +22,8 @@ use Rattle.tenant_model.specs.declared.rows.Phase.{Phase}
 use Rattle.tenant_model.specs.declared.rows.Phase.TheVariants.{Unstarted, Live, Done, Dropped, Faulted}
 use Rattle.tenant_model.specs.declared.rows.Row.{Row}
 use Rattle.tenant_model.specs.State.{State, empty, row}
-use Rattle.tenant_model.specs.Walks.{NumberedRow, numbered_rows, maker_of, is_region, region_of, region_on, is_unstarted, is_open, is_spawned_by, is_pending, members, mark, height, top, is_allowed, eligible, is_made_on, first_of, last_or, pick_of, pick}
+use Rattle.tenant_model.specs.Walks.{NumberedRow, numbered_rows, maker_of, is_region, region_of, region_on, is_unstarted, is_open, is_spawned_by, is_pending, members, mark, height, top, is_allowed}
+use Rattle.tenant_model.specs.Walks.{eligible, is_made_on, first_of, last_or, pick_of, pick}
 use Rattle.tenant_model.specs.Changes.{is_full}
 use Rattle.tenant_model.specs.Advance.{advance, advance_top, advance_run, after_run, is_blocked, is_idle_wait, nest_pick, run_on, unless_full, would_be_recorded}
 use Rattle.tenant_model.specs.Linked.{MakersPrecede}
@@ -118,7 +119,8 @@ filtered_none test k (x ∷ xs) none (suc i) d within =
     rw place (filtered_none test (k + 1) xs rest i d (omega (arith, within)))
 
 -- A slot that picks nothing may take no row that waits.
-nothing_allowed : (mode : Isolation) (rows : List Row) (slot : ℕ) → pick_of mode rows slot ≡ None → (n : ℕ) → 1 ≤ n → n ≤ length rows → is_unstarted (row rows n).phase ≡ true → is_allowed mode rows (region_on rows (top rows slot)) n ≡ true → ⊥
+nothing_allowed : (mode : Isolation) (rows : List Row) (slot : ℕ) → pick_of mode rows slot ≡ None → (n : ℕ) → 1 ≤ n → n ≤ length rows → is_unstarted (row rows n).phase ≡ true →
+    is_allowed mode rows (region_on rows (top rows slot)) n ≡ true → ⊥
 nothing_allowed mode rows slot none n from to waits allowed =
     let test : NumberedRow → Bool = λ p. is_unstarted p.1.phase && is_allowed mode rows (region_on rows (top rows slot)) p.0 in
     let empty = first_none (eligible mode rows slot) (last_none (first_of (eligible mode rows slot)) (filter (λ (p : NumberedRow). is_made_on slot p.1.made_on) (eligible mode rows slot)) none) in
@@ -188,10 +190,12 @@ stuck_top s slot t low idle is =
     run_stuck s slot t (run_on s slot t) at
 
 -- what the top of a slot waits for is on a slot
-awaited_live : (s : State) (slot t : ℕ) → IsSound s → top s.rows slot ≡ Some t → IsStuck s slot t → (g m : ℕ) → IsAwaited s.rows t g m → (p : Phase) → (row s.rows m).phase ≡ p → (u k : ℕ) × ((row s.rows m).phase ≡ Live u k)
+awaited_live : (s : State) (slot t : ℕ) → IsSound s → top s.rows slot ≡ Some t → IsStuck s slot t → (g m : ℕ) → IsAwaited s.rows t g m → (p : Phase) → (row s.rows m).phase ≡ p →
+    (u k : ℕ) × ((row s.rows m).phase ≡ Live u k)
 awaited_live s slot t sound is stuck g m awaited (Live u k) phase = (u, k, phase)
 awaited_live s slot t sound is stuck g m awaited Unstarted phase =
-    let allowed : is_allowed s.config.isolation s.rows (region_on s.rows (top s.rows slot)) m ≡ true = rw is (allowed_own s.config.isolation s.rows sound.well_formed.linked.makers t m g awaited (region_of s.rows t) refl) in
+    let allowed : is_allowed s.config.isolation s.rows (region_on s.rows (top s.rows slot)) m ≡ true =
+    rw is (allowed_own s.config.isolation s.rows sound.well_formed.linked.makers t m g awaited (region_of s.rows t) refl) in
     absurd (nothing_allowed s.config.isolation s.rows slot stuck.none m awaited.from awaited.to (rw phase refl) allowed)
 awaited_live s slot t sound is stuck g m awaited (Done v) phase = absurd (let no : false ≡ true = rw phase at awaited.open_still in grind (arith, no))
 awaited_live s slot t sound is stuck g m awaited Dropped phase = absurd (let no : false ≡ true = rw phase at awaited.open_still in grind (arith, no))

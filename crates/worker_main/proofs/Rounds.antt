@@ -21,7 +21,8 @@ module _ {D : Type 0} (w : Ways D) (v : Visiting) where
   turned : (s f t : SlotSeen D) (h : ℕ) (m is : Moved) (r : Round) → heights_of w.heights s h → 1 ≤ h → TakesOne w s m f → m ≡ is → AfterTurn w is r f t → TakesRound w v r s t
   turned s f t h m is r high some takes e after = (h, (high, inr (some, (m, f, (takes, (let P : Moved → Type 0 = λ x. AfterTurn w x r f t in subst P (sym e) after))))))
 
-  pub paused : (s f t : SlotSeen D) (h : ℕ) (m : Moved) (stops : Bool) (r : Round) → heights_of w.heights s h → 1 ≤ h → TakesOne w s m f → m ≡ moved.Idle → pauses_of w.pauses f stops t → r ≡ after_pause stops → TakesRound w v r s t
+  pub paused : (s f t : SlotSeen D) (h : ℕ) (m : Moved) (stops : Bool) (r : Round) → heights_of w.heights s h → 1 ≤ h → TakesOne w s m f → m ≡ moved.Idle → pauses_of w.pauses f stops t →
+      r ≡ after_pause stops → TakesRound w v r s t
   paused s f t h m stops r high some takes e pauses is = turned s f t h m moved.Idle r high some takes e (stops, (pauses, is))
 
   pub full : (s f : SlotSeen D) (h : ℕ) (m : Moved) → heights_of w.heights s h → 1 ≤ h → TakesOne w s m f → m ≡ moved.Full → TakesRound w v Ended s f

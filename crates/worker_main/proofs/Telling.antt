@@ -10,7 +10,8 @@ pub pops_of : (s : RingerSeen) (q : QueuesSeen) (old new : PassSeen) (popped : O
 pops_of s q old new popped e number queues found = subst (λ x. Pops x popped (record { queues = q; pass = new })) e (refl, queues, number, found)
 
 module _ {D : Type 0} where
-  pub pops_at : (s : SlotSeen D) (old new : RingerSeen) (d : D) (popped : Option Call) → record { ringer = old; doors = d } ≡ s → Pops old popped new → PopsAt s popped (record { ringer = new; doors = d })
+  pub pops_at : (s : SlotSeen D) (old new : RingerSeen) (d : D) (popped : Option Call) → record { ringer = old; doors = d } ≡ s → Pops old popped new →
+      PopsAt s popped (record { ringer = new; doors = d })
   pops_at s old new d popped e pops = subst (λ x. PopsAt x popped (record { ringer = new; doors = d })) e (refl, pops)
 
   -- a call of the doors, and the push of the slot that it made due

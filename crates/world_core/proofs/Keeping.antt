@@ -3,7 +3,8 @@ use Rattle.std.proofs.Common.{◌≡◌, ℕ, ◌<◌, List, [], ◌∷◌, leng
 use Rattle.std.specs.Prelude.{slice_set}
 use Rattle.market_config.specs.declared.calls.Call.{Call}
 use Rattle.world_model.specs.declared.calls.SlotState.TheVariants as slot
-use Rattle.world_model.specs.Market.{Market, slots_of, slot_at, with_slot, worker_at, level_of, is_due, is_free, home_slot, with_due, wake, push, first_call, hand_over, pop, go_home, go_in, came, left, held_by, call_of}
+use Rattle.world_model.specs.Market.{Market, slots_of, slot_at, with_slot, worker_at, level_of, is_due, is_free, home_slot, with_due, wake, push, first_call, hand_over, pop, go_home, go_in, came}
+use Rattle.world_model.specs.Market.{left, held_by, call_of}
 use Rattle.world_model.specs.Orderly.{is_reserved}
 use Rattle.world_model.proofs.Ruling.{held_at, in_at, calls_rest, wake_orderly, push_orderly, pop_orderly, came_orderly, left_orderly}
 use Rattle.world_model.proofs.Counting.{there_is}

@@ -19,7 +19,8 @@ pub record HasRun {A : Type 0} (stands_for : A → State → Type 0) (old new : 
   pub world : (w : World) → Represents stands_for old w → Represents stands_for new (after w (steps_taken xs os))
 
 module _ {A : Type 0} (stands_for : A → State → Type 0) (old mid new : WorldData A) (os : List Outcome) (o : Outcome) where
-  run_push : (xs : List Raw) (x : Raw) → HasRun stands_for old mid xs os → ((w : World) → Represents stands_for mid w → IsAnswer w x o) → ((w : World) → Represents stands_for mid w → Represents stands_for new (next w x o)) →
+  run_push : (xs : List Raw) (x : Raw) → HasRun stands_for old mid xs os → ((w : World) → Represents stands_for mid w → IsAnswer w x o) →
+      ((w : World) → Represents stands_for mid w → Represents stands_for new (next w x o)) →
       HasRun stands_for old new (xs ++ x ∷ []) (os ++ o ∷ [])
   run_push xs x run answer world = record {
     long = length_push os o ∙ ap (λ n. n + 1) run.long ∙ sym (length_push xs x);
@@ -29,7 +30,8 @@ module _ {A : Type 0} (stands_for : A → State → Type 0) (old mid new : World
 
   -- one step more of a list of steps
   pub run_more : (raws : List Code) (i : ℕ) (d : Code) → i < length raws → HasRun stands_for old mid (map raw_of (take i raws)) os →
-      ((w : World) → Represents stands_for mid w → IsAnswer w (raw_of (get_or raws i d)) o) → ((w : World) → Represents stands_for mid w → Represents stands_for new (next w (raw_of (get_or raws i d)) o)) →
+      ((w : World) → Represents stands_for mid w → IsAnswer w (raw_of (get_or raws i d)) o) →
+      ((w : World) → Represents stands_for mid w → Represents stands_for new (next w (raw_of (get_or raws i d)) o)) →
       HasRun stands_for old new (map raw_of (take (i + 1) raws)) (os ++ o ∷ [])
   run_more raws i d within run answer world =
       let longer = run_push (map raw_of (take i raws)) (raw_of (get_or raws i d)) run answer world in

@@ -78,13 +78,15 @@ module _ {A : Type 0} (stands_for : A → State → Type 0) (h : WorldData A) wh
   pub asked_steps : (t : ℕ) (text : List ℕ) (request : Request) (a : A) (n : Market) (answer : Answer) (d : A) → t < length h.arenas → is_blank text ≡ false → request_of text ≡ Ok request →
       ((s : State) → stands_for (slice_index_or h.arenas t d) s → IsTaken stands_for s (raw.line t text) t (Ask request) h.market answer a n) →
       Steps stands_for h (record { arenas = slice_set h.arenas t a; market = n }) (raw.line t text) (outcome.Own answer)
-  asked_steps t text request a n answer d there filled reads takes = taken_steps (raw.line t text) t (own.line text) (Ask request) a n answer d (line_owned t text there filled) (ap ask_of reads) there takes
+  asked_steps t text request a n answer d there filled reads takes =
+      taken_steps (raw.line t text) t (own.line text) (Ask request) a n answer d (line_owned t text there filled) (ap ask_of reads) there takes
 
   -- or cannot, because an allocation failed
   pub unasked_steps : (t : ℕ) (text : List ℕ) (request : Request) (a : A) (n : Market) (d : A) → t < length h.arenas → is_blank text ≡ false → request_of text ≡ Ok request →
       ((s : State) → stands_for (slice_index_or h.arenas t d) s → stands_for a s) → n ≡ h.market →
       Steps stands_for h (record { arenas = slice_set h.arenas t a; market = n }) (raw.line t text) no_memory
-  unasked_steps t text request a n d there filled reads stays same = no_memory_steps t text _ there filled (request_short text request reads) (λ w is. represents_same stands_for h w is t a n (stays (state_of w t) (is.each t d there)) same)
+  unasked_steps t text request a n d there filled reads stays same =
+      no_memory_steps t text _ there filled (request_short text request reads) (λ w is. represents_same stands_for h w is t a n (stays (state_of w t) (is.each t d there)) same)
 
   -- A worker arrives with the call that it holds.
   pub arrive_steps : (k : ℕ) (c : Call) (a : A) (n : Market) (answer : Answer) (d : A) → c.tenant < length h.arenas → held_by (worker_at h.market k) ≡ Some c →

@@ -23,7 +23,8 @@ use Rattle.world_model.specs.World.{World, start, first_slots, state_of, own_of,
 use Rattle.market_config.specs.declared.calls.Call.{Call}
 use Rattle.world_model.specs.declared.calls.SlotState.{SlotState}
 use Rattle.world_model.specs.declared.calls.SlotState.TheVariants as slot
-use Rattle.world_model.specs.Market.{Market, call, slot_at, with_slot, worker_at, level_of, calls_at, is_due, is_free, home_slot, with_due, wake, push, first_call, hold, hand_over, pop, go_home, go_in, came, left, held_by, call_of}
+use Rattle.world_model.specs.Market.{Market, call, slot_at, with_slot, worker_at, level_of, calls_at, is_due, is_free, home_slot, with_due, wake, push, first_call, hold, hand_over, pop, go_home}
+use Rattle.world_model.specs.Market.{go_in, came, left, held_by, call_of}
 use Rattle.market_config.specs.Config.{is_level}
 use Rattle.world_model.specs.Orderly.{is_reserved, is_for_workers, tally, room, worker_slots, IsOrderly}
 use Rattle.world_model.proofs.Ruling.{home_at, due_is, held_at, in_at, IsFirst, first_is, first_queued, calls_rest}
@@ -39,7 +40,8 @@ for_workers slot.Queued free = refl
 for_workers (slot.Held k) free = refl
 for_workers (slot.In k) free = refl
 
-row_room : (row : List SlotState) (s : ℕ) (x : SlotState) → is_reserved (slice_index_or row s slot.Reserved) ≡ false → is_reserved x ≡ false → count_by is_for_workers (slice_set row s x) ≡ count_by is_for_workers row
+row_room : (row : List SlotState) (s : ℕ) (x : SlotState) → is_reserved (slice_index_or row s slot.Reserved) ≡ false → is_reserved x ≡ false →
+    count_by is_for_workers (slice_set row s x) ≡ count_by is_for_workers row
 row_room row s x was is = elim (cases_lt s (length row)) [
   | inl within ↦
       let set = sum_by-set (λ (y : SlotState). one_if (is_for_workers y)) row s x slot.Reserved within in
@@ -51,7 +53,8 @@ row_room row s x was is = elim (cases_lt s (length row)) [
       absurd (grind (arith, was, ap is_reserved none))
 ]
 
-rows_room : (level : Level) (ks : List Level) (rows : List (List SlotState)) (t s : ℕ) (x : SlotState) → is_reserved (slice_index_or (slice_index_or rows t []) s slot.Reserved) ≡ false → is_reserved x ≡ false
+rows_room : (level : Level) (ks : List Level) (rows : List (List SlotState)) (t s : ℕ) (x : SlotState) → is_reserved (slice_index_or (slice_index_or rows t []) s slot.Reserved) ≡ false →
+    is_reserved x ≡ false
     → tally is_for_workers level ks (slice_set rows t (slice_set (slice_index_or rows t []) s x)) ≡ tally is_for_workers level ks rows
 rows_room level [] rows t s x was is = refl
 rows_room level (k ∷ ks) [] t s x was is = refl
@@ -59,7 +62,8 @@ rows_room level (k ∷ ks) (row ∷ rows) zero s x was is = ap (λ n. (if is_lev
 rows_room level (k ∷ ks) (row ∷ rows) (suc t) s x was is = ap (λ n. (if is_level level k then count_by is_for_workers row else 0) + n) (rows_room level ks rows t s x was is)
 
 -- one slot changed, which is for workers
-kept_room : (m n : Market) (t s : ℕ) (b : SlotState) → n.levels ≡ m.levels → n.slots ≡ (with_slot m t s b).slots → is_reserved (slot_at m t s) ≡ false → is_reserved b ≡ false → (l : Level) → room n l ≡ room m l
+kept_room : (m n : Market) (t s : ℕ) (b : SlotState) → n.levels ≡ m.levels → n.slots ≡ (with_slot m t s b).slots → is_reserved (slot_at m t s) ≡ false → is_reserved b ≡ false → (l : Level) →
+    room n l ≡ room m l
 kept_room m n t s b levels slots was is l = (λ i. tally is_for_workers l (levels i) (slots i)) ∙ rows_room l m.levels m.slots t s b was is
 
 made_room : (m : Market) (t : ℕ) (o : Option ℕ) → home_slot m t ≡ o → (l : Level) → room (with_due m t o) l ≡ room m l
@@ -79,7 +83,8 @@ handed_room m k None first is l = refl
 handed_room m k (Some p) first is l =
     let rest = calls_rest m first.0 first.1 in
     let levels : (hold p.1 k p.0).levels ≡ m.levels = ap (λ (n : Market). n.levels) first.3 ∙ rest.2 in
-    let slots : (hold p.1 k p.0).slots ≡ (with_slot m p.0.tenant p.0.slot (slot.Held k)).slots = ap (λ (n : Market). (with_slot n p.0.tenant p.0.slot (slot.Held k)).slots) first.3 ∙ ap (λ rows. (with_slot (record m { slots = rows }) p.0.tenant p.0.slot (slot.Held k)).slots) rest.0 in
+    let slots : (hold p.1 k p.0).slots ≡ (with_slot m p.0.tenant p.0.slot (slot.Held k)).slots =
+    ap (λ (n : Market). (with_slot n p.0.tenant p.0.slot (slot.Held k)).slots) first.3 ∙ ap (λ rows. (with_slot (record m { slots = rows }) p.0.tenant p.0.slot (slot.Held k)).slots) rest.0 in
     kept_room m (hold p.1 k p.0) p.0.tenant p.0.slot (slot.Held k) levels slots (ap is_reserved (first_queued m k p.0 first.0 first.1 first.2 is)) refl l
 
 pub pop_room : (m : Market) (k : ℕ) → IsOrderly m → (l : Level) → room (pop m k).1 l ≡ room m l
@@ -127,8 +132,10 @@ popped_room w (Some c, m) l now = now
 at_market_room : (w : World) (x : Raw) → IsOrderly w.market → (l : Level) → room (at_market w x).1.market l ≡ room w.market l
 at_market_room w (raw.line t text) orderly l = refl
 at_market_room w (raw.master t v) orderly l = refl
-at_market_room w (raw.push t v) orderly l = cond_both (is_due (slot_at w.market t v)) _ _ (λ (r : Outcome × World). room r.1.market l ≡ room w.market l) (λ due. push_room w.market t v due l) (λ _. refl)
-at_market_room w (raw.pop k) orderly l = cond_both (is_free (worker_at w.market k)) _ _ (λ (r : Outcome × World). room r.1.market l ≡ room w.market l) (λ free. popped_room w (pop w.market k) l (pop_room w.market k orderly l)) (λ _. refl)
+at_market_room w (raw.push t v) orderly l =
+    cond_both (is_due (slot_at w.market t v)) _ _ (λ (r : Outcome × World). room r.1.market l ≡ room w.market l) (λ due. push_room w.market t v due l) (λ _. refl)
+at_market_room w (raw.pop k) orderly l =
+    cond_both (is_free (worker_at w.market k)) _ _ (λ (r : Outcome × World). room r.1.market l ≡ room w.market l) (λ free. popped_room w (pop w.market k) l (pop_room w.market k orderly l)) (λ _. refl)
 at_market_room w (raw.arrive k) orderly l = refl
 at_market_room w (raw.advance k) orderly l = refl
 
@@ -149,12 +156,18 @@ counted_all zero = refl
 counted_all (suc n) = omega (arith, sum_by-cons (λ (y : SlotState). one_if (is_for_workers y)) slot.Home (replicate n slot.Home), counted_all n)
 
 row_counted : (t : Tenant) → count_by is_for_workers (first_slots t) ≡ t.slots - t.reserved
-row_counted t = omega (arith, sum_by-append (λ (y : SlotState). one_if (is_for_workers y)) (replicate t.reserved slot.Reserved) (replicate (t.slots - t.reserved) slot.Home), counted_none t.reserved, counted_all (t.slots - t.reserved))
+row_counted t = omega (
+  arith,
+  sum_by-append (λ (y : SlotState). one_if (is_for_workers y)) (replicate t.reserved slot.Reserved) (replicate (t.slots - t.reserved) slot.Home),
+  counted_none t.reserved,
+  counted_all (t.slots - t.reserved),
+)
 
 first_tally : (level : Level) (ts : List Tenant) → tally is_for_workers level (map (λ (t : Tenant). t.priority) ts) (map first_slots ts) ≡ worker_slots ts level
 first_tally level [] = refl
 first_tally level (t ∷ ts) =
-    let here : (if is_level level t.priority then count_by is_for_workers (first_slots t) else 0) ≡ (if is_level level t.priority then t.slots - t.reserved else 0) = ap (λ n. if is_level level t.priority then n else 0) (row_counted t) in
+    let here : (if is_level level t.priority then count_by is_for_workers (first_slots t) else 0) ≡ (if is_level level t.priority then t.slots - t.reserved else 0) =
+    ap (λ n. if is_level level t.priority then n else 0) (row_counted t) in
     omega (arith, here, first_tally level ts, sum_by-cons (λ (u : Tenant). if is_level level u.priority then u.slots - u.reserved else 0) t ts)
 
 pub start_room : (c : Configuration) (l : Level) → room (start c).market l ≡ worker_slots c.tenants l

@@ -19,4 +19,6 @@ returns-in-Spawned-clause-left c =
     let released : c.release.new.self.contexts ≡ without before own = ap (λ (r : OpenRows). r.contexts) c.release.ensures.released in
     let count : held_count (without before own) + 1 ≡ held_count before = ap (λ f. held_count f + 1) (sym released) ∙ c.release.ensures.count in
     let others : (d : ℕ) → d ≢ own → is_cancelled (without before own) d ≡ is_cancelled before d = λ d apart. ap (λ f. is_cancelled f d) (sym released) ∙ c.release.ensures.others d apart in
-    subst (λ f. Left c.args.rows.now.contexts f (contexts_of c.args.entry.now)) (sym released) (own_left c.args.rows.now.contexts before c.args.entry.now c.requires (ap is_spawned c.in-Spawned.is) c.release_groups.ensures.left count others (subst IsForest released c.release.ensures.forest))
+    subst (λ f. Left c.args.rows.now.contexts f (contexts_of c.args.entry.now)) (sym released)
+    (own_left c.args.rows.now.contexts before c.args.entry.now c.requires (ap is_spawned c.in-Spawned.is) c.release_groups.ensures.left count others
+    (subst IsForest released c.release.ensures.forest))

@@ -20,10 +20,14 @@ pub loop-number-init : goal.loop-number-init
 loop-number-init c = record { left = Left-none c.args.rows.now.contexts; table = refl }
 
 pub release-requires-clause-held : goal.release-requires-clause-held
-release-requires-clause-held c = next_held c.args.rows.now.contexts c.loop-number.rows.contexts c.args.groups.now c.loop-number.number c.in-Some.context c.requires c.loop-number-test.true (get_or_default c.args.groups.now c.loop-number.number None _ (omega (arith, c.loop-number-test.true, c.type_inv.groups)) ∙ c.in-Some.is) c.loop-number.invariant.left
+release-requires-clause-held c =
+    next_held c.args.rows.now.contexts c.loop-number.rows.contexts c.args.groups.now c.loop-number.number c.in-Some.context c.requires c.loop-number-test.true
+    (get_or_default c.args.groups.now c.loop-number.number None _ (omega (arith, c.loop-number-test.true, c.type_inv.groups)) ∙ c.in-Some.is) c.loop-number.invariant.left
 
 pub release-requires-clause-ends : goal.release-requires-clause-ends
-release-requires-clause-ends c = next_ends c.args.rows.now.contexts c.loop-number.rows.contexts c.args.groups.now c.loop-number.number c.in-Some.context c.requires c.loop-number-test.true (get_or_default c.args.groups.now c.loop-number.number None _ (omega (arith, c.loop-number-test.true, c.type_inv.groups)) ∙ c.in-Some.is) c.loop-number.invariant.left
+release-requires-clause-ends c =
+    next_ends c.args.rows.now.contexts c.loop-number.rows.contexts c.args.groups.now c.loop-number.number c.in-Some.context c.requires c.loop-number-test.true
+    (get_or_default c.args.groups.now c.loop-number.number None _ (omega (arith, c.loop-number-test.true, c.type_inv.groups)) ∙ c.in-Some.is) c.loop-number.invariant.left
 
 pub loop-number-preserved : goal.loop-number-preserved
 loop-number-preserved c =
@@ -37,13 +41,19 @@ loop-number-preserved c =
           let here : slice_index_or groups number None ≡ Some w.in-Some.context = get_or_default groups number None _ within ∙ w.in-Some.is in
           let released : w.release.new.self.contexts ≡ without before w.in-Some.context = ap (λ (r : OpenRows). r.contexts) w.release.ensures.released in
           let count : held_count (without before w.in-Some.context) + 1 ≡ held_count before = ap (λ f. held_count f + 1) (sym released) ∙ w.release.ensures.count in
-          let others : (d : ℕ) → d ≢ w.in-Some.context → is_cancelled (without before w.in-Some.context) d ≡ is_cancelled before d = λ d apart. ap (λ f. is_cancelled f d) (sym released) ∙ w.release.ensures.others d apart in
-          let after = subst (λ f. Left start f (below groups (number + 1))) (sym released) (next_left start before groups number w.in-Some.context c.requires c.loop-number-test.true here c.loop-number.invariant.left count others (subst IsForest released w.release.ensures.forest)) in
-          subst (λ (r : OpenRows). Kept start c.args.rows.now.table groups r (number + 1)) (sym w.rows-is) (record { left = after; table = ap (λ (r : OpenRows). r.table) w.release.ensures.released ∙ c.loop-number.invariant.table })
+          let others : (d : ℕ) → d ≢ w.in-Some.context → is_cancelled (without before w.in-Some.context) d ≡ is_cancelled before d =
+          λ d apart. ap (λ f. is_cancelled f d) (sym released) ∙ w.release.ensures.others d apart in
+          let after = subst (λ f. Left start f (below groups (number + 1))) (sym released)
+          (next_left start before groups number w.in-Some.context c.requires c.loop-number-test.true here c.loop-number.invariant.left count others
+          (subst IsForest released w.release.ensures.forest)) in
+          subst (λ (r : OpenRows). Kept start c.args.rows.now.table groups r (number + 1)) (sym w.rows-is)
+          (record { left = after; table = ap (λ (r : OpenRows). r.table) w.release.ensures.released ∙ c.loop-number.invariant.table })
       | in_default w ↦
           let none : slice_index_or groups number None ≡ None = get_or_default groups number None _ within ∙ w.in_default.is in
-          subst (λ (r : OpenRows). Kept start c.args.rows.now.table groups r (number + 1)) (sym w.rows-is) (record { left = next_none start before groups number none c.loop-number.invariant.left; table = c.loop-number.invariant.table })
+          subst (λ (r : OpenRows). Kept start c.args.rows.now.table groups r (number + 1)) (sym w.rows-is)
+          (record { left = next_none start before groups number none c.loop-number.invariant.left; table = c.loop-number.invariant.table })
     ]
 
 pub returns-clause-left : goal.returns-clause-left
-returns-clause-left c = let all : c.loop-number.number ≡ 4 = omega (arith, c.loop-number-test.false, c.loop-number.auto.number-end) in subst (λ k. Left c.args.rows.now.contexts c.loop-number.rows.contexts (below c.args.groups.now k)) all c.loop-number.invariant.left
+returns-clause-left c = let all : c.loop-number.number ≡ 4 = omega (arith, c.loop-number-test.false, c.loop-number.auto.number-end) in
+    subst (λ k. Left c.args.rows.now.contexts c.loop-number.rows.contexts (below c.args.groups.now k)) all c.loop-number.invariant.left

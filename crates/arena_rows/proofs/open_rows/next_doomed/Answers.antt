@@ -13,7 +13,8 @@ returns-then-eq-clause-some c =
     let filing = c.loop-place.filing in
     let k = c.loop-place.invariant in
     let place = c.in-Some.place in
-    let list : list_for forest (slice_index_or table place None) ≡ Some (length forest) = sym c.list_at-list.ensures ∙ eq_some c.list_at-list.result c.args.doomed (sym c.eq.ensures ∙ c.if-eq.true) ∙ ap Some k.doomed_last in
+    let list : list_for forest (slice_index_or table place None) ≡ Some (length forest) =
+    sym c.list_at-list.ensures ∙ eq_some c.list_at-list.result c.args.doomed (sym c.eq.ensures ∙ c.if-eq.true) ∙ ap Some k.doomed_last in
     let doomed = doomed_by forest (slice_index_or table place None) list in
     record { entry = doomed.0; there = doomed.1; waits = doomed.2; cancelled = doomed.3 }
 
@@ -25,7 +26,8 @@ loop-place-preserved c =
     let k = c.loop-place.invariant in
     let place = c.in-Some.place in
     let list : c.list_at-list.result ≡ list_for forest (slice_index_or table place None) = c.list_at-list.ensures in
-    subst (λ (f : Filing). AreFiled table forest f c.args.doomed []) (sym (c.file.ensures ∙ ap (with_filed filing place) list)) (refiled table forest filing c.args.doomed [] k place c.args.doomed c.in-Some.ensures.some)
+    subst (λ (f : Filing). AreFiled table forest f c.args.doomed []) (sym (c.file.ensures ∙ ap (with_filed filing place) list))
+    (refiled table forest filing c.args.doomed [] k place c.args.doomed c.in-Some.ensures.some)
 
 pub loop-place-smaller : goal.loop-place-smaller
 loop-place-smaller c =

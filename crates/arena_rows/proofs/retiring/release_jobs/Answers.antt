@@ -19,7 +19,8 @@ release-requires-clause-ends c = λ d bound. absurd (c.loop-job.invariant.hold.b
 pub loop-job-preserved : goal.loop-job-preserved
 loop-job-preserved c =
     let released : c.release.new.self.contexts ≡ without c.loop-job.rows.contexts c.job-item.result.context = ap (λ (r : OpenRows). r.contexts) c.release.ensures.released in record {
-      hold = hold-released c.loop-job.rows.contexts c.release.new.self.contexts c.args.jobs.now c.loop-job.job-index c.job-item.result c.job-item.is c.loop-job-test.true c.loop-job.invariant.hold released c.release.ensures.keeps c.release.ensures.count;
+      hold = hold-released c.loop-job.rows.contexts c.release.new.self.contexts c.args.jobs.now c.loop-job.job-index c.job-item.result c.job-item.is c.loop-job-test.true c.loop-job.invariant.hold
+          released c.release.ensures.keeps c.release.ensures.count;
       long = ap length released ∙ length-without c.loop-job.rows.contexts c.job-item.result.context ∙ c.loop-job.invariant.long;
       table = ap (λ (r : OpenRows). r.table) c.release.ensures.released ∙ c.loop-job.invariant.table;
     }

@@ -10,4 +10,5 @@ returns-in_ok-text_of-in-Tenant-clause-finished c =
     let read = sym c.in_ok-part.ensures ∙ ap (λ (found : Option PartRead). option_map (λ (p : PartRead). (p.config, p.entries.items)) found) c.in-Some.is in
     let start = subst (IsRecovered part.config part.entries.items) c.in-Tenant.is c.in_ok-replay.ensures in
     let text = c.in_ok-text_of-in-Tenant.ensures in
-    finished_dump c.args.bytes.now c.in_ok-text_of-in-Tenant.field-0.items part.config part.entries.items c.in-Tenant.replay c.finish_tenant.new.replay read start c.finish_tenant.ensures text.text text.reads_back
+    finished_dump c.args.bytes.now c.in_ok-text_of-in-Tenant.field-0.items part.config part.entries.items c.in-Tenant.replay c.finish_tenant.new.replay read start c.finish_tenant.ensures text.text
+    text.reads_back

@@ -51,9 +51,11 @@ steps-preserved g c = record {
         λ known. let here = so_far.2 known in (
           c.in_ok-input.ensures.known here.0,
           λ after final others. here.1 after final
-              (answers_step (TellsOutcome names) _ _ _ _ _ _ _ _ _ _ _ _ c.in-Some.ensures.line (c.in_ok-input.ensures.lines here.0) (c.in_ok-outcome.outcome, next.1.0, refl) line c.in_ok-put.ensures.ok others),
+              (answers_step (TellsOutcome names) _ _ _ _ _ _ _ _ _ _ _ _ c.in-Some.ensures.line (c.in_ok-input.ensures.lines here.0) (c.in_ok-outcome.outcome, next.1.0, refl) line
+              c.in_ok-put.ensures.ok others),
           λ after others. here.2 after
-              (answers_part_step (TellsOutcome names) (tells_all names) _ _ _ _ _ _ _ _ c.in-Some.ensures.line (c.in_ok-input.ensures.lines here.0) (c.in_ok-outcome.outcome, next.1.0, refl) line _ _ after c.in_ok-put.ensures.ok others),
+              (answers_part_step (TellsOutcome names) (tells_all names) _ _ _ _ _ _ _ _ c.in-Some.ensures.line (c.in_ok-input.ensures.lines here.0) (c.in_ok-outcome.outcome, next.1.0, refl) line _ _
+              after c.in_ok-put.ensures.ok others),
         ),
       );
 }

@@ -24,7 +24,8 @@ is_same command.Serial command.Serial = true
 is_same a b = false
 
 -- another command than that
-is_other : (asked found : Option Command) (here it wanted : Command) → found ≡ asked → found ≡ Some here → here ≡ it → is_same it wanted ≡ false → is_same wanted wanted ≡ true → asked ≡ Some wanted → ⊥
+is_other : (asked found : Option Command) (here it wanted : Command) → found ≡ asked → found ≡ Some here → here ≡ it → is_same it wanted ≡ false → is_same wanted wanted ≡ true → asked ≡ Some wanted →
+    ⊥
 is_other asked found here it wanted same is here_is differs itself want =
     let one : it ≡ wanted = cc in
     let yes : is_same it wanted ≡ true = subst (λ (c : Command). is_same c wanted ≡ true) (sym one) itself in

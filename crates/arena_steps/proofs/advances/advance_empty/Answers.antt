@@ -33,7 +33,8 @@ returns-then-lacks_room c = λ s rests.
     let high : s.config.reserved ≤ slot = rw (← rests.holds.config, ← value) c.if-slot-config.false in
     let free : nat_lt slot s.config.reserved ≡ false = grind (arith, high) in
     let taken : pick s slot ≡ Some m = pick_taken c.args.parts.now s rests slot c.in-Some.row (sym c.pick.ensures ∙ c.in-Some.is) in
-    gives-full c.args.parts.now c.args.has_room s (begin s slot (pick s slot)) (moved.Nested m, entry (nest s slot m)) (begin-some s slot m (pick s slot) free taken) refl (sym (c.lacks_room.ensures.value s rests.holds) ∙ c.if-lacks_room.true) rests
+    gives-full c.args.parts.now c.args.has_room s (begin s slot (pick s slot)) (moved.Nested m, entry (nest s slot m)) (begin-some s slot m (pick s slot) free taken) refl
+    (sym (c.lacks_room.ensures.value s rests.holds) ∙ c.if-lacks_room.true) rests
 
 pub returns : goal.returns
 returns c = λ s rests.
@@ -43,4 +44,5 @@ returns c = λ s rests.
     let high : s.config.reserved ≤ slot = rw (← rests.holds.config, ← value) c.if-slot-config.false in
     let free : nat_lt slot s.config.reserved ≡ false = grind (arith, high) in
     let taken : pick s slot ≡ Some m = pick_taken c.args.parts.now s rests slot c.in-Some.row (sym c.pick.ensures ∙ c.in-Some.is) in
-    gives-room c.take.new.parts c.args.has_room s (begin s slot (pick s slot)) (moved.Nested m, entry (nest s slot m)) (begin-some s slot m (pick s slot) free taken) c.take.result (sym (c.lacks_room.ensures.value s rests.holds) ∙ c.if-lacks_room.false) (c.take.ensures s rests)
+    gives-room c.take.new.parts c.args.has_room s (begin s slot (pick s slot)) (moved.Nested m, entry (nest s slot m)) (begin-some s slot m (pick s slot) free taken) c.take.result
+    (sym (c.lacks_room.ensures.value s rests.holds) ∙ c.if-lacks_room.false) (c.take.ensures s rests)

@@ -30,11 +30,13 @@ returns-then-lacks_room c = λ s n rests on_top.
     let slot = c.args.slot in
     let m = c.in-Some.row.number in
     let taken : pick s slot ≡ Some m = pick_taken c.args.parts.now s rests slot c.in-Some.row (sym c.pick.ensures ∙ c.in-Some.is) in
-    gives-full c.args.parts.now c.args.has_room s (nest_pick s slot n (pick s slot)) (nest_pick s slot n (Some m)) (ap (nest_pick s slot n) taken) (nest_enters s slot n m) (sym (c.lacks_room.ensures.value s rests.holds) ∙ c.if-lacks_room.true) rests
+    gives-full c.args.parts.now c.args.has_room s (nest_pick s slot n (pick s slot)) (nest_pick s slot n (Some m)) (ap (nest_pick s slot n) taken) (nest_enters s slot n m)
+    (sym (c.lacks_room.ensures.value s rests.holds) ∙ c.if-lacks_room.true) rests
 
 pub returns : goal.returns
 returns c = λ s n rests on_top.
     let slot = c.args.slot in
     let m = c.in-Some.row.number in
     let taken : pick s slot ≡ Some m = pick_taken c.args.parts.now s rests slot c.in-Some.row (sym c.pick.ensures ∙ c.in-Some.is) in
-    gives-room c.take_on_top.new.parts c.args.has_room s (nest_pick s slot n (pick s slot)) (nest_pick s slot n (Some m)) (ap (nest_pick s slot n) taken) c.take_on_top.result (sym (c.lacks_room.ensures.value s rests.holds) ∙ c.if-lacks_room.false) (c.take_on_top.ensures s n rests on_top)
+    gives-room c.take_on_top.new.parts c.args.has_room s (nest_pick s slot n (pick s slot)) (nest_pick s slot n (Some m)) (ap (nest_pick s slot n) taken) c.take_on_top.result
+    (sym (c.lacks_room.ensures.value s rests.holds) ∙ c.if-lacks_room.false) (c.take_on_top.ensures s n rests on_top)

@@ -24,7 +24,8 @@ pub returns-then-run-eq0-clause-idle : goal.returns-then-run-eq0-clause-idle
 returns-then-run-eq0-clause-idle c = λ s n rests on_top idle.
     let slot = c.args.slot in
     let r = c.run_top-run.result in
-    let waits : is_idle_wait s n r.count r.stop ≡ true = idle_wait s n r.count r.stop c.stops_blocked.result (c.stops_blocked.ensures s n rests.holds on_top) c.if-stops_blocked.true c.if-run-eq0.true in
+    let waits : is_idle_wait s n r.count r.stop ≡ true =
+    idle_wait s n r.count r.stop c.stops_blocked.result (c.stops_blocked.ensures s n rests.holds on_top) c.if-stops_blocked.true c.if-run-eq0.true in
     let none = none_picked c.args.parts.now s slot rests (sym c.pick.ensures ∙ none_is c.pick.result c.is_none.result c.is_none.ensures idle) in
     idle_waits s slot n r (c.run_top-run.ensures.run s n rests.holds on_top) waits none
 
@@ -32,7 +33,8 @@ pub returns-then-run-eq0-clause-moves : goal.returns-then-run-eq0-clause-moves
 returns-then-run-eq0-clause-moves c = λ s n rests on_top moves.
     let slot = c.args.slot in
     let r = c.run_top-run.result in
-    let waits : is_idle_wait s n r.count r.stop ≡ true = idle_wait s n r.count r.stop c.stops_blocked.result (c.stops_blocked.ensures s n rests.holds on_top) c.if-stops_blocked.true c.if-run-eq0.true in
+    let waits : is_idle_wait s n r.count r.stop ≡ true =
+    idle_wait s n r.count r.stop c.stops_blocked.result (c.stops_blocked.ensures s n rests.holds on_top) c.if-stops_blocked.true c.if-run-eq0.true in
     let some = some_is c.pick.result c.is_none.result c.is_none.ensures moves in
     let taken : pick s slot ≡ Some some.0.number = pick_taken c.args.parts.now s rests slot some.0 (sym c.pick.ensures ∙ some.1) in
     pick_moves s slot n some.0.number r (c.run_top-run.ensures.run s n rests.holds on_top) waits taken
@@ -41,7 +43,8 @@ pub returns-clause-moves : goal.returns-clause-moves
 returns-clause-moves c = λ s n rests on_top moves.
     let slot = c.args.slot in
     let r = c.run_top-run.result in
-    let runs : is_idle_wait s n r.count r.stop ≡ false = no_idle_wait s n r.count r.stop c.stops_blocked.result (c.stops_blocked.ensures s n rests.holds on_top) (λ waits none. elim c.else-stops_blocked.branch [
+    let runs : is_idle_wait s n r.count r.stop ≡ false =
+    no_idle_wait s n r.count r.stop c.stops_blocked.result (c.stops_blocked.ensures s n rests.holds on_top) (λ waits none. elim c.else-stops_blocked.branch [
       | else-stops_blocked-via-then-stops_blocked+else-run-eq0 v ↦ v.if-run-eq0.false none
       | else-stops_blocked-via-else-stops_blocked v ↦ absurd (grind (arith, waits, v.if-stops_blocked.false))
     ]) in

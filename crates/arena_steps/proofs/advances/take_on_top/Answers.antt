@@ -14,7 +14,8 @@ height-requires c =
 pub returns-then-height-eq-MAX_HEIGHT : goal.returns-then-height-eq-MAX_HEIGHT
 returns-then-height-eq-MAX_HEIGHT c = λ s n rests on_top.
     let is = rests.holds in
-    let high : height s.rows c.args.slot ≡ MAX_HEIGHT = sym (height_is s.rows is.places c.args.parts.now.config.slots c.args.parts.now.nests is.steady.formed.stacked is.nests c.args.slot) ∙ sym c.height.ensures ∙ c.if-height-eq-MAX_HEIGHT.true in
+    let high : height s.rows c.args.slot ≡ MAX_HEIGHT =
+    sym (height_is s.rows is.places c.args.parts.now.config.slots c.args.parts.now.nests is.steady.formed.stacked is.nests c.args.slot) ∙ sym c.height.ensures ∙ c.if-height-eq-MAX_HEIGHT.true in
     let met : (height s.rows c.args.slot == MAX_HEIGHT) ≡ true = grind (arith, high) in
     rw met (c.fault.ensures s n is on_top)
 

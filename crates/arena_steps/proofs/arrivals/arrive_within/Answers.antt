@@ -9,7 +9,8 @@ use Rattle.arena_steps.proofs.arrivals.arrive_within.Goals as goal
 pub returns-then-has_room : goal.returns-then-has_room
 returns-then-has_room c = λ s rests.
     let slot = c.args.slot in
-    let given : Gives c.arrive.new.self c.arrive.result (arrive_within true s slot) = subst (Gives c.arrive.new.self c.arrive.result) (sym (came_within-open s (arrive s slot))) (c.arrive.ensures s rests) in
+    let given : Gives c.arrive.new.self c.arrive.result (arrive_within true s slot) =
+    subst (Gives c.arrive.new.self c.arrive.result) (sym (came_within-open s (arrive s slot))) (c.arrive.ensures s rests) in
     subst (λ room. Gives c.arrive.new.self c.arrive.result (arrive_within room s slot)) (sym c.if-has_room.true) given
 
 pub returns-then-would_find : goal.returns-then-would_find

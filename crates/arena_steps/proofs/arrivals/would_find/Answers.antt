@@ -11,5 +11,6 @@ pub returns : goal.returns
 returns c = λ s rests.
     let slot = c.args.slot in
     let opens : is_open_to_workers s slot ≡ true = sym (c.is_open_to_workers.ensures.value s rests) ∙ c.if-not-is_open_to_workers.false in
-    let found : c.is_some.result ≡ is_some (pick s slot) = c.is_some.ensures ∙ ap is_some (c.pick.ensures ∙ picked_is c.args.parts.now s rests slot) ∙ mapped_some (id_of rests.holds.places) (pick s slot) in
+    let found : c.is_some.result ≡ is_some (pick s slot) =
+    c.is_some.ensures ∙ ap is_some (c.pick.ensures ∙ picked_is c.args.parts.now s rests slot) ∙ mapped_some (id_of rests.holds.places) (pick s slot) in
     rw opens found

@@ -46,5 +46,7 @@ returns-in-Ret c = λ s n ready. rw c.in-Ret.is (c.ret.ensures s n ready.fits)
 
 pub returns-in_default : goal.returns-in_default
 returns-in_default c = λ s n ready.
-    let quiet : execute s c.args.slot n c.args.frame c.args.instr.now ≡ finish_step c.args.slot (with_frame s n c.args.frame) = private_runs s c.args.slot n c.args.frame c.args.instr.now c.in_default.not-Spawn c.in_default.not-Post c.in_default.not-Isolate c.in_default.not-Wait c.in_default.not-Cancel c.in_default.not-Ask c.in_default.not-Load c.in_default.not-Store c.in_default.not-Sum c.in_default.not-Count c.in_default.not-Ret in
+    let quiet : execute s c.args.slot n c.args.frame c.args.instr.now ≡ finish_step c.args.slot (with_frame s n c.args.frame) =
+    private_runs s c.args.slot n c.args.frame c.args.instr.now c.in_default.not-Spawn c.in_default.not-Post c.in_default.not-Isolate c.in_default.not-Wait c.in_default.not-Cancel
+    c.in_default.not-Ask c.in_default.not-Load c.in_default.not-Store c.in_default.not-Sum c.in_default.not-Count c.in_default.not-Ret in
     subst (Gives c.move_to.new.parts c.move_to.result) (sym quiet) (c.move_to.ensures s n ready.fits)

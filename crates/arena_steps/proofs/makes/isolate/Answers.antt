@@ -23,7 +23,9 @@ height-height-requires c =
 pub returns-then-height-eq-MAX_HEIGHT : goal.returns-then-height-eq-MAX_HEIGHT
 returns-then-height-eq-MAX_HEIGHT c = λ s n d fits here.
     let is = fits.rests.holds in
-    let high : height s.rows c.args.slot ≡ MAX_HEIGHT = sym (height_is s.rows is.places c.args.parts.now.config.slots c.args.parts.now.nests is.steady.formed.stacked is.nests c.args.slot) ∙ sym c.height-height.ensures ∙ c.if-height-eq-MAX_HEIGHT.true in
+    let high : height s.rows c.args.slot ≡ MAX_HEIGHT =
+    sym (height_is s.rows is.places c.args.parts.now.config.slots c.args.parts.now.nests is.steady.formed.stacked is.nests c.args.slot) ∙ sym c.height-height.ensures ∙
+    c.if-height-eq-MAX_HEIGHT.true in
     let met : (height s.rows c.args.slot == MAX_HEIGHT) ≡ true = grind (arith, high) in
     rw met (c.fault.ensures s n is fits.on_top)
 
@@ -82,7 +84,8 @@ finish_step-requires-clause-rests c =
     let low = low_height a h.0 is slot (λ most. c.if-height-eq-MAX_HEIGHT.false (c.height-height.ensures ∙ most)) in
     let steady = steady_isolated h.0 slot h.1 (top_at a h.0 is slot h.1 h.3.on_top) is.steady f h.2 c.args.procedure c.args.first c.args.second h.3.same h.4 (has_room h.0 limit) low in
     let u : State = add_row (with_frame h.0 h.1 f) (new_row (Region h.1) (row h.0.rows h.1).job (Some slot) g (Live slot (height h.0.rows slot + 1))) in
-    let it : Rests c.isolate.new.self u = region_rests a b h.0 slot h.1 f is h.3.on_top now c.isolate.new.self c.called_frame.result g c.called_frame.ensures steady (c.isolate.ensures (with_frame h.0 h.1 f) h.1 now.holds on_top) in
+    let it : Rests c.isolate.new.self u =
+    region_rests a b h.0 slot h.1 f is h.3.on_top now c.isolate.new.self c.called_frame.result g c.called_frame.ensures steady (c.isolate.ensures (with_frame h.0 h.1 f) h.1 now.holds on_top) in
     (u, it)
 
 pub finish_step-requires-clause-slot : goal.finish_step-requires-clause-slot
@@ -100,7 +103,8 @@ finish_step-requires-clause-slot c =
     let low = low_height a h.0 is slot (λ most. c.if-height-eq-MAX_HEIGHT.false (c.height-height.ensures ∙ most)) in
     let steady = steady_isolated h.0 slot h.1 (top_at a h.0 is slot h.1 h.3.on_top) is.steady f h.2 c.args.procedure c.args.first c.args.second h.3.same h.4 (has_room h.0 limit) low in
     let u : State = add_row (with_frame h.0 h.1 f) (new_row (Region h.1) (row h.0.rows h.1).job (Some slot) g (Live slot (height h.0.rows slot + 1))) in
-    let it : Rests c.isolate.new.self u = region_rests a b h.0 slot h.1 f is h.3.on_top now c.isolate.new.self c.called_frame.result g c.called_frame.ensures steady (c.isolate.ensures (with_frame h.0 h.1 f) h.1 now.holds on_top) in
+    let it : Rests c.isolate.new.self u =
+    region_rests a b h.0 slot h.1 f is h.3.on_top now c.isolate.new.self c.called_frame.result g c.called_frame.ensures steady (c.isolate.ensures (with_frame h.0 h.1 f) h.1 now.holds on_top) in
     same_slots a c.isolate.new.self h.0 u is it.holds refl slot h.1 h.3.on_top
 
 pub finish_step-requires-clause-room : goal.finish_step-requires-clause-room
@@ -118,7 +122,8 @@ finish_step-requires-clause-room c =
     let low = low_height a h.0 is slot (λ most. c.if-height-eq-MAX_HEIGHT.false (c.height-height.ensures ∙ most)) in
     let steady = steady_isolated h.0 slot h.1 (top_at a h.0 is slot h.1 h.3.on_top) is.steady f h.2 c.args.procedure c.args.first c.args.second h.3.same h.4 (has_room h.0 limit) low in
     let u : State = add_row (with_frame h.0 h.1 f) (new_row (Region h.1) (row h.0.rows h.1).job (Some slot) g (Live slot (height h.0.rows slot + 1))) in
-    let it : Rests c.isolate.new.self u = region_rests a b h.0 slot h.1 f is h.3.on_top now c.isolate.new.self c.called_frame.result g c.called_frame.ensures steady (c.isolate.ensures (with_frame h.0 h.1 f) h.1 now.holds on_top) in
+    let it : Rests c.isolate.new.self u =
+    region_rests a b h.0 slot h.1 f is h.3.on_top now c.isolate.new.self c.called_frame.result g c.called_frame.ensures steady (c.isolate.ensures (with_frame h.0 h.1 f) h.1 now.holds on_top) in
     same_room a c.isolate.new.self h.0 u is it.holds refl refl c.requires.room
 
 pub returns : goal.returns
@@ -135,6 +140,7 @@ returns c = λ s n d fits here.
     let low = low_height a s is slot (λ most. c.if-height-eq-MAX_HEIGHT.false (c.height-height.ensures ∙ most)) in
     let steady = steady_isolated s slot n (top_at a s is slot n fits.on_top) is.steady f d c.args.procedure c.args.first c.args.second fits.same here (has_room s limit) low in
     let u : State = add_row (with_frame s n f) (new_row (Region n) (row s.rows n).job (Some slot) g (Live slot (height s.rows slot + 1))) in
-    let it : Rests c.isolate.new.self u = region_rests a b s slot n f is fits.on_top now c.isolate.new.self c.called_frame.result g c.called_frame.ensures steady (c.isolate.ensures (with_frame s n f) n now.holds on_top) in
+    let it : Rests c.isolate.new.self u =
+    region_rests a b s slot n f is fits.on_top now c.isolate.new.self c.called_frame.result g c.called_frame.ensures steady (c.isolate.ensures (with_frame s n f) n now.holds on_top) in
     let fine : (height s.rows slot == MAX_HEIGHT) ≡ false = below_is_other (height s.rows slot) MAX_HEIGHT low in
     rw (fine, limit) (c.finish_step.ensures u it)

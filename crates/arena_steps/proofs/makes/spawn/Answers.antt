@@ -63,9 +63,17 @@ finish_step-requires-clause-rests c =
     let limit : is_row_limit_met h.0 ≡ false = sym (c.is_row_limit_met.ensures.value h.0 h.2.rests.holds) ∙ c.if-is_row_limit_met.false in
     let value = c.index.ensures.value in
     let few : c.args.group < GROUPS = rw value at c.index.ensures.in_range in
-    let steady = steady_spawned h.0 slot h.1 (top_at a h.0 h.2.rests.holds slot h.1 h.2.on_top) h.2.rests.holds.steady (next_place f) c.args.group c.args.procedure c.args.first c.args.second h.2.same few (has_room h.0 limit) in
-    let it : Rests c.spawn_settled.new.self (settle (add_row (with_frame h.0 h.1 (next_place f)) (new_row (Spawned h.1 c.args.group) (row h.0.rows h.1).job (Some slot) (called_frame f c.args.procedure c.args.first c.args.second) Unstarted))) = born_rests a b h.0 slot h.1 (next_place f) h.2.rests.holds h.2.on_top now c.spawn_settled.new.self (Spawned h.1 c.args.group) (Some slot) c.called_frame.result (called_frame f c.args.procedure c.args.first c.args.second) c.called_frame.ensures steady (c.spawn_settled.ensures (with_frame h.0 h.1 (next_place f)) h.1 now on_top) in
-    (settle (add_row (with_frame h.0 h.1 (next_place f)) (new_row (Spawned h.1 c.args.group) (row h.0.rows h.1).job (Some slot) (called_frame f c.args.procedure c.args.first c.args.second) Unstarted)), it)
+    let steady = steady_spawned h.0 slot h.1 (top_at a h.0 h.2.rests.holds slot h.1 h.2.on_top) h.2.rests.holds.steady (next_place f) c.args.group c.args.procedure c.args.first c.args.second h.2.same
+    few (has_room h.0 limit) in
+    let it : Rests c.spawn_settled.new.self
+    (settle (add_row (with_frame h.0 h.1 (next_place f))
+    (new_row (Spawned h.1 c.args.group) (row h.0.rows h.1).job (Some slot) (called_frame f c.args.procedure c.args.first c.args.second) Unstarted))) =
+    born_rests a b h.0 slot h.1 (next_place f) h.2.rests.holds h.2.on_top now c.spawn_settled.new.self (Spawned h.1 c.args.group) (Some slot) c.called_frame.result
+    (called_frame f c.args.procedure c.args.first c.args.second) c.called_frame.ensures steady (c.spawn_settled.ensures (with_frame h.0 h.1 (next_place f)) h.1 now on_top) in (
+      settle (add_row (with_frame h.0 h.1 (next_place f))
+          (new_row (Spawned h.1 c.args.group) (row h.0.rows h.1).job (Some slot) (called_frame f c.args.procedure c.args.first c.args.second) Unstarted)),
+      it,
+    )
 
 pub finish_step-requires-clause-slot : goal.finish_step-requires-clause-slot
 finish_step-requires-clause-slot c =
@@ -79,9 +87,17 @@ finish_step-requires-clause-slot c =
     let limit : is_row_limit_met h.0 ≡ false = sym (c.is_row_limit_met.ensures.value h.0 h.2.rests.holds) ∙ c.if-is_row_limit_met.false in
     let value = c.index.ensures.value in
     let few : c.args.group < GROUPS = rw value at c.index.ensures.in_range in
-    let steady = steady_spawned h.0 slot h.1 (top_at a h.0 h.2.rests.holds slot h.1 h.2.on_top) h.2.rests.holds.steady (next_place f) c.args.group c.args.procedure c.args.first c.args.second h.2.same few (has_room h.0 limit) in
-    let it : Rests c.spawn_settled.new.self (settle (add_row (with_frame h.0 h.1 (next_place f)) (new_row (Spawned h.1 c.args.group) (row h.0.rows h.1).job (Some slot) (called_frame f c.args.procedure c.args.first c.args.second) Unstarted))) = born_rests a b h.0 slot h.1 (next_place f) h.2.rests.holds h.2.on_top now c.spawn_settled.new.self (Spawned h.1 c.args.group) (Some slot) c.called_frame.result (called_frame f c.args.procedure c.args.first c.args.second) c.called_frame.ensures steady (c.spawn_settled.ensures (with_frame h.0 h.1 (next_place f)) h.1 now on_top) in
-    same_slots a c.spawn_settled.new.self h.0 (settle (add_row (with_frame h.0 h.1 (next_place f)) (new_row (Spawned h.1 c.args.group) (row h.0.rows h.1).job (Some slot) (called_frame f c.args.procedure c.args.first c.args.second) Unstarted))) h.2.rests.holds it.holds refl slot h.1 h.2.on_top
+    let steady = steady_spawned h.0 slot h.1 (top_at a h.0 h.2.rests.holds slot h.1 h.2.on_top) h.2.rests.holds.steady (next_place f) c.args.group c.args.procedure c.args.first c.args.second h.2.same
+    few (has_room h.0 limit) in
+    let it : Rests c.spawn_settled.new.self
+    (settle (add_row (with_frame h.0 h.1 (next_place f))
+    (new_row (Spawned h.1 c.args.group) (row h.0.rows h.1).job (Some slot) (called_frame f c.args.procedure c.args.first c.args.second) Unstarted))) =
+    born_rests a b h.0 slot h.1 (next_place f) h.2.rests.holds h.2.on_top now c.spawn_settled.new.self (Spawned h.1 c.args.group) (Some slot) c.called_frame.result
+    (called_frame f c.args.procedure c.args.first c.args.second) c.called_frame.ensures steady (c.spawn_settled.ensures (with_frame h.0 h.1 (next_place f)) h.1 now on_top) in
+    same_slots a c.spawn_settled.new.self h.0
+    (settle (add_row (with_frame h.0 h.1 (next_place f))
+    (new_row (Spawned h.1 c.args.group) (row h.0.rows h.1).job (Some slot) (called_frame f c.args.procedure c.args.first c.args.second) Unstarted))) h.2.rests.holds it.holds refl slot h.1
+    h.2.on_top
 
 pub finish_step-requires-clause-room : goal.finish_step-requires-clause-room
 finish_step-requires-clause-room c =
@@ -95,9 +111,17 @@ finish_step-requires-clause-room c =
     let limit : is_row_limit_met h.0 ≡ false = sym (c.is_row_limit_met.ensures.value h.0 h.2.rests.holds) ∙ c.if-is_row_limit_met.false in
     let value = c.index.ensures.value in
     let few : c.args.group < GROUPS = rw value at c.index.ensures.in_range in
-    let steady = steady_spawned h.0 slot h.1 (top_at a h.0 h.2.rests.holds slot h.1 h.2.on_top) h.2.rests.holds.steady (next_place f) c.args.group c.args.procedure c.args.first c.args.second h.2.same few (has_room h.0 limit) in
-    let it : Rests c.spawn_settled.new.self (settle (add_row (with_frame h.0 h.1 (next_place f)) (new_row (Spawned h.1 c.args.group) (row h.0.rows h.1).job (Some slot) (called_frame f c.args.procedure c.args.first c.args.second) Unstarted))) = born_rests a b h.0 slot h.1 (next_place f) h.2.rests.holds h.2.on_top now c.spawn_settled.new.self (Spawned h.1 c.args.group) (Some slot) c.called_frame.result (called_frame f c.args.procedure c.args.first c.args.second) c.called_frame.ensures steady (c.spawn_settled.ensures (with_frame h.0 h.1 (next_place f)) h.1 now on_top) in
-    same_room a c.spawn_settled.new.self h.0 (settle (add_row (with_frame h.0 h.1 (next_place f)) (new_row (Spawned h.1 c.args.group) (row h.0.rows h.1).job (Some slot) (called_frame f c.args.procedure c.args.first c.args.second) Unstarted))) h.2.rests.holds it.holds refl refl c.requires.step.room
+    let steady = steady_spawned h.0 slot h.1 (top_at a h.0 h.2.rests.holds slot h.1 h.2.on_top) h.2.rests.holds.steady (next_place f) c.args.group c.args.procedure c.args.first c.args.second h.2.same
+    few (has_room h.0 limit) in
+    let it : Rests c.spawn_settled.new.self
+    (settle (add_row (with_frame h.0 h.1 (next_place f))
+    (new_row (Spawned h.1 c.args.group) (row h.0.rows h.1).job (Some slot) (called_frame f c.args.procedure c.args.first c.args.second) Unstarted))) =
+    born_rests a b h.0 slot h.1 (next_place f) h.2.rests.holds h.2.on_top now c.spawn_settled.new.self (Spawned h.1 c.args.group) (Some slot) c.called_frame.result
+    (called_frame f c.args.procedure c.args.first c.args.second) c.called_frame.ensures steady (c.spawn_settled.ensures (with_frame h.0 h.1 (next_place f)) h.1 now on_top) in
+    same_room a c.spawn_settled.new.self h.0
+    (settle (add_row (with_frame h.0 h.1 (next_place f))
+    (new_row (Spawned h.1 c.args.group) (row h.0.rows h.1).job (Some slot) (called_frame f c.args.procedure c.args.first c.args.second) Unstarted))) h.2.rests.holds it.holds refl refl
+    c.requires.step.room
 
 pub returns : goal.returns
 returns c = λ s n fits.
@@ -110,6 +134,13 @@ returns c = λ s n fits.
     let limit : is_row_limit_met s ≡ false = sym (c.is_row_limit_met.ensures.value s fits.rests.holds) ∙ c.if-is_row_limit_met.false in
     let value = c.index.ensures.value in
     let few : c.args.group < GROUPS = rw value at c.index.ensures.in_range in
-    let steady = steady_spawned s slot n (top_at a s fits.rests.holds slot n fits.on_top) fits.rests.holds.steady (next_place f) c.args.group c.args.procedure c.args.first c.args.second fits.same few (has_room s limit) in
-    let it : Rests c.spawn_settled.new.self (settle (add_row (with_frame s n (next_place f)) (new_row (Spawned n c.args.group) (row s.rows n).job (Some slot) (called_frame f c.args.procedure c.args.first c.args.second) Unstarted))) = born_rests a b s slot n (next_place f) fits.rests.holds fits.on_top now c.spawn_settled.new.self (Spawned n c.args.group) (Some slot) c.called_frame.result (called_frame f c.args.procedure c.args.first c.args.second) c.called_frame.ensures steady (c.spawn_settled.ensures (with_frame s n (next_place f)) n now on_top) in
-    rw limit (settled_moves slot (add_row (with_frame s n (next_place f)) (new_row (Spawned n c.args.group) (row s.rows n).job (Some slot) (called_frame f c.args.procedure c.args.first c.args.second) Unstarted)) c.spawn_settled.new.self c.finish_step.new.self c.finish_step.result it (c.finish_step.ensures (settle (add_row (with_frame s n (next_place f)) (new_row (Spawned n c.args.group) (row s.rows n).job (Some slot) (called_frame f c.args.procedure c.args.first c.args.second) Unstarted))) it))
+    let steady = steady_spawned s slot n (top_at a s fits.rests.holds slot n fits.on_top) fits.rests.holds.steady (next_place f) c.args.group c.args.procedure c.args.first c.args.second fits.same few
+    (has_room s limit) in
+    let it : Rests c.spawn_settled.new.self
+    (settle (add_row (with_frame s n (next_place f)) (new_row (Spawned n c.args.group) (row s.rows n).job (Some slot) (called_frame f c.args.procedure c.args.first c.args.second) Unstarted))) =
+    born_rests a b s slot n (next_place f) fits.rests.holds fits.on_top now c.spawn_settled.new.self (Spawned n c.args.group) (Some slot) c.called_frame.result
+    (called_frame f c.args.procedure c.args.first c.args.second) c.called_frame.ensures steady (c.spawn_settled.ensures (with_frame s n (next_place f)) n now on_top) in
+    rw limit (settled_moves slot (add_row (with_frame s n (next_place f))
+    (new_row (Spawned n c.args.group) (row s.rows n).job (Some slot) (called_frame f c.args.procedure c.args.first c.args.second) Unstarted)) c.spawn_settled.new.self c.finish_step.new.self
+    c.finish_step.result it (c.finish_step.ensures
+    (settle (add_row (with_frame s n (next_place f)) (new_row (Spawned n c.args.group) (row s.rows n).job (Some slot) (called_frame f c.args.procedure c.args.first c.args.second) Unstarted))) it))

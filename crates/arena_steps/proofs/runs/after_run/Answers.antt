@@ -15,7 +15,8 @@ pub returns-then-is_blocked : goal.returns-then-is_blocked
 returns-then-is_blocked c = λ s n fits.
     let r = c.args.run.now in
     let stuck : stops_blocked s n r.stop ≡ true = sym (c.requires.blocked s n fits) ∙ c.if-is_blocked.true in
-    subst (Gives c.pay_to_move.new.parts c.pay_to_move.result) (sym (blocked_moves s c.args.slot n r.count r.end r.stop stuck)) (c.pay_to_move.ensures s n (end_fits c.args.parts.now s c.args.slot n r fits))
+    subst (Gives c.pay_to_move.new.parts c.pay_to_move.result) (sym (blocked_moves s c.args.slot n r.count r.end r.stop stuck))
+    (c.pay_to_move.ensures s n (end_fits c.args.parts.now s c.args.slot n r fits))
 
 pub pay_to_move-requires-in-Yield-clause-fits : goal.pay_to_move-requires-in-Yield-clause-fits
 pay_to_move-requires-in-Yield-clause-fits c =

@@ -24,7 +24,9 @@ returns-then-not-pay c = λ s n rests on_top.
     let it = c.pay.ensures.pays s n rests on_top in
     let cost = c.from.ensures in
     let lacked = is_poor_by s n c.from.result c.pay.result it.0 c.if-not-pay.true in
-    subst (λ k. Gives c.fault.new.self c.fault.result (pay s c.args.slot n k (λ t. faults c.args.slot (row t.rows n).job fault.Division t))) cost (poor_gives c.fault.new.self c.fault.result s c.args.slot n c.from.result (λ t. faults c.args.slot (row t.rows n).job fault.Division t) lacked (c.fault.ensures (with_fuel_paid s n c.from.result) n it.1.holds on_top))
+    subst (λ k. Gives c.fault.new.self c.fault.result (pay s c.args.slot n k (λ t. faults c.args.slot (row t.rows n).job fault.Division t))) cost
+    (poor_gives c.fault.new.self c.fault.result s c.args.slot n c.from.result (λ t. faults c.args.slot (row t.rows n).job fault.Division t) lacked
+    (c.fault.ensures (with_fuel_paid s n c.from.result) n it.1.holds on_top))
 
 pub fault-requires-2-clause-top : goal.fault-requires-2-clause-top
 fault-requires-2-clause-top c =
@@ -43,4 +45,6 @@ returns c = λ s n rests on_top.
     let it = c.pay.ensures.pays s n rests on_top in
     let cost = c.from.ensures in
     let sufficed = is_rich_by s n c.from.result c.pay.result it.0 c.if-not-pay.false in
-    subst (λ k. Gives c.fault-2.new.self c.fault-2.result (pay s c.args.slot n k (λ t. faults c.args.slot (row t.rows n).job fault.Division t))) cost (rich_gives c.fault-2.new.self c.fault-2.result s c.args.slot n c.from.result (λ t. faults c.args.slot (row t.rows n).job fault.Division t) sufficed (c.fault-2.ensures (with_fuel_paid s n c.from.result) n it.1.holds on_top))
+    subst (λ k. Gives c.fault-2.new.self c.fault-2.result (pay s c.args.slot n k (λ t. faults c.args.slot (row t.rows n).job fault.Division t))) cost
+    (rich_gives c.fault-2.new.self c.fault-2.result s c.args.slot n c.from.result (λ t. faults c.args.slot (row t.rows n).job fault.Division t) sufficed
+    (c.fault-2.ensures (with_fuel_paid s n c.from.result) n it.1.holds on_top))

@@ -36,6 +36,9 @@ returns c = λ s n fits.
     let t : State = with_cells s (with_cell s.cells c.args.key c.args.slot v) in
     let range : FitsSigned w64 v = record { sfits = c.local-value.type_inv } in
     let written = c.write_and_step.ensures ∙ ap (write_and_step f c.args.to) (to_z-of_z w64 v range) in
-    let its : FrameFits b t c.args.slot n (write_and_step f c.args.to v) = fits_written b t c.args.slot n f c.args.to v (fits_cells c.args.parts.now b s (with_cell s.cells c.args.key c.args.slot v) c.args.slot n f fits told.1) in
-    let moved = subst (λ g. Gives c.move_to.new.parts c.move_to.result (finish_step c.args.slot (with_frame t n g))) written (c.move_to.ensures t n (subst (FrameFits b t c.args.slot n) (sym written) its)) in
-    subst (λ w. Gives c.move_to.new.parts c.move_to.result (finish_step c.args.slot (with_cells (with_frame s n (write_and_step f c.args.to w)) (with_cell s.cells c.args.key c.args.slot w)))) told.0 moved
+    let its : FrameFits b t c.args.slot n (write_and_step f c.args.to v) =
+    fits_written b t c.args.slot n f c.args.to v (fits_cells c.args.parts.now b s (with_cell s.cells c.args.key c.args.slot v) c.args.slot n f fits told.1) in
+    let moved = subst (λ g. Gives c.move_to.new.parts c.move_to.result (finish_step c.args.slot (with_frame t n g))) written
+    (c.move_to.ensures t n (subst (FrameFits b t c.args.slot n) (sym written) its)) in
+    subst (λ w. Gives c.move_to.new.parts c.move_to.result (finish_step c.args.slot (with_cells (with_frame s n (write_and_step f c.args.to w)) (with_cell s.cells c.args.key c.args.slot w)))) told.0
+    moved

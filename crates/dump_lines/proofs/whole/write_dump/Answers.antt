@@ -5,7 +5,8 @@ use Rattle.dump_lines.proofs.Parts.{part_then, part_more}
 use Rattle.dump_lines.proofs.whole.write_dump.Goals as goal
 
 pub returns-clause-written : goal.returns-clause-written
-returns-clause-written g c = appends_then c.write_entries.result _ _ _ (first_text c.args.config.now) (entries_text c.args.entries.now) c.in_ok-write_first.ensures.written c.write_entries.ensures.written
+returns-clause-written g c = appends_then c.write_entries.result _ _ _ (first_text c.args.config.now) (entries_text c.args.entries.now) c.in_ok-write_first.ensures.written
+    c.write_entries.ensures.written
 
 pub returns-in_err-write_first-clause-part : goal.returns-in_err-write_first-clause-part
 returns-in_err-write_first-clause-part g c = part_more _ _ (first_text c.args.config.now) (entries_text c.args.entries.now) c.write_first.ensures.part

@@ -29,7 +29,8 @@ on_ok : {A E : Type 0} (result : Result A E) (P : Type 0) → P → OnOk result 
 on_ok (Ok it) P p = p
 on_ok (Err e) P p = tt
 
-says_itself : (e : Entry) (line : Option (String Global)) (d : Option Data) → option_map string_bytes line ≡ option_map compact_text d → IfSome line (λ l. said_by (string_bytes l) ≡ Some (said.Entry e)) → IfSome d (λ d. said_by (compact_text d) ≡ Some (said.Entry e))
+says_itself : (e : Entry) (line : Option (String Global)) (d : Option Data) → option_map string_bytes line ≡ option_map compact_text d →
+    IfSome line (λ l. said_by (string_bytes l) ≡ Some (said.Entry e)) → IfSome d (λ d. said_by (compact_text d) ≡ Some (said.Entry e))
 says_itself e line None is reads = tt
 says_itself e None (Some d) is reads = cc
 says_itself e (Some l) (Some d) is reads = let same : string_bytes l ≡ compact_text d = cc in rw same at reads

@@ -9,7 +9,8 @@ returns-in_err-second-in-Two t c =
     let free = c.args.free in
     let a = c.in-Two.a.value in
     let b = c.in-Two.b.value in
-    let all : length (wanted_code c.args.e.now c.args.into free) ≡ length (operand_code a free) + length (operand_code b (above a free)) + 1 = ap (λ e. length (wanted_code e c.args.into free)) c.in-Two.is
+    let all : length (wanted_code c.args.e.now c.args.into free) ≡ length (operand_code a free) + length (operand_code b (above a free)) + 1 =
+    ap (λ e. length (wanted_code e c.args.into free)) c.in-Two.is
     ∙ two_size c.in-Two.field-0 (record { ptr = c.in-Two.a.ptr; alloc = c.in-Two.a.alloc; value = tt }) a (record { ptr = c.in-Two.b.ptr; alloc = c.in-Two.b.alloc; value = tt }) b c.args.into free in
     grind (arith, all)
 
@@ -18,7 +19,8 @@ returns-in_err-sum-in-Two t c =
     let free = c.args.free in
     let a = c.in-Two.a.value in
     let b = c.in-Two.b.value in
-    let all : length (wanted_code c.args.e.now c.args.into free) ≡ length (operand_code a free) + length (operand_code b (above a free)) + 1 = ap (λ e. length (wanted_code e c.args.into free)) c.in-Two.is
+    let all : length (wanted_code c.args.e.now c.args.into free) ≡ length (operand_code a free) + length (operand_code b (above a free)) + 1 =
+    ap (λ e. length (wanted_code e c.args.into free)) c.in-Two.is
     ∙ two_size c.in-Two.field-0 (record { ptr = c.in-Two.a.ptr; alloc = c.in-Two.a.alloc; value = tt }) a (record { ptr = c.in-Two.b.ptr; alloc = c.in-Two.b.alloc; value = tt }) b c.args.into free in
     grind (arith, all)
 
@@ -27,6 +29,7 @@ returns-in_ok-sum-in-Two t c =
     let free = c.args.free in
     let a = c.in-Two.a.value in
     let b = c.in-Two.b.value in
-    let all : length (wanted_code c.args.e.now c.args.into free) ≡ length (operand_code a free) + length (operand_code b (above a free)) + 1 = ap (λ e. length (wanted_code e c.args.into free)) c.in-Two.is
+    let all : length (wanted_code c.args.e.now c.args.into free) ≡ length (operand_code a free) + length (operand_code b (above a free)) + 1 =
+    ap (λ e. length (wanted_code e c.args.into free)) c.in-Two.is
     ∙ two_size c.in-Two.field-0 (record { ptr = c.in-Two.a.ptr; alloc = c.in-Two.a.alloc; value = tt }) a (record { ptr = c.in-Two.b.ptr; alloc = c.in-Two.b.alloc; value = tt }) b c.args.into free in
     grind (arith, all)

@@ -11,7 +11,8 @@ returns-then-not-is_entry c =
     let t = c.advance-moved.new.self in
     let m = c.advance-moved.result in
     let plain = sym c.if-not-is_entry.ensures in
-    let seen : IsSeen s t c.args.slot m = record { answered = c.advance-moved.ensures.answer; config = c.advance-moved.ensures.config; history = c.advance-moved.ensures.history; right = c.advance-moved.ensures.right } in
+    let seen : IsSeen s t c.args.slot m =
+    record { answered = c.advance-moved.ensures.answer; config = c.advance-moved.ensures.config; history = c.advance-moved.ensures.history; right = c.advance-moved.ensures.right } in
     let is = stops c.args.replay.now s t c.args.slot m c.moves.has_moved c.moves.invariant seen plain in
     record { goes = is.goes; fewer = is.fewer; stays = is.stays; still = can_not_go s t c.args.slot m seen plain }
 
@@ -20,7 +21,8 @@ moves-smaller c =
     let s = c.moves.replay in
     let t = c.advance-moved.new.self in
     let m = c.advance-moved.result in
-    let seen : IsSeen s t c.args.slot m = record { answered = c.advance-moved.ensures.answer; config = c.advance-moved.ensures.config; history = c.advance-moved.ensures.history; right = c.advance-moved.ensures.right } in
+    let seen : IsSeen s t c.args.slot m =
+    record { answered = c.advance-moved.ensures.answer; config = c.advance-moved.ensures.config; history = c.advance-moved.ensures.history; right = c.advance-moved.ensures.right } in
     room_taken s t c.args.slot m seen (sym c.if-not-is_entry.ensures)
 
 pub moves-preserved : goal.moves-preserved
@@ -28,5 +30,6 @@ moves-preserved c =
     let s = c.moves.replay in
     let t = c.advance-moved.new.self in
     let m = c.advance-moved.result in
-    let seen : IsSeen s t c.args.slot m = record { answered = c.advance-moved.ensures.answer; config = c.advance-moved.ensures.config; history = c.advance-moved.ensures.history; right = c.advance-moved.ensures.right } in
+    let seen : IsSeen s t c.args.slot m =
+    record { answered = c.advance-moved.ensures.answer; config = c.advance-moved.ensures.config; history = c.advance-moved.ensures.history; right = c.advance-moved.ensures.right } in
     moves_on c.args.replay.now s t c.args.slot m c.moves.has_moved c.moves.invariant seen (sym c.if-not-is_entry.ensures)

@@ -15,6 +15,7 @@ returns-then-from-instrs-clause-run c =
     let procs = c.args.program.now in
     let f = c.args.frame.now in
     let proc = c.index-procs-procedure.result in
-    let here : slice_index_or procs f.procedure [] ≡ proc = rw (← c.procs-procs.ensures.value, ← c.from-procedure.ensures) (sym (get_or_read c.procs-procs.result.now c.from-procedure.result proc (omega arith) c.index-procs-procedure.is [])) in
+    let here : slice_index_or procs f.procedure [] ≡ proc =
+    rw (← c.procs-procs.ensures.value, ← c.from-procedure.ensures) (sym (get_or_read c.procs-procs.result.now c.from-procedure.result proc (omega arith) c.index-procs-procedure.is [])) in
     let past : length (slice_index_or procs f.procedure []) ≤ f.place = rw here (omega (arith, ap length c.instrs-instrs.ensures.value)) in
     sym (run_of-nowhere procs _ _ f (instr_at-past_instrs procs f past))

@@ -8,13 +8,15 @@ pub returns-in-DividesByZero-clause-run : goal.returns-in-DividesByZero-clause-r
 returns-in-DividesByZero-clause-run c procs here =
     let f = frame_of c.args.frame.now.procedure c.loop-count.place c.loop-count.frame.registers in
     let next : instr_at procs f ≡ Some c.index-instrs-place.result = instr_at-found procs _ f _ _ here refl (omega arith) c.index-instrs-place.is in
-    rw (c.loop-count.invariant.procedure, c.in-DividesByZero.ensures.divides refl) (sym (run_for-divides 1000 procs _ _ _ _ f _ c.loop-count-test.true next c.in-DividesByZero.ensures.effect) ∙ c.loop-count.invariant.run procs here)
+    rw (c.loop-count.invariant.procedure, c.in-DividesByZero.ensures.divides refl)
+    (sym (run_for-divides 1000 procs _ _ _ _ f _ c.loop-count-test.true next c.in-DividesByZero.ensures.effect) ∙ c.loop-count.invariant.run procs here)
 
 pub returns-in-IsShared-clause-run : goal.returns-in-IsShared-clause-run
 returns-in-IsShared-clause-run c procs here =
     let f = frame_of c.args.frame.now.procedure c.loop-count.place c.loop-count.frame.registers in
     let next : instr_at procs f ≡ Some c.index-instrs-place.result = instr_at-found procs _ f _ _ here refl (omega arith) c.index-instrs-place.is in
-    rw (c.loop-count.invariant.procedure, c.in-IsShared.ensures.shared refl) (sym (run_for-shared 1000 procs _ _ _ _ f _ c.loop-count-test.true next c.in-IsShared.ensures.effect) ∙ c.loop-count.invariant.run procs here)
+    rw (c.loop-count.invariant.procedure, c.in-IsShared.ensures.shared refl)
+    (sym (run_for-shared 1000 procs _ _ _ _ f _ c.loop-count-test.true next c.in-IsShared.ensures.effect) ∙ c.loop-count.invariant.run procs here)
 
 pub returns-in-IsShared-clause-next : goal.returns-in-IsShared-clause-next
 returns-in-IsShared-clause-next c i is on =

@@ -7,5 +7,6 @@ pub new-requires : goal.new-requires
 new-requires c =
     let tenants = c.tenants-tenants.result.now in
     let all : length tenants ≤ c.loop-tenant.tenant-index = search rules in
-    let told : c.loop-tenant.told.items ≡ map market_tenant c.args.config.now.tenants = c.loop-tenant.invariant ∙ ap (map market_tenant) (take_all c.loop-tenant.tenant-index tenants all ∙ c.tenants-tenants.ensures.value) in
+    let told : c.loop-tenant.told.items ≡ map market_tenant c.args.config.now.tenants =
+    c.loop-tenant.invariant ∙ ap (map market_tenant) (take_all c.loop-tenant.tenant-index tenants all ∙ c.tenants-tenants.ensures.value) in
     told_valid c.args.config.now c.loop-tenant.told.items c.tenants-tenants.ensures.valid told

@@ -3,4 +3,5 @@ use Rattle.part_writer.proofs.MoveTexts.{then_three}
 use Rattle.part_writer.proofs.moves.add_arrived.Goals as goal
 
 pub returns : goal.returns
-returns c = then_three _ _ c.args.text.now.items (codes "{\"moved\":\"arrived\",\"row\":") (decimal c.args.row) (codes ",\"slot\":") (decimal c.args.slot) (codes ",\"step\":\"arrive\"}\n") c.in_ok-add_number.ensures c.in_ok-add_slot.ensures
+returns c = then_three _ _ c.args.text.now.items (codes "{\"moved\":\"arrived\",\"row\":") (decimal c.args.row) (codes ",\"slot\":") (decimal c.args.slot) (codes ",\"step\":\"arrive\"}\n")
+    c.in_ok-add_number.ensures c.in_ok-add_slot.ensures

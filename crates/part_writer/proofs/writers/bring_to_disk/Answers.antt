@@ -7,7 +7,8 @@ use Rattle.part_writer.proofs.Moments.{one_call}
 use Rattle.part_writer.proofs.Written.{recovers, writing_synced}
 use Rattle.part_writer.proofs.writers.bring_to_disk.Goals as goal
 
-if_synced : {A E : Type 0} (result : Result A E) (c : Tenant) (there more : List Entry) (d p e q : List ℕ) → IsWriting c there more d p → OnOk result (e ≡ d ++ p) → OnOk result (q ≡ []) → OnOk result (IsWriting c (there ++ more) [] e q)
+if_synced : {A E : Type 0} (result : Result A E) (c : Tenant) (there more : List Entry) (d p e q : List ℕ) → IsWriting c there more d p → OnOk result (e ≡ d ++ p) → OnOk result (q ≡ []) →
+    OnOk result (IsWriting c (there ++ more) [] e q)
 if_synced (Ok it) c there more d p e q is next none = writing_synced c there more d p is e q next none
 if_synced (Err it) c there more d p e q is next none = tt
 

@@ -16,7 +16,8 @@ loop-place-preserved c k i low here =
     let item = c.instr-item.result in
     let fine : IsColouredAt c.args.colours.now c.args.live.now p (instr_of item) = search rules in
     let within : p < length vs = omega (arith, c.loop-place-test.true, ap length c.instrs-instr-items.ensures, length-map xs instr_of) in
-    let value : get_or vs p (instr_of item) ≡ instr_of item = ap (λ l. get_or l p (instr_of item)) (sym c.instrs-instr-items.ensures) ∙ get_or-map instr_of xs p item ∙ ap instr_of (sym c.instr-item.is) in
+    let value : get_or vs p (instr_of item) ≡ instr_of item =
+    ap (λ l. get_or l p (instr_of item)) (sym c.instrs-instr-items.ensures) ∙ get_or-map instr_of xs p item ∙ ap instr_of (sym c.instr-item.is) in
     let there : slice_get vs p ≡ Some (instr_of item) = slice_get-get_or vs p (instr_of item) within ∙ ap Some value in
     ⊎_elim (λ is. let both : slice_get vs p ≡ Some i = ap (slice_get vs) (sym is) ∙ here in
     let same : instr_of item ≡ i = cc in
@@ -29,7 +30,8 @@ returns c =
     let Begins : List Bool → Type 0 = λ row. (u : ℕ) → get_or row u false ≡ true → ((u < 2) × (colour_of c.args.colours.now u ≡ u)) ⊎ ((2 ≤ u) × (2 ≤ colour_of c.args.colours.now u)) in (
       λ yes. record {
         begins = subst Begins first (c.begins.ensures.0 yes);
-        places = λ k i here. c.loop-place.invariant k i (omega (arith, slice_get_within c.args.code.now k i here, c.loop-place-test.false, ap length c.instrs-instr-items.ensures, length-map c.instrs-instr-items.result.now instr_of)) here;
+        places = λ k i here. c.loop-place.invariant k i
+            (omega (arith, slice_get_within c.args.code.now k i here, c.loop-place-test.false, ap length c.instrs-instr-items.ensures, length-map c.instrs-instr-items.result.now instr_of)) here;
       },
       λ good. c.begins.ensures.1 (subst Begins (sym first) good.begins),
     )

@@ -13,7 +13,8 @@ returns-then-is_valid_proc-clause-compiled c f good is =
     let colours = c.choose-colours.result in
     let live = c.args.live.now in
     let chosen : IsColouring c.args.code.now colours live = search rules in
-    let all : IsColoured 256 (function_code f) c.in_ok-instrs.instrs.items (colour_of colours) (live_of live) = subst (λ v. IsColoured 256 v c.in_ok-instrs.instrs.items (colour_of colours) (live_of live)) (sym is)
+    let all : IsColoured 256 (function_code f) c.in_ok-instrs.instrs.items (colour_of colours) (live_of live) =
+    subst (λ v. IsColoured 256 v c.in_ok-instrs.instrs.items (colour_of colours) (live_of live)) (sym is)
     (coloured c.args.code.now c.in_ok-instrs.instrs.items colours live chosen c.in_ok-instrs.ensures) in
     subst (IsCompiled f) (sym c.new.ensures) (c.coloured_code_is_compiled.ensures f good c.in_ok-instrs.instrs.items 256 (colour_of colours) (live_of live) (omega arith) all chosen.begins)
 

@@ -33,4 +33,5 @@ loop-number-preserved c =
     }
 
 pub returns-clause-compiled : goal.returns-clause-compiled
-returns-clause-compiled c = let fs = c.args.functions.now in subst (λ xs. AllZip IsCompiled xs c.loop-number.procs.items) (take_all c.loop-number.number fs (omega arith)) c.loop-number.invariant.compiled
+returns-clause-compiled c = let fs = c.args.functions.now in
+    subst (λ xs. AllZip IsCompiled xs c.loop-number.procs.items) (take_all c.loop-number.number fs (omega arith)) c.loop-number.invariant.compiled

@@ -6,7 +6,8 @@ use Rattle.std.proofs.lemmas.Slice.Eq.{strip_prefix_is, strip_suffix_is}
 use Rattle.request_reader.proofs.canonical.between.Goals as goal
 
 -- what stands before the end of what stands behind the front
-inside : (line front rest back : List ℕ) (r : Option (Bor (List ℕ))) → line ≡ front ++ rest → MatchOption r ((text : List ℕ) → rest ≢ text ++ back) (λ x. rest ≡ x.now ++ back) → IfSome r (λ text. line ≡ front ++ (text.now ++ back))
+inside : (line front rest back : List ℕ) (r : Option (Bor (List ℕ))) → line ≡ front ++ rest → MatchOption r ((text : List ℕ) → rest ≢ text ++ back) (λ x. rest ≡ x.now ++ back) →
+    IfSome r (λ text. line ≡ front ++ (text.now ++ back))
 inside line front rest back None begins h = tt
 inside line front rest back (Some x) begins h = begins ∙ ap (λ (s : List ℕ). front ++ s) h
 

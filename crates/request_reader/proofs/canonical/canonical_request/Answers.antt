@@ -6,9 +6,11 @@ use Rattle.request_reader.proofs.canonical.canonical_request.Goals as goal
 pub returns-in-Some : goal.returns-in-Some
 returns-in-Some c =
     let job = c.in_ok-job in
-    executes c.args.line.now (job_data job.job) job.ensures.canonical job.ensures.line c.requires (c.in-Some.ensures ∙ ap (λ (text : List ℕ). codes "{\"job\":" ++ (text ++ codes ",\"op\":\"execute\"}")) job.ensures.text)
+    executes c.args.line.now (job_data job.job) job.ensures.canonical job.ensures.line c.requires
+    (c.in-Some.ensures ∙ ap (λ (text : List ℕ). codes "{\"job\":" ++ (text ++ codes ",\"op\":\"execute\"}")) job.ensures.text)
 
 pub returns : goal.returns
 returns c =
     let job = c.in_ok-job-2 in
-    submits c.args.line.now (job_data job.job) job.ensures.canonical job.ensures.line c.requires (c.in_ok-text.ensures ∙ ap (λ (text : List ℕ). codes "{\"job\":" ++ (text ++ codes ",\"op\":\"submit\"}")) job.ensures.text)
+    submits c.args.line.now (job_data job.job) job.ensures.canonical job.ensures.line c.requires
+    (c.in_ok-text.ensures ∙ ap (λ (text : List ℕ). codes "{\"job\":" ++ (text ++ codes ",\"op\":\"submit\"}")) job.ensures.text)

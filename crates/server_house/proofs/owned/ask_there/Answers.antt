@@ -17,7 +17,8 @@ pub returns-clause-asks : goal.returns-clause-asks
 returns-clause-asks g c =
     record {
       last = c.ask_and_attend-told.new.doors;
-      asks = subst (λ (s : SessionSeen). AsksAndAttends session.Asks (Attends (Turn Sees Commits Advances) IsAsHigh Waits 1) c.args.request c.ask_and_attend-told.result s c.ask_and_attend-told.new.doors) c.first_doors-doors.ensures c.ask_and_attend-told.ensures.asks;
+      asks = subst (λ (s : SessionSeen). AsksAndAttends session.Asks (Attends (Turn Sees Commits Advances) IsAsHigh Waits 1) c.args.request c.ask_and_attend-told.result s
+          c.ask_and_attend-told.new.doors) c.first_doors-doors.ensures c.ask_and_attend-told.ensures.asks;
       seats = c.into_parts-seats.ensures.seats;
       home = c.into_parts-seats.ensures.home;
     }
@@ -27,7 +28,9 @@ returns-clause-place g c =
     let place = c.args.place in
     let last = c.ask_and_attend-told.new.doors in
     let begins = first_session (client_of c.args.house.now place.pass place.fronts.items place.seats.items) in
-    let same : Same begins last = asked_same c.args.request c.ask_and_attend-told.result begins last (subst (λ (s : SessionSeen). AsksAndAttends session.Asks (Attends (Turn Sees Commits Advances) IsAsHigh Waits 1) c.args.request c.ask_and_attend-told.result s last) c.first_doors-doors.ensures c.ask_and_attend-told.ensures.asks) in
+    let same : Same begins last = asked_same c.args.request c.ask_and_attend-told.result begins last
+    (subst (λ (s : SessionSeen). AsksAndAttends session.Asks (Attends (Turn Sees Commits Advances) IsAsHigh Waits 1) c.args.request c.ask_and_attend-told.result s last) c.first_doors-doors.ensures
+    c.ask_and_attend-told.ensures.asks) in
     let parts = c.into_parts-seats.ensures in
     record {
       queues = c.into_pass-pass.ensures.queues ∙ ap (λ (r : RingerSeen). r.queues.queues) parts.ringer ∙ ap (λ (q : QueuesSeen). q.queues) same.1;

@@ -13,7 +13,8 @@ returns-clause-served g c =
     let first = c.into_doors-doors.ensures.session in
     if_ok c.serve-end.result (λ end serves. record {
       session = c.serve-end.new.doors;
-      serves = subst (λ (s : SessionSeen). Serves RepliesThere (g.I.Read.remaining c.args.reader.now) (g.I.Read.remaining c.serve-end.new.reader) (g.O.Write.contents c.args.writer.now) (g.O.Write.contents c.serve-end.new.writer) (false, s) c.serve-end.new.doors end) first serves;
+      serves = subst (λ (s : SessionSeen). Serves RepliesThere (g.I.Read.remaining c.args.reader.now) (g.I.Read.remaining c.serve-end.new.reader) (g.O.Write.contents c.args.writer.now)
+          (g.O.Write.contents c.serve-end.new.writer) (false, s) c.serve-end.new.doors end) first serves;
       seats_are = c.into_parts-seats.ensures.seats;
       home = c.into_parts-seats.ensures.home;
     }) c.serve-end.ensures.serves

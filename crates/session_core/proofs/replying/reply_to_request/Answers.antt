@@ -12,6 +12,7 @@ returns-in_default g c =
       | inr is ↦ c.in_default.not-Take collect.0 is
     ] in
     record {
-      replies = replies_other g.D.Doors.asks g.D.Doors.waits (Attends (Turn g.D.Door.views g.D.Door.commits g.D.Door.advances) g.D.Door.heights g.D.Door.pauses 1) c.args.request c.ask.result c.args.doors.now c.ask.new.self (λ job is. c.in_default.not-Execute job is) no_collect c.ask.ensures.answered;
+      replies = replies_other g.D.Doors.asks g.D.Doors.waits (Attends (Turn g.D.Door.views g.D.Door.commits g.D.Door.advances) g.D.Door.heights g.D.Door.pauses 1) c.args.request c.ask.result
+          c.args.doors.now c.ask.new.self (λ job is. c.in_default.not-Execute job is) no_collect c.ask.ensures.answered;
       told = λ is. no_collect (c.ask.ensures.pending is);
     }

@@ -27,12 +27,42 @@ returns-in-Err-clause-serves g c =
     let l = c.loop-lines in
     elim c.match-read_line.branch [
       | in-Line w ↦
-          let h = rw w.line.ensures at w.answer-answered.ensures.answers in
-          (c.read_line.new.self, w.answer-answered.new.is_bound, rw (w.writer-is, w.doors-is) (line_ends replies l.lines c.read_line.new.self (g.R.Read.remaining c.args.reader.now) (g.R.Read.remaining l.reader) (g.R.Read.remaining c.read_line.new.reader) (g.W.Write.contents c.args.writer.now) (g.W.Write.contents l.writer) (false, c.args.doors.now) (l.is_bound, l.doors) l.invariant.served c.read_line.new.self.line (w.answer-answered.new.is_bound, w.answer-answered.new.doors) (g.W.Write.contents w.answer-answered.new.writer) w.answer-answered.result c.in-Err.end (sym w.answered-is ∙ c.in-Err.is) w.in-Line.ensures.reads h))
-      | in-TooLong w ↦ (c.read_line.new.self, l.is_bound, rw (w.writer-is, w.doors-is) (long_ends replies l.lines c.read_line.new.self (g.R.Read.remaining c.args.reader.now) (g.R.Read.remaining l.reader) (g.R.Read.remaining c.read_line.new.reader) (g.W.Write.contents c.args.writer.now) (g.W.Write.contents l.writer) (false, c.args.doors.now) (l.is_bound, l.doors) l.invariant.served (g.W.Write.contents w.refuse-answered.new.writer) w.refuse-answered.result c.in-Err.end (sym w.answered-is ∙ c.in-Err.is) w.in-TooLong.ensures.reads w.refuse-answered.ensures.refuses))
-      | in-End w ↦ (c.read_line.new.self, l.is_bound, rw (w.writer-is, w.doors-is) (ends_read replies l.lines c.read_line.new.self (g.R.Read.remaining c.args.reader.now) (g.R.Read.remaining l.reader) (g.R.Read.remaining c.read_line.new.reader) (g.W.Write.contents c.args.writer.now) (g.W.Write.contents l.writer) (false, c.args.doors.now) (l.is_bound, l.doors) l.invariant.served c.in-Err.end (same_end c.match-read_line.answered Ended c.in-Err.end w.answered-is c.in-Err.is) w.in-End.ensures.reads w.in-End.ensures.comes_to))
-      | in-ReadFault w ↦ (c.read_line.new.self, l.is_bound, rw (w.writer-is, w.doors-is) (ends_fault replies l.lines c.read_line.new.self (g.R.Read.remaining c.args.reader.now) (g.R.Read.remaining l.reader) (g.R.Read.remaining c.read_line.new.reader) (g.W.Write.contents c.args.writer.now) (g.W.Write.contents l.writer) (false, c.args.doors.now) (l.is_bound, l.doors) l.invariant.served c.in-Err.end (same_end c.match-read_line.answered ReadFault c.in-Err.end w.answered-is c.in-Err.is) w.in-ReadFault.ensures.reads w.in-ReadFault.ensures.comes_to.0 w.in-ReadFault.ensures.comes_to.1))
-      | in-TurnLimit w ↦ (c.read_line.new.self, l.is_bound, rw (w.writer-is, w.doors-is) (ends_limit replies l.lines c.read_line.new.self (g.R.Read.remaining c.args.reader.now) (g.R.Read.remaining l.reader) (g.R.Read.remaining c.read_line.new.reader) (g.W.Write.contents c.args.writer.now) (g.W.Write.contents l.writer) (false, c.args.doors.now) (l.is_bound, l.doors) l.invariant.served c.in-Err.end (same_end c.match-read_line.answered TurnLimit c.in-Err.end w.answered-is c.in-Err.is) w.in-TurnLimit.ensures.reads w.in-TurnLimit.ensures.comes_to.0 w.in-TurnLimit.ensures.comes_to.1))
+          let h = rw w.line.ensures at w.answer-answered.ensures.answers in (
+            c.read_line.new.self,
+            w.answer-answered.new.is_bound,
+            rw (w.writer-is, w.doors-is) (line_ends replies l.lines c.read_line.new.self (g.R.Read.remaining c.args.reader.now) (g.R.Read.remaining l.reader)
+                (g.R.Read.remaining c.read_line.new.reader) (g.W.Write.contents c.args.writer.now) (g.W.Write.contents l.writer) (false, c.args.doors.now) (l.is_bound, l.doors) l.invariant.served
+                c.read_line.new.self.line (w.answer-answered.new.is_bound, w.answer-answered.new.doors) (g.W.Write.contents w.answer-answered.new.writer) w.answer-answered.result c.in-Err.end
+                (sym w.answered-is ∙ c.in-Err.is) w.in-Line.ensures.reads h),
+          )
+      | in-TooLong w ↦ (
+        c.read_line.new.self,
+        l.is_bound,
+        rw (w.writer-is, w.doors-is) (long_ends replies l.lines c.read_line.new.self (g.R.Read.remaining c.args.reader.now) (g.R.Read.remaining l.reader) (g.R.Read.remaining c.read_line.new.reader)
+            (g.W.Write.contents c.args.writer.now) (g.W.Write.contents l.writer) (false, c.args.doors.now) (l.is_bound, l.doors) l.invariant.served (g.W.Write.contents w.refuse-answered.new.writer)
+            w.refuse-answered.result c.in-Err.end (sym w.answered-is ∙ c.in-Err.is) w.in-TooLong.ensures.reads w.refuse-answered.ensures.refuses),
+      )
+      | in-End w ↦ (
+        c.read_line.new.self,
+        l.is_bound,
+        rw (w.writer-is, w.doors-is) (ends_read replies l.lines c.read_line.new.self (g.R.Read.remaining c.args.reader.now) (g.R.Read.remaining l.reader) (g.R.Read.remaining c.read_line.new.reader)
+            (g.W.Write.contents c.args.writer.now) (g.W.Write.contents l.writer) (false, c.args.doors.now) (l.is_bound, l.doors) l.invariant.served c.in-Err.end
+            (same_end c.match-read_line.answered Ended c.in-Err.end w.answered-is c.in-Err.is) w.in-End.ensures.reads w.in-End.ensures.comes_to),
+      )
+      | in-ReadFault w ↦ (
+        c.read_line.new.self,
+        l.is_bound,
+        rw (w.writer-is, w.doors-is) (ends_fault replies l.lines c.read_line.new.self (g.R.Read.remaining c.args.reader.now) (g.R.Read.remaining l.reader) (g.R.Read.remaining c.read_line.new.reader)
+            (g.W.Write.contents c.args.writer.now) (g.W.Write.contents l.writer) (false, c.args.doors.now) (l.is_bound, l.doors) l.invariant.served c.in-Err.end
+            (same_end c.match-read_line.answered ReadFault c.in-Err.end w.answered-is c.in-Err.is) w.in-ReadFault.ensures.reads w.in-ReadFault.ensures.comes_to.0 w.in-ReadFault.ensures.comes_to.1),
+      )
+      | in-TurnLimit w ↦ (
+        c.read_line.new.self,
+        l.is_bound,
+        rw (w.writer-is, w.doors-is) (ends_limit replies l.lines c.read_line.new.self (g.R.Read.remaining c.args.reader.now) (g.R.Read.remaining l.reader) (g.R.Read.remaining c.read_line.new.reader)
+            (g.W.Write.contents c.args.writer.now) (g.W.Write.contents l.writer) (false, c.args.doors.now) (l.is_bound, l.doors) l.invariant.served c.in-Err.end
+            (same_end c.match-read_line.answered TurnLimit c.in-Err.end w.answered-is c.in-Err.is) w.in-TurnLimit.ensures.reads w.in-TurnLimit.ensures.comes_to.0 w.in-TurnLimit.ensures.comes_to.1),
+      )
     ]
 
 pub loop-lines-preserved : goal.loop-lines-preserved
@@ -44,8 +74,15 @@ loop-lines-preserved g c =
       served = elim c.match-read_line.branch [
         | in-Line w ↦
             let h = rw w.line.ensures at w.answer-answered.ensures.answers in
-            rw (w.writer-is, w.doors-is, w.is_bound-is) (line_goes_on replies l.lines c.read_line.new.self (g.R.Read.remaining c.args.reader.now) (g.R.Read.remaining l.reader) (g.R.Read.remaining c.read_line.new.reader) (g.W.Write.contents c.args.writer.now) (g.W.Write.contents l.writer) (false, c.args.doors.now) (l.is_bound, l.doors) l.invariant.served c.read_line.new.self.line (w.answer-answered.new.is_bound, w.answer-answered.new.doors) (g.W.Write.contents w.answer-answered.new.writer) w.answer-answered.result (λ end is. c.in_default.not-Err end (w.answered-is ∙ is)) w.in-Line.ensures.reads h)
-        | in-TooLong w ↦ rw (w.writer-is, w.doors-is, w.is_bound-is) (long_goes_on replies l.lines c.read_line.new.self (g.R.Read.remaining c.args.reader.now) (g.R.Read.remaining l.reader) (g.R.Read.remaining c.read_line.new.reader) (g.W.Write.contents c.args.writer.now) (g.W.Write.contents l.writer) (false, c.args.doors.now) (l.is_bound, l.doors) l.invariant.served (g.W.Write.contents w.refuse-answered.new.writer) w.refuse-answered.result (λ end is. c.in_default.not-Err end (w.answered-is ∙ is)) w.in-TooLong.ensures.reads w.refuse-answered.ensures.refuses)
+            rw (w.writer-is, w.doors-is, w.is_bound-is)
+            (line_goes_on replies l.lines c.read_line.new.self (g.R.Read.remaining c.args.reader.now) (g.R.Read.remaining l.reader) (g.R.Read.remaining c.read_line.new.reader)
+            (g.W.Write.contents c.args.writer.now) (g.W.Write.contents l.writer) (false, c.args.doors.now) (l.is_bound, l.doors) l.invariant.served c.read_line.new.self.line
+            (w.answer-answered.new.is_bound, w.answer-answered.new.doors) (g.W.Write.contents w.answer-answered.new.writer) w.answer-answered.result
+            (λ end is. c.in_default.not-Err end (w.answered-is ∙ is)) w.in-Line.ensures.reads h)
+        | in-TooLong w ↦ rw (w.writer-is, w.doors-is, w.is_bound-is)
+            (long_goes_on replies l.lines c.read_line.new.self (g.R.Read.remaining c.args.reader.now) (g.R.Read.remaining l.reader) (g.R.Read.remaining c.read_line.new.reader)
+            (g.W.Write.contents c.args.writer.now) (g.W.Write.contents l.writer) (false, c.args.doors.now) (l.is_bound, l.doors) l.invariant.served (g.W.Write.contents w.refuse-answered.new.writer)
+            w.refuse-answered.result (λ end is. c.in_default.not-Err end (w.answered-is ∙ is)) w.in-TooLong.ensures.reads w.refuse-answered.ensures.refuses)
         | in-End w ↦ absurd (c.in_default.not-Err Ended w.answered-is)
         | in-ReadFault w ↦ absurd (c.in_default.not-Err ReadFault w.answered-is)
         | in-TurnLimit w ↦ absurd (c.in_default.not-Err TurnLimit w.answered-is)

@@ -7,4 +7,5 @@ use Rattle.solo_eval.proofs.groups.total.Given as goal
 
 abbrev pub invariant-loop-place : goal.invariant-loop-place
 invariant-loop-place l =
-    fold (λ sum (p : NumberedRow). int_wrapping_add w64 sum (value_in p.1.phase)) l.total (filter (λ p. is_spawned_by l.maker l.group p.1.kind && nat_lt (mark l.rows l.maker l.group).rows p.0) (enumerate_from (l.place + 1) (drop l.place l.rows))) ≡ total l.rows l.maker l.group
+    fold (λ sum (p : NumberedRow). int_wrapping_add w64 sum (value_in p.1.phase)) l.total
+    (filter (λ p. is_spawned_by l.maker l.group p.1.kind && nat_lt (mark l.rows l.maker l.group).rows p.0) (enumerate_from (l.place + 1) (drop l.place l.rows))) ≡ total l.rows l.maker l.group

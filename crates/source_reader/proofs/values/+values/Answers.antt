@@ -14,7 +14,8 @@ value_at-returns-then-level-ge-LEVELS t c =
 
 pub value_at-returns : goal.value_at-returns
 value_at-returns t c =
-    rw (level_more c.args.fuel (names_of c.args.names.now) c.args.level c.args.tokens.now (value_tree_of c.in_ok-first.first) c.in_ok-first.rest.now (omega arith) (omega arith) c.in_ok-first.ensures) c.more_at.ensures
+    rw (level_more c.args.fuel (names_of c.args.names.now) c.args.level c.args.tokens.now (value_tree_of c.in_ok-first.first) c.in_ok-first.rest.now (omega arith) (omega arith) c.in_ok-first.ensures)
+    c.more_at.ensures
 
 pub more_at-returns-in_ok-both-in-Some : goal.more_at-returns-in_ok-both-in-Some
 more_at-returns-in_ok-both-in-Some t c =
@@ -26,7 +27,8 @@ more_at-returns-in_ok-both-in-Some t c =
     let right = value_tree_of h.right in
     let both = value_tree_of c.in_ok-both-in-Some.both in
     let es : sign_at l ts ≡ Some c.in-Some.sign = sym c.sign_at.ensures ∙ c.in-Some.is in
-    let er : value_at (c.args.fuel - 1) names (Level (l + 1)) (drop 1 ts) ≡ Ok (right, h.rest.now) = ap (λ x. value_at (c.args.fuel - 1) names (Level (l + 1)) x) (sym c.after_first.ensures) ∙ h.ensures in
+    let er : value_at (c.args.fuel - 1) names (Level (l + 1)) (drop 1 ts) ≡ Ok (right, h.rest.now) =
+    ap (λ x. value_at (c.args.fuel - 1) names (Level (l + 1)) x) (sym c.after_first.ensures) ∙ h.ensures in
     let eb : joined c.in-Some.sign left right ts ≡ Ok both = c.in_ok-both-in-Some.ensures in
     rw (more_on c.args.fuel names l left ts c.in-Some.sign right h.rest.now both (omega arith) es er eb) c.more_at.ensures
 
@@ -38,7 +40,8 @@ more_at-returns-in_err-right-in-Some t c =
     let l = c.args.level in
     let e = c.in_err-right-in-Some.field-0.0 in
     let es : sign_at l ts ≡ Some c.in-Some.sign = sym c.sign_at.ensures ∙ c.in-Some.is in
-    let er : Fails e (value_at (c.args.fuel - 1) names (Level (l + 1)) (drop 1 ts)) = subst (λ x. Fails e (value_at (c.args.fuel - 1) names (Level (l + 1)) x)) c.after_first.ensures c.in_err-right-in-Some.ensures in
+    let er : Fails e (value_at (c.args.fuel - 1) names (Level (l + 1)) (drop 1 ts)) =
+    subst (λ x. Fails e (value_at (c.args.fuel - 1) names (Level (l + 1)) x)) c.after_first.ensures c.in_err-right-in-Some.ensures in
     rw (p.1, p.2) (right_fails c.args.fuel names l (value_tree_of c.args.left) ts c.in-Some.sign e (omega arith) es er)
 
 pub more_at-returns-in_err-both-in-Some : goal.more_at-returns-in_err-both-in-Some
@@ -52,6 +55,7 @@ more_at-returns-in_err-both-in-Some t c =
     let right = value_tree_of h.right in
     let e = c.in_err-both-in-Some.field-0.0 in
     let es : sign_at l ts ≡ Some c.in-Some.sign = sym c.sign_at.ensures ∙ c.in-Some.is in
-    let er : value_at (c.args.fuel - 1) names (Level (l + 1)) (drop 1 ts) ≡ Ok (right, h.rest.now) = ap (λ x. value_at (c.args.fuel - 1) names (Level (l + 1)) x) (sym c.after_first.ensures) ∙ h.ensures in
+    let er : value_at (c.args.fuel - 1) names (Level (l + 1)) (drop 1 ts) ≡ Ok (right, h.rest.now) =
+    ap (λ x. value_at (c.args.fuel - 1) names (Level (l + 1)) x) (sym c.after_first.ensures) ∙ h.ensures in
     let eb : Fails e (joined c.in-Some.sign left right ts) = c.in_err-both-in-Some.ensures in
     rw (p.1, p.2) (both_fail c.args.fuel names l left ts c.in-Some.sign right h.rest.now e (omega arith) es er eb)

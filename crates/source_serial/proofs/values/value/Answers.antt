@@ -14,7 +14,8 @@ same_arguments f x y ex ey = ap (λ z. f (z ∷ cast_signed w64 (cast_unsigned w
 pub returns-in-Ok-serial-clause-source : goal.returns-in-Ok-serial-clause-source
 returns-in-Ok-serial-clause-source c =
     by_value c.in-Ok-serial.value
-    (c.in-Ok-serial.ensures.value ∙ same_arguments (λ args. serial_value c.in-Ok.program args c.args.most) c.args.first c.args.second (to_z-of_z w64 c.args.first c.ranges.first) (to_z-of_z w64 c.args.second c.ranges.second))
+    (c.in-Ok-serial.ensures.value ∙
+    same_arguments (λ args. serial_value c.in-Ok.program args c.args.most) c.args.first c.args.second (to_z-of_z w64 c.args.first c.ranges.first) (to_z-of_z w64 c.args.second c.ranges.second))
   where
     by_value : (o : Option ℤ) → o ≡ serial_value c.in-Ok.program (c.args.first ∷ c.args.second ∷ []) c.args.most
         → IfSome o (λ v. (n : ℕ) × (source_value c.args.functions.now (c.args.first ∷ c.args.second ∷ []) n ≡ Some v))

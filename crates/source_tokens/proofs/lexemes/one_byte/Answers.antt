@@ -16,5 +16,6 @@ returns c =
     let rest : c.split_at.result.1.now ≡ drop at text = c.split_at.ensures.back in
     let n : len ≡ lexeme_len (drop at text) = c.lexeme_len-len.ensures ∙ ap lexeme_len rest in
     let t : c.front.result.now ≡ take len (drop at text) = c.front.ensures ∙ ap (λ x. take len x) rest in
-    let items : map view_lexeme c.push.new.self.items ≡ front ++ (at, c.front.result.now) ∷ [] = rw c.in_ok-push.ensures.items (map_push _ c.args.out.now.items (record { at = at; text = c.front.result })) in
+    let items : map view_lexeme c.push.new.self.items ≡ front ++ (at, c.front.result.now) ∷ [] =
+    rw c.in_ok-push.ensures.items (map_push _ c.args.out.now.items (record { at = at; text = c.front.result })) in
     rw (items, t, c.saturating_sub.ensures) (starts front c.args.skip at len text (omega arith) c.requires n)

@@ -7,7 +7,8 @@ use Rattle.source_value.proofs.values.value_of_source.Goals as goal
 
 pub returns-in-Ok-clause-value : goal.returns-in-Ok-clause-value
 returns-in-Ok-clause-value c =
-    by_value c.in-Ok.value (c.in-Ok.ensures.value ∙ ap (λ args. serial_value c.in_ok-job.job.program args c.args.most) (c.in_ok-job.ensures.made.given ∙ stored_arguments c.args.first c.args.second c.ranges.first c.ranges.second))
+    by_value c.in-Ok.value (c.in-Ok.ensures.value ∙
+    ap (λ args. serial_value c.in_ok-job.job.program args c.args.most) (c.in_ok-job.ensures.made.given ∙ stored_arguments c.args.first c.args.second c.ranges.first c.ranges.second))
   where
     by_value : (o : Option ℤ) → o ≡ serial_value c.in_ok-job.job.program (c.args.first ∷ c.args.second ∷ []) c.args.most
         → IfSome o (HasValue c.args.text.now (c.args.first ∷ c.args.second ∷ []))

@@ -16,6 +16,7 @@ returns c =
     record {
       goes = goes;
       right = is;
-      done = λ workers. done_at_rest (state_of new) (law.none_live new.config (steps_of new.history) valid.most_slots valid.reserved) (law.closed (state_of new)) (law.outcomes (state_of new)) c.finish.ensures.rests (still_workers old new goes.config is workers);
+      done = λ workers. done_at_rest (state_of new) (law.none_live new.config (steps_of new.history) valid.most_slots valid.reserved) (law.closed (state_of new)) (law.outcomes (state_of new))
+          c.finish.ensures.rests (still_workers old new goes.config is workers);
       serial = c.serial_values.ensures.keeps new.config (steps_of new.history) valid.most_slots;
     }

@@ -9,4 +9,5 @@ loop-ended-preserved c =
     let within : c.loop-ended.ended-index < length c.loop-ended.terms = omega arith in
     let none = c.ended-item.result in
     let ended = get_or c.loop-ended.terms c.loop-ended.ended-index none in
-    rw c.forget.ensures (map_over_more (forgetting c.args.job) c.args.terms.now c.loop-ended.terms c.loop-ended.ended-index ended (omega arith) c.loop-ended.invariant (get_or_default c.loop-ended.terms c.loop-ended.ended-index none ended within))
+    rw c.forget.ensures (map_over_more (forgetting c.args.job) c.args.terms.now c.loop-ended.terms c.loop-ended.ended-index ended (omega arith) c.loop-ended.invariant
+    (get_or_default c.loop-ended.terms c.loop-ended.ended-index none ended within))

@@ -12,4 +12,5 @@ pub loop-term-preserved : goal.loop-term-preserved
 loop-term-preserved c =
     let within : c.loop-term.term-index < length c.loop-term.terms = omega arith in
     let term = get_or c.loop-term.terms c.loop-term.term-index none in
-    rw c.left.ensures (map_over_more (left_if c.args.why) c.args.terms.now c.loop-term.terms c.loop-term.term-index term (omega arith) c.loop-term.invariant (get_or_default c.loop-term.terms c.loop-term.term-index none term within))
+    rw c.left.ensures (map_over_more (left_if c.args.why) c.args.terms.now c.loop-term.terms c.loop-term.term-index term (omega arith) c.loop-term.invariant
+    (get_or_default c.loop-term.terms c.loop-term.term-index none term within))

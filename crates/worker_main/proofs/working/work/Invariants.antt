@@ -4,4 +4,5 @@ use Rattle.worker_main.specs.Works.{TakesTurns}
 use Rattle.worker_main.proofs.working.work.Given as goal
 
 abbrev pub invariant-loop-turn : goal.invariant-loop-turn
-invariant-loop-turn g l = TakesTurns (ways g.D.DueDoor.views g.D.DueDoor.commits g.D.DueDoor.advances g.D.DueDoor.heights g.D.DueDoor.pauses g.D.DueDoor.homes g.D.DueDoor.hands g.D.CallDoors.arrives) l.fn.visiting (told (g.S.Signal.stops l.fn.signal) (g.S.Signal.looked l.fn.signal)) l._turn l.fn.door l.door
+invariant-loop-turn g l = TakesTurns (ways g.D.DueDoor.views g.D.DueDoor.commits g.D.DueDoor.advances g.D.DueDoor.heights g.D.DueDoor.pauses g.D.DueDoor.homes g.D.DueDoor.hands g.D.CallDoors.arrives)
+    l.fn.visiting (told (g.S.Signal.stops l.fn.signal) (g.S.Signal.looked l.fn.signal)) l._turn l.fn.door l.door

@@ -11,5 +11,6 @@ use Rattle.world_core.proofs.starting.first_market.Goals as goal
 pub returns : goal.returns
 returns c =
     let config = c.args.config.now in
-    let same : first_market c.in_ok-told.told c.workers.result ≡ (start config).market = ap (λ (ts : List MarketTenant). first_market ts c.workers.result) c.in_ok-told.ensures ∙ ap (first_market (map market_tenant config.tenants)) c.workers.ensures.value ∙ first_is config in
+    let same : first_market c.in_ok-told.told c.workers.result ≡ (start config).market =
+    ap (λ (ts : List MarketTenant). first_market ts c.workers.result) c.in_ok-told.ensures ∙ ap (first_market (map market_tenant config.tenants)) c.workers.ensures.value ∙ first_is config in
     subst (λ (m : Market). IfOk c.new.result (λ n. n ≡ m)) same c.new.ensures

@@ -11,8 +11,10 @@ advance_within-requires-clause-counted c = let some = c.self.invariant in made_c
 
 pub invariant_of-self : goal.invariant_of-self
 invariant_of-self c =
-    let some = c.self.invariant in
-    ((advance_within c.args.has_room some.0 c.args.slot).1, stands_advanced_within c.self.inside.parts c.advance_within.new.parts c.args.has_room some.0 c.args.slot some.1 (c.advance_within.ensures some.0 some.1.rests).1)
+    let some = c.self.invariant in (
+      (advance_within c.args.has_room some.0 c.args.slot).1,
+      stands_advanced_within c.self.inside.parts c.advance_within.new.parts c.args.has_room some.0 c.args.slot some.1 (c.advance_within.ensures some.0 some.1.rests).1,
+    )
 
 pub returns : goal.returns
 returns c = λ s stands.

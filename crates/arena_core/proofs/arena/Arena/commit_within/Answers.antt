@@ -28,8 +28,10 @@ pub invariant_of-self : goal.invariant_of-self
 invariant_of-self c =
     let some = c.self.invariant in
     let top : IsTopmost some.0 c.args.slot c.args.segment.now = rw (← c.top.ensures) ((c.is_topmost.ensures some.0 some.1.rests).0 c.if-not-is_topmost.false) in
-    let fits = run_fits c.self.inside.parts some.0 c.args.slot c.args.segment.now c.run.result some.1.rests top c.run.ensures.run in
-    ((advance_within c.args.has_room some.0 c.args.slot).1, stands_advanced_within c.self.inside.parts c.commit_within.new.parts c.args.has_room some.0 c.args.slot some.1 (c.commit_within.ensures some.0 top.0 fits).1)
+    let fits = run_fits c.self.inside.parts some.0 c.args.slot c.args.segment.now c.run.result some.1.rests top c.run.ensures.run in (
+      (advance_within c.args.has_room some.0 c.args.slot).1,
+      stands_advanced_within c.self.inside.parts c.commit_within.new.parts c.args.has_room some.0 c.args.slot some.1 (c.commit_within.ensures some.0 top.0 fits).1,
+    )
 
 pub returns : goal.returns
 returns c = λ s stands.

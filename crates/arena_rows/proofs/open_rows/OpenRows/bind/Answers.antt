@@ -11,5 +11,7 @@ invariant_of-self c =
     let after = c.bind-context.new.self in
     let filing = c.file_all.ensures in
     let long : length after ≡ length i.contexts = ap length made.bound ∙ length-set i.contexts c.bind-context.result _ in
-    let filed = bound_filed i.table i.contexts i.filing i.doomed i.turned.items c.self.invariant.0 after c.file_all.new.self long made.forest filing.places filing.lists c.bind-context.result (IsHeld-within after c.bind-context.result made.held) made.others (λ p e. filing.moved p (e ∙ ap Some (sym c.index.ensures))) (λ p ne. filing.others p (λ e. ne (e ∙ ap Some c.index.ensures))) in
+    let filed = bound_filed i.table i.contexts i.filing i.doomed i.turned.items c.self.invariant.0 after c.file_all.new.self long made.forest filing.places filing.lists c.bind-context.result
+    (IsHeld-within after c.bind-context.result made.held) made.others (λ p e. filing.moved p (e ∙ ap Some (sym c.index.ensures)))
+    (λ p ne. filing.others p (λ e. ne (e ∙ ap Some c.index.ensures))) in
     (subst (AreFiled i.table after c.file_all.new.self i.doomed) (sym c.self.invariant.0.none_turned) filed, omega (arith, long, c.self.invariant.1))

@@ -16,4 +16,5 @@ pub returns : goal.returns
 returns c =
     let i = c.self.inside in
     let given : ℕ → OpenRows = λ group. record c.args.self.now { table = changed_at c.args.self.now.table c.args.place (with_group group c.args.context) } in
-    changed_rows c.args.self.now i.table i.contexts c.args.place (with_group c.index.result c.args.context) c.at_mut-entry.result.now c.self.view_is c.at_mut-entry.ensures.value ∙ ap given c.index.ensures.value
+    changed_rows c.args.self.now i.table i.contexts c.args.place (with_group c.index.result c.args.context) c.at_mut-entry.result.now c.self.view_is c.at_mut-entry.ensures.value ∙
+    ap given c.index.ensures.value

@@ -19,7 +19,8 @@ request-requires c =
     let value = c.index.ensures.value in
     let few : c.args.group < GROUPS = rw value at c.index.ensures.in_range in
     let given = it.given in
-    let its : IsGroupContext h.0 b.contexts it.holds.assigned h.1 c.args.group (Some c.group_context-context.result) = rw given at (it.holds.contexts.of_groups h.1 c.args.group (top_open b h.0 it.holds c.args.slot h.1 h.3) few) in
+    let its : IsGroupContext h.0 b.contexts it.holds.assigned h.1 c.args.group (Some c.group_context-context.result) =
+    rw given at (it.holds.contexts.of_groups h.1 c.args.group (top_open b h.0 it.holds c.args.slot h.1 h.3) few) in
     rw its.1 refl
 
 pub set_frame-requires-clause-slot : goal.set_frame-requires-clause-slot

@@ -32,7 +32,8 @@ returns-clause-holds c = λ s n is waits same.
     let found = entry_of a s is n opened in
     let it = over_of a b c.args.id (pos 0) c.end.ensures s is n found.0 found.1 same in
     let holds = dropped_holds a b s is n it.e it.entry (loose_waiting a s is n waits opened) it.over waits in
-    let id : Holds (record b { pool = ready.without b.pool c.args.id }) (on_row s n (λ r. record r { phase = Dropped })) = subst (λ r. Holds (record b { pool = ready.without b.pool r }) (on_row s n (λ r. record r { phase = Dropped }))) (sym same) holds in
+    let id : Holds (record b { pool = ready.without b.pool c.args.id }) (on_row s n (λ r. record r { phase = Dropped })) =
+    subst (λ r. Holds (record b { pool = ready.without b.pool r }) (on_row s n (λ r. record r { phase = Dropped }))) (sym same) holds in
     rw c.unwait.ensures id
 
 pub returns-clause-forest : goal.returns-clause-forest

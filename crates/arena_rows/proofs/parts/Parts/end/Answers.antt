@@ -24,8 +24,10 @@ pub leave_maker-requires-clause-pending : goal.leave_maker-requires-clause-pendi
 leave_maker-requires-clause-pending c = λ p x found there.
     let h : CanEnd c.args.self.now c.args.row = c.requires in
     let e = c.entry_at.result.now in
-    let found' : open_maker c.args.self.now.table e.source ≡ Some p = ap (λ (a : Held). open_maker a.table e.source) (sym c.self.view_is) ∙ ap (λ (t : List (Option OpenRow)). open_maker t e.source) (sym c.release_all.ensures.table) ∙ found in
-    let there' : at_place c.args.self.now.table p.0 ≡ Some x = ap (λ (a : Held). at_place a.table p.0) (sym c.self.view_is) ∙ ap (λ (t : List (Option OpenRow)). at_place t p.0) (sym c.release_all.ensures.table) ∙ there in
+    let found' : open_maker c.args.self.now.table e.source ≡ Some p =
+    ap (λ (a : Held). open_maker a.table e.source) (sym c.self.view_is) ∙ ap (λ (t : List (Option OpenRow)). open_maker t e.source) (sym c.release_all.ensures.table) ∙ found in
+    let there' : at_place c.args.self.now.table p.0 ≡ Some x =
+    ap (λ (a : Held). at_place a.table p.0) (sym c.self.view_is) ∙ ap (λ (t : List (Option OpenRow)). at_place t p.0) (sym c.release_all.ensures.table) ∙ there in
     (can_leave c.args.self.now h.0 h.2 h.1 e (entry_in c.args.self.now c.args.row h e c.entry_at.ensures) p found').2 x there'
 
 pub take_out-requires-clause-there : goal.take_out-requires-clause-there
@@ -36,7 +38,9 @@ take_out-requires-clause-there c =
     let v = c.args.value in
     let forest : Forest = c.release_all.new.rows.contexts in
     let entry = entry_in a c.args.row h e c.entry_at.ensures in
-    let tells : c.leave_maker.new.self ≡ told a forest e.source v = c.leave_maker.ensures ∙ ap (λ (t : List (Option OpenRow)). told (record (shown c.self.inside) { table = t }) forest e.source (to_z w64 (of_z w64 v))) c.release_all.ensures.table ∙ ap (λ (x : Held). told x forest e.source (to_z w64 (of_z w64 v))) c.self.view_is ∙ ap (told a forest e.source) (to_z-of_z w64 c.args.value c.ranges.value) in
+    let tells : c.leave_maker.new.self ≡ told a forest e.source v =
+    c.leave_maker.ensures ∙ ap (λ (t : List (Option OpenRow)). told (record (shown c.self.inside) { table = t }) forest e.source (to_z w64 (of_z w64 v))) c.release_all.ensures.table ∙
+    ap (λ (x : Held). told x forest e.source (to_z w64 (of_z w64 v))) c.self.view_is ∙ ap (told a forest e.source) (to_z-of_z w64 c.args.value c.ranges.value) in
     let there = still_there a.table e.source v c.args.row.place e c.entry_at.ensures in
     rw tells (ap is_some there.1)
 
@@ -48,7 +52,9 @@ count_out-requires-clause-current c =
     let v = c.args.value in
     let forest : Forest = c.release_all.new.rows.contexts in
     let entry = entry_in a c.args.row h e c.entry_at.ensures in
-    let tells : c.leave_maker.new.self ≡ told a forest e.source v = c.leave_maker.ensures ∙ ap (λ (t : List (Option OpenRow)). told (record (shown c.self.inside) { table = t }) forest e.source (to_z w64 (of_z w64 v))) c.release_all.ensures.table ∙ ap (λ (x : Held). told x forest e.source (to_z w64 (of_z w64 v))) c.self.view_is ∙ ap (told a forest e.source) (to_z-of_z w64 c.args.value c.ranges.value) in
+    let tells : c.leave_maker.new.self ≡ told a forest e.source v =
+    c.leave_maker.ensures ∙ ap (λ (t : List (Option OpenRow)). told (record (shown c.self.inside) { table = t }) forest e.source (to_z w64 (of_z w64 v))) c.release_all.ensures.table ∙
+    ap (λ (x : Held). told x forest e.source (to_z w64 (of_z w64 v))) c.self.view_is ∙ ap (told a forest e.source) (to_z-of_z w64 c.args.value c.ranges.value) in
     let takes = taken_is a c.leave_maker.new.self c.take_out.new.self forest c.args.row e.source v tells c.take_out.ensures in
     rw takes (its_job a h.0 h.2 h.1 e entry)
 
@@ -60,7 +66,9 @@ count_out-requires-clause-some c =
     let v = c.args.value in
     let forest : Forest = c.release_all.new.rows.contexts in
     let entry = entry_in a c.args.row h e c.entry_at.ensures in
-    let tells : c.leave_maker.new.self ≡ told a forest e.source v = c.leave_maker.ensures ∙ ap (λ (t : List (Option OpenRow)). told (record (shown c.self.inside) { table = t }) forest e.source (to_z w64 (of_z w64 v))) c.release_all.ensures.table ∙ ap (λ (x : Held). told x forest e.source (to_z w64 (of_z w64 v))) c.self.view_is ∙ ap (told a forest e.source) (to_z-of_z w64 c.args.value c.ranges.value) in
+    let tells : c.leave_maker.new.self ≡ told a forest e.source v =
+    c.leave_maker.ensures ∙ ap (λ (t : List (Option OpenRow)). told (record (shown c.self.inside) { table = t }) forest e.source (to_z w64 (of_z w64 v))) c.release_all.ensures.table ∙
+    ap (λ (x : Held). told x forest e.source (to_z w64 (of_z w64 v))) c.self.view_is ∙ ap (told a forest e.source) (to_z-of_z w64 c.args.value c.ranges.value) in
     let takes = taken_is a c.leave_maker.new.self c.take_out.new.self forest c.args.row e.source v tells c.take_out.ensures in
     rw takes (some_open a h.0 h.2 h.1 e entry)
 
@@ -72,10 +80,19 @@ returns c = λ x there.
     let v = c.args.value in
     let forest : Forest = c.release_all.new.rows.contexts in
     let entry = entry_in a c.args.row h e c.entry_at.ensures in
-    let tells : c.leave_maker.new.self ≡ told a forest e.source v = c.leave_maker.ensures ∙ ap (λ (t : List (Option OpenRow)). told (record (shown c.self.inside) { table = t }) forest e.source (to_z w64 (of_z w64 v))) c.release_all.ensures.table ∙ ap (λ (x : Held). told x forest e.source (to_z w64 (of_z w64 v))) c.self.view_is ∙ ap (told a forest e.source) (to_z-of_z w64 c.args.value c.ranges.value) in
+    let tells : c.leave_maker.new.self ≡ told a forest e.source v =
+    c.leave_maker.ensures ∙ ap (λ (t : List (Option OpenRow)). told (record (shown c.self.inside) { table = t }) forest e.source (to_z w64 (of_z w64 v))) c.release_all.ensures.table ∙
+    ap (λ (x : Held). told x forest e.source (to_z w64 (of_z w64 v))) c.self.view_is ∙ ap (told a forest e.source) (to_z-of_z w64 c.args.value c.ranges.value) in
     let takes = taken_is a c.leave_maker.new.self c.take_out.new.self forest c.args.row e.source v tells c.take_out.ensures in
-    let counts : (d : CurrentJob) → c.count_out.new.self ≡ record c.take_out.new.self { jobs = slice_set c.take_out.new.self.jobs (index_of c.take_out.new.self e.job) (with_ended c.args.row.number v (slice_index_or c.take_out.new.self.jobs (index_of c.take_out.new.self e.job) d)) } =
-    λ d. c.count_out.ensures d ∙ ap (λ w. record c.take_out.new.self { jobs = slice_set c.take_out.new.self.jobs (index_of c.take_out.new.self e.job) (with_ended c.args.row.number w (slice_index_or c.take_out.new.self.jobs (index_of c.take_out.new.self e.job) d)) }) (to_z-of_z w64 c.args.value c.ranges.value) in
+    let counts : (d : CurrentJob) →
+    c.count_out.new.self ≡ record c.take_out.new.self {
+      jobs = slice_set c.take_out.new.self.jobs (index_of c.take_out.new.self e.job)
+          (with_ended c.args.row.number v (slice_index_or c.take_out.new.self.jobs (index_of c.take_out.new.self e.job) d));
+    } =
+    λ d. c.count_out.ensures d ∙ ap (λ w. record c.take_out.new.self {
+      jobs = slice_set c.take_out.new.self.jobs (index_of c.take_out.new.self e.job)
+          (with_ended c.args.row.number w (slice_index_or c.take_out.new.self.jobs (index_of c.take_out.new.self e.job) d));
+    }) (to_z-of_z w64 c.args.value c.ranges.value) in
     let left : Left a.contexts forest (contexts_of e) = subst (λ (y : Held). Left y.contexts forest (contexts_of e)) c.self.view_is c.release_all.ensures.left in
     let over = has_ended a c.count_out.new.self forest c.args.row e v left (counted_is a c.take_out.new.self c.count_out.new.self forest c.args.row e v takes counts) in
     subst (λ (y : OpenRow). HasEnded a c.count_out.new.self c.args.row y v) (some_is e x (sym c.entry_at.ensures ∙ there)) over

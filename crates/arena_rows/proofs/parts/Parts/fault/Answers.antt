@@ -21,14 +21,16 @@ settle_step-requires-clause-slot c =
     let a = c.args.self.now in
     let h : HasTop a c.args.slot = c.requires.top in
     let t = faulty a h.0 h.2 c.args.slot h.1 h.3 c.args.fault in
-    same_slots a h.0 h.2 c.args.slot h.1 h.3 c.args.fault c.fault_rows.new.self (c.fault_rows.ensures.holds t h.1 (c.fault_job.ensures.holds h.0 h.1 h.2 h.3) h.3 (now_faulty a h.0 h.2 c.args.slot h.1 h.3 c.args.fault))
+    same_slots a h.0 h.2 c.args.slot h.1 h.3 c.args.fault c.fault_rows.new.self
+    (c.fault_rows.ensures.holds t h.1 (c.fault_job.ensures.holds h.0 h.1 h.2 h.3) h.3 (now_faulty a h.0 h.2 c.args.slot h.1 h.3 c.args.fault))
 
 pub settle_step-requires-clause-room : goal.settle_step-requires-clause-room
 settle_step-requires-clause-room c =
     let a = c.args.self.now in
     let h : HasTop a c.args.slot = c.requires.top in
     let t = faulty a h.0 h.2 c.args.slot h.1 h.3 c.args.fault in
-    same_room a h.0 h.2 c.args.slot h.1 h.3 c.args.fault c.fault_rows.new.self (c.fault_rows.ensures.holds t h.1 (c.fault_job.ensures.holds h.0 h.1 h.2 h.3) h.3 (now_faulty a h.0 h.2 c.args.slot h.1 h.3 c.args.fault)) c.requires.room
+    same_room a h.0 h.2 c.args.slot h.1 h.3 c.args.fault c.fault_rows.new.self
+    (c.fault_rows.ensures.holds t h.1 (c.fault_job.ensures.holds h.0 h.1 h.2 h.3) h.3 (now_faulty a h.0 h.2 c.args.slot h.1 h.3 c.args.fault)) c.requires.room
 
 pub returns : goal.returns
 returns c = λ s n is on_top.

@@ -34,7 +34,8 @@ returns c = λ s n frame rests on_top unused same.
     let b = c.end.new.self in
     let is = rests.holds in
     let value = c.args.value in
-    let ends : (e : OpenRow) → at_place a.table c.top_row-row.result.place ≡ Some e → HasEnded a b c.top_row-row.result e value = λ e there. subst (HasEnded a b c.top_row-row.result e) (to_z-of_z w64 value c.ranges.value) (c.end.ensures e there) in
+    let ends : (e : OpenRow) → at_place a.table c.top_row-row.result.place ≡ Some e → HasEnded a b c.top_row-row.result e value =
+    λ e there. subst (HasEnded a b c.top_row-row.result e) (to_z-of_z w64 value c.ranges.value) (c.end.ensures e there) in
     let it = over_on_top a b c.top_row-row.result value ends s is c.args.slot n on_top (c.top_row-row.ensures s n is on_top) in
     let there = top_there a s is c.args.slot n on_top in
     let holds = done_holds a b s is n it.e it.entry (loose_unused a s is c.args.slot n on_top unused) c.args.slot on_top frame value it.over same unused in

@@ -20,7 +20,8 @@ returns-in-Some-clause-given c = λ s n is on_top.
     let it = c.top_entry-entry.ensures.entry s n is on_top in
     let value = c.index.ensures.value in
     let few : c.args.group < GROUPS = rw value at c.index.ensures.in_range in
-    let some : slice_index_or c.top_entry-entry.result.now.group_contexts c.index.result None ≡ Some c.in-Some.context = get_or_default c.top_entry-entry.result.now.group_contexts c.index.result None _ (omega (arith, c.index.ensures.in_range, it.1.all_contexts)) ∙ c.in-Some.is in
+    let some : slice_index_or c.top_entry-entry.result.now.group_contexts c.index.result None ≡ Some c.in-Some.context =
+    get_or_default c.top_entry-entry.result.now.group_contexts c.index.result None _ (omega (arith, c.index.ensures.in_range, it.1.all_contexts)) ∙ c.in-Some.is in
     let there = (is.contexts.in_table (is.places n) c.top_entry-entry.result.now it.0).1 c.args.group few in
     record { holds = is; places = λ m. refl; given = ap (λ k. is.assigned.of_group k c.args.group) (sym it.1.number) ∙ sym there ∙ rw value at some }
 
@@ -42,7 +43,8 @@ bind_group-requires-clause-room c =
     let h = c.requires in
     let it = c.top_entry-entry.ensures.entry h.0 h.1 h.2 h.3 in
     let few = c.index.ensures.in_range in
-    let none : slice_index_or c.top_entry-entry.result.now.group_contexts c.index.result None ≡ None = get_or_default c.top_entry-entry.result.now.group_contexts c.index.result None _ (omega (arith, few, it.1.all_contexts)) ∙ c.in_default.is in
+    let none : slice_index_or c.top_entry-entry.result.now.group_contexts c.index.result None ≡ None =
+    get_or_default c.top_entry-entry.result.now.group_contexts c.index.result None _ (omega (arith, few, it.1.all_contexts)) ∙ c.in_default.is in
     group_room c.args.self.now h.0 h.2 (h.2.places h.1) c.index.result c.top_entry-entry.result.now (top_stands c.args.self.now h.0 h.2 c.args.slot h.1 h.3).within it.0 it.1.all_contexts few none
 
 pub bind_group-requires-clause-parent : goal.bind_group-requires-clause-parent
@@ -63,7 +65,8 @@ returns-clause-given c = λ s n is on_top.
     let row_is = c.top_row-row.ensures s n is on_top in
     let value = c.index.ensures.value in
     let few : c.args.group < GROUPS = rw value at c.index.ensures.in_range in
-    let none : slice_index_or e.group_contexts c.index.result None ≡ None = get_or_default e.group_contexts c.index.result None _ (omega (arith, c.index.ensures.in_range, it.1.all_contexts)) ∙ c.in_default.is in
+    let none : slice_index_or e.group_contexts c.index.result None ≡ None =
+    get_or_default e.group_contexts c.index.result None _ (omega (arith, c.index.ensures.in_range, it.1.all_contexts)) ∙ c.in_default.is in
     let entry = is_entry a s is n e (top_open a s is c.args.slot n on_top) it.0 in
     let live = (top_at a s is c.args.slot n on_top).live in
     let started : is_unstarted (row s.rows n).phase ≡ false = rw live refl in
@@ -71,7 +74,8 @@ returns-clause-given c = λ s n is on_top.
     let count : held_count (with_bound a.contexts c.bind_group.result (Some e.context)) ≡ held_count a.contexts + 1 = rw new at c.bind_group.ensures.count in
     let held : IsHeld (with_bound a.contexts c.bind_group.result (Some e.context)) c.bind_group.result = rw new at c.bind_group.ensures.held in
     let below = IsHeld-within (with_bound a.contexts c.bind_group.result (Some e.context)) c.bind_group.result held in
-    let room : c.bind_group.result < length a.contexts = omega (arith, below, length-set a.contexts c.bind_group.result (Some (record { parent = Some e.context; is_asked = false; is_orphan = false }))) in
+    let room : c.bind_group.result < length a.contexts =
+    omega (arith, below, length-set a.contexts c.bind_group.result (Some (record { parent = Some e.context; is_asked = false; is_orphan = false }))) in
     let grouped = group_bound a s is n c.args.group c.bind_group.result e entry started few (rw value at none) c.bind_group.ensures.fresh room count in
     rw new (record { holds = grouped.holds; places = λ m. ap (λ f. f m) grouped.places; given = grouped.given })
 

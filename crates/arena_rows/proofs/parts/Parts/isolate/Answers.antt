@@ -57,7 +57,8 @@ returns c = λ s n is on_top steady.
     let to_id : ℕ → RowId = λ p. record { number = n; place = p } in
     let maker : c.top_row-maker.result ≡ id_of next.holds.places n = c.top_row-maker.ensures s n is on_top ∙ ap to_id (sym (next.old n there.1)) in
     let ctx = c.top_entry-entry.result.now.context in
-    let told : ctx ≡ next.holds.assigned.of_row n = (is.contexts.in_table (is.places n) c.top_entry-entry.result.now entry.0).0 ∙ ap is.assigned.of_row entry.1.number ∙ ap (λ x. x.of_row n) (sym next.assigned) in
+    let told : ctx ≡ next.holds.assigned.of_row n =
+    (is.contexts.in_table (is.places n) c.top_entry-entry.result.now entry.0).0 ∙ ap is.assigned.of_row entry.1.number ∙ ap (λ x. x.of_row n) (sym next.assigned) in
     let high = c.height.ensures in
     let e : OpenRow = region_entry a c.top_row-maker.result c.top_entry-entry.result.now.job ctx c.args.slot in
     let b : Held = job_counted (entered a place e) c.top_entry-entry.result.now.job no_job in

@@ -30,7 +30,8 @@ wait-requires c =
     let id = c.enter_row-row.ensures.row in
     let entered_is = c.enter_row-row.ensures.entered in
     let counted = rw entered_is at (c.count_row.ensures no_job) in
-    rw (counted, id) (can_wait a rests.0 rests.1 place (job_counted (entered a place e) c.top_entry.result.now.job no_job) e None c.enter_row-row.ensures.place c.requires.free refl refl (λ x none. absurd (some_none x (sym none))) refl (λ x none. absurd (some_none x (sym none))))
+    rw (counted, id) (can_wait a rests.0 rests.1 place (job_counted (entered a place e) c.top_entry.result.now.job no_job) e None c.enter_row-row.ensures.place c.requires.free refl refl
+    (λ x none. absurd (some_none x (sym none))) refl (λ x none. absurd (some_none x (sym none))))
 
 pub returns : goal.returns
 returns c = λ s n rests on_top steady.

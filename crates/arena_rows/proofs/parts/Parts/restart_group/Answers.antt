@@ -45,7 +45,8 @@ take_back-requires c =
     let row = c.top_row-place.ensures h.0 h.1 h.2 h.3 in
     let value = c.index.ensures.value in
     let few : c.args.group < GROUPS = rw value at c.index.ensures.in_range in
-    let some : slice_index_or e.group_contexts c.index.result None ≡ Some c.in-Some.context = get_or_default e.group_contexts c.index.result None _ (omega (arith, c.index.ensures.in_range, it.1.all_contexts)) ∙ c.in-Some.is in
+    let some : slice_index_or e.group_contexts c.index.result None ≡ Some c.in-Some.context =
+    get_or_default e.group_contexts c.index.result None _ (omega (arith, c.index.ensures.in_range, it.1.all_contexts)) ∙ c.in-Some.is in
     let emptied = c.empty_group.ensures e (rw row it.0) in
     rw emptied (given_held a h.0 h.2 h.1 e (is_entry a h.0 h.2 h.1 e (top_open a h.0 h.2 c.args.slot h.1 h.3) it.0) c.args.group c.in-Some.context few (rw value at some))
 
@@ -60,14 +61,16 @@ returns-in-Some-clause-restarted c = λ s n rests on_top ended.
     let row = c.top_row-place.ensures s n is on_top in
     let value = c.index.ensures.value in
     let few : g < GROUPS = rw value at c.index.ensures.in_range in
-    let some : slice_index_or e.group_contexts c.index.result None ≡ Some context = get_or_default e.group_contexts c.index.result None _ (omega (arith, c.index.ensures.in_range, it.1.all_contexts)) ∙ c.in-Some.is in
+    let some : slice_index_or e.group_contexts c.index.result None ≡ Some context =
+    get_or_default e.group_contexts c.index.result None _ (omega (arith, c.index.ensures.in_range, it.1.all_contexts)) ∙ c.in-Some.is in
     let opened = top_open a s is c.args.slot n on_top in
     let entry = is_entry a s is n e opened it.0 in
     let given = group_of_entry a s is n e entry g few ∙ (rw value at some) in
     let emptied : c.empty_group.new.self ≡ with_entry a (is.places n) (with_group_emptied g e) = rw row at (c.empty_group.ensures e (rw row it.0)) in
     let taken = c.take_back.ensures.taken_back in
     let count : held_count (with_request a.contexts context false) ≡ held_count a.contexts = rw (taken, emptied) at c.take_back.ensures.count in
-    let holds = passed_holds a s is c.args.slot n on_top g few e entry ended (with_request a.contexts context false) (length-set a.contexts context (asking false (binding a.contexts context))) (with_context a s is n g (passed_mark s) opened few context false given refl count) in
+    let holds = passed_holds a s is c.args.slot n on_top g few e entry ended (with_request a.contexts context false) (length-set a.contexts context (asking false (binding a.contexts context)))
+    (with_context a s is n g (passed_mark s) opened few context false given refl count) in
     let new : c.take_back.new.self ≡ requested (with_entry a (is.places n) (with_group_emptied g e)) context false = taken ∙ ap (λ (x : Held). requested x context false) emptied in
     rw new (record { holds = holds; settled = passed_settled a s is c.args.slot n on_top g few e entry rests.settled })
 
@@ -90,7 +93,8 @@ returns-in_default-clause-restarted c = λ s n rests on_top ended.
     let row = c.top_row-place.ensures s n is on_top in
     let value = c.index.ensures.value in
     let few : g < GROUPS = rw value at c.index.ensures.in_range in
-    let none : slice_index_or e.group_contexts c.index.result None ≡ None = get_or_default e.group_contexts c.index.result None _ (omega (arith, c.index.ensures.in_range, it.1.all_contexts)) ∙ c.in_default.is in
+    let none : slice_index_or e.group_contexts c.index.result None ≡ None =
+    get_or_default e.group_contexts c.index.result None _ (omega (arith, c.index.ensures.in_range, it.1.all_contexts)) ∙ c.in_default.is in
     let entry = is_entry a s is n e (top_open a s is c.args.slot n on_top) it.0 in
     let bare = group_of_entry a s is n e entry g few ∙ (rw value at none) in
     let emptied : c.empty_group.new.self ≡ with_entry a (is.places n) (with_group_emptied g e) = rw row at (c.empty_group.ensures e (rw row it.0)) in

@@ -52,4 +52,8 @@ returns c = λ s n rests context frame on_top given steady.
     let entry = entry_of a s is n (top_open a s is c.args.slot n on_top) in
     let joined : c.join_ended.new.self ≡ with_entry a (is.places n) (with_ended_member g entry.0) = rw row at (c.join_ended.ensures entry.0 (rw row entry.1.there)) in
     let new : c.count_made.new.self ≡ more_made (with_entry a (is.places n) (with_ended_member g entry.0)) = c.count_made.ensures ∙ ap more_made joined in
-    rw new (record { holds = born_holds a s is c.args.slot n g context frame entry.0 on_top entry.1 low given steady; settled = born_settled a s is c.args.slot n g context frame entry.0 on_top entry.1 low given steady rests.settled })
+    rw new (record {
+      holds = born_holds a s is c.args.slot n g context frame entry.0 on_top entry.1 low given steady;
+      settled =
+          born_settled a s is c.args.slot n g context frame entry.0 on_top entry.1 low given steady rests.settled;
+    })

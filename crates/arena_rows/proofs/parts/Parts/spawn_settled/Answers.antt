@@ -33,8 +33,10 @@ returns-then-is_group_cancelled c = λ s n rests on_top kept.
     let steady = rests.holds.steady in
     let r = new_row (Spawned n g) (row s.rows n).job (Some slot) f Unstarted in
     let cancelled : ((mark s.rows n g).cancelled || is_context_cancelled s n) ≡ true = sym (c.is_group_cancelled.ensures s n it.holds on_top) ∙ c.if-is_group_cancelled.true in
-    let dropped = born_dropped s (Spawned n g) (row s.rows n).job (Some slot) f steady kept rests.settled (spawned_context s r steady.formed.linked.makers kept.formed.linked.makers n g there.0 there.1 refl refl ∙ cancelled) in
-    subst (Rests c.spawn_dropped.new.self) (sym dropped) (c.spawn_dropped.ensures s n now c.group_context-context.result f on_top it.given (dropped_steady s (Spawned n g) (row s.rows n).job (Some slot) f steady kept))
+    let dropped = born_dropped s (Spawned n g) (row s.rows n).job (Some slot) f steady kept rests.settled
+    (spawned_context s r steady.formed.linked.makers kept.formed.linked.makers n g there.0 there.1 refl refl ∙ cancelled) in
+    subst (Rests c.spawn_dropped.new.self) (sym dropped)
+    (c.spawn_dropped.ensures s n now c.group_context-context.result f on_top it.given (dropped_steady s (Spawned n g) (row s.rows n).job (Some slot) f steady kept))
 
 pub spawn_waiting-requires-clause-given : goal.spawn_waiting-requires-clause-given
 spawn_waiting-requires-clause-given c =
@@ -53,6 +55,7 @@ returns c = λ s n rests on_top kept.
     let steady = rests.holds.steady in
     let r = new_row (Spawned n g) (row s.rows n).job (Some slot) f Unstarted in
     let fine : ((mark s.rows n g).cancelled || is_context_cancelled s n) ≡ false = sym (c.is_group_cancelled.ensures s n it.holds on_top) ∙ c.if-is_group_cancelled.false in
-    let settled = born_waits s (Spawned n g) (row s.rows n).job (Some slot) f steady kept rests.settled (spawned_context s r steady.formed.linked.makers kept.formed.linked.makers n g there.0 there.1 refl refl ∙ fine) in
+    let settled = born_waits s (Spawned n g) (row s.rows n).job (Some slot) f steady kept rests.settled
+    (spawned_context s r steady.formed.linked.makers kept.formed.linked.makers n g there.0 there.1 refl refl ∙ fine) in
     let holds = c.spawn_waiting.ensures s n it.holds rests.settled on_top it.given (fine_job s n (mark s.rows n g).cancelled fine) kept in
     subst (Rests c.spawn_waiting.new.self) (sym (settle_none (add_row s r) settled)) (record { holds = holds; settled = settled })

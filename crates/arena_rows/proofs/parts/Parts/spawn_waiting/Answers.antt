@@ -126,7 +126,8 @@ count_row-requires-clause-current c =
     let maker = c.top_row-maker.result in
     let at_maker : at_place a.table maker.place ≡ Some me = ap (λ (r : RowId). at_place a.table r.place) (c.top_row-maker.ensures h.0 h.1 h.2 h.4) ∙ (c.top_entry.ensures.entry h.0 h.1 h.2 h.4).0 in
     let joins = joined_is a c.bind_row-own.new.self c.join.new.self c.bind_row-own.result c.args.context maker.place c.args.group me at_maker c.bind_row-own.ensures.bound c.join.ensures in
-    let enters = entered_is a c.join.new.self c.enter_row-row.new.self c.enter_row-row.result.place c.bind_row-own.result c.args.context maker.place c.args.group me maker me.job c.args.slot c.args.frame joins c.enter_row-row.ensures.entered in
+    let enters = entered_is a c.join.new.self c.enter_row-row.new.self c.enter_row-row.result.place c.bind_row-own.result c.args.context maker.place c.args.group me maker me.job c.args.slot
+    c.args.frame joins c.enter_row-row.ensures.entered in
     rw enters c.top_entry.ensures.current
 
 pub count_row-requires-clause-few : goal.count_row-requires-clause-few
@@ -137,7 +138,8 @@ count_row-requires-clause-few c = λ d.
     let maker = c.top_row-maker.result in
     let at_maker : at_place a.table maker.place ≡ Some me = ap (λ (r : RowId). at_place a.table r.place) (c.top_row-maker.ensures h.0 h.1 h.2 h.4) ∙ (c.top_entry.ensures.entry h.0 h.1 h.2 h.4).0 in
     let joins = joined_is a c.bind_row-own.new.self c.join.new.self c.bind_row-own.result c.args.context maker.place c.args.group me at_maker c.bind_row-own.ensures.bound c.join.ensures in
-    let enters = entered_is a c.join.new.self c.enter_row-row.new.self c.enter_row-row.result.place c.bind_row-own.result c.args.context maker.place c.args.group me maker me.job c.args.slot c.args.frame joins c.enter_row-row.ensures.entered in
+    let enters = entered_is a c.join.new.self c.enter_row-row.new.self c.enter_row-row.result.place c.bind_row-own.result c.args.context maker.place c.args.group me maker me.job c.args.slot
+    c.args.frame joins c.enter_row-row.ensures.entered in
     let e : OpenRow = spawned_entry a maker c.args.group me.job c.bind_row-own.result c.args.slot c.args.frame in
     let table = slice_set a.table maker.place (Some (with_member c.args.group me)) in
     let long = length-set a.table maker.place (Some (with_member c.args.group me)) in
@@ -152,10 +154,14 @@ wait-requires c =
     let maker = c.top_row-maker.result in
     let at_maker : at_place a.table maker.place ≡ Some me = ap (λ (r : RowId). at_place a.table r.place) (c.top_row-maker.ensures h.0 h.1 h.2 h.4) ∙ (c.top_entry.ensures.entry h.0 h.1 h.2 h.4).0 in
     let joins = joined_is a c.bind_row-own.new.self c.join.new.self c.bind_row-own.result c.args.context maker.place c.args.group me at_maker c.bind_row-own.ensures.bound c.join.ensures in
-    let enters = entered_is a c.join.new.self c.enter_row-row.new.self c.enter_row-row.result.place c.bind_row-own.result c.args.context maker.place c.args.group me maker me.job c.args.slot c.args.frame joins c.enter_row-row.ensures.entered in
-    let counts = counted_is a c.enter_row-row.new.self c.count_row.new.self c.enter_row-row.result.place c.bind_row-own.result c.args.context maker.place c.args.group me maker me.job c.args.slot c.args.frame enters c.count_row.ensures in
+    let enters = entered_is a c.join.new.self c.enter_row-row.new.self c.enter_row-row.result.place c.bind_row-own.result c.args.context maker.place c.args.group me maker me.job c.args.slot
+    c.args.frame joins c.enter_row-row.ensures.entered in
+    let counts = counted_is a c.enter_row-row.new.self c.count_row.new.self c.enter_row-row.result.place c.bind_row-own.result c.args.context maker.place c.args.group me maker me.job c.args.slot
+    c.args.frame enters c.count_row.ensures in
     let place = c.enter_row-row.result.place in
-    let free : IsFree a.table place = free_before a.table maker.place (with_member c.args.group me) place (maker_within a h.0 h.2 c.args.slot h.1 h.4 maker (c.top_row-maker.ensures h.0 h.1 h.2 h.4)) (subst (λ (x : Held). IsFree x.table place) joins c.enter_row-row.ensures.place) in
+    let free : IsFree a.table place =
+    free_before a.table maker.place (with_member c.args.group me) place (maker_within a h.0 h.2 c.args.slot h.1 h.4 maker (c.top_row-maker.ensures h.0 h.1 h.2 h.4))
+    (subst (λ (x : Held). IsFree x.table place) joins c.enter_row-row.ensures.place) in
     let id : c.enter_row-row.result ≡ next_id a place = c.enter_row-row.ensures.row ∙ ap (λ (x : Held). next_id x place) joins in
     let e : OpenRow = spawned_entry a maker c.args.group me.job c.bind_row-own.result c.args.slot c.args.frame in
     let bb : Held = job_counted (entered (joined a c.bind_row-own.result c.args.context maker.place c.args.group me) place e) me.job no_job in
@@ -176,7 +182,8 @@ returns c = λ s n is settled on_top given fine steady.
     let maker = c.top_row-maker.result in
     let at_maker : at_place a.table maker.place ≡ Some me = ap (λ (r : RowId). at_place a.table r.place) (c.top_row-maker.ensures h.0 h.1 h.2 h.4) ∙ (c.top_entry.ensures.entry h.0 h.1 h.2 h.4).0 in
     let joins = joined_is a c.bind_row-own.new.self c.join.new.self c.bind_row-own.result c.args.context maker.place c.args.group me at_maker c.bind_row-own.ensures.bound c.join.ensures in
-    let enters = entered_is a c.join.new.self c.enter_row-row.new.self c.enter_row-row.result.place c.bind_row-own.result c.args.context maker.place c.args.group me maker me.job c.args.slot c.args.frame joins c.enter_row-row.ensures.entered in
+    let enters = entered_is a c.join.new.self c.enter_row-row.new.self c.enter_row-row.result.place c.bind_row-own.result c.args.context maker.place c.args.group me maker me.job c.args.slot
+    c.args.frame joins c.enter_row-row.ensures.entered in
     let own = c.bind_row-own.result in
     let gc = c.args.context in
     let g = c.args.group in
@@ -189,7 +196,9 @@ returns c = λ s n is settled on_top given fine steady.
     let below = IsHeld-within (with_bound a.contexts own (Some gc)) own held in
     let room : own < length a.contexts = omega (arith, below, length-set a.contexts own (Some (record { parent = Some gc; is_asked = false; is_orphan = false }))) in
     let place = c.enter_row-row.result.place in
-    let free : IsFree a.table place = free_before a.table maker.place (with_member c.args.group me) place (maker_within a h.0 h.2 c.args.slot h.1 h.4 maker (c.top_row-maker.ensures h.0 h.1 h.2 h.4)) (subst (λ (x : Held). IsFree x.table place) joins c.enter_row-row.ensures.place) in
+    let free : IsFree a.table place =
+    free_before a.table maker.place (with_member c.args.group me) place (maker_within a h.0 h.2 c.args.slot h.1 h.4 maker (c.top_row-maker.ensures h.0 h.1 h.2 h.4))
+    (subst (λ (x : Held). IsFree x.table place) joins c.enter_row-row.ensures.place) in
     let next = next_placed a s is place in
     let its = c.top_entry.ensures.entry s n next.holds on_top in
     let maker_is : maker ≡ id_of next.holds.places n = c.top_row-maker.ensures s n next.holds on_top in
@@ -202,10 +211,13 @@ returns c = λ s n is settled on_top given fine steady.
     let e : OpenRow = spawned_entry a maker g me.job own slot c.args.frame in
     let b : Held = job_counted (entered (joined a own gc maker.place g me) place e) me.job no_job in
     let at : IsNext a place = is_next a s is place free in
-    let tag : region_of b.regions (next_id a place) ≡ tag_of s.rows next.holds.places n = new_tag a place e (omega (arith, at.within, at.regions)) ∙ ap (region_of a.regions) maker_is ∙ tag_there a s next.holds n opened in
+    let tag : region_of b.regions (next_id a place) ≡ tag_of s.rows next.holds.places n =
+    new_tag a place e (omega (arith, at.within, at.regions)) ∙ ap (region_of a.regions) maker_is ∙ tag_there a s next.holds n opened in
     let waiting_at : RowId → Option RowId → Waiting = λ r t. record { row = r; made_on = Some slot; region = t } in
     let new : c.wait.new.self ≡ put b (waiting_at (next_id a place) (tag_of s.rows next.holds.places n)) =
-    c.wait.ensures ∙ ap (λ (x : Held). put x (waiting_at c.enter_row-row.result (region_of x.regions c.enter_row-row.result))) counts ∙ ap (λ r. put b (waiting_at r (region_of b.regions r))) id ∙ ap (λ t. put b (waiting_at (next_id a place) t)) tag in
-    let made : RowId → ℕ → Held = λ m j. put (job_counted (entered (joined a own gc m.place g me) place (spawned_entry a m g j own slot c.args.frame)) j no_job) (waiting_at (next_id a place) (tag_of s.rows next.holds.places n)) in
+    c.wait.ensures ∙ ap (λ (x : Held). put x (waiting_at c.enter_row-row.result (region_of x.regions c.enter_row-row.result))) counts ∙ ap (λ r. put b (waiting_at r (region_of b.regions r))) id ∙
+    ap (λ t. put b (waiting_at (next_id a place) t)) tag in
+    let made : RowId → ℕ → Held = λ m j. put (job_counted (entered (joined a own gc m.place g me) place (spawned_entry a m g j own slot c.args.frame)) j no_job)
+    (waiting_at (next_id a place) (tag_of s.rows next.holds.places n)) in
     let new_is : c.wait.new.self ≡ made (id_of next.holds.places n) (row s.rows n).job = new ∙ ap (λ m. made m me.job) maker_is ∙ ap (made (id_of next.holds.places n)) its.1.job in
     rw new_is holds

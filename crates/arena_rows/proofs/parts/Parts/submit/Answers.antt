@@ -15,7 +15,9 @@ wait-requires c =
     let begun = c.begin-row.ensures.begun in
     let held = begun.held in
     let id = c.begin-row.ensures.row in
-    rw (held, id) (can_wait a rests.0 rests.1 place (job_begun a place c.args.job (stage.Waiting c.root_frame-frame.result) begun.context) (root_entry a (stage.Waiting c.root_frame-frame.result) begun.context) None c.begin-row.ensures.place c.requires.free refl refl (λ x none. absurd (some_none x (sym none))) refl (λ x none. absurd (some_none x (sym none))))
+    rw (held, id) (can_wait a rests.0 rests.1 place (job_begun a place c.args.job (stage.Waiting c.root_frame-frame.result) begun.context)
+    (root_entry a (stage.Waiting c.root_frame-frame.result) begun.context) None c.begin-row.ensures.place c.requires.free refl refl (λ x none. absurd (some_none x (sym none))) refl
+    (λ x none. absurd (some_none x (sym none))))
 
 pub returns : goal.returns
 returns c = λ s rests.
@@ -23,9 +25,12 @@ returns c = λ s rests.
     let place = c.begin-row.result.place in
     let begun = c.begin-row.ensures.begun in
     let frame = c.root_frame-frame.ensures in
-    let held : c.begin-row.new.self ≡ job_begun a place c.args.job (stage.Waiting (root_frame c.args.job)) begun.context = begun.held ∙ ap (λ f. job_begun a place c.args.job (stage.Waiting f) begun.context) frame in
+    let held : c.begin-row.new.self ≡ job_begun a place c.args.job (stage.Waiting (root_frame c.args.job)) begun.context =
+    begun.held ∙ ap (λ f. job_begun a place c.args.job (stage.Waiting f) begun.context) frame in
     let id = c.begin-row.ensures.row in
     let at = is_next a s rests.holds place c.begin-row.ensures.place in
-    let tag : region_of (job_begun a place c.args.job (stage.Waiting (root_frame c.args.job)) begun.context).regions (next_id a place) ≡ None = new_tag a place (root_entry a (stage.Waiting (root_frame c.args.job)) begun.context) (omega (arith, at.within, at.regions)) in
-    let new : c.wait.new.self ≡ put (job_begun a place c.args.job (stage.Waiting (root_frame c.args.job)) begun.context) (record { row = next_id a place; made_on = None; region = None }) = rw (held, id, tag) at c.wait.ensures in
+    let tag : region_of (job_begun a place c.args.job (stage.Waiting (root_frame c.args.job)) begun.context).regions (next_id a place) ≡ None =
+    new_tag a place (root_entry a (stage.Waiting (root_frame c.args.job)) begun.context) (omega (arith, at.within, at.regions)) in
+    let new : c.wait.new.self ≡ put (job_begun a place c.args.job (stage.Waiting (root_frame c.args.job)) begun.context) (record { row = next_id a place; made_on = None; region = None }) =
+    rw (held, id, tag) at c.wait.ensures in
     rw new (submitted_rests a s rests place c.args.job begun.context c.begin-row.ensures.place c.requires.free c.requires.jobs begun.free begun.within begun.count)

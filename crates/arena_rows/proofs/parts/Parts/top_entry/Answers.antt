@@ -28,7 +28,8 @@ entry_at-requires-clause-there c =
 pub returns : goal.returns
 returns c =
     let h = c.requires in
-    let entry_is : (s : State) (n : ℕ) (is : Holds c.args.self.now s) → top s.rows c.args.slot ≡ Some n → (at_place c.args.self.now.table (is.places n) ≡ Some c.entry_at.result.now) × IsRow s.rows is.places n c.entry_at.result.now = λ s n is on_top.
+    let entry_is : (s : State) (n : ℕ) (is : Holds c.args.self.now s) → top s.rows c.args.slot ≡ Some n →
+    (at_place c.args.self.now.table (is.places n) ≡ Some c.entry_at.result.now) × IsRow s.rows is.places n c.entry_at.result.now = λ s n is on_top.
     let stands = top_stands c.args.self.now s is c.args.slot n on_top in
     let told = top_told c.args.self.now s is c.args.slot n (option_copied c.top.result) c.in-Some.top.now on_top c.top.ensures (ap option_copied c.in-Some.is) in
     let entry : stands.entry ≡ c.entry_at.result.now = some_is stands.entry c.entry_at.result.now (sym stands.there ∙ rw told at c.entry_at.ensures) in

@@ -11,4 +11,5 @@ pub unreachable-requires : goal.unreachable-requires
 unreachable-requires c = top_not_none c.args.self.now c.args.slot (option_copied c.top.result) c.requires c.top.ensures (ap option_copied c.in_default.is)
 
 pub returns : goal.returns
-returns c = λ s n is on_top. ap (λ (x : Nested). x.row) (top_told c.args.self.now s is c.args.slot n (option_copied c.top.result) c.in-Some.top.now on_top c.top.ensures (ap option_copied c.in-Some.is))
+returns c = λ s n is on_top. ap (λ (x : Nested). x.row)
+    (top_told c.args.self.now s is c.args.slot n (option_copied c.top.result) c.in-Some.top.now on_top c.top.ensures (ap option_copied c.in-Some.is))

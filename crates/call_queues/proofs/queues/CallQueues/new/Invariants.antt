@@ -8,5 +8,6 @@ invariant-loop-number l = record {
   normal : l.first_normal ≡ record l.initial.first_normal { made = l.number };
   low : l.first_low ≡ record l.initial.first_low { made = l.number };
   count : length l.out.items + 1 ≡ l.number;
-  each : (k : ℕ) (d : PassSeen) → k < length l.out.items → slice_index_or l.out.items k d ≡ fresh (record { levels = three l.initial.first_high.queue l.initial.first_normal.queue l.initial.first_low.queue; passes = l.passes }) (k + 1);
+  each : (k : ℕ) (d : PassSeen) → k < length l.out.items →
+      slice_index_or l.out.items k d ≡ fresh (record { levels = three l.initial.first_high.queue l.initial.first_normal.queue l.initial.first_low.queue; passes = l.passes }) (k + 1);
 }

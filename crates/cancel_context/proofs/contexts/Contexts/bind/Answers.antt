@@ -42,15 +42,19 @@ invariant_of-self c =
     let free = ap (binding forest) c.at-context.ensures ∙ c.insert.ensures.free in
     let held = subst (λ (f : Forest). (q : ℕ) → parent ≡ Some q → IsHeld f q) (sym c.self.view_is) c.requires.parent in
     let bound : Binding = record { parent = parent; is_asked = false; is_orphan = false } in
-    let same : c.insert.new.self ≡ with_bound forest context parent = c.insert.ensures.put ∙ ap (λ i. slice_set forest i (Some (record { parent = parent; is_asked = false; is_orphan = false }))) (sym c.at-context.ensures) in
+    let same : c.insert.new.self ≡ with_bound forest context parent =
+    c.insert.ensures.put ∙ ap (λ i. slice_set forest i (Some (record { parent = parent; is_asked = false; is_orphan = false }))) (sym c.at-context.ensures) in
     let ordered = c.self.invariant.sound.ordered in
     let to : c.binding.inside.parent ≡ parent = ap (λ (b : Binding). b.parent) c.binding.view_is in
     let links = c.self.inside.below in
     let flagged = c.self.inside.flags in
     let joined_is : c.join.new.self ≡ joined links context parent = c.join.ensures ∙ ap (joined links context) to in
-    let started : c.start.new.self ≡ record { flags = slice_set flagged.flags context (option_map_or (flag flagged.flags) parent false); reached = flagged.reached } = c.start.ensures ∙ ap (λ (o : Option ℕ). record { flags = slice_set flagged.flags context (option_map_or (flag flagged.flags) o false); reached = flagged.reached }) to in
-    let linked = subst (λ (l : Links). IsLinked (with_bound forest context parent) l) (sym joined_is) (IsLinked-with_bound forest context parent links within free held ordered c.self.invariant.linked) in
-    let flags = subst (λ (f : Flagged). AreFlags (with_bound forest context parent) f.flags) (sym started) (AreFlags-with_bound forest context parent flagged.flags within free held ordered c.self.invariant.flags) in
+    let started : c.start.new.self ≡ record { flags = slice_set flagged.flags context (option_map_or (flag flagged.flags) parent false); reached = flagged.reached } =
+    c.start.ensures ∙ ap (λ (o : Option ℕ). record { flags = slice_set flagged.flags context (option_map_or (flag flagged.flags) o false); reached = flagged.reached }) to in
+    let linked = subst (λ (l : Links). IsLinked (with_bound forest context parent) l) (sym joined_is)
+    (IsLinked-with_bound forest context parent links within free held ordered c.self.invariant.linked) in
+    let flags = subst (λ (f : Flagged). AreFlags (with_bound forest context parent) f.flags) (sym started)
+    (AreFlags-with_bound forest context parent flagged.flags within free held ordered c.self.invariant.flags) in
     record {
       sound = IsSound-is c.insert.new.self (with_bound forest context parent) same (IsSound-with_bound forest context parent within free held c.self.invariant.sound);
       linked = subst (λ (f : Forest). IsLinked f c.join.new.self) (sym same) linked;
@@ -69,8 +73,10 @@ returns-clause-from_above c =
     let within : context < length forest = omega (arith, c.at-context.ensures, c.insert.ensures.place) in
     let free = ap (binding forest) c.at-context.ensures ∙ c.insert.ensures.free in
     let held = subst (λ (f : Forest). (q : ℕ) → parent ≡ Some q → IsHeld f q) (sym c.self.view_is) c.requires.parent in
-    let same : c.insert.new.self ≡ with_bound forest context parent = c.insert.ensures.put ∙ ap (λ i. slice_set forest i (Some (record { parent = parent; is_asked = false; is_orphan = false }))) (sym c.at-context.ensures) in
-    is_cancelled-is c.insert.new.self (with_bound forest context parent) context same ∙ is_cancelled-with_bound forest context parent within free held c.self.invariant.sound.ordered ∙ ap (λ (f : Forest). option_map_or (is_cancelled f) parent false) c.self.view_is
+    let same : c.insert.new.self ≡ with_bound forest context parent =
+    c.insert.ensures.put ∙ ap (λ i. slice_set forest i (Some (record { parent = parent; is_asked = false; is_orphan = false }))) (sym c.at-context.ensures) in
+    is_cancelled-is c.insert.new.self (with_bound forest context parent) context same ∙ is_cancelled-with_bound forest context parent within free held c.self.invariant.sound.ordered ∙
+    ap (λ (f : Forest). option_map_or (is_cancelled f) parent false) c.self.view_is
 
 pub returns-clause-others : goal.returns-clause-others
 returns-clause-others c d ne =
@@ -78,5 +84,7 @@ returns-clause-others c d ne =
     let context = c.at-context.result in
     let parent = c.args.parent in
     let free = ap (binding forest) c.at-context.ensures ∙ c.insert.ensures.free in
-    let same : c.insert.new.self ≡ with_bound forest context parent = c.insert.ensures.put ∙ ap (λ i. slice_set forest i (Some (record { parent = parent; is_asked = false; is_orphan = false }))) (sym c.at-context.ensures) in
-    is_cancelled-is c.insert.new.self (with_bound forest context parent) d same ∙ is_cancelled-with_bound_other forest context parent free c.self.invariant.sound.ordered d ne ∙ ap (λ (f : Forest). is_cancelled f d) c.self.view_is
+    let same : c.insert.new.self ≡ with_bound forest context parent =
+    c.insert.ensures.put ∙ ap (λ i. slice_set forest i (Some (record { parent = parent; is_asked = false; is_orphan = false }))) (sym c.at-context.ensures) in
+    is_cancelled-is c.insert.new.self (with_bound forest context parent) d same ∙ is_cancelled-with_bound_other forest context parent free c.self.invariant.sound.ordered d ne ∙
+    ap (λ (f : Forest). is_cancelled f d) c.self.view_is

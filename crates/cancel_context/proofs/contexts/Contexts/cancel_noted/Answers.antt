@@ -129,7 +129,8 @@ returns-then-first-clause-noted c d now before =
     let after = with_request forest context true in
     let same : asked ≡ after = c.request.ensures in
     let flagged = subst (λ (f : Forest). AreFlags f c.turn_noted.new.self.flags) same c.turn_noted.ensures.flags in
-    noted-all forest context flags held ordered c.self.invariant.flags c.turn_noted.new.self.flags c.turn_noted.new.turned.items flagged c.turn_noted.ensures.noted d (ap (λ f. is_cancelled f d) (sym same) ∙ now) (ap (λ f. is_cancelled f d) c.self.view_is ∙ before)
+    noted-all forest context flags held ordered c.self.invariant.flags c.turn_noted.new.self.flags c.turn_noted.new.turned.items flagged c.turn_noted.ensures.noted d
+    (ap (λ f. is_cancelled f d) (sym same) ∙ now) (ap (λ f. is_cancelled f d) c.self.view_is ∙ before)
 
 pub returns-else-first-clause-noted : goal.returns-else-first-clause-noted
 returns-else-first-clause-noted c d now before =
@@ -142,7 +143,8 @@ returns-else-first-clause-noted c d now before =
     let after = with_request forest context true in
     let same : asked ≡ after = c.request.ensures in
     let up : flag flags context ≡ true = sym c.get-first.ensures ∙ c.if-first.false in
-    noted-all forest context flags held ordered c.self.invariant.flags flags c.args.turned.now.items (noted-settles forest context flags held ordered c.self.invariant.flags up) (λ e. inl refl) d (ap (λ f. is_cancelled f d) (sym same) ∙ now) (ap (λ f. is_cancelled f d) c.self.view_is ∙ before)
+    noted-all forest context flags held ordered c.self.invariant.flags flags c.args.turned.now.items (noted-settles forest context flags held ordered c.self.invariant.flags up) (λ e. inl refl) d
+    (ap (λ f. is_cancelled f d) (sym same) ∙ now) (ap (λ f. is_cancelled f d) c.self.view_is ∙ before)
 
 pub returns-else-first-clause-cancelled : goal.returns-else-first-clause-cancelled
 returns-else-first-clause-cancelled c =
@@ -155,4 +157,5 @@ returns-else-first-clause-cancelled c =
     let after = with_request forest context true in
     let same : asked ≡ after = c.request.ensures in
     let up : flag flags context ≡ true = sym c.get-first.ensures ∙ c.if-first.false in
-    ap (λ f. is_cancelled f context) same ∙ sym ((noted-settles forest context flags held ordered c.self.invariant.flags up).says context (is_some-with_request forest context true held context ∙ held)) ∙ up
+    ap (λ f. is_cancelled f context) same ∙
+    sym ((noted-settles forest context flags held ordered c.self.invariant.flags up).says context (is_some-with_request forest context true held context ∙ held)) ∙ up

@@ -21,7 +21,11 @@ invariant_of-result c =
     let flagged : Flagged = c.in_ok-new-3.field-0 in
     let empty : forest ≡ replicate (256 + 5 * c.args.rows) None = c.in_ok-new.ensures in
     let few : length forest ≤ 2 ^ 16 = omega (arith, c.requires, ap length empty, length-replicate {A = Option Binding} (256 + 5 * c.args.rows) None) in
-    let linked : IsLinked forest links = subst (λ (f : Forest). IsLinked f links) (sym empty) (subst (λ (l : Links). IsLinked (replicate (256 + 5 * c.args.rows) None) l) (sym c.in_ok-new-2.ensures) (IsLinked-replicate (256 + 5 * c.args.rows))) in
+    let linked : IsLinked forest links =
+    subst (λ (f : Forest). IsLinked f links) (sym empty)
+    (subst (λ (l : Links). IsLinked (replicate (256 + 5 * c.args.rows) None) l) (sym c.in_ok-new-2.ensures) (IsLinked-replicate (256 + 5 * c.args.rows))) in
     let none : flagged ≡ record { flags = replicate (256 + 5 * c.args.rows) false; reached = [] } = c.in_ok-new-3.ensures in
-    let flags : AreFlags forest flagged.flags = subst (λ (f : Forest). AreFlags f flagged.flags) (sym empty) (subst (λ (f : Flagged). AreFlags (replicate (256 + 5 * c.args.rows) None) f.flags) (sym none) (AreFlags-replicate (256 + 5 * c.args.rows))) in
+    let flags : AreFlags forest flagged.flags =
+    subst (λ (f : Forest). AreFlags f flagged.flags) (sym empty)
+    (subst (λ (f : Flagged). AreFlags (replicate (256 + 5 * c.args.rows) None) f.flags) (sym none) (AreFlags-replicate (256 + 5 * c.args.rows))) in
     record { sound = record { few = few; ordered = ordered-replicate forest (256 + 5 * c.args.rows) empty }; linked = linked; flags = flags; settled = ap (λ (f : Flagged). f.reached) none }

@@ -48,7 +48,8 @@ invariant_of-self c =
     let held : IsHeld forest context = subst (λ f. IsHeld f context) (sym c.self.view_is) c.requires.held in
     let is : c.parent_of-parent.result ≡ parent forest context = c.parent_of-parent.ensures in
     let after : Forest = c.remove.new.self in
-    let same : after ≡ without forest context = c.remove.ensures.rest ∙ ap (λ (f : Forest). slice_set f c.index.result None) c.orphan.ensures ∙ ap (λ i. slice_set (map (without_parent context) forest) i None) c.index.ensures in
+    let same : after ≡ without forest context =
+    c.remove.ensures.rest ∙ ap (λ (f : Forest). slice_set f c.index.result None) c.orphan.ensures ∙ ap (λ i. slice_set (map (without_parent context) forest) i None) c.index.ensures in
     let ends = subst (λ (f : Forest). (e : ℕ) → parent f e ≡ Some context → is_cancelled f context ≡ true) (sym c.self.view_is) c.requires.ends in
     let links = c.self.inside.below in
     let flags = c.self.inside.flags.flags in
@@ -68,7 +69,8 @@ returns-clause-forest c =
     let context = c.args.context in
     let held : IsHeld forest context = subst (λ f. IsHeld f context) (sym c.self.view_is) c.requires.held in
     let after : Forest = c.remove.new.self in
-    let same : after ≡ without forest context = c.remove.ensures.rest ∙ ap (λ (f : Forest). slice_set f c.index.result None) c.orphan.ensures ∙ ap (λ i. slice_set (map (without_parent context) forest) i None) c.index.ensures in
+    let same : after ≡ without forest context =
+    c.remove.ensures.rest ∙ ap (λ (f : Forest). slice_set f c.index.result None) c.orphan.ensures ∙ ap (λ i. slice_set (map (without_parent context) forest) i None) c.index.ensures in
     let sound = IsSound-is after (without forest context) same (IsSound-without forest context held c.self.invariant.sound) in
     IsForest-ordered after sound.ordered
 
@@ -78,7 +80,8 @@ returns-clause-others c d ne =
     let context = c.args.context in
     let held : IsHeld forest context = subst (λ f. IsHeld f context) (sym c.self.view_is) c.requires.held in
     let after : Forest = c.remove.new.self in
-    let same : after ≡ without forest context = c.remove.ensures.rest ∙ ap (λ (f : Forest). slice_set f c.index.result None) c.orphan.ensures ∙ ap (λ i. slice_set (map (without_parent context) forest) i None) c.index.ensures in
+    let same : after ≡ without forest context =
+    c.remove.ensures.rest ∙ ap (λ (f : Forest). slice_set f c.index.result None) c.orphan.ensures ∙ ap (λ i. slice_set (map (without_parent context) forest) i None) c.index.ensures in
     let ends = subst (λ (f : Forest). (e : ℕ) → parent f e ≡ Some context → is_cancelled f context ≡ true) (sym c.self.view_is) c.requires.ends in
     is_cancelled-is after (without forest context) d same ∙ is_cancelled-without forest context held c.self.invariant.sound.ordered ends d ne ∙ ap (λ (f : Forest). is_cancelled f d) c.self.view_is
 
@@ -88,5 +91,6 @@ returns-clause-count c =
     let context = c.args.context in
     let held : IsHeld forest context = subst (λ f. IsHeld f context) (sym c.self.view_is) c.requires.held in
     let after : Forest = c.remove.new.self in
-    let same : after ≡ without forest context = c.remove.ensures.rest ∙ ap (λ (f : Forest). slice_set f c.index.result None) c.orphan.ensures ∙ ap (λ i. slice_set (map (without_parent context) forest) i None) c.index.ensures in
+    let same : after ≡ without forest context =
+    c.remove.ensures.rest ∙ ap (λ (f : Forest). slice_set f c.index.result None) c.orphan.ensures ∙ ap (λ i. slice_set (map (without_parent context) forest) i None) c.index.ensures in
     held_count-is after (without forest context) same ∙ held_count-without forest context held ∙ ap held_count c.self.view_is

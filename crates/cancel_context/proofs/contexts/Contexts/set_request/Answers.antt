@@ -53,9 +53,11 @@ turn-requires-clause-spreads c =
     let after = with_request forest context c.args.is_asked in
     let same : asked ≡ after = c.request.ensures in
     let slot : option_copied c.get.result ≡ binding after context = c.get.ensures ∙ ap (λ (f : Forest). binding f c.index.result) same ∙ ap (binding after) c.index.ensures in
-    let follows : value ≡ (asks_in (binding after context) || option_map_or (flag flags) (parent after context) false) = c.follows-is_cancelled.ensures ∙ ap (λ o. asks_in o || option_map_or (flag flags) (parent_in o) false) slot in
+    let follows : value ≡ (asks_in (binding after context) || option_map_or (flag flags) (parent after context) false) =
+    c.follows-is_cancelled.ensures ∙ ap (λ o. asks_in o || option_map_or (flag flags) (parent_in o) false) slot in
     let differ : differs value (flag flags context) ≡ true = ap (differs value) (sym c.get-2.ensures) ∙ unequal-differs value c.get-2.result c.if-get-is_cancelled.true in
-    subst (λ (f : Forest). IsSpreading f (slice_set flags context value) (context ∷ []) [] value) (sym same) (request-spreads forest context c.args.is_asked flags value held c.self.invariant.sound.ordered c.self.invariant.flags follows differ)
+    subst (λ (f : Forest). IsSpreading f (slice_set flags context value) (context ∷ []) [] value) (sym same)
+    (request-spreads forest context c.args.is_asked flags value held c.self.invariant.sound.ordered c.self.invariant.flags follows differ)
 
 pub invariant_of-self : goal.invariant_of-self
 invariant_of-self c =
@@ -83,8 +85,10 @@ invariant_of-self-else-get-is_cancelled c =
     let after = with_request forest context c.args.is_asked in
     let same : asked ≡ after = c.request.ensures in
     let slot : option_copied c.get.result ≡ binding after context = c.get.ensures ∙ ap (λ (f : Forest). binding f c.index.result) same ∙ ap (binding after) c.index.ensures in
-    let follows : value ≡ (asks_in (binding after context) || option_map_or (flag flags) (parent after context) false) = c.follows-is_cancelled.ensures ∙ ap (λ o. asks_in o || option_map_or (flag flags) (parent_in o) false) slot in
-    let settles = request-settles forest context c.args.is_asked flags value held c.self.invariant.sound.ordered c.self.invariant.flags follows (sym c.get-2.ensures ∙ not_unequal value c.get-2.result c.if-get-is_cancelled.false) in
+    let follows : value ≡ (asks_in (binding after context) || option_map_or (flag flags) (parent after context) false) =
+    c.follows-is_cancelled.ensures ∙ ap (λ o. asks_in o || option_map_or (flag flags) (parent_in o) false) slot in
+    let settles = request-settles forest context c.args.is_asked flags value held c.self.invariant.sound.ordered c.self.invariant.flags follows
+    (sym c.get-2.ensures ∙ not_unequal value c.get-2.result c.if-get-is_cancelled.false) in
     record {
       sound = IsSound-is asked after same (IsSound-with_request forest context c.args.is_asked held c.self.invariant.sound);
       linked = subst (λ (f : Forest). IsLinked f c.self.inside.below) (sym same) (IsLinked-with_request forest context c.args.is_asked c.self.inside.below held c.self.invariant.linked);

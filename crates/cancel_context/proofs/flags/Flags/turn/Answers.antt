@@ -15,6 +15,7 @@ pub returns-clause-flags : goal.returns-clause-flags
 returns-clause-flags c =
     let forest = c.args.bindings.now in
     let inside = c.self-in-loop-parent.inside in
-    let spreads : IsSpreading forest inside.is_cancelled.items inside.reached.items [] c.args.is_cancelled = subst (λ (f : Flagged). IsSpreading forest f.flags f.reached [] c.args.is_cancelled) (sym c.self-in-loop-parent.view_is) c.loop-parent.invariant in
+    let spreads : IsSpreading forest inside.is_cancelled.items inside.reached.items [] c.args.is_cancelled =
+    subst (λ (f : Flagged). IsSpreading forest f.flags f.reached [] c.args.is_cancelled) (sym c.self-in-loop-parent.view_is) c.loop-parent.invariant in
     let none : inside.reached.items ≡ [] = nil_from_length inside.reached.items (omega (arith, c.in_default.ensures.cases.0, inside.reached.ok)) in
     spreading-end forest inside.is_cancelled.items inside.reached.items c.args.is_cancelled c.requires.forest none spreads

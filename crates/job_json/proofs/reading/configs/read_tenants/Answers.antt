@@ -15,4 +15,5 @@ loop-value-preserved c =
     let value = c.value-item.result in
     let front = c.loop-value.tenants.items in
     let here : drop i values ≡ value ∷ drop (i + 1) values = drop_more values i value c.loop-value-test.true ∙ ap (λ v. v ∷ drop (i + 1) values) (sym c.value-item.is) in
-    rw c.in_ok-push.ensures.items (with_front-next front (tenant_of (view value)) c.in_ok-read_tenant.field-0 (tenants_of (map view (drop (i + 1) values))) Head (some_from_ok _ _ _ c.in_ok-read_tenant.ensures) ∙ ap (λ vs. with_front front (ok_or (tenants_of (map view vs)) Head)) (sym here) ∙ c.loop-value.invariant)
+    rw c.in_ok-push.ensures.items (with_front-next front (tenant_of (view value)) c.in_ok-read_tenant.field-0 (tenants_of (map view (drop (i + 1) values))) Head
+    (some_from_ok _ _ _ c.in_ok-read_tenant.ensures) ∙ ap (λ vs. with_front front (ok_or (tenants_of (map view vs)) Head)) (sym here) ∙ c.loop-value.invariant)

@@ -31,9 +31,11 @@ invariant_of-self-2 c =
     let call = c.in_ok-call.call in
     let some = c.pop.ensures.call m ∙ ap (leaving (holding m c.pop.new.self)) c.in_ok-call.was in
     let there = pop_there m call (holding m c.pop.new.self) some c.self.invariant.0 in
-    let held = both_set c.self.inside.levels.items c.self.inside.slots.items c.pop.new.self c.self.inside.workers.items c.args.worker call (slot.Held c.args.worker) (worker.Holds call) c.index_mut.result.now c.set.new.self c.index_mut.ensures.value there.0 c.set.ensures in
+    let held = both_set c.self.inside.levels.items c.self.inside.slots.items c.pop.new.self c.self.inside.workers.items c.args.worker call (slot.Held c.args.worker) (worker.Holds call)
+    c.index_mut.result.now c.set.new.self c.index_mut.ensures.value there.0 c.set.ensures in
     let is = held ∙ sym (ap (λ (p : Option Call × Market). p.1) (pop_some m c.args.worker call (holding m c.pop.new.self) some)) in
-    pop_kept m _ c.self.inside.waiting c.pop.new.self c.args.worker (subst (λ (n : Market). is_free (worker_at n c.args.worker) ≡ true) (sym c.self.view_is) c.requires) is c.pop.ensures.room c.self.invariant
+    pop_kept m _ c.self.inside.waiting c.pop.new.self c.args.worker (subst (λ (n : Market). is_free (worker_at n c.args.worker) ≡ true) (sym c.self.view_is) c.requires) is c.pop.ensures.room
+    c.self.invariant
 
 pub returns-clause-call : goal.returns-clause-call
 returns-clause-call c =

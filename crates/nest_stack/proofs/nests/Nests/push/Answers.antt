@@ -17,10 +17,12 @@ pub invariant_of-self : goal.invariant_of-self
 invariant_of-self c =
     let i = c.self.inside in
     let r = c.insert_reserved-top in
-    push-held i.nodes i.stacks.items c.args.self.now c.self.view_is c.self.invariant c.args.slot c.requires.slot c.requires.height c.index-stack.result.now c.index-stack.ensures _ r.result r.ensures.was_vacant r.new.self r.ensures.updates r.ensures.len r.ensures.capacity
+    push-held i.nodes i.stacks.items c.args.self.now c.self.view_is c.self.invariant c.args.slot c.requires.slot c.requires.height c.index-stack.result.now c.index-stack.ensures _ r.result
+    r.ensures.was_vacant r.new.self r.ensures.updates r.ensures.len r.ensures.capacity
 
 pub returns : goal.returns
 returns c =
     let i = c.self.inside in
     let r = c.insert_reserved-top in
-    push-seen i.nodes i.stacks.items c.args.self.now c.self.view_is c.self.invariant c.args.slot c.requires.slot c.requires.height c.index-stack.result.now c.index-stack.ensures _ r.result r.ensures.was_vacant r.new.self r.ensures.updates r.ensures.len r.ensures.capacity
+    push-seen i.nodes i.stacks.items c.args.self.now c.self.view_is c.self.invariant c.args.slot c.requires.slot c.requires.height c.index-stack.result.now c.index-stack.ensures _ r.result
+    r.ensures.was_vacant r.new.self r.ensures.updates r.ensures.len r.ensures.capacity

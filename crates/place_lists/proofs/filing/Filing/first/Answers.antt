@@ -6,7 +6,8 @@ use Rattle.place_lists.proofs.Filed.{first-in, first-none}
 use Rattle.place_lists.proofs.filing.Filing.first.Goals as goal
 
 pub returns-clause-none : goal.returns-clause-none
-returns-clause-none c none p here = first-none (list_in c.self.inside.lists c.args.list) p (sym c.first.ensures ∙ none) (c.self.invariant.0.held c.args.list p (ap (λ (f : Filing). filed_in f p) c.self.view_is ∙ here))
+returns-clause-none c none p here =
+    first-none (list_in c.self.inside.lists c.args.list) p (sym c.first.ensures ∙ none) (c.self.invariant.0.held c.args.list p (ap (λ (f : Filing). filed_in f p) c.self.view_is ∙ here))
 
 if_some : (o : Option ℕ) (P : ℕ → Type 0) → ((p : ℕ) → o ≡ Some p → P p) → IfSome o P
 if_some None P each = tt

@@ -71,12 +71,23 @@ invariant_of-self c =
     let entered = subst (λ (pool : Ready). All (λ (v : Waiting). IsRegionEntered c.args.regions.now v.region) pool.rows) (sym c.self.view_is) c.requires.regions in
     let a : AreJoined (Some 0) position i.all c.join.new.lists = record { joined = c.join.ensures.joined; count = c.join.ensures.count; places = c.join.ensures.places } in
     let s : AreJoined c.args.made_on position i.by_slot c.join-2.new.lists = record { joined = c.join-2.ensures.joined; count = c.join-2.ensures.count; places = c.join-2.ensures.places } in
-    let r : AreJoined c.place_of-region_place.result position i.by_region c.join-3.new.lists = record { joined = c.join-3.ensures.joined; count = c.join-3.ensures.count; places = c.join-3.ensures.places } in
+    let r : AreJoined c.place_of-region_place.result position i.by_region c.join-3.new.lists =
+    record { joined = c.join-3.ensures.joined; count = c.join-3.ensures.count; places = c.join-3.ensures.places } in
     let b : AreJoined c.number_of-both.result position i.by_both c.join-4.new.lists = record { joined = c.join-4.ensures.joined; count = c.join-4.ensures.count; places = c.join-4.ensures.places } in
-    let number : c.number_of-both.result ≡ number_of i.slots c.args.made_on (place_of c.args.region) = c.number_of-both.ensures ∙ ap (number_of i.slots c.args.made_on) c.place_of-region_place.ensures in
-    let after : PoolParts = record { slots = i.slots; nodes = put.new.self; positions = slice_set i.positions.items c.args.row.place position; all = c.join.new.lists; by_slot = c.join-2.new.lists; by_region = c.join-3.new.lists; by_both = c.join-4.new.lists } in
+    let number : c.number_of-both.result ≡ number_of i.slots c.args.made_on (place_of c.args.region) =
+    c.number_of-both.ensures ∙ ap (number_of i.slots c.args.made_on) c.place_of-region_place.ensures in
+    let after : PoolParts = record {
+      slots = i.slots;
+      nodes = put.new.self;
+      positions = slice_set i.positions.items c.args.row.place position;
+      all = c.join.new.lists;
+      by_slot = c.join-2.new.lists;
+      by_region = c.join-3.new.lists;
+      by_both = c.join-4.new.lists;
+    } in
     let kept : HoldsRows (length i.positions.items) after (rows ++ w ∷ []) =
-    held-put (length i.positions.items) held rows c.self.invariant w newest there free (AreAlike-entered c.args.regions.now rows w entered c.requires.region) position put.new.self put.ensures.was_vacant put.ensures.updates put.ensures.len put.ensures.capacity c.join.new.lists c.join-2.new.lists c.join-3.new.lists c.join-4.new.lists a s
+    held-put (length i.positions.items) held rows c.self.invariant w newest there free (AreAlike-entered c.args.regions.now rows w entered c.requires.region) position put.new.self
+    put.ensures.was_vacant put.ensures.updates put.ensures.len put.ensures.capacity c.join.new.lists c.join-2.new.lists c.join-3.new.lists c.join-4.new.lists a s
     (subst (λ o. AreJoined o position i.by_region c.join-3.new.lists) c.place_of-region_place.ensures r)
     (subst (λ o. AreJoined o position i.by_both c.join-4.new.lists) number b) in
     seen-held (length i.positions.items) after (rows ++ w ∷ []) kept
@@ -95,13 +106,25 @@ returns c =
     let entered = subst (λ (pool : Ready). All (λ (v : Waiting). IsRegionEntered c.args.regions.now v.region) pool.rows) (sym c.self.view_is) c.requires.regions in
     let a : AreJoined (Some 0) position i.all c.join.new.lists = record { joined = c.join.ensures.joined; count = c.join.ensures.count; places = c.join.ensures.places } in
     let s : AreJoined c.args.made_on position i.by_slot c.join-2.new.lists = record { joined = c.join-2.ensures.joined; count = c.join-2.ensures.count; places = c.join-2.ensures.places } in
-    let r : AreJoined c.place_of-region_place.result position i.by_region c.join-3.new.lists = record { joined = c.join-3.ensures.joined; count = c.join-3.ensures.count; places = c.join-3.ensures.places } in
+    let r : AreJoined c.place_of-region_place.result position i.by_region c.join-3.new.lists =
+    record { joined = c.join-3.ensures.joined; count = c.join-3.ensures.count; places = c.join-3.ensures.places } in
     let b : AreJoined c.number_of-both.result position i.by_both c.join-4.new.lists = record { joined = c.join-4.ensures.joined; count = c.join-4.ensures.count; places = c.join-4.ensures.places } in
-    let number : c.number_of-both.result ≡ number_of i.slots c.args.made_on (place_of c.args.region) = c.number_of-both.ensures ∙ ap (number_of i.slots c.args.made_on) c.place_of-region_place.ensures in
-    let after : PoolParts = record { slots = i.slots; nodes = put.new.self; positions = slice_set i.positions.items c.args.row.place position; all = c.join.new.lists; by_slot = c.join-2.new.lists; by_region = c.join-3.new.lists; by_both = c.join-4.new.lists } in
+    let number : c.number_of-both.result ≡ number_of i.slots c.args.made_on (place_of c.args.region) =
+    c.number_of-both.ensures ∙ ap (number_of i.slots c.args.made_on) c.place_of-region_place.ensures in
+    let after : PoolParts = record {
+      slots = i.slots;
+      nodes = put.new.self;
+      positions = slice_set i.positions.items c.args.row.place position;
+      all = c.join.new.lists;
+      by_slot = c.join-2.new.lists;
+      by_region = c.join-3.new.lists;
+      by_both = c.join-4.new.lists;
+    } in
     let kept : HoldsRows (length i.positions.items) after (rows ++ w ∷ []) =
-    held-put (length i.positions.items) held rows c.self.invariant w newest there free (AreAlike-entered c.args.regions.now rows w entered c.requires.region) position put.new.self put.ensures.was_vacant put.ensures.updates put.ensures.len put.ensures.capacity c.join.new.lists c.join-2.new.lists c.join-3.new.lists c.join-4.new.lists a s
+    held-put (length i.positions.items) held rows c.self.invariant w newest there free (AreAlike-entered c.args.regions.now rows w entered c.requires.region) position put.new.self
+    put.ensures.was_vacant put.ensures.updates put.ensures.len put.ensures.capacity c.join.new.lists c.join-2.new.lists c.join-3.new.lists c.join-4.new.lists a s
     (subst (λ o. AreJoined o position i.by_region c.join-3.new.lists) c.place_of-region_place.ensures r)
     (subst (λ o. AreJoined o position i.by_both c.join-4.new.lists) number b) in
     let ready : ℕ → List Waiting → Ready = λ limit all. record { isolation = i.isolation; limit = limit; slots = i.slots; rows = all } in
-    ap (λ n. ready n (rows_of after.nodes.slots after.all)) (length-set i.positions.items c.args.row.place position) ∙ ap (ready (length i.positions.items)) (rows_of-is (length i.positions.items) after (rows ++ w ∷ []) kept) ∙ ap (λ (pool : Ready). with_row pool w) c.self.view_is
+    ap (λ n. ready n (rows_of after.nodes.slots after.all)) (length-set i.positions.items c.args.row.place position) ∙
+    ap (ready (length i.positions.items)) (rows_of-is (length i.positions.items) after (rows ++ w ∷ []) kept) ∙ ap (λ (pool : Ready). with_row pool w) c.self.view_is

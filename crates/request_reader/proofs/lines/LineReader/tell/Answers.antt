@@ -5,7 +5,13 @@ use Rattle.request_reader.proofs.lines.LineReader.tell.Goals as goal
 pub returns-then-is_long-clause-finds : goal.returns-then-is_long-clause-finds
 returns-then-is_long-clause-finds c = (
   Tells-too_long c.args.self.now _ c.args.place
-      (record { limit = ap (λ r. r.limit) c.self.view_is; turns = ap (λ r. r.turns) c.self.view_is; not_ended = c.requires.not_ended; goes_on = ap (λ r. r.is_ended) c.self.view_is ∙ c.requires.not_ended })
+      (record {
+        limit = ap (λ r. r.limit) c.self.view_is;
+        turns = ap (λ r. r.turns) c.self.view_is;
+        not_ended = c.requires.not_ended;
+        goes_on =
+            ap (λ r. r.is_ended) c.self.view_is ∙ c.requires.not_ended;
+      })
       c.requires.place refl
       (ap (λ w. w.held) c.cut.ensures ∙ ap (λ r. drop (c.args.place + 1) r.held) c.self.view_is)
       (sym c.is_long-is_long.ensures ∙ c.if-is_long.true),
@@ -19,7 +25,13 @@ returns-else-is_long-clause-finds c =
     let short = sym c.is_long-is_long.ensures ∙ c.if-is_long.false in
     rw line (
       Tells-whole c.args.self.now _ c.args.place
-          (record { limit = ap (λ r. r.limit) c.self.view_is; turns = ap (λ r. r.turns) c.self.view_is; not_ended = c.requires.not_ended; goes_on = ap (λ r. r.is_ended) c.self.view_is ∙ c.requires.not_ended })
+          (record {
+            limit = ap (λ r. r.limit) c.self.view_is;
+            turns = ap (λ r. r.turns) c.self.view_is;
+            not_ended = c.requires.not_ended;
+            goes_on =
+                ap (λ r. r.is_ended) c.self.view_is ∙ c.requires.not_ended;
+          })
           c.requires.place refl
           (ap (λ w. w.held) c.cut-else-is_long.ensures ∙ ap (λ r. drop (c.args.place + 1) r.held) c.self.view_is)
           short,

@@ -18,8 +18,11 @@ returns-then-was_within_long-clause-finds c =
 pub returns-then-len-gt0-clause-finds : goal.returns-then-len-gt0-clause-finds
 returns-then-len-gt0-clause-finds c =
     let held = c.held-len.ensures.value ∙ ap (λ r. r.held) c.self.view_is in
-    let none : c.cut-then-len-gt0.new.self.held ≡ [] = ap (λ w. w.held) c.cut-then-len-gt0.ensures ∙ drop_all (length c.held-len.result.now) c.self.inside.window.held (omega (arith, ap length c.held-len.ensures.value)) in
-    let line : c.cut-then-len-gt0.new.self.line ≡ c.args.self.now.held = ap (λ w. w.line) c.cut-then-len-gt0.ensures ∙ take_all (length c.held-len.result.now) c.self.inside.window.held (omega (arith, ap length c.held-len.ensures.value)) ∙ ap (λ r. r.held) c.self.view_is in
+    let none : c.cut-then-len-gt0.new.self.held ≡ [] =
+    ap (λ w. w.held) c.cut-then-len-gt0.ensures ∙ drop_all (length c.held-len.result.now) c.self.inside.window.held (omega (arith, ap length c.held-len.ensures.value)) in
+    let line : c.cut-then-len-gt0.new.self.line ≡ c.args.self.now.held =
+    ap (λ w. w.line) c.cut-then-len-gt0.ensures ∙ take_all (length c.held-len.result.now) c.self.inside.window.held (omega (arith, ap length c.held-len.ensures.value)) ∙
+    ap (λ r. r.held) c.self.view_is in
     let some : 0 < length c.args.self.now.held = omega (arith, c.if-len-gt0.true, ap length held) in
     record {
       finds = rw line (

@@ -15,7 +15,13 @@ loop-tenant-preserved c =
     let seat = c.in-Some.seat in
     let last : seat.tenant ≡ length own = c.in-Some.ensures.tenant ∙ sym so_far.0 in
     let long = length-append own (seat ∷ []) in
-    rw c.push_reserved.ensures.items (omega (arith, long, so_far.0), numbered_more (λ (s : SeatData). s.tenant) own seat so_far.1 last, All-push IsFresh own seat so_far.2 c.in-Some.ensures.fresh, IsPermutation-pop_more _ own _ _ seat so_far.3 c.in-Some.ensures.left, omega (arith, so_far.4, c.push_reserved.ensures.capacity))
+    rw c.push_reserved.ensures.items (
+      omega (arith, long, so_far.0),
+      numbered_more (λ (s : SeatData). s.tenant) own seat so_far.1 last,
+      All-push IsFresh own seat so_far.2 c.in-Some.ensures.fresh,
+      IsPermutation-pop_more _ own _ _ seat so_far.3 c.in-Some.ensures.left,
+      omega (arith, so_far.4, c.push_reserved.ensures.capacity),
+    )
 
 pub returns-in_default-clause-lacks : goal.returns-in_default-clause-lacks
 returns-in_default-clause-lacks c =

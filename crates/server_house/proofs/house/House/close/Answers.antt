@@ -16,7 +16,8 @@ loop-door-preserved g c =
     let door = c.in-Some.door in
     let yielded = c.loop-door.yielded in
     let left = c.loop-door.left.items in
-    let turn = YieldsList-turn (YieldsList-from_vec {s = c.into_iter-door-iterator.result} c.into_doors-doors.result.items (search rules) (search rules)) yielded c.loop-door.door-iterator c.loop-door.yielded_by c.next.result c.next.new.self door c.in-Some.is c.next.ensures.steps in
+    let turn = YieldsList-turn (YieldsList-from_vec {s = c.into_iter-door-iterator.result} c.into_doors-doors.result.items (search rules) (search rules)) yielded c.loop-door.door-iterator
+    c.loop-door.yielded_by c.next.result c.next.new.self door c.in-Some.is c.next.ensures.steps in
     let number : door.tenant ≡ length yielded = ap (λ (d : DoorData). d.tenant) turn.1 ∙ c.into_doors-doors.ensures.numbers (length yielded) door turn.0 in
     let own : c.in_ok-own.field-0.own.items ≡ filter (is_of door.tenant) seats =
     c.in_ok-own.ensures.own ∙ ap (λ t. filter (is_of t) left) c.tenant.ensures ∙ so_far.left door.tenant (omega (arith, number)) in

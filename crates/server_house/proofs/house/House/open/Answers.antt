@@ -21,7 +21,8 @@ invariant_of-house g c =
       doors = numbered_plain own (subst AreNumbered (sym doors) (λ k d low. let it = numbered_from c.from.result 0 tenants k d low in omega (arith, it)));
       tenants = valid_plain own (subst (All (λ (d : DoorData). IsValidTenant d.config)) (sym doors) (valid_from c.from.result 0 tenants c.tenants-tenants.ensures.valid.each));
       names = c.in_ok-names.ensures ∙ ap names_of c.tenants-tenants.ensures.value ∙ sym (names_plain own ∙ ap (map (λ (d : DoorData). d.config.name)) doors ∙ names_from c.from.result 0 tenants);
-      levels = ap length c.in_ok-queues.ensures.queues.0 ∙ ap length c.in_ok-market.ensures ∙ length-map tenants _ ∙ sym (sym (length-map own plain) ∙ ap length doors ∙ length_doors c.from.result 0 tenants);
+      levels = ap length c.in_ok-queues.ensures.queues.0 ∙ ap length c.in_ok-market.ensures ∙ length-map tenants _ ∙
+          sym (sym (length-map own plain) ∙ ap length doors ∙ length_doors c.from.result 0 tenants);
       market = c.in_ok-queues.ensures.queues.0 ∙ c.in_ok-market.ensures ∙ sym (market_plain own ∙ ap (map (λ (d : DoorData). market_tenant d.config)) doors ∙ market_from c.from.result 0 tenants);
     }
 

@@ -11,7 +11,8 @@ invariant_of-client g c =
     let told = c.ask_there-place.result.1 in
     let same = c.deref.ensures in
     let h = c.self.inside in
-    let is : IsPlace (arc_value h.house) place.pass place.fronts.items place.seats.items = subst (λ (s : SharedSeen). IsPlace s place.pass place.fronts.items place.seats.items) same c.ask_there-place.ensures.place in
+    let is : IsPlace (arc_value h.house) place.pass place.fronts.items place.seats.items =
+    subst (λ (s : SharedSeen). IsPlace s place.pass place.fronts.items place.seats.items) same c.ask_there-place.ensures.place in
     record {
       post = record { pass = is.queues; fronts = is.fronts };
       seats = is.count;
@@ -20,6 +21,17 @@ invariant_of-client g c =
         client = before.client;
         begins = before.begins;
         count = suc before.count;
-        asks = (client_of (arc_value h.house) h.pass h.fronts.items h.seats.items, (before.asks, (c.args.request, told, subst (λ (s : SharedSeen). AsksThere (client_of s h.pass h.fronts.items h.seats.items) c.args.request told (client_of s place.pass place.fronts.items place.seats.items)) same c.ask_there-place.ensures.asks)));
+        asks = (
+          client_of (arc_value h.house) h.pass h.fronts.items h.seats.items,
+          (
+            before.asks,
+            (
+              c.args.request,
+              told,
+              subst (λ (s : SharedSeen). AsksThere (client_of s h.pass h.fronts.items h.seats.items) c.args.request told (client_of s place.pass place.fronts.items place.seats.items)) same
+                  c.ask_there-place.ensures.asks,
+            ),
+          ),
+        );
       };
     }

@@ -15,7 +15,8 @@ returns-in_default c =
     let r = c.ask_arena-reply.result in
     let none : placed_on r ≡ None = unplaced r c.in_default.not-Placed in
     record {
-      answered = asks_at d _ c.index_mut.result.now c.ask_arena-reply.new.arena within c.index_mut.ensures.value refl refl c.args.request r false (sym (ap (λ (o : Option ℕ). is_some o) none)) (sym (ap (λ (o : Option ℕ). unwrap_or o d.slot) none)) c.ask_arena-reply.ensures.takes;
+      answered = asks_at d _ c.index_mut.result.now c.ask_arena-reply.new.arena within c.index_mut.ensures.value refl refl c.args.request r false (sym (ap (λ (o : Option ℕ). is_some o) none))
+          (sym (ap (λ (o : Option ℕ). unwrap_or o d.slot) none)) c.ask_arena-reply.ensures.takes;
       pending = c.ask_arena-reply.ensures.pending;
     }
 

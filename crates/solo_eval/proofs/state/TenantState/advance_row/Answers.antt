@@ -12,7 +12,8 @@ returns-then-is_full-clause-ok c =
     let n = c.args.number in
     let r = c.run_private-run.result in
     let run : r ≡ run_on s c.args.slot n = rw (← c.job_of.ensures, ← c.config.ensures.value, ← c.row.ensures.value) c.run_private-run.ensures.run in
-    let moves : is_idle_wait s n r.count r.stop ≡ false = no_idle_wait s n r.count r.stop c.stops_blocked-is_blocked.result c.stops_blocked-is_blocked.ensures (λ waits none. elim c.else-is_blocked.branch [
+    let moves : is_idle_wait s n r.count r.stop ≡ false =
+    no_idle_wait s n r.count r.stop c.stops_blocked-is_blocked.result c.stops_blocked-is_blocked.ensures (λ waits none. elim c.else-is_blocked.branch [
       | else-is_blocked-via-then-is_blocked+else-run-eq0 v ↦ v.if-run-eq0.false none
       | else-is_blocked-via-else-is_blocked v ↦ absurd (grind (arith, waits, v.if-is_blocked.false))
     ]) in

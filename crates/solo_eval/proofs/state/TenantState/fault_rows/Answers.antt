@@ -11,5 +11,6 @@ invariant_of-self c =
     let s = shown c.self.inside in
     let f = faulted_row c.args.slot c.args.from in
     let rows = c.self.inside.rows in
-    let items : (with_items rows c.fault_rows.new.rows).items ≡ map f s.rows = with_items_is rows c.fault_rows.new.rows (omega arith) ∙ c.fault_rows.ensures ∙ ap (map f) c.as_mut_slice.ensures.value in
+    let items : (with_items rows c.fault_rows.new.rows).items ≡ map f s.rows =
+    with_items_is rows c.fault_rows.new.rows (omega arith) ∙ c.fault_rows.ensures ∙ ap (map f) c.as_mut_slice.ensures.value in
     IsLinked-same s _ (rw items (SameSources-map f s.rows (λ r. refl) (λ r. refl))) refl c.self.invariant.epoch c.self.invariant

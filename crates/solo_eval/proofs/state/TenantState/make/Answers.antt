@@ -14,7 +14,8 @@ returns-clause-ok c =
     let r = new_row c.args.made.kind (row s.rows n).job c.args.made.made_on c.args.made.frame c.args.made.phase in
     let f = c.args.frame in
     let limit : is_row_limit_met s ≡ false = sym c.is_row_limit_met.ensures ∙ c.if-is_row_limit_met.false in
-    let added : c.add_row.new.self ≡ add_row s r = c.in_ok-add_row.ensures.ok ∙ ap (λ (q : Row). add_row s (new_row c.args.made.kind q.job c.args.made.made_on c.args.made.frame c.args.made.phase)) c.row-job.ensures.value in
+    let added : c.add_row.new.self ≡ add_row s r =
+    c.in_ok-add_row.ensures.ok ∙ ap (λ (q : Row). add_row s (new_row c.args.made.kind q.job c.args.made.made_on c.args.made.frame c.args.made.phase)) c.row-job.ensures.value in
     let moved : c.set_frame.new.self ≡ add_row (with_frame (with_fuel_paid s n cost) n f) r =
     c.set_frame.ensures ∙ ap (λ u. with_frame u n f) (c.pay-2.ensures ∙ ap (λ u. with_fuel_paid u n cost) added) ∙ add_row-first s n cost r c.requires.row.to f in
     rw limit (ap (finish_step c.args.slot) (sym moved) ∙ c.finish_step.ensures)

@@ -3,7 +3,8 @@ use Rattle.tenant_model.proofs.Settling.{SettledUpTo-more, settle-from}
 use Rattle.solo_eval.proofs.state.TenantState.settle.Goals as goal
 
 pub loop-place-preserved : goal.loop-place-preserved
-loop-place-preserved c = rw c.settle_row.ensures (SettledUpTo-more c.args.self.now c.loop-place.self c.loop-place.place c.loop-place.invariant (omega (arith, ap length c.rows-place-end.ensures.value)))
+loop-place-preserved c = rw c.settle_row.ensures
+    (SettledUpTo-more c.args.self.now c.loop-place.self c.loop-place.place c.loop-place.invariant (omega (arith, ap length c.rows-place-end.ensures.value)))
 
 pub returns : goal.returns
 returns c =

@@ -17,7 +17,8 @@ returns-clause-refused g c = if_err c.close.result _ _ (λ fault is. record {
   cell = c.into_cell-cell.result;
   right = c.close.ensures.right;
   fault_is = subst (λ (d : DoorData). IsFault c.into_cell-cell.result c.args.seats.items d (Some fault)) c.self.view_is
-      (subst (λ (seats : List SeatData). IsFault c.into_cell-cell.result seats (door_of c.self.inside.first.life c.self.inside.tenant c.self.inside.config c.self.inside.seats) (Some fault)) c.as_slice.ensures.value is);
+      (subst (λ (seats : List SeatData). IsFault c.into_cell-cell.result seats (door_of c.self.inside.first.life c.self.inside.tenant c.self.inside.config c.self.inside.seats) (Some fault))
+      c.as_slice.ensures.value is);
 }) (c.close.ensures.refused c.self.inside.first.life)
 
 if_both : {T E : Type 0} (r : Result T E) (P Q S : T → Type 0) → ((t : T) → P t → Q t → S t) → IfOk r P → IfOk r Q → IfOk r S
@@ -30,7 +31,8 @@ returns-clause-closed g c = if_both c.close.result _ _ _ (λ closed agree histor
   right = c.close.ensures.right;
   history_is = history;
   agree = subst (λ (d : DoorData). Agree c.into_cell-cell.result c.args.seats.items d) c.self.view_is
-      (subst (λ (seats : List SeatData). Agree c.into_cell-cell.result seats (door_of c.self.inside.first.life c.self.inside.tenant c.self.inside.config c.self.inside.seats)) c.as_slice.ensures.value agree);
+      (subst (λ (seats : List SeatData). Agree c.into_cell-cell.result seats (door_of c.self.inside.first.life c.self.inside.tenant c.self.inside.config c.self.inside.seats)) c.as_slice.ensures.value
+      agree);
 }) (c.close.ensures.agree c.self.inside.first.life) c.close.ensures.history
 
 if_ok : {T E : Type 0} (r : Result T E) (P Q : T → Type 0) → ((t : T) → P t → Q t) → IfOk r P → IfOk r Q

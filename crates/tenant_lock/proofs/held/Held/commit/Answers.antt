@@ -9,7 +9,8 @@ invariant_of-self-2 g c =
       record {
         slots = search rules;
         jobs = told_open _ _ _ _ _ _ c.made.ensures.jobs;
-        attended = λ goes. c.commit-advanced.ensures.attended (search rules) (c.self.invariant.0.attended (goes_before h.is_stopped h.cell c.commit-advanced.new.self _ moved.history moved.config goes));
+        attended = λ goes. c.commit-advanced.ensures.attended (search rules)
+            (c.self.invariant.0.attended (goes_before h.is_stopped h.cell c.commit-advanced.new.self _ moved.history moved.config goes));
       },
       search rules,
     )

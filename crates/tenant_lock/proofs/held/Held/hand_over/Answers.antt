@@ -11,7 +11,8 @@ pub invariant_of-self : goal.invariant_of-self
 invariant_of-self g c =
     let h = c.self.inside in
     let is = c.hand_over-due.ensures in
-    let empty : must_stop (held_data h.whole.life h.cell h.is_stopped h.waiting h.awaited) ≡ false → height (state_of h.cell).rows c.args.pass.slot ≡ 0 = rw (← c.self.view_is) at c.requires.may.empty in (
+    let empty : must_stop (held_data h.whole.life h.cell h.is_stopped h.waiting h.awaited) ≡ false → height (state_of h.cell).rows c.args.pass.slot ≡ 0 =
+    rw (← c.self.view_is) at c.requires.may.empty in (
       record {
         slots = rw is.cell c.self.invariant.0.slots;
         jobs = rw is.cell c.self.invariant.0.jobs;

@@ -11,7 +11,8 @@ loop-front-preserved g c = λ k z low.
     let at = c.loop-front.front-index in
     elim (cases_eq k at) [
       | inl here ↦
-          let item : c.front-item.result ≡ slice_index_or fronts k z = c.front-item.is ∙ get_or_default fronts at c.front-item.result z c.loop-front-test.true ∙ ap (λ j. slice_index_or fronts j z) (sym here) in
+          let item : c.front-item.result ≡ slice_index_or fronts k z =
+          c.front-item.is ∙ get_or_default fronts at c.front-item.result z c.loop-front-test.true ∙ ap (λ j. slice_index_or fronts j z) (sym here) in
           subst (λ (f : FrontData). f.life ≡ c.args.self.now.life → BeginsIn f c.args.self.now.cell.history) item c.meet.ensures
       | inr other ↦ c.loop-front.invariant k z (omega (arith, low, other))
     ]

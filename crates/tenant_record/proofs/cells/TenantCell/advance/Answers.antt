@@ -22,7 +22,14 @@ invariant_of-self c =
     let m = c.advance-moved.result in
     let grown = c.advance-moved.ensures in
     let told = c.moved.ensures in
-    let d : CellData = record { tenant = i.tenant; config = c.advance-moved.new.self.config; history = c.advance-moved.new.self.history; askers = i.askers.items; home = c.moved.new.self.home.items; stills = c.moved.new.self.stills } in
+    let d : CellData = record {
+      tenant = i.tenant;
+      config = c.advance-moved.new.self.config;
+      history = c.advance-moved.new.self.history;
+      askers = i.askers.items;
+      home = c.moved.new.self.home.items;
+      stills = c.moved.new.self.stills;
+    } in
     let is : IsMoved old p m c.moved.result.due c.moved.result.pass d = record {
       history = rw (← c.slot.ensures) grown.history;
       tenant = refl;
@@ -47,7 +54,9 @@ invariant_of-self c =
     let idle = advance_idle c.has_room.result (state_of old) p.slot m answered in
     record {
       right = moved_right old d p m c.moved.result.due c.moved.result.pass valid c.self.invariant.right is grown.right takes tenant low (omega (arith, low, most, sixteen)) idle;
-      counts = rw (told.counts, is.history) (counts_by i.replay.history i.slots.counts p.slot (steps.Advance p.slot) (answer.Moved m) (is_entry (answer.Moved m)) refl c.self.invariant.counts (omega (arith, low, most, counts)) (λ o. refl));
+      counts = rw (told.counts, is.history)
+          (counts_by i.replay.history i.slots.counts p.slot (steps.Advance p.slot) (answer.Moved m) (is_entry (answer.Moved m)) refl c.self.invariant.counts (omega (arith, low, most, counts))
+          (λ o. refl));
       valid = rw grown.config valid;
       room = rw grown.config c.self.invariant.room;
     }
@@ -60,7 +69,14 @@ returns-clause-attended c =
     let m = c.advance-moved.result in
     let grown = c.advance-moved.ensures in
     let told = c.moved.ensures in
-    let d : CellData = record { tenant = i.tenant; config = c.advance-moved.new.self.config; history = c.advance-moved.new.self.history; askers = i.askers.items; home = c.moved.new.self.home.items; stills = c.moved.new.self.stills } in
+    let d : CellData = record {
+      tenant = i.tenant;
+      config = c.advance-moved.new.self.config;
+      history = c.advance-moved.new.self.history;
+      askers = i.askers.items;
+      home = c.moved.new.self.home.items;
+      stills = c.moved.new.self.stills;
+    } in
     let is : IsMoved old p m c.moved.result.due c.moved.result.pass d = record {
       history = rw (← c.slot.ensures) grown.history;
       tenant = refl;

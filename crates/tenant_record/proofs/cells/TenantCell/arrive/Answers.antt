@@ -28,7 +28,14 @@ invariant_of-self c =
     let m = c.arrive-came.result in
     let grown = c.arrive-came.ensures in
     let told = c.arrived.ensures in
-    let d : CellData = record { tenant = i.tenant; config = c.arrive-came.new.self.config; history = c.arrive-came.new.self.history; askers = i.askers.items; home = c.arrived.new.self.home.items; stills = c.arrived.new.self.stills } in
+    let d : CellData = record {
+      tenant = i.tenant;
+      config = c.arrive-came.new.self.config;
+      history = c.arrive-came.new.self.history;
+      askers = i.askers.items;
+      home = c.arrived.new.self.home.items;
+      stills = c.arrived.new.self.stills;
+    } in
     let is : IsArrived old c.args.slot m c.arrived.result.due c.arrived.result.pass d = record {
       history = grown.history;
       tenant = refl;
@@ -48,7 +55,9 @@ invariant_of-self c =
     let takes = arrive_taken c.in-Some.has_room (state_of old) c.args.slot m (state_of d) (well_formed i.replay.config i.replay.history valid) grown.answer grown.state in
     record {
       right = arrived_right old d c.args.slot m c.arrived.result.due c.arrived.result.pass valid c.self.invariant.right is grown.right takes (omega (arith, inside, most, places, sixteen));
-      counts = rw (told.counts, is.history) (counts_by i.replay.history i.slots.counts c.args.slot (steps.Arrive c.args.slot) (answer.Came m) (is_entry (answer.Came m)) refl c.self.invariant.counts (omega (arith, inside, most, places, counts)) (λ o. refl));
+      counts = rw (told.counts, is.history)
+          (counts_by i.replay.history i.slots.counts c.args.slot (steps.Arrive c.args.slot) (answer.Came m) (is_entry (answer.Came m)) refl c.self.invariant.counts
+          (omega (arith, inside, most, places, counts)) (λ o. refl));
       valid = rw grown.config valid;
       room = rw grown.config c.self.invariant.room;
     }
@@ -57,7 +66,8 @@ pub returns-clause-found : goal.returns-clause-found
 returns-clause-found c =
     let i = c.self.inside in
     let held : option_map has_room (pass_in (place i.slots.home.items c.args.slot)) ≡ Some c.in-Some.has_room = rw (← c.as_slice.ensures.value) (sym c.in-Some.ensures.room) in
-    rw (c.arrived.ensures.came, c.arrived.ensures.pass, ← c.self.view_is) (arrived_goes i.tenant c.args.slot c.arrive-came.result (place i.slots.home.items c.args.slot) c.in-Some.has_room held (c.self.invariant.right.places c.args.slot))
+    rw (c.arrived.ensures.came, c.arrived.ensures.pass, ← c.self.view_is)
+    (arrived_goes i.tenant c.args.slot c.arrive-came.result (place i.slots.home.items c.args.slot) c.in-Some.has_room held (c.self.invariant.right.places c.args.slot))
 
 pub returns-clause-attended : goal.returns-clause-attended
 returns-clause-attended c =
@@ -66,7 +76,14 @@ returns-clause-attended c =
     let m = c.arrive-came.result in
     let grown = c.arrive-came.ensures in
     let told = c.arrived.ensures in
-    let d : CellData = record { tenant = i.tenant; config = c.arrive-came.new.self.config; history = c.arrive-came.new.self.history; askers = i.askers.items; home = c.arrived.new.self.home.items; stills = c.arrived.new.self.stills } in
+    let d : CellData = record {
+      tenant = i.tenant;
+      config = c.arrive-came.new.self.config;
+      history = c.arrive-came.new.self.history;
+      askers = i.askers.items;
+      home = c.arrived.new.self.home.items;
+      stills = c.arrived.new.self.stills;
+    } in
     let is : IsArrived old c.args.slot m c.arrived.result.due c.arrived.result.pass d = record {
       history = grown.history;
       tenant = refl;

@@ -34,7 +34,15 @@ invariant_of-self c =
     let s : SeatData = c.tell.new.self in
     let grown = c.ask-reply.ensures in
     let told = c.asked-due.ensures in
-    let d : CellData = record { tenant = i.tenant; config = c.ask-reply.new.self.config; history = c.ask-reply.new.self.history; askers = c.note_asker.new.askers.items; home = c.asked-due.new.self.home.items; stills = c.asked-due.new.self.stills } in
+    let d : CellData = record {
+      tenant = i.tenant;
+      config = c.ask-reply.new.self.config;
+      history = c.ask-reply.new.self.history;
+      askers = c.note_asker.new.askers.items;
+      home =
+          c.asked-due.new.self.home.items;
+      stills = c.asked-due.new.self.stills;
+    } in
     let is : IsAsked old s r y c.asked-due.result.0 c.asked-due.result.1 d (asked s r y) = record {
       history = grown.history;
       tenant = refl;
@@ -53,7 +61,8 @@ invariant_of-self c =
     let sixteen : length i.slots.stills ≡ 16 = search rules in
     let takes = ask_taken c.has_room.result (state_of old) r y (state_of d) (well_formed i.replay.config i.replay.history valid) grown.answer grown.state in
     record {
-      right = asked_right old d s (asked s r y) r y c.asked-due.result.0 c.asked-due.result.1 valid c.self.invariant.right is grown.right takes (placed_low c.has_room.result (state_of old) r y (length i.slots.stills) grown.answer (omega (arith, reserved, most, config, sixteen)));
+      right = asked_right old d s (asked s r y) r y c.asked-due.result.0 c.asked-due.result.1 valid c.self.invariant.right is grown.right takes
+          (placed_low c.has_room.result (state_of old) r y (length i.slots.stills) grown.answer (omega (arith, reserved, most, config, sixteen)));
       counts = rw (told.counts, is.history) (counts_same i.replay.history i.slots.counts (steps.Ask r) (answer.Replied y) (is_recorded_reply y) refl c.self.invariant.counts (λ o. refl));
       valid = rw grown.config valid;
       room = rw (grown.config, c.note_asker.ensures.capacity) c.self.invariant.room;
@@ -64,7 +73,9 @@ returns-clause-placed c =
     let i = c.self.inside in
     let old : CellData = cell_data i in
     let right = c.self.invariant.right in
-    rw (c.asked-due.ensures.pass, ← c.self.view_is) (asked_goes i.tenant i.replay.config (state_of old) i.slots.home.items right.history.config right.home right.places c.has_room.result c.args.request c.ask-reply.result c.ask-reply.ensures.answer)
+    rw (c.asked-due.ensures.pass, ← c.self.view_is)
+    (asked_goes i.tenant i.replay.config (state_of old) i.slots.home.items right.history.config right.home right.places c.has_room.result c.args.request c.ask-reply.result
+    c.ask-reply.ensures.answer)
 
 pub returns-clause-pending : goal.returns-clause-pending
 returns-clause-pending c = pending_within c.has_room.result (state_of (cell_data c.self.inside)) c.args.request c.ask-reply.result c.ask-reply.ensures.answer
@@ -78,7 +89,15 @@ returns-clause-attended c =
     let s : SeatData = c.tell.new.self in
     let grown = c.ask-reply.ensures in
     let told = c.asked-due.ensures in
-    let d : CellData = record { tenant = i.tenant; config = c.ask-reply.new.self.config; history = c.ask-reply.new.self.history; askers = c.note_asker.new.askers.items; home = c.asked-due.new.self.home.items; stills = c.asked-due.new.self.stills } in
+    let d : CellData = record {
+      tenant = i.tenant;
+      config = c.ask-reply.new.self.config;
+      history = c.ask-reply.new.self.history;
+      askers = c.note_asker.new.askers.items;
+      home =
+          c.asked-due.new.self.home.items;
+      stills = c.asked-due.new.self.stills;
+    } in
     let is : IsAsked old s r y c.asked-due.result.0 c.asked-due.result.1 d (asked s r y) = record {
       history = grown.history;
       tenant = refl;

@@ -22,7 +22,14 @@ invariant_of-self c =
     let m = c.commit-moved.result in
     let grown = c.commit-moved.ensures in
     let told = c.moved.ensures in
-    let d : CellData = record { tenant = i.tenant; config = c.commit-moved.new.self.config; history = c.commit-moved.new.self.history; askers = i.askers.items; home = c.moved.new.self.home.items; stills = c.moved.new.self.stills } in
+    let d : CellData = record {
+      tenant = i.tenant;
+      config = c.commit-moved.new.self.config;
+      history = c.commit-moved.new.self.history;
+      askers = i.askers.items;
+      home = c.moved.new.self.home.items;
+      stills = c.moved.new.self.stills;
+    } in
     let is : IsMoved old p m c.moved.result.due c.moved.result.pass d = record {
       history = rw (← c.slot.ensures) grown.history;
       tenant = refl;
@@ -46,7 +53,9 @@ invariant_of-self c =
     let idle = commit_idle c.has_room.result (state_of old) p.slot c.args.segment m (state_of d) commits in
     record {
       right = moved_right old d p m c.moved.result.due c.moved.result.pass valid c.self.invariant.right is grown.right takes tenant low (omega (arith, low, most, sixteen)) idle;
-      counts = rw (told.counts, is.history) (counts_by i.replay.history i.slots.counts p.slot (steps.Advance p.slot) (answer.Moved m) (is_entry (answer.Moved m)) refl c.self.invariant.counts (omega (arith, low, most, counts)) (λ o. refl));
+      counts = rw (told.counts, is.history)
+          (counts_by i.replay.history i.slots.counts p.slot (steps.Advance p.slot) (answer.Moved m) (is_entry (answer.Moved m)) refl c.self.invariant.counts (omega (arith, low, most, counts))
+          (λ o. refl));
       valid = rw grown.config valid;
       room = rw grown.config c.self.invariant.room;
     }
@@ -59,7 +68,14 @@ returns-clause-attended c =
     let m = c.commit-moved.result in
     let grown = c.commit-moved.ensures in
     let told = c.moved.ensures in
-    let d : CellData = record { tenant = i.tenant; config = c.commit-moved.new.self.config; history = c.commit-moved.new.self.history; askers = i.askers.items; home = c.moved.new.self.home.items; stills = c.moved.new.self.stills } in
+    let d : CellData = record {
+      tenant = i.tenant;
+      config = c.commit-moved.new.self.config;
+      history = c.commit-moved.new.self.history;
+      askers = i.askers.items;
+      home = c.moved.new.self.home.items;
+      stills = c.moved.new.self.stills;
+    } in
     let is : IsMoved old p m c.moved.result.due c.moved.result.pass d = record {
       history = rw (← c.slot.ensures) grown.history;
       tenant = refl;
@@ -73,4 +89,5 @@ returns-clause-attended c =
     let formed = well_formed i.replay.config i.replay.history c.self.invariant.valid in
     let commits : Commits c.has_room.result (state_of old) p.slot c.args.segment m (state_of d) = rw (← c.slot.ensures) grown.answer in
     let takes = commit_takes c.has_room.result (state_of old) p.slot c.args.segment m (state_of d) formed commits in
-    rw (← c.self.view_is) (moved_attended old d p m c.moved.result.due c.moved.result.pass formed is takes (committed_empty c.has_room.result (state_of old) (state_of d) p.slot c.args.segment m formed commits))
+    rw (← c.self.view_is) (moved_attended old d p m c.moved.result.due c.moved.result.pass formed is takes
+    (committed_empty c.has_room.result (state_of old) (state_of d) p.slot c.args.segment m formed commits))

@@ -9,5 +9,7 @@ invariant_of-self-2 c =
     let base = c.self.inside.base in
     let most = c.if-room-self.false in
     let terms = map (left_if c.args.why) c.self.inside.terms.items in
-    let term = next_term c.args.room (record { terms = c.self.inside.terms.items; next = c.self.inside.next; base = base }) in
-    (subst (λ ts. Follow 0 ts (base + c.args.room)) (sym c.in_ok-add_next.ensures.added) (appended 0 terms term (left_follow c.args.why 0 c.self.inside.terms.items base before.0)), omega (arith, most, before.1))
+    let term = next_term c.args.room (record { terms = c.self.inside.terms.items; next = c.self.inside.next; base = base }) in (
+      subst (λ ts. Follow 0 ts (base + c.args.room)) (sym c.in_ok-add_next.ensures.added) (appended 0 terms term (left_follow c.args.why 0 c.self.inside.terms.items base before.0)),
+      omega (arith, most, before.1),
+    )

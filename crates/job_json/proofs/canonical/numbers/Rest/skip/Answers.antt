@@ -6,4 +6,5 @@ use Rattle.job_json.proofs.canonical.numbers.Rest.skip.Goals as goal
 pub returns : goal.returns
 returns c =
     let rest = c.in_ok-self.field-0 in
-    subst (λ (text : List ℕ). c.args.self.now.bytes.now ≡ text ++ rest.now) c.as_bytes.ensures.value (strip_prefix_is unsigned_Decides c.args.self.now.bytes.now c.as_bytes.result.now (Some rest) c.in_ok-self.ensures.cases)
+    subst (λ (text : List ℕ). c.args.self.now.bytes.now ≡ text ++ rest.now) c.as_bytes.ensures.value
+    (strip_prefix_is unsigned_Decides c.args.self.now.bytes.now c.as_bytes.result.now (Some rest) c.in_ok-self.ensures.cases)
