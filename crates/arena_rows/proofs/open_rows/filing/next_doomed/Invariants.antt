@@ -1,7 +1,7 @@
 use Rattle.std.proofs.Common.{[]}
 use Rattle.place_lists.specs.Filing.{filed_count}
 use Rattle.arena_rows.specs.OpenRows.{AreFiled}
-use Rattle.arena_rows.proofs.open_rows.next_doomed.Given as goal
+use Rattle.arena_rows.proofs.open_rows.filing.next_doomed.Given as goal
 
 abbrev pub invariant-loop-place : goal.invariant-loop-place
 invariant-loop-place l = AreFiled l.table l.contexts l.filing l.doomed []

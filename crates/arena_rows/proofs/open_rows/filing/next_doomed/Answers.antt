@@ -4,7 +4,7 @@ use Rattle.place_lists.specs.Filing.{Filing, with_filed}
 use Rattle.place_lists.proofs.Filed.{count-filed}
 use Rattle.arena_rows.specs.OpenRows.{AreFiled, list_for}
 use Rattle.arena_rows.proofs.RowsFiled.{eq_some, eq_none, doomed_by, refiled, none_doomed}
-use Rattle.arena_rows.proofs.open_rows.next_doomed.Goals as goal
+use Rattle.arena_rows.proofs.open_rows.filing.next_doomed.Goals as goal
 
 pub returns-then-eq-clause-some : goal.returns-then-eq-clause-some
 returns-then-eq-clause-some c =

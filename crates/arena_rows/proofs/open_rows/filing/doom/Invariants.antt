@@ -1,7 +1,7 @@
 use Rattle.std.proofs.Common.{◌≡◌, ◌⊎◌, ℕ, Some, length}
 use Rattle.std.specs.Prelude.{Contains, vec_capacity}
 use Rattle.place_lists.specs.Filing.{filed_in}
-use Rattle.arena_rows.proofs.open_rows.doom.Given as goal
+use Rattle.arena_rows.proofs.open_rows.filing.doom.Given as goal
 
 abbrev pub invariant-loop-context : goal.invariant-loop-context
 invariant-loop-context l = record {
