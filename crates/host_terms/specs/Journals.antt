@@ -22,6 +22,6 @@ AreSlices (suc n) tenant count es = (before : List Entry) × (AreSlices n tenant
 abbrev pub AreNext : (tenant : ℕ) → Written → Written → Type 0
 AreNext tenant old new = ((slices : ℕ) × AreSlices slices tenant old.count new.next.items) × (new.count ≡ old.count)
 
--- The slices that follow those that the file had are at hand for it, and are counted as there. That it was given them is not said.
+-- The slices that follow those that the file had are at hand for it, and are counted as there.
 abbrev pub AreWritten : (tenant : ℕ) → Written → Written → Type 0
 AreWritten tenant old new = ((slices : ℕ) × AreSlices slices tenant old.count new.next.items) × (new.count ≡ capped (old.count + length new.next.items))

@@ -1,5 +1,7 @@
 // A term's journal: its tenant's history in a file, as it is made.
 ghost use Rattle.std.specs.Prelude.{OnOk};
+ghost use Rattle.std.specs.Io.KnownBytes.{Appends};
+ghost use Rattle.dump_lines.specs.Dumps.{entries_text};
 ghost use Rattle.host_terms.specs.Journals.{AreNext, AreWritten};
 
 use job_language::{Entry, TenantConfig};
@@ -250,7 +252,9 @@ impl Written {
         alloc: Global,
         door: &TenantDoor<J>,
     ) -> Result<(), PartFault>
-        ensures { OnOk result (AreWritten door.now.tenant self.old self.new) }
+        ensures next { OnOk result (AreWritten door.now.tenant self.old self.new) }
+        ensures given { OnOk result (Appends (File.contents self.old.part)
+            (File.contents self.new.part) (entries_text self.new.next.items)) }
     {
         self.copy_more(rt, door)?;
         if !self.next.is_empty() {

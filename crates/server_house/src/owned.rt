@@ -1,7 +1,7 @@
 // Places in a house whose threads come and go: each keeps the house alive.
 ghost use Rattle.std.specs.Prelude.{◌≡◌, ◌≤◌, ◌<◌, [], All, IfNone, IfOk, IfSome, length};
 ghost use Rattle.std.specs.Arc.{arc_value};
-ghost use Rattle.server_house.specs.Houses.{AreDoorsOf};
+ghost use Rattle.server_house.specs.Houses.{AreDoorsOf, first_life};
 ghost use Rattle.job_language.specs.Collecting.{IsCollect};
 ghost use Rattle.nested_wait.specs.Runs.{Attends};
 ghost use Rattle.nested_wait.specs.Turns.{Turn};
@@ -155,6 +155,13 @@ impl<J: Naming> OwnClient<J> {
             fronts,
             seats,
         }
+    }
+
+    /// The number of the life of the house's first tenant, which is the one that is asked.
+    pub fn life(&self) -> Option<usize>
+        ensures { result ≡ first_life self.now.post.house.doors }
+    {
+        self.house.first_life()
     }
 
     /// Asks the first tenant of the house. If a job is placed on a slot, the slot is attended until it is free, its history
