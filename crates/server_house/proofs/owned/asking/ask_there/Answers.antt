@@ -11,7 +11,7 @@ use Rattle.worker_main.specs.Pushes.{RingerSeen}
 use Rattle.server_house.specs.Owned.{AsksAndAttends, client_of}
 use Rattle.server_house.specs.Sessions.{first_session}
 use Rattle.server_house.proofs.KeptSessions.{Same, asked_same}
-use Rattle.server_house.proofs.owned.ask_there.Goals as goal
+use Rattle.server_house.proofs.owned.asking.ask_there.Goals as goal
 
 pub returns-clause-asks : goal.returns-clause-asks
 returns-clause-asks g c =

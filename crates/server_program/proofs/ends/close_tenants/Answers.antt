@@ -1,7 +1,7 @@
 use Rattle.std.proofs.Common.{subst, sym}
 use Rattle.server_program.specs.Ends.{AreOwnEnds}
 use Rattle.server_program.proofs.OwnEnds.{own_from}
-use Rattle.server_program.proofs.close_tenants.Goals as goal
+use Rattle.server_program.proofs.ends.close_tenants.Goals as goal
 
 pub report_ends-requires : goal.report_ends-requires
 report_ends-requires g c =
