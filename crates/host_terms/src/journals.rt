@@ -30,7 +30,7 @@ const GRACES: u32 = 4;
 
 /// What is kept under the lock of whoever writes.
 #[derive(Drop)]
-struct Written<F: Write> {
+struct Written<F: Write + Drop> {
     part: LivePart<F>,
     /// How many entries it has.
     count: usize,
@@ -244,7 +244,7 @@ impl Journal {
     }
 }
 
-impl<F: Write> Written<F> {
+impl<F: Write + Drop> Written<F> {
     /// Writes what the tenant's history has and the file has not, by one call of the system: all of it, unless it is very
     /// much.
     fn write_more<J: Naming, R: Wait>(
