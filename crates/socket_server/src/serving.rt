@@ -1,5 +1,6 @@
 // All threads of a server.
-ghost use Rattle.std.specs.Prelude.{◌≡◌, ◌⊎◌, true, All, IfErr, IfOk, IsSome};
+ghost use Rattle.std.specs.Prelude.{◌≡◌, ◌≢◌, ◌⊎◌, true, false, All, IfErr, IfOk, IsSome, None};
+ghost use Rattle.std.specs.IoError.{error_kind};
 ghost use Rattle.server_io.specs.declared.ends.ServerEnd.TheVariants.{Device, Memory};
 ghost use Rattle.std.specs.Thread.{IsSend};
 ghost use Rattle.server_house.specs.Returned.{IsGivenBack};
@@ -34,6 +35,8 @@ pub struct Served<J: Naming> {
 impl<J: Naming> Served<J> {
     /// The end after that fault. Without one it is a fault that a seat was lost.
     fn new(returned: Returned<J>, fault: Option<ServerEnd>) -> Served<J>
+        ensures first { IsSome fault → result.fault ≡ fault }
+        ensures none { fault ≡ None → returned.is_short ≡ false → result.fault ≡ None }
         ensures given_back { All (IsGivenBack result.returned.fronts) result.returned.seats }
         ensures lost { result.returned.is_short ≡ true → IsSome result.fault }
     {
@@ -74,47 +77,67 @@ pub fn serve_connections<J: Naming + Send + Sync, R: Threads + Wait + Files + Ne
         Ok(made) => made,
         Err(fault) => return Err(end_of(&fault)),
     };
+    let reception = Reception::new(alloc, posts, seats, watch, connections);
     let back = &returned;
-    let served = thread::scope(
-        thread::scope_env(),
-        rt,
-        move |scope|
-            requires { IsSend J.row }
-        {
-            let posts = match start_workers(scope, rt, alloc, house, posts, workers) {
-                Ok(rest) => rest,
-                Err(fault) => {
-                    house.stop(rt);
-                    return Err(fault);
-                }
-            };
-            let mut reception = Reception::new(alloc, posts, seats, watch, connections);
-            if println!(rt; "listening").is_err() {
-                reception.note(ServerEnd::Device);
-            }
-            let fault = accept_all(rt, alloc, house, reception, endpoint, waiting, back, &waker);
-            house.stop(rt);
-            Ok(fault)
-        },
-    );
-    match served {
+    match run_threads(
+        rt, alloc, house, workers, reception, endpoint, waiting, back, &waker,
+    ) {
         Ok(fault) => Ok(Served::new(returned.into_inner(), fault)),
         Err(fault) => Err(end_of(&fault)),
     }
 }
 
-/// Starts a thread for each of `workers` workers, as long as there is a pass for it, and gives back the passes that are
-/// left. `OutOfMemory` if there is no room for what a worker sees, or the fault of the thread that can't be started: the
+/// Starts the workers, prints `listening`, accepts connections, and waits until all threads have ended: the first fault.
+/// An error if a worker can't be started.
+fn run_threads<'h, J: Naming + Send + Sync, R: Threads + Wait + Files + Sync + Print>(
+    rt: &R,
+    alloc: Global,
+    house: &'h House<J>,
+    workers: usize,
+    reception: Reception<'h, J>,
+    endpoint: &Endpoint<'_>,
+    waiting: Mutex<Vec<Client<'h, J>>>,
+    back: &Mutex<Returned<J>>,
+    waker: &Waker,
+) -> io::Result<Option<ServerEnd>> {
+    thread::scope(
+        thread::scope_env(),
+        rt,
+        move |scope|
+            requires { IsSend J.row }
+        {
+            let mut reception = reception;
+            if let Err(fault) = start_workers(
+                scope,
+                rt,
+                alloc,
+                house,
+                &mut reception.posts,
+                workers,
+            ) {
+                house.stop(rt);
+                return Err(fault);
+            }
+            if println!(rt; "listening").is_err() {
+                reception.note(ServerEnd::Device);
+            }
+            let fault = accept_all(rt, alloc, house, reception, endpoint, waiting, back, waker);
+            house.stop(rt);
+            Ok(fault)
+        },
+    )
+}
+
+/// Starts a thread for each of `workers` workers, as long as there is a pass for it. `OutOfMemory` if there is no room for what a worker sees, or the fault of the thread that can't be started: the
 /// workers that were started go on.
 fn start_workers<'s, 'r: 's, 'h: 's, J: Naming + Send + Sync, E: 's, R: Threads + Wait + Sync>(
     scope: &Scope<'s, E>,
     rt: &'r R,
     alloc: Global,
     house: &'h House<J>,
-    posts: Posts<'h, J>,
+    posts: &mut Posts<'h, J>,
     workers: usize,
-) -> io::Result<Posts<'h, J>> {
-    let mut posts = posts;
+) -> io::Result<()> {
     for _worker in 0..workers {
         let post = match posts.next(alloc) {
             Ok(Some(post)) => post,
@@ -123,7 +146,7 @@ fn start_workers<'s, 'r: 's, 'h: 's, J: Naming + Send + Sync, E: 's, R: Threads 
         };
         scope.spawn(move || serve_calls(rt, post, house.bell(), &NoGate, Visiting::Staying))?;
     }
-    Ok(posts)
+    Ok(())
 }
 
 /// Accepts connections, waits until their sessions have ended, and gives the first fault. The seats that no session
@@ -165,10 +188,15 @@ fn accept_all<'h, J: Naming + Send + Sync, R: Threads + Wait + Files + Sync>(
         back.lock(rt).keep_fresh(seats);
         fault
     });
-    for client in waiting.into_inner() {
+    give_back(rt, waiting.into_inner(), back);
+    fault
+}
+
+/// Gives back the seats of the clients that no thread took.
+fn give_back<J: Naming, R: Wait>(rt: &R, left: Vec<Client<'_, J>>, back: &Mutex<Returned<J>>) {
+    for client in left {
         back.lock(rt).keep_fresh(client.into_seats());
     }
-    fault
 }
 
 /// Lets a client wait for its thread. `Memory` if there is no room for it; its seats come back then.
@@ -227,7 +255,9 @@ fn serve_waiting<J: Naming, R: Wait>(
 
 /// What a fault of the system is for the server.
 fn end_of(fault: &io::Error) -> ServerEnd
-    ensures { (result ≡ Device) ⊎ (result ≡ Memory) }
+    ensures memory { error_kind fault.now ≡ ErrorKind.OutOfMemory → result ≡ Memory }
+    ensures device { error_kind fault.now ≢ ErrorKind.OutOfMemory → result ≡ Device }
+    ensures either { (result ≡ Device) ⊎ (result ≡ Memory) }
 {
     match fault.kind() {
         ErrorKind::OutOfMemory => ServerEnd::Memory,
