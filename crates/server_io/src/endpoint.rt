@@ -1,6 +1,8 @@
 // The socket of a server, and its file.
-ghost use Rattle.std.specs.Prelude.{◌≡◌};
-ghost use Rattle.server_io.specs.declared.endpoint.BindFault.TheVariants.{Memory};
+ghost use Rattle.std.specs.Prelude.{◌≡◌, ◌↔◌, ◌⊎◌, IfErr, IfOk, IsTrue, option_map};
+ghost use Rattle.std.specs.IoError.{error_kind};
+ghost use Rattle.server_io.specs.Binds.{why_of};
+ghost use Rattle.server_io.specs.declared.endpoint.BindFault.TheVariants.{Device, Memory, Replaced, Taken};
 
 use crate::rooms::{FileId, Room};
 use std::alloc::{AllocError, Global};
@@ -44,7 +46,9 @@ pub enum BindFault {
 
 impl BindFault {
     /// What is wrong with the path, if it is the path.
-    pub fn why(self) -> Option<&'static str> {
+    pub fn why(self) -> Option<&'static str>
+        ensures { option_map (λ text. text.now) result ≡ why_of self }
+    {
         match self {
             BindFault::Taken => Some("something is there already"),
             BindFault::NoRoom => Some("something is at each of its paths from .d to .d64 already"),
@@ -80,7 +84,9 @@ impl<'p> Endpoint<'p> {
         alloc: Global,
         path: &'p str,
         access: Access,
-    ) -> Result<Endpoint<'p>, BindFault> {
+    ) -> Result<Endpoint<'p>, BindFault>
+        ensures path { IfOk result (λ endpoint. endpoint.path.now ≡ path.now) }
+    {
         let room = Room::make(rt, alloc, path)?;
         let bound = bind_within(rt, &room, path, access);
         room.remove(rt);
@@ -91,10 +97,8 @@ impl<'p> Endpoint<'p> {
     pub fn accept(&self) -> io::Result<Option<UnixStream>> {
         match self.listener.accept() {
             Ok((stream, _address)) => Ok(Some(stream)),
-            Err(fault) => match fault.kind() {
-                ErrorKind::WouldBlock | ErrorKind::Interrupted => Ok(None),
-                _ => Err(fault),
-            },
+            Err(fault) if is_nobody(&fault) => Ok(None),
+            Err(fault) => Err(fault),
         }
     }
 
@@ -102,7 +106,7 @@ impl<'p> Endpoint<'p> {
     pub fn is_there<R: Files>(&self, rt: &R) -> bool {
         match FileId::at(rt, self.path) {
             Ok(file) => file == self.file,
-            Err(fault) => !matches!(fault.kind(), ErrorKind::NotFound | ErrorKind::NotADirectory),
+            Err(fault) => !is_nothing(&fault),
         }
     }
 
@@ -115,13 +119,32 @@ impl<'p> Endpoint<'p> {
     }
 }
 
+/// Whether a fault of accepting says that nobody waits, or that the system was interrupted as it looked.
+fn is_nobody(fault: &io::Error) -> bool
+    ensures { IsTrue result
+        ↔ (error_kind fault.now ≡ ErrorKind.WouldBlock) ⊎ (error_kind fault.now ≡ ErrorKind.Interrupted) }
+{
+    matches!(fault.kind(), ErrorKind::WouldBlock | ErrorKind::Interrupted)
+}
+
+/// Whether a fault of looking at a path says that nothing is there.
+fn is_nothing(fault: &io::Error) -> bool
+    ensures { IsTrue result
+        ↔ (error_kind fault.now ≡ ErrorKind.NotFound) ⊎ (error_kind fault.now ≡ ErrorKind.NotADirectory) }
+{
+    matches!(fault.kind(), ErrorKind::NotFound | ErrorKind::NotADirectory)
+}
+
 /// Makes a socket in a room, and lets the path lead to it too. It is there only if that is the very socket that was made.
 fn bind_within<'p, R: Files + Net>(
     rt: &R,
     room: &Room,
     path: &'p str,
     access: Access,
-) -> Result<Endpoint<'p>, BindFault> {
+) -> Result<Endpoint<'p>, BindFault>
+    ensures path { IfOk result (λ endpoint. endpoint.path.now ≡ path.now) }
+    ensures fault { IfErr result (λ fault. (fault ≡ Taken) ⊎ (fault ≡ Replaced) ⊎ (fault ≡ Device)) }
+{
     let Ok((listener, file)) = room.listen(rt, access) else {
         return Err(BindFault::Device);
     };

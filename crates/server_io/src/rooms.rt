@@ -1,4 +1,8 @@
 // The folder in which a socket is made before its path leads to it.
+ghost use Rattle.std.specs.Prelude.{ℕ, ◌≡◌, ◌≤◌, ◌↔◌, ◌⊎◌, ◌++◌, IfErr, IfOk, IsTrue, codes, string_bytes};
+ghost use Rattle.std.specs.IoError.{error_kind};
+ghost use Rattle.server_io.specs.Binds.{IsStepFault, room_at};
+ghost use Rattle.server_io.specs.declared.endpoint.BindFault.TheVariants.{Device, NoRoom, Taken};
 
 use crate::endpoint::{Access, BindFault};
 use std::alloc::{AllocError, Global};
@@ -41,7 +45,11 @@ pub(crate) struct Room {
 impl Room {
     /// Makes a folder beside a path, which its owner alone may enter: `PATH.d`, or `PATH.d2` and so on up to 64 if that is
     /// taken. What is there already, a symbolic link too, is neither used nor removed. `NoRoom` if all are taken.
-    pub(crate) fn make<R: Files>(rt: &R, alloc: Global, path: &str) -> Result<Room, BindFault> {
+    pub(crate) fn make<R: Files>(rt: &R, alloc: Global, path: &str) -> Result<Room, BindFault>
+        ensures room { IfOk result (λ room. (number : ℕ) × (1 ≤ number) × (number ≤ 64)
+            × (string_bytes room.folder ≡ room_at path.now number)) }
+        ensures fault { IfErr result (λ fault. (fault ≡ NoRoom) ⊎ IsStepFault fault) }
+    {
         for number in 1..=MAX_ROOMS {
             let room = Room::new(alloc, path, number)?;
             match DirBuilder::new()
@@ -49,7 +57,7 @@ impl Room {
                 .create(rt, room.folder.as_str())
             {
                 Ok(()) => return Ok(room),
-                Err(fault) if fault.kind() == ErrorKind::AlreadyExists => {}
+                Err(fault) if is_taken(&fault) => {}
                 Err(_) => return Err(BindFault::Device),
             }
         }
@@ -57,7 +65,10 @@ impl Room {
     }
 
     /// The paths of the room of that number.
-    fn new(alloc: Global, path: &str, number: u8) -> Result<Room, AllocError> {
+    fn new(alloc: Global, path: &str, number: u8) -> Result<Room, AllocError>
+        ensures folder { IfOk result (λ room. string_bytes room.folder ≡ room_at path.now number) }
+        ensures socket { IfOk result (λ room. string_bytes room.socket ≡ string_bytes room.folder ++ codes "/s") }
+    {
         let folder = match number {
             1 => format!(in alloc; "{path}.d")?,
             _ => format!(in alloc; "{path}.d{number}")?,
@@ -85,11 +96,13 @@ impl Room {
     }
 
     /// Lets a path lead to the socket. `Taken` if something is there already, and `Device` if it can't be done.
-    pub(crate) fn link<R: Files>(&self, rt: &R, path: &str) -> Result<(), BindFault> {
+    pub(crate) fn link<R: Files>(&self, rt: &R, path: &str) -> Result<(), BindFault>
+        ensures { IfErr result (λ fault. (fault ≡ Taken) ⊎ (fault ≡ Device)) }
+    {
         // Unlike a rename, it fails if there is something at the path.
         match fs::hard_link(rt, self.socket.as_str(), path) {
             Ok(()) => Ok(()),
-            Err(fault) if fault.kind() == ErrorKind::AlreadyExists => Err(BindFault::Taken),
+            Err(fault) if is_taken(&fault) => Err(BindFault::Taken),
             Err(_) => Err(BindFault::Device),
         }
     }
@@ -100,4 +113,11 @@ impl Room {
         let _ = fs::remove_file(rt, self.socket.as_str());
         let _ = fs::remove_dir(rt, self.folder.as_str());
     }
+}
+
+/// Whether a fault says that something is at the path already.
+fn is_taken(fault: &io::Error) -> bool
+    ensures { IsTrue result ↔ error_kind fault.now ≡ ErrorKind.AlreadyExists }
+{
+    fault.kind() == ErrorKind::AlreadyExists
 }

@@ -1,4 +1,5 @@
 // Waiting for connections, for clients that go, and for sessions that end.
+ghost use Rattle.std.specs.Prelude.{◌≡◌, ◌<◌, ◌≤◌, ◌+◌, ◌-◌, None, Some};
 
 use crate::endpoint::Endpoint;
 use mio::unix::SourceFd;
@@ -51,7 +52,7 @@ impl Watch {
         // A hang-up is reported whatever one is interested in, and nothing else is to wake.
         self.poll.registry().register(
             &mut SourceFd(&fd),
-            Token(FIRST_CONNECTION.saturating_add(number)),
+            Token(token_of(number)),
             Interest::PRIORITY,
         )
     }
@@ -68,8 +69,22 @@ impl Watch {
 
     /// Whether the last wait reported that the client of the connection of that number has gone.
     pub fn has_gone(&self, number: usize) -> bool {
-        self.events.iter().any(|event| {
-            event.token().0.checked_sub(FIRST_CONNECTION) == Some(number) && event.is_write_closed()
-        })
+        self.events.iter().any(|event| number_of(event.token().0) == Some(number)
+            && event.is_write_closed())
     }
+}
+
+/// The token of the connection of that number.
+fn token_of(number: usize) -> usize
+    ensures { number ≤ usize.MAX - 2 → result ≡ number + 2 }
+{
+    FIRST_CONNECTION.saturating_add(number)
+}
+
+/// The number of the connection that has a token. The first two are nobody's.
+fn number_of(token: usize) -> Option<usize>
+    ensures none { token < 2 → result ≡ None }
+    ensures number { 2 ≤ token → result ≡ Some (token - 2) }
+{
+    token.checked_sub(FIRST_CONNECTION)
 }
