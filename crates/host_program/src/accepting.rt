@@ -41,14 +41,7 @@ pub(crate) fn accept_all<J: Naming, R: Wait + Clock>(
         refused: None,
     };
     for _turn in rt.forever() {
-        match reception.attend(rt) {
-            Ok(has_gone) => {
-                if has_gone {
-                    site.host.wake(rt);
-                }
-            }
-            Err(_) => thread::sleep(rt, Duration::from_millis(PAUSE)),
-        }
+        attend(rt, site, &mut reception);
         if site.progress.is_over.load(Ordering::SeqCst) {
             return;
         }
@@ -60,17 +53,25 @@ pub(crate) fn accept_all<J: Naming, R: Wait + Clock>(
             continue;
         }
         let now = millis(rt);
-        if now.saturating_sub(done.looked) >= BETWEEN_LOOKS {
-            done.looked = now;
-            cut(rt, alloc, site, &reception, now);
-            done.tell_refused(rt, alloc, site, now);
-        }
+        done.look(rt, alloc, site, &reception, now);
         match reception.admit(rt, alloc, endpoint, now) {
             Ok(admitted) => {
                 site.progress.served.fetch_add(admitted, Ordering::SeqCst);
             }
             Err(_) => done.report(rt, alloc, site, now),
         }
+    }
+}
+
+/// Waits until something happens. Sessions whose clients have gone stop waiting.
+fn attend<J: Naming, R: Wait + Clock>(rt: &R, site: Site<'_, J>, reception: &mut Reception<'_, J>) {
+    match reception.attend(rt) {
+        Ok(has_gone) => {
+            if has_gone {
+                site.host.wake(rt);
+            }
+        }
+        Err(_) => thread::sleep(rt, Duration::from_millis(PAUSE)),
     }
 }
 
@@ -86,6 +87,22 @@ struct Done {
 }
 
 impl Done {
+    /// Looks for connections that do nothing, and for hellos that were refused, ten times a second at most.
+    fn look<J: Naming, R: Wait + Clock>(
+        &mut self,
+        rt: &R,
+        alloc: Global,
+        site: Site<'_, J>,
+        reception: &Reception<'_, J>,
+        now: u64,
+    ) {
+        if now.saturating_sub(self.looked) >= BETWEEN_LOOKS {
+            self.looked = now;
+            cut(rt, alloc, site, reception, now);
+            self.tell_refused(rt, alloc, site, now);
+        }
+    }
+
     /// Reports that a connection was not accepted, once a second at most.
     fn report<J: Naming, R: Wait + Clock>(
         &mut self,

@@ -100,15 +100,7 @@ impl<J: Naming> Keeper<J> {
         tenant: usize,
         tenancy: &Tenancy<J>,
     ) {
-        let serving = tenancy.serving(rt);
-        if let Some(term) = &serving {
-            if term.is_broken() {
-                tenancy.wish(rt, Why::Journal);
-            }
-            if term.is_used(rt, site.words.rotate_at) {
-                tenancy.wish(rt, Why::History);
-            }
-        }
+        wish_if_used(rt, site, tenancy);
         if tenancy.take_note_failure(rt) {
             let named = tenancy.name();
             site.say_fault(rt, alloc, Fault::Results, Some(named.as_str()), None);
@@ -160,6 +152,18 @@ impl<J: Naming> Keeper<J> {
             }
         }
         self.parting.is_empty() && self.filing.is_empty(rt, writer)
+    }
+}
+
+/// Wishes for the next term of a tenant if the journal of the one that serves is broken, or its history is used that far.
+fn wish_if_used<J: Naming, R: Wait>(rt: &R, site: Site<'_, J>, tenancy: &Tenancy<J>) {
+    if let Some(term) = &tenancy.serving(rt) {
+        if term.is_broken() {
+            tenancy.wish(rt, Why::Journal);
+        }
+        if term.is_used(rt, site.words.rotate_at) {
+            tenancy.wish(rt, Why::History);
+        }
     }
 }
 

@@ -42,10 +42,7 @@ pub(crate) fn show<J: Naming, R: Files<File = File> + Wait + Clock + AllocGlobal
         connections: words.connections,
         connected: site.connected(rt),
         served: site.progress.served.load(Ordering::SeqCst),
-        cut: CutSoFar {
-            hello: site.progress.cut_hello.load(Ordering::SeqCst),
-            idle: site.progress.cut_idle.load(Ordering::SeqCst),
-        },
+        cut: cut_so_far(site),
         tenant_connections: words.tenant_connections,
         hello_seconds: words.hello_seconds,
         idle_seconds: words.idle_seconds,
@@ -64,8 +61,16 @@ pub(crate) fn show<J: Naming, R: Files<File = File> + Wait + Clock + AllocGlobal
     };
     let path = site.folder.status.as_str();
     let part = format!(in alloc; "{path}.part")?;
-    write_private(rt, part.as_str(), words, line.as_str())?;
+    write_status(rt, part.as_str(), words, line.as_str())?;
     fs::rename(rt, part.as_str(), path)
+}
+
+/// How many connections were ended since the host began.
+fn cut_so_far<J: Naming>(site: Site<'_, J>) -> CutSoFar {
+    CutSoFar {
+        hello: site.progress.cut_hello.load(Ordering::SeqCst),
+        idle: site.progress.cut_idle.load(Ordering::SeqCst),
+    }
 }
 
 /// Where the workers are.
@@ -198,7 +203,7 @@ fn jobs(tally: JobTally) -> Jobs {
     }
 }
 
-/// Writes a line to a new file, which those may read who may connect, whatever the process' mask is.
+/// Writes a line to a new file, readable by whoever may connect, whatever the process' mask is.
 fn write_private<R: Files>(rt: &R, path: &str, words: HostWords<'_>, line: &str) -> io::Result<()> {
     // It is there if the last one could not be renamed.
     let _ = fs::remove_file(rt, path);
@@ -213,7 +218,7 @@ fn write_private<R: Files>(rt: &R, path: &str, words: HostWords<'_>, line: &str)
     file.set_permissions(Permissions::from_mode(readers(words.mode)))
 }
 
-/// The mode of a file that those may read who may write to one of the other mode.
+/// Read permission for everyone who has write permission in `mode`, and both for the owner.
 fn readers(mode: u32) -> u32 {
     0o600 | (mode & 0o022) << 1
 }

@@ -1,5 +1,6 @@
 // A term of a tenant: a house of this tenant alone, and the places of all threads in it.
-ghost use Rattle.std.specs.Prelude.{◌≡◌, ◌≤◌, option_map};
+ghost use Rattle.std.specs.Prelude.{◌≡◌, ◌≤◌, ◌⊎◌, [], ◌∷◌, IfErr, IfOk, option_map};
+ghost use Rattle.server_io.specs.declared.ends.ServerEnd.TheVariants as end;
 ghost use Rattle.std.specs.Arc.{arc_value};
 ghost use Rattle.server_house.specs.Houses.{first_life};
 
@@ -45,6 +46,20 @@ pub struct HostTerm<J: Naming> {
     sessions: usize,
 }
 
+/// The configuration of one tenant and so many workers. `Config` if they make none, and `Memory` if an allocation fails.
+fn config_of_one(alloc: Global, tenant: TenantConfig, workers: usize) -> Result<Config, ServerEnd>
+    ensures tenant { IfOk result (λ config. config.tenants ≡ tenant ∷ []) }
+    ensures workers { IfOk result (λ config. config.workers ≡ workers) }
+    ensures fault { IfErr result (λ fault. (fault ≡ end.Config) ⊎ (fault ≡ end.Memory)) }
+{
+    let mut tenants = Vec::with_capacity(alloc, 1)?;
+    tenants.push_reserved(tenant);
+    match Config::new(tenants, workers) {
+        Some(config) => Ok(config),
+        None => Err(ServerEnd::Config),
+    }
+}
+
 impl<J: Naming> HostTerm<J> {
     /// A term that has done nothing yet, for so many workers and sessions. `Config` if the tenant can't be served by so many
     /// workers, `Device` if a place is missing, and `Memory` if an allocation fails.
@@ -61,11 +76,7 @@ impl<J: Naming> HostTerm<J> {
     ) -> Result<HostTerm<J>, ServerEnd>
         requires { 1 ≤ sessions }
     {
-        let mut tenants = Vec::with_capacity(alloc, 1)?;
-        tenants.push_reserved(tenant);
-        let Some(config) = Config::new(tenants, workers) else {
-            return Err(ServerEnd::Config);
-        };
+        let config = config_of_one(alloc, tenant, workers)?;
         let Some(lodging) = Lodging::open(rt, alloc, registry, &config, sessions)? else {
             return Err(ServerEnd::Device);
         };

@@ -12,7 +12,7 @@ use Rattle.tenant_model.specs.Told.{placed_on}
 use Rattle.tenant_record.specs.SeatData.{SeatData}
 use Rattle.server_doors.specs.Slots.{SlotsSeen}
 use Rattle.server_doors.specs.SlotWays as slots
-use Rattle.server_doors.specs.SlotWays.{Moves, MayBeHigh, MayBeSeen, Pauses, AsksBy}
+use Rattle.server_doors.specs.SlotWays.{Moves, MayHaveHeight, MayBeSeen, Pauses, AsksBy}
 use Rattle.market_config.specs.declared.calls.Call.{Call}
 use Rattle.worker_main.specs.Pushes.{PushesDue}
 use Rattle.worker_main.specs.Slots.{SlotSeen}
@@ -43,8 +43,8 @@ Commits s top m t = (due : Option Call) × (slots.Commits s.at.doors top m due t
 abbrev pub Sees : SessionSeen → View → Type 0
 Sees s seen = MayBeSeen s.at.doors seen
 
-abbrev pub IsAsHigh : SessionSeen → ℕ → Type 0
-IsAsHigh s height = MayBeHigh s.at.doors height
+abbrev pub HasHeight : SessionSeen → ℕ → Type 0
+HasHeight s height = MayHaveHeight s.at.doors height
 
 abbrev pub Waits : SessionSeen → Bool → SessionSeen → Type 0
 Waits s stops t = Pauses s.at.doors stops t.at.doors × (t ≡ s)

@@ -50,8 +50,8 @@ Commits s top m due t =
     MatchOption s.pass ((m ≡ Idle) × (due ≡ None) × (t ≡ s)) (λ p. (t.doors ≡ s.doors) × IsMoveBy (IsCommitOf p top) p m due s.fronts t.fronts t.pass)
 
 -- without a pass no row is on the slot
-abbrev pub MayBeHigh : SlotsSeen → ℕ → Type 0
-MayBeHigh s height = MatchOption s.pass (height ≡ 0) (λ p. Unit {0})
+abbrev pub MayHaveHeight : SlotsSeen → ℕ → Type 0
+MayHaveHeight s height = MatchOption s.pass (height ≡ 0) (λ p. Unit {0})
 
 abbrev pub MayBeSeen : SlotsSeen → View → Type 0
 MayBeSeen s seen = MatchOption s.pass (seen ≡ Bare) (λ p. Unit {0})

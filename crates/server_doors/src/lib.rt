@@ -5,5 +5,5 @@ mod places;
 mod sessions;
 mod slots;
 
-pub use sessions::LockedDoors;
-pub use slots::{MOVES_UNDER_LOCK, SHORT_RUN, TenantSlots};
+pub use sessions::SessionDoors;
+pub use slots::{HeldSlot, MOVES_UNDER_LOCK, SHORT_RUN};

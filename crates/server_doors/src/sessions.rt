@@ -6,7 +6,7 @@ ghost use Rattle.server_doors.specs.Sessions.{AreOwn};
 ghost use Rattle.server_doors.specs.SessionWays.{AsksBound, with_thread};
 ghost use Rattle.server_doors.specs.SlotWays.{GoesHome};
 
-use crate::slots::TenantSlots;
+use crate::slots::HeldSlot;
 use job_language::{Error, Moved, Reply, Request, TenantName};
 use job_step::{Segment, View};
 use nested_wait::Door;
@@ -19,16 +19,16 @@ use worker_main::{DueDoor, Ringer, Signal};
 
 /// One session's ways to the tenants behind locks. It has a seat of each tenant, and is at one slot
 /// at most: that of the job that it executes. It calls workers to the slots that become due. It can't be let go: at its
-/// end the slot goes home and the seats come back (`LockedDoors::into_parts`).
-pub struct LockedDoors<'d, 'q, J: Naming, R: Wait, S: Signal> {
-    slots: TenantSlots<'d, J, R>,
+/// end the slot goes home and the seats come back (`SessionDoors::into_parts`).
+pub struct SessionDoors<'d, 'q, J: Naming, R: Wait, S: Signal> {
+    slots: HeldSlot<'d, J, R>,
     ringer: Ringer<'q, R, S>,
     names: &'d [TenantName],
     seats: Vec<Seat>,
     bound: usize,
 }
 
-impl<'d, 'q, J: Naming, R: Wait, S: Signal> Model for LockedDoors<'d, 'q, J, R, S> {
+impl<'d, 'q, J: Naming, R: Wait, S: Signal> Model for SessionDoors<'d, 'q, J, R, S> {
     ghost use Rattle.server_doors.specs.Sessions.{SessionSeen, IsSession};
 
     ghost Value = { SessionSeen };
@@ -49,10 +49,10 @@ impl<'d, 'q, J: Naming, R: Wait, S: Signal> Model for LockedDoors<'d, 'q, J, R, 
         }) };
 }
 
-impl<'d, 'q, J: Naming, R: Wait, S: Signal> LockedDoors<'d, 'q, J, R, S> {
+impl<'d, 'q, J: Naming, R: Wait, S: Signal> SessionDoors<'d, 'q, J, R, S> {
     /// A session that is bound to no tenant yet. Seats and names are those of tenants 0, 1 and so on.
     pub fn new(
-        slots: TenantSlots<'d, J, R>,
+        slots: HeldSlot<'d, J, R>,
         ringer: Ringer<'q, R, S>,
         names: &'d [TenantName],
         seats: Vec<Seat>,
@@ -68,7 +68,7 @@ impl<'d, 'q, J: Naming, R: Wait, S: Signal> LockedDoors<'d, 'q, J, R, S> {
           bound = 0;
         } }
     {
-        LockedDoors {
+        SessionDoors {
             slots,
             ringer,
             names,
@@ -97,7 +97,7 @@ impl<'d, 'q, J: Naming, R: Wait, S: Signal> LockedDoors<'d, 'q, J, R, S> {
         ensures own { AreOwn result.0.items }
         ensures ringer { result.2 ≡ self.entry.at.ringer }
     {
-        let LockedDoors {
+        let SessionDoors {
             slots,
             ringer,
             names: _names,
@@ -123,8 +123,8 @@ impl<'d, 'q, J: Naming, R: Wait, S: Signal> LockedDoors<'d, 'q, J, R, S> {
     }
 }
 
-impl<'d, 'q, J: Naming, R: Wait, S: Signal> Door for LockedDoors<'d, 'q, J, R, S> {
-    ghost use Rattle.server_doors.specs.SessionWays.{Sees, Commits, Advances, IsAsHigh, Waits};
+impl<'d, 'q, J: Naming, R: Wait, S: Signal> Door for SessionDoors<'d, 'q, J, R, S> {
+    ghost use Rattle.server_doors.specs.SessionWays.{Sees, Commits, Advances, HasHeight, Waits};
 
     ghost views = { Sees };
 
@@ -132,7 +132,7 @@ impl<'d, 'q, J: Naming, R: Wait, S: Signal> Door for LockedDoors<'d, 'q, J, R, S
 
     ghost advances = { Advances };
 
-    ghost heights = { IsAsHigh };
+    ghost heights = { HasHeight };
 
     ghost pauses = { Waits };
 
@@ -161,7 +161,7 @@ impl<'d, 'q, J: Naming, R: Wait, S: Signal> Door for LockedDoors<'d, 'q, J, R, S
     }
 }
 
-impl<'d, 'q, J: Naming, R: Wait, S: Signal> Doors for LockedDoors<'d, 'q, J, R, S> {
+impl<'d, 'q, J: Naming, R: Wait, S: Signal> Doors for SessionDoors<'d, 'q, J, R, S> {
     ghost use Rattle.server_doors.specs.SessionWays.{Finds, Binds, Asks, WaitsFor};
 
     ghost finds = { Finds };

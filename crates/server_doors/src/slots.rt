@@ -29,8 +29,8 @@ pub const MOVES_UNDER_LOCK: u8 = 16;
 const _: () = prove!(nested_wait::MAX_HEIGHT == tenant_model::MAX_HEIGHT as usize);
 
 /// One thread's way to the slots of all tenants. It is at one slot at most, whose pass it has. It can't be let go: at its
-/// end the slot goes home (`TenantSlots::end`).
-pub struct TenantSlots<'d, J: Naming, R: Wait> {
+/// end the slot goes home (`HeldSlot::end`).
+pub struct HeldSlot<'d, J: Naming, R: Wait> {
     rt: &'d R,
     doors: &'d [TenantDoor<J>],
     /// What it has seen of each tenant's history.
@@ -46,7 +46,7 @@ pub struct TenantSlots<'d, J: Naming, R: Wait> {
     under_lock: u8,
 }
 
-impl<'d, J: Naming, R: Wait> Model for TenantSlots<'d, J, R> {
+impl<'d, J: Naming, R: Wait> Model for HeldSlot<'d, J, R> {
     ghost use Rattle.server_doors.specs.Slots.{SlotsSeen, IsAtDoors};
 
     ghost Value = { SlotsSeen };
@@ -60,7 +60,7 @@ impl<'d, J: Naming, R: Wait> Model for TenantSlots<'d, J, R> {
         × IfSome s.height (λ height. height ≤ MAX_HEIGHT) };
 }
 
-impl<'d, J: Naming, R: Wait> TenantSlots<'d, J, R> {
+impl<'d, J: Naming, R: Wait> HeldSlot<'d, J, R> {
     /// A thread that is at no slot. The doors are those of tenants 0, 1 and so on. If it waits for a job, it stops
     /// once the flag is raised. At a slot it does not: whoever is there stays until the slot may be left. What it does goes
     /// on from what the fronts have seen.
@@ -74,7 +74,7 @@ impl<'d, J: Naming, R: Wait> TenantSlots<'d, J, R> {
         requires fronts { AreFronts doors.now fronts.items }
         ensures { result ≡ record { doors = doors.now; fronts = fronts.items; pass = None } }
     {
-        TenantSlots {
+        HeldSlot {
             rt,
             doors,
             fronts,
@@ -116,9 +116,9 @@ impl<'d, J: Naming, R: Wait> TenantSlots<'d, J, R> {
     }
 }
 
-impl<'d, J: Naming, R: Wait> DueDoor for TenantSlots<'d, J, R> {
+impl<'d, J: Naming, R: Wait> DueDoor for HeldSlot<'d, J, R> {
     ghost use Rattle.std.specs.Prelude.{length, option_map};
-    ghost use Rattle.server_doors.specs.SlotWays.{Commits, Moves, MayBeHigh, MayBeSeen, Pauses, GoesHome, HandsOver};
+    ghost use Rattle.server_doors.specs.SlotWays.{Commits, Moves, MayHaveHeight, MayBeSeen, Pauses, GoesHome, HandsOver};
 
     ghost tenants = { λ s. length s.doors };
 
@@ -130,7 +130,7 @@ impl<'d, J: Naming, R: Wait> DueDoor for TenantSlots<'d, J, R> {
 
     ghost advances = { Moves };
 
-    ghost heights = { MayBeHigh };
+    ghost heights = { MayHaveHeight };
 
     ghost pauses = { Pauses };
 
@@ -244,7 +244,7 @@ impl<'d, J: Naming, R: Wait> DueDoor for TenantSlots<'d, J, R> {
     }
 }
 
-impl<'d, J: Naming, R: Wait> CallDoors for TenantSlots<'d, J, R> {
+impl<'d, J: Naming, R: Wait> CallDoors for HeldSlot<'d, J, R> {
     ghost use Rattle.server_doors.specs.SlotWays.{ArrivesAt};
 
     ghost arrives = { ArrivesAt };

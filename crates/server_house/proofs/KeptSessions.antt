@@ -14,7 +14,7 @@ use Rattle.nested_wait.specs.declared.attending.Attended.{Attended}
 use Rattle.nested_wait.specs.declared.attending.Attended.TheVariants.{Below, Full, Stopped}
 use Rattle.server_doors.specs.Sessions.{SessionSeen}
 use Rattle.server_doors.specs.SessionWays as session
-use Rattle.server_doors.specs.SessionWays.{Sees, Commits, Advances, IsAsHigh, Waits}
+use Rattle.server_doors.specs.SessionWays.{Sees, Commits, Advances, HasHeight, Waits}
 use Rattle.server_doors.specs.Slots.{SlotsSeen}
 use Rattle.session_core.specs.declared.doors.Answered.{Answered}
 use Rattle.tenant_record.specs.PassData.{PassData}
@@ -52,7 +52,7 @@ moves_same view.Bare s t m is = advance_same s t m is
 moves_same view.Unshared s t m is = advance_same s t m is
 
 abbrev Takes : SessionSeen → Moved → SessionSeen → Type 0
-Takes = TurnFrom (Turn Sees Commits Advances) IsAsHigh 1
+Takes = TurnFrom (Turn Sees Commits Advances) HasHeight 1
 
 turn_same : (s t : SessionSeen) (m : Moved) → Takes s m t → Same s t
 turn_same s t m is = moves_same is.1.2.0 s t m is.1.2.1.1
@@ -76,7 +76,7 @@ leads_same (m ∷ ms) s t is =
 reaches_same : (least : ℕ) (s t : SessionSeen) → Reaches Takes Waits least s t → Same s t
 reaches_same least s t is = leads_same is.answers s t is.leads
 
-attends_same : (how : Attended) (s t : SessionSeen) → Attends (Turn Sees Commits Advances) IsAsHigh Waits 1 how s t → Same s t
+attends_same : (how : Attended) (s t : SessionSeen) → Attends (Turn Sees Commits Advances) HasHeight Waits 1 how s t → Same s t
 attends_same Below s t is = reaches_same 0 s t is.0
 attends_same Full s t is = joined s is.0 t (reaches_same 0 s is.0 is.1.0) (turn_same is.0 t moved.Full is.1.1)
 attends_same Stopped s t is = elim is [
@@ -92,11 +92,11 @@ asks_same s t request answered is = elim (leb_tells (length s.seats) s.bound) [
       (asks.asks.doors, queues_kept asks.due s.at.ringer t.at.ringer asks.pushes)
 ]
 
-attended_same : (placed : Bool) (how : Option Attended) (s t : SessionSeen) → AttendsIf (Attends (Turn Sees Commits Advances) IsAsHigh Waits 1) placed how s t → Same s t
+attended_same : (placed : Bool) (how : Option Attended) (s t : SessionSeen) → AttendsIf (Attends (Turn Sees Commits Advances) HasHeight Waits 1) placed how s t → Same s t
 attended_same true how s t is = attends_same is.0 s t is.1.1
 attended_same false how s t is = equal s t is.1
 
-pub asked_same : (request : Request) (told : Told) (s t : SessionSeen) → AsksAndAttends session.Asks (Attends (Turn Sees Commits Advances) IsAsHigh Waits 1) request told s t → Same s t
+pub asked_same : (request : Request) (told : Told) (s t : SessionSeen) → AsksAndAttends session.Asks (Attends (Turn Sees Commits Advances) HasHeight Waits 1) request told s t → Same s t
 asked_same request told s t is =
     let mid = is.1 in
     joined s mid t (asks_same s mid request (record { reply = told.reply; placed = is.0 }) is.2.0) (attended_same is.0 told.attended mid t is.2.1)

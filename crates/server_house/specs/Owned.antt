@@ -6,7 +6,7 @@ use Rattle.nested_wait.specs.Turns.{Turn}
 use Rattle.nested_wait.specs.declared.attending.Attended.{Attended}
 use Rattle.server_doors.specs.Sessions.{AreOwn, SessionSeen}
 use Rattle.server_doors.specs.SessionWays as session
-use Rattle.server_doors.specs.SessionWays.{Sees, Commits, Advances, IsAsHigh, Waits}
+use Rattle.server_doors.specs.SessionWays.{Sees, Commits, Advances, HasHeight, Waits}
 use Rattle.server_doors.specs.SlotWays.{GoesHome}
 use Rattle.tenant_book.specs.Fronts.{FrontData}
 use Rattle.session_core.specs.Calls.{Asks, AttendsTo}
@@ -51,7 +51,7 @@ AsksAndAttends {D = D} asks attends request told d e =
 -- An ask of the house's first tenant by the client's seat, which notes it with this reply, and goes on from what was seen.
 pub record AsksThere (c : ClientSeen) (request : Request) (told : AskTold) (d : ClientSeen) : Type 0 where
   pub last : SessionSeen
-  pub asks : AsksAndAttends session.Asks (Attends (Turn Sees Commits Advances) IsAsHigh Waits 1) request told (first_session c) last
+  pub asks : AsksAndAttends session.Asks (Attends (Turn Sees Commits Advances) HasHeight Waits 1) request told (first_session c) last
   pub seats : d.seats ≡ last.seats
   pub home : GoesHome last.at.doors (at_none last.at.doors.doors d.post.fronts)
 
@@ -84,7 +84,7 @@ pub record IsFromClient (s : SeatData) : Type 0 where
   pub asked : HasAsked client
   pub is_one : Contains client.seats s
 
--- A seat by which nothing was asked, or one of a client's that has noted its asks.
+-- An unused seat, or one of a client's that has noted its asks.
 abbrev pub IsGivenBackByClient : SeatData → Type 0
 IsGivenBackByClient s = IsFresh s ⊎ IsFromClient s
 

@@ -41,7 +41,7 @@ pub record LacksOne (tenants : ℕ) (seats : List SeatData) : Type 0 where
   pub is_one : tenant < tenants
   pub lacks : All (λ (s : SeatData). s.tenant ≢ tenant) seats
 
--- There is a seat of each tenant of the house, by which nothing was asked yet.
+-- There is an unused seat of each tenant of the house.
 pub record IsClient (c : ClientSeen) : Type 0 where
   pub seats : length c.seats ≡ length c.post.house.doors
   pub own : AreOwn c.seats

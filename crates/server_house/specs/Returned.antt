@@ -29,7 +29,7 @@ pub record IsFromSession (all : List FrontData) (s : SeatData) : Type 0 where
   pub is_one : Contains seats s
   pub told : (f : FrontData) → Contains fronts f → Contains all f
 
--- A seat by which nothing was asked, or one that a session gave back, whose fronts are among those.
+-- An unused seat, or one that a session gave back, whose fronts are among those.
 abbrev pub IsGivenBack : List FrontData → SeatData → Type 0
 IsGivenBack all s = IsFresh s ⊎ IsFromSession all s
 

@@ -8,7 +8,7 @@ use Rattle.server_doors.specs.SlotWays.{GoesHome}
 use Rattle.server_doors.specs.Slots.{SlotsSeen}
 use Rattle.tenant_book.specs.Fronts.{FrontData}
 use Rattle.tenant_lock.specs.Doors.{DoorData}
-use Rattle.server_doors.specs.SessionWays.{Finds, Binds, Asks, WaitsFor, Sees, Commits, Advances, IsAsHigh, Waits}
+use Rattle.server_doors.specs.SessionWays.{Finds, Binds, Asks, WaitsFor, Sees, Commits, Advances, HasHeight, Waits}
 use Rattle.session_core.specs.Replies.{Replies}
 use Rattle.session_core.specs.Sessions.{Serves}
 use Rattle.session_core.specs.declared.serving.SessionEnd.{SessionEnd}
@@ -29,7 +29,7 @@ first_session c = record {
 
 -- the reply to a line at the doors of a house: each ask is by the session's seat of the tenant that it is bound to, which notes the request with this reply
 abbrev pub RepliesThere : (text : List ℕ) → Bool × SessionSeen → Option Reply → Bool × SessionSeen → Type 0
-RepliesThere = Replies Finds Binds Asks WaitsFor (Attends (Turn Sees Commits Advances) IsAsHigh Waits 1)
+RepliesThere = Replies Finds Binds Asks WaitsFor (Attends (Turn Sees Commits Advances) HasHeight Waits 1)
 
 -- at no slot of the doors, with that seen of each tenant's history
 abbrev pub at_none : List DoorData → List FrontData → SlotsSeen

@@ -1,7 +1,7 @@
 -- A worker at the doors of a house.
 use Rattle.std.specs.Prelude.{None}
 use Rattle.server_doors.specs.Slots.{SlotsSeen}
-use Rattle.server_doors.specs.SlotWays.{ArrivesAt, Commits, GoesHome, HandsOver, MayBeHigh, MayBeSeen, Moves, Pauses}
+use Rattle.server_doors.specs.SlotWays.{ArrivesAt, Commits, GoesHome, HandsOver, MayHaveHeight, MayBeSeen, Moves, Pauses}
 use Rattle.server_house.specs.Posts.{PostSeen}
 use Rattle.worker_main.specs.Slots.{SlotSeen, Ways, ways}
 use Rattle.worker_main.specs.Visits.{Told}
@@ -10,7 +10,7 @@ use Rattle.worker_main.specs.declared.visiting.Visiting.{Visiting}
 
 -- what a thread may see and do at the doors of tenants
 abbrev pub ways_there : Ways SlotsSeen
-ways_there = ways MayBeSeen Commits Moves MayBeHigh Pauses GoesHome HandsOver ArrivesAt
+ways_there = ways MayBeSeen Commits Moves MayHaveHeight Pauses GoesHome HandsOver ArrivesAt
 
 -- the worker of a post that has served no call yet: it is at no slot
 abbrev pub first_worker : PostSeen → SlotSeen SlotsSeen

@@ -8,7 +8,7 @@ use std::alloc::{AllocError, Global};
 use std::marker::Model;
 use tenant_record::Seat;
 
-/// Seats by which nothing was asked yet.
+/// Unused seats.
 pub struct FreshSeats {
     seats: Vec<Seat>,
 }
@@ -33,7 +33,7 @@ impl Model for FreshSeats {
 }
 
 impl FreshSeats {
-    /// Seats by which nothing was asked.
+    /// Seats that are unused.
     pub(crate) fn new(seats: Vec<Seat>) -> FreshSeats
         requires { All IsFresh seats.items }
         ensures { result ≡ seats.items }

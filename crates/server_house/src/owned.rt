@@ -15,7 +15,7 @@ use call_queues::QueuePass;
 use job_language::Reply;
 pub use lodging::Lodging;
 use nested_wait::Attended;
-use server_doors::TenantSlots;
+use server_doors::HeldSlot;
 use std::marker::Model;
 use std::sync::{Arc, Wait};
 use tenant_book::{Front, Naming};
@@ -92,7 +92,7 @@ fn serve_there<J: Naming, R: Wait, S: Signal, G: Gate>(
 {
     // A worker stops with the house.
     let never = StopFlag::new();
-    let slots = TenantSlots::new(rt, house.doors.as_slice(), fronts, &never);
+    let slots = HeldSlot::new(rt, house.doors.as_slice(), fronts, &never);
     let (pass, slots, is_called) = serve_call(
         rt,
         &house.queues,

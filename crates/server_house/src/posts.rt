@@ -8,7 +8,7 @@ ghost use Rattle.server_doors.specs.Slots.{AreFronts};
 use crate::fresh::FreshSeats;
 use crate::house::House;
 use call_queues::QueuePass;
-use server_doors::{LockedDoors, TenantSlots};
+use server_doors::{HeldSlot, SessionDoors};
 use std::alloc::{AllocError, Global};
 use std::marker::Model;
 use std::sync::Wait;
@@ -168,7 +168,7 @@ impl<'h, J: Naming> Client<'h, J> {
         self,
         rt: &'h R,
         stop: &'h StopFlag,
-    ) -> LockedDoors<'h, 'h, J, R, Bell>
+    ) -> SessionDoors<'h, 'h, J, R, Bell>
         ensures session { result ≡ first_session self.entry }
         ensures client { IsClient self.entry }
     {
@@ -178,9 +178,9 @@ impl<'h, J: Naming> Client<'h, J> {
             pass,
             fronts,
         } = post;
-        let slots = TenantSlots::new(rt, house.doors.as_slice(), fronts, stop);
+        let slots = HeldSlot::new(rt, house.doors.as_slice(), fronts, stop);
         let ringer = Ringer::new(rt, &house.bell, &house.queues, pass);
-        LockedDoors::new(slots, ringer, house.names.as_slice(), seats)
+        SessionDoors::new(slots, ringer, house.names.as_slice(), seats)
     }
 
     /// The seats of a session that did not take place.

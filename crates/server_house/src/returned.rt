@@ -8,8 +8,8 @@ use std::marker::Model;
 use tenant_book::{Front, Naming};
 use tenant_record::Seat;
 
-/// What came back: seats, each of which is one by which nothing was asked, or one that a session gave back, and what those
-/// sessions had seen of each tenant's history.
+/// What came back: seats, each unused or given back by a session, and what those sessions had seen of each tenant's
+/// history.
 pub struct Returned<J: Naming> {
     seats: Vec<Seat>,
     fronts: Vec<Front<J>>,

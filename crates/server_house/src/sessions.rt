@@ -12,7 +12,7 @@ ghost use Rattle.worker_main.specs.Visits.{told};
 use crate::posts::{Client, Post};
 use reply_writer::Sink;
 use request_reader::Source;
-use server_doors::{LockedDoors, TenantSlots};
+use server_doors::{HeldSlot, SessionDoors};
 use session_core::{SessionEnd, serve};
 use std::alloc::{AllocError, Global};
 use std::sync::Wait;
@@ -52,7 +52,7 @@ pub fn serve_next<J: Naming, R: Wait, I: Source, O: Sink>(
     alloc: Global,
     reader: &mut I,
     writer: &mut O,
-    doors: &mut LockedDoors<'_, '_, J, R, Bell>,
+    doors: &mut SessionDoors<'_, '_, J, R, Bell>,
 ) -> Result<SessionEnd, AllocError>
     ensures served { IfOk result (λ end. ServesNext (I.remaining reader.old) (I.remaining reader.new)
         (O.contents writer.old) (O.contents writer.new) doors.old doors.new end) }
@@ -85,7 +85,7 @@ pub fn serve_calls<J: Naming, R: Wait, S: Signal, G: Gate>(
     } = post;
     // A worker stops with the house.
     let never = StopFlag::new();
-    let slots = TenantSlots::new(rt, house.doors.as_slice(), fronts, &never);
+    let slots = HeldSlot::new(rt, house.doors.as_slice(), fronts, &never);
     let (_pass, slots) = worker(rt, &house.queues, pass, slots, signal, gate, visiting);
     let _fronts = slots.end();
 }

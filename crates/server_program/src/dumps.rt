@@ -1,4 +1,8 @@
 // Where the histories of a server's tenants are kept.
+ghost use Rattle.std.specs.Prelude.{◌≡◌, ◌⊎◌, IfErr, IfOk, string_bytes};
+ghost use Rattle.server_io.specs.declared.ends.ServerEnd.TheVariants.{Device, Memory};
+ghost use Rattle.server_program.specs.Dumps.{dump_at, end_of_dump};
+
 use dump_files::can_dump;
 use dump_lines::DumpFault;
 use job_language::TenantConfig;
@@ -12,7 +16,9 @@ pub(crate) fn try_folder<R: Files>(
     alloc: Global,
     folder: &str,
     configs: &[TenantConfig],
-) -> Result<(), ServerEnd> {
+) -> Result<(), ServerEnd>
+    ensures { IfErr result (λ end. (end ≡ Device) ⊎ (end ≡ Memory)) }
+{
     for config in configs {
         let path = dump_path(alloc, folder, config)?;
         can_dump(rt, alloc, path.as_str()).map_err(end_at)?;
@@ -25,13 +31,18 @@ pub(crate) fn dump_path(
     alloc: Global,
     folder: &str,
     config: &TenantConfig,
-) -> Result<String, ServerEnd> {
+) -> Result<String, ServerEnd>
+    ensures path { IfOk result (λ path. string_bytes path ≡ dump_at folder.now config.now.name) }
+    ensures fault { IfErr result (λ end. end ≡ Memory) }
+{
     let name = config.tenant().name;
     Ok(format!(in alloc; "{folder}/{}.jsonl", name.as_str())?)
 }
 
 /// What a dump that was not written is for the server.
-pub(crate) fn end_at(fault: DumpFault) -> ServerEnd {
+pub(crate) fn end_at(fault: DumpFault) -> ServerEnd
+    ensures { result ≡ end_of_dump fault }
+{
     match fault {
         DumpFault::Memory => ServerEnd::Memory,
         DumpFault::Device | DumpFault::NoEntry => ServerEnd::Device,

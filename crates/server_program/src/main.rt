@@ -1,7 +1,10 @@
 //! `arena-server`: serves tenants to clients over a Unix socket.
 #![tactic(auto)]
 
-ghost use Rattle.std.specs.Prelude.{◌≡◌, ◌≤◌};
+ghost use Rattle.std.specs.Prelude.{◌≡◌, ◌≢◌, ◌≤◌, ◌⊎◌, Err, IfErr, IfOk, IfSome, IsErr, IsOk, None, Ok};
+ghost use Rattle.std.specs.IoError.{error_kind};
+ghost use Rattle.server_io.specs.declared.ends.ServerEnd.TheVariants.{Device, Done, Memory, Words};
+ghost use Rattle.server_program.specs.Ends.{ClosesAll};
 
 mod dumps;
 mod ends;
@@ -13,7 +16,7 @@ use program_version::{asks_version, print_version};
 use program_words::{ServerWords, WordsFault, read_server_words};
 use server_house::{House, Opened};
 use server_io::{Access, Endpoint, MAX_CONFIG, ServerEnd, config_of};
-use socket_server::serve_connections;
+use socket_server::{Served, serve_connections};
 use std::alloc::Global;
 use std::env::Env;
 use std::fs::{File, Files};
@@ -29,11 +32,7 @@ use tenant_book::{Naming, OpenedRegistry, Registry};
 fn main(rt: HostRuntime) -> ExitCode {
     let end = match words_of(&rt) {
         Ok(words) => end_of(&rt, words.as_slice()),
-        Err(fault) => match fault.kind() {
-            // A word that is no text.
-            ErrorKind::InvalidData => ServerEnd::Words,
-            _ => ServerEnd::Memory,
-        },
+        Err(fault) => unread_end(&fault),
     };
     if let Some(fault) = end.fault() {
         // The status tells of the fault even if standard error takes nothing.
@@ -49,6 +48,17 @@ fn words_of<R: Env + AllocGlobal>(rt: &R) -> io::Result<Vec<String>> {
         words.push(word)?;
     }
     Ok(words)
+}
+
+/// How a server ends whose words could not be read: one is no text, or an allocation failed.
+fn unread_end(fault: &io::Error) -> ServerEnd
+    ensures words { error_kind fault.now ≡ ErrorKind.InvalidData → result ≡ Words }
+    ensures memory { error_kind fault.now ≢ ErrorKind.InvalidData → result ≡ Memory }
+{
+    match fault.kind() {
+        ErrorKind::InvalidData => ServerEnd::Words,
+        _ => ServerEnd::Memory,
+    }
 }
 
 fn end_of<R>(rt: &R, words: &[String]) -> ServerEnd
@@ -78,8 +88,7 @@ where
     }
     let words = match read_server_words(rt.alloc(), texts.as_slice()) {
         Ok(words) => words,
-        Err(WordsFault::Words) => return Err(ServerEnd::Words),
-        Err(WordsFault::Memory) => return Err(ServerEnd::Memory),
+        Err(fault) => return Err(words_end(fault)),
     };
     // Dumps in a folder without a name would go to the root.
     if let Some("") = words.dump {
@@ -89,10 +98,24 @@ where
 }
 
 /// How a server ends that only told what it is.
-fn told(printed: io::Result<()>) -> Result<ServerEnd, ServerEnd> {
+fn told(printed: io::Result<()>) -> Result<ServerEnd, ServerEnd>
+    ensures done { IsOk printed → result ≡ Ok Done }
+    ensures device { IsErr printed → result ≡ Err Device }
+{
     match printed {
         Ok(()) => Ok(ServerEnd::Done),
         Err(_) => Err(ServerEnd::Device),
+    }
+}
+
+/// How a server ends whose words it does not know.
+fn words_end(fault: WordsFault) -> ServerEnd
+    ensures words { fault ≡ WordsFault.Words → result ≡ Words }
+    ensures memory { fault ≡ WordsFault.Memory → result ≡ Memory }
+{
+    match fault {
+        WordsFault::Words => ServerEnd::Words,
+        WordsFault::Memory => ServerEnd::Memory,
     }
 }
 
@@ -120,6 +143,7 @@ where
     R: Files + Net + Threads + Wait + Sync + Print + Eprint,
     requires registry { opened ≡ J.registry }
     requires connections { 1 ≤ words.connections }
+    ensures { IfOk result (ClosesAll config.now.tenants) }
 {
     let registry: Registry<J> = opened.named();
     let Opened {
@@ -142,16 +166,20 @@ where
         words.connections,
     );
     endpoint.remove(rt);
-    let served = served?;
-    let closed = close_tenants(
-        rt,
-        alloc,
-        house,
-        served.returned,
-        config.tenants(),
-        words.dump,
-    );
-    match served.fault {
+    let Served { returned, fault } = served?;
+    let closed = close_tenants(rt, alloc, house, returned, config.tenants(), words.dump);
+    first_fault(fault, closed)
+}
+
+/// How a server ends that closed its tenants like that, after a fault or without one.
+fn first_fault(
+    fault: Option<ServerEnd>,
+    closed: Result<ServerEnd, ServerEnd>,
+) -> Result<ServerEnd, ServerEnd>
+    ensures fault { IfSome fault (λ first. result ≡ Err first) }
+    ensures none { fault ≡ None → result ≡ closed }
+{
+    match fault {
         Some(fault) => Err(fault),
         None => closed,
     }
@@ -162,7 +190,9 @@ fn listen<'p, R: Files + Net + Eprint>(
     rt: &R,
     alloc: Global,
     path: &'p str,
-) -> Result<Endpoint<'p>, ServerEnd> {
+) -> Result<Endpoint<'p>, ServerEnd>
+    ensures { IfErr result (λ end. (end ≡ Device) ⊎ (end ≡ Memory)) }
+{
     match Endpoint::bind(rt, alloc, path, Access::OWNER) {
         Ok(endpoint) => Ok(endpoint),
         Err(fault) => {
@@ -176,14 +206,26 @@ fn listen<'p, R: Files + Net + Eprint>(
 }
 
 /// The bytes of a configuration's file, one more than it may have at most.
-fn config_bytes<R: Files + AllocGlobal>(rt: &R, path: &str) -> Result<Vec<u8>, ServerEnd> {
+fn config_bytes<R: Files + AllocGlobal>(rt: &R, path: &str) -> Result<Vec<u8>, ServerEnd>
+    ensures { IfErr result (λ end. (end ≡ Device) ⊎ (end ≡ Memory)) }
+{
     let mut bytes = Vec::new(rt.alloc());
     let Ok(file) = File::open(rt, path) else {
         return Err(ServerEnd::Device);
     };
     match file.take(MAX_CONFIG as u64 + 1).read_to_end(&mut bytes) {
         Ok(_) => Ok(bytes),
-        Err(fault) if fault.kind() == ErrorKind::OutOfMemory => Err(ServerEnd::Memory),
-        Err(_) => Err(ServerEnd::Device),
+        Err(fault) => Err(read_end(&fault)),
+    }
+}
+
+/// How a server ends whose configuration could not be read.
+fn read_end(fault: &io::Error) -> ServerEnd
+    ensures memory { error_kind fault.now ≡ ErrorKind.OutOfMemory → result ≡ Memory }
+    ensures device { error_kind fault.now ≢ ErrorKind.OutOfMemory → result ≡ Device }
+{
+    match fault.kind() {
+        ErrorKind::OutOfMemory => ServerEnd::Memory,
+        _ => ServerEnd::Device,
     }
 }

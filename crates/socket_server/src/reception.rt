@@ -1,4 +1,5 @@
 // The thread that accepts connections, and looks after them until their sessions have ended.
+ghost use Rattle.std.specs.Prelude.{◌≡◌, ◌⊎◌, ◌+◌, ◌-◌, true, false, IsSome, None, Some};
 
 use crate::connections::Connection;
 use server_house::{Client, FreshSeats, House, Posts};
@@ -46,7 +47,11 @@ impl<'h, J: Naming> Reception<'h, J> {
         seats: FreshSeats,
         watch: Watch,
         connections: u8,
-    ) -> Self {
+    ) -> Self
+        ensures left { result.left ≡ connections }
+        ensures fault { result.fault ≡ None }
+        ensures patience { result.patience ≡ None }
+    {
         Reception {
             posts,
             seats,
@@ -59,7 +64,9 @@ impl<'h, J: Naming> Reception<'h, J> {
     }
 
     /// How many connections are still to be accepted.
-    pub(crate) fn left(&self) -> u8 {
+    pub(crate) fn left(&self) -> u8
+        ensures { result ≡ self.now.left }
+    {
         self.left
     }
 
@@ -68,7 +75,11 @@ impl<'h, J: Naming> Reception<'h, J> {
         &mut self,
         alloc: Global,
         endpoint: &Endpoint<'_>,
-    ) -> Option<Admitted<'h, J>> {
+    ) -> Option<Admitted<'h, J>>
+        ensures admitted { IsSome result → self.new.left + 1 ≡ self.old.left }
+        ensures goes_on { IsSome result → self.new.fault ≡ self.old.fault }
+        ensures stays { result ≡ None → (self.new.left ≡ self.old.left) ⊎ (self.new.left ≡ 0 × IsSome self.new.fault) }
+    {
         let left = self.left.checked_sub(1)?;
         let Ok(accepted) = endpoint.accept() else {
             self.fail(ServerEnd::Device);
@@ -91,7 +102,10 @@ impl<'h, J: Naming> Reception<'h, J> {
         &mut self,
         alloc: Global,
         stream: UnixStream,
-    ) -> Result<Option<Admitted<'h, J>>, AllocError> {
+    ) -> Result<Option<Admitted<'h, J>>, AllocError>
+        ensures left { self.new.left ≡ self.old.left }
+        ensures fault { self.new.fault ≡ self.old.fault }
+    {
         let connection = Arc::new(alloc, Connection::new(stream))?;
         if self
             .watch
@@ -116,18 +130,30 @@ impl<'h, J: Naming> Reception<'h, J> {
     }
 
     /// Notes a fault, if it is the first.
-    pub(crate) fn note(&mut self, fault: ServerEnd) {
+    pub(crate) fn note(&mut self, fault: ServerEnd)
+        ensures first { IsSome self.old.fault → self.new.fault ≡ self.old.fault }
+        ensures noted { self.old.fault ≡ None → self.new.fault ≡ Some fault }
+        ensures left { self.new.left ≡ self.old.left }
+    {
         self.fault = self.fault.or(Some(fault));
     }
 
     /// Accepts no more connections, for a fault.
-    fn fail(&mut self, fault: ServerEnd) {
+    fn fail(&mut self, fault: ServerEnd)
+        ensures first { IsSome self.old.fault → self.new.fault ≡ self.old.fault }
+        ensures noted { self.old.fault ≡ None → self.new.fault ≡ Some fault }
+        ensures left { self.new.left ≡ 0 }
+    {
         self.note(fault);
         self.left = 0;
     }
 
     /// The last connection has no thread, for a fault: it ends, and no more are accepted.
-    pub(crate) fn lose_last(&mut self, fault: ServerEnd) {
+    pub(crate) fn lose_last(&mut self, fault: ServerEnd)
+        ensures first { IsSome self.old.fault → self.new.fault ≡ self.old.fault }
+        ensures noted { self.old.fault ≡ None → self.new.fault ≡ Some fault }
+        ensures left { self.new.left ≡ 0 }
+    {
         if let Some(connection) = self.accepted.last() {
             connection.end();
         }
@@ -135,7 +161,9 @@ impl<'h, J: Naming> Reception<'h, J> {
     }
 
     /// Whether no connection is still to be accepted, and all sessions have ended.
-    pub(crate) fn is_over(&self) -> bool {
+    pub(crate) fn is_over(&self) -> bool
+        ensures { result ≡ true → self.now.left ≡ 0 }
+    {
         self.left == 0 && self.accepted.iter().all(|connection| connection.is_over())
     }
 
@@ -174,7 +202,12 @@ impl<'h, J: Naming> Reception<'h, J> {
     }
 
     /// Stops the server: it accepts no more, nothing waits any more, and no more lines come in.
-    fn stop<R: Wait>(&mut self, rt: &R, house: &House<J>) {
+    fn stop<R: Wait>(&mut self, rt: &R, house: &House<J>)
+        ensures left { self.new.left ≡ 0 }
+        ensures fault { self.new.fault ≡ self.old.fault }
+        ensures patience { IsSome self.new.patience }
+        ensures kept { IsSome self.old.patience → self.new.patience ≡ self.old.patience }
+    {
         self.left = 0;
         self.patience = self.patience.or(Some(PATIENCE));
         house.stop(rt);
@@ -184,13 +217,15 @@ impl<'h, J: Naming> Reception<'h, J> {
     }
 
     /// Cuts off the connections that are left when patience is at its end.
-    fn lose_patience(&mut self) {
+    fn lose_patience(&mut self)
+        ensures left { self.new.left ≡ self.old.left }
+        ensures fault { self.new.fault ≡ self.old.fault }
+        ensures none { self.old.patience ≡ None → self.new.patience ≡ None }
+    {
         let Some(patience) = self.patience else {
             return;
         };
-        if self.watch.was_quiet() {
-            self.patience = Some(patience.saturating_sub(1));
-        }
+        self.patience = Some(patience_after(patience, self.watch.was_quiet()));
         if patience == 0 {
             for connection in &self.accepted {
                 connection.cut();
@@ -199,7 +234,10 @@ impl<'h, J: Naming> Reception<'h, J> {
     }
 
     /// The seats that no session took, and the first fault.
-    pub(crate) fn into_rest(self) -> (FreshSeats, Option<ServerEnd>) {
+    pub(crate) fn into_rest(self) -> (FreshSeats, Option<ServerEnd>)
+        ensures seats { result.0 ≡ self.entry.seats }
+        ensures fault { result.1 ≡ self.entry.fault }
+    {
         let Reception {
             posts: _posts,
             seats,
@@ -210,5 +248,17 @@ impl<'h, J: Naming> Reception<'h, J> {
             patience: _patience,
         } = self;
         (seats, fault)
+    }
+}
+
+/// How many quiet ticks are left after a tick.
+fn patience_after(patience: u8, is_quiet: bool) -> u8
+    ensures quiet { is_quiet ≡ true → result ≡ patience - 1 }
+    ensures busy { is_quiet ≡ false → result ≡ patience }
+{
+    if is_quiet {
+        patience.saturating_sub(1)
+    } else {
+        patience
     }
 }

@@ -1,5 +1,6 @@
 // All threads of a server.
-ghost use Rattle.std.specs.Prelude.{◌≡◌, ◌⊎◌, true, All, IfErr, IfOk, IsSome};
+ghost use Rattle.std.specs.Prelude.{◌≡◌, ◌≢◌, ◌⊎◌, true, false, All, IfErr, IfOk, IsSome, None};
+ghost use Rattle.std.specs.IoError.{error_kind};
 ghost use Rattle.server_io.specs.declared.ends.ServerEnd.TheVariants.{Device, Memory};
 ghost use Rattle.std.specs.Thread.{IsSend};
 ghost use Rattle.server_house.specs.Returned.{IsGivenBack};
@@ -34,6 +35,8 @@ pub struct Served<J: Naming> {
 impl<J: Naming> Served<J> {
     /// The end after that fault. Without one it is a fault that a seat was lost.
     fn new(returned: Returned<J>, fault: Option<ServerEnd>) -> Served<J>
+        ensures first { IsSome fault → result.fault ≡ fault }
+        ensures none { fault ≡ None → returned.is_short ≡ false → result.fault ≡ None }
         ensures given_back { All (IsGivenBack result.returned.fronts) result.returned.seats }
         ensures lost { result.returned.is_short ≡ true → IsSome result.fault }
     {
@@ -70,10 +73,7 @@ pub fn serve_connections<J: Naming + Send + Sync, R: Threads + Wait + Files + Ne
     let posts = Posts::new(house, passes);
     let returned = Mutex::new(Returned::with_room(alloc, seats.len())?);
     let waiting = Mutex::new(Vec::with_capacity(alloc, usize::from(connections))?);
-    let (watch, waker) = match Watch::new(rt, alloc, endpoint, connections) {
-        Ok(made) => made,
-        Err(fault) => return Err(end_of(&fault)),
-    };
+    let (watch, waker) = Watch::new(rt, alloc, endpoint, connections).map_err(end_of)?;
     let back = &returned;
     let served = thread::scope(
         thread::scope_env(),
@@ -88,19 +88,32 @@ pub fn serve_connections<J: Naming + Send + Sync, R: Threads + Wait + Files + Ne
                     return Err(fault);
                 }
             };
-            let mut reception = Reception::new(alloc, posts, seats, watch, connections);
-            if println!(rt; "listening").is_err() {
-                reception.note(ServerEnd::Device);
-            }
-            let fault = accept_all(rt, alloc, house, reception, endpoint, waiting, back, &waker);
-            house.stop(rt);
-            Ok(fault)
+            let reception = Reception::new(alloc, posts, seats, watch, connections);
+            Ok(receive(rt, alloc, house, reception, endpoint, waiting, back, &waker))
         },
     );
-    match served {
-        Ok(fault) => Ok(Served::new(returned.into_inner(), fault)),
-        Err(fault) => Err(end_of(&fault)),
+    let fault = served.map_err(end_of)?;
+    Ok(Served::new(returned.into_inner(), fault))
+}
+
+/// Prints `listening`, accepts connections, and stops the house once their sessions have ended: the first fault.
+fn receive<'h, J: Naming + Send + Sync, R: Threads + Wait + Files + Sync + Print>(
+    rt: &R,
+    alloc: Global,
+    house: &House<J>,
+    reception: Reception<'h, J>,
+    endpoint: &Endpoint<'_>,
+    waiting: Mutex<Vec<Client<'h, J>>>,
+    back: &Mutex<Returned<J>>,
+    waker: &Waker,
+) -> Option<ServerEnd> {
+    let mut reception = reception;
+    if println!(rt; "listening").is_err() {
+        reception.note(ServerEnd::Device);
     }
+    let fault = accept_all(rt, alloc, house, reception, endpoint, waiting, back, waker);
+    house.stop(rt);
+    fault
 }
 
 /// Starts a thread for each of `workers` workers, as long as there is a pass for it, and gives back the passes that are
@@ -165,10 +178,15 @@ fn accept_all<'h, J: Naming + Send + Sync, R: Threads + Wait + Files + Sync>(
         back.lock(rt).keep_fresh(seats);
         fault
     });
-    for client in waiting.into_inner() {
+    give_back(rt, waiting.into_inner(), back);
+    fault
+}
+
+/// Gives back the seats of the clients that no thread took.
+fn give_back<J: Naming, R: Wait>(rt: &R, left: Vec<Client<'_, J>>, back: &Mutex<Returned<J>>) {
+    for client in left {
         back.lock(rt).keep_fresh(client.into_seats());
     }
-    fault
 }
 
 /// Lets a client wait for its thread. `Memory` if there is no room for it; its seats come back then.
@@ -226,8 +244,10 @@ fn serve_waiting<J: Naming, R: Wait>(
 }
 
 /// What a fault of the system is for the server.
-fn end_of(fault: &io::Error) -> ServerEnd
-    ensures { (result ≡ Device) ⊎ (result ≡ Memory) }
+fn end_of(fault: io::Error) -> ServerEnd
+    ensures memory { error_kind fault ≡ ErrorKind.OutOfMemory → result ≡ Memory }
+    ensures device { error_kind fault ≢ ErrorKind.OutOfMemory → result ≡ Device }
+    ensures either { (result ≡ Device) ⊎ (result ≡ Memory) }
 {
     match fault.kind() {
         ErrorKind::OutOfMemory => ServerEnd::Memory,

@@ -1,4 +1,6 @@
 // The thread that looks after terms opens the next one of a tenant.
+ghost use Rattle.std.specs.Prelude.{◌≡◌, ◌≤◌, ◌<◌, ◌+◌, IfSome, None};
+ghost use Rattle.term_life.specs.declared.terms.TheConstants.{MOST_JOBS};
 
 use super::Keeper;
 use crate::clocks::{millis, seconds};
@@ -48,25 +50,7 @@ impl<J: Naming> Keeper<J> {
     ) {
         let named = tenancy.name();
         if let Some(term) = tenancy.serving(rt) {
-            if why == Why::Journal {
-                let number = term.span().number;
-                site.say_fault(
-                    rt,
-                    alloc,
-                    Fault::Journal,
-                    Some(named.as_str()),
-                    Some(number),
-                );
-            }
-            site.say(
-                rt,
-                alloc,
-                Event::Rotation {
-                    tenant: named.as_str(),
-                    term: term.span().number,
-                    why,
-                },
-            );
+            say_rotation(rt, alloc, site, named.as_str(), term.span().number, why);
         }
         let opened = match read_config(rt, alloc, site.words.config) {
             Ok(config) => self.adopt_and_open(rt, alloc, site, tenant, &config, why),
@@ -132,19 +116,35 @@ impl<J: Naming> Keeper<J> {
             return Ok(());
         };
         let (number, base) = tenancy.next(rt);
-        let room = given.tenant().steps as u64;
-        if base > MOST_JOBS || room > MOST_JOBS - base {
+        let Some(span) = next_span(number, base, &given) else {
             site.say_fault(rt, alloc, Fault::Numbers, Some(named.as_str()), None);
             return Err(ServerEnd::Device);
-        }
-        let span = Span { number, base, room };
+        };
         site.folder.put_span(rt, alloc, named.as_str(), span)?;
+        let term = self.new_term(rt, alloc, site, span, given)?;
+        let notes = begin_notes(rt, alloc, site, named.as_str(), span.number)?;
+        site.host.begin(rt, alloc, tenant, term, why)?;
+        tenancy.note_in(rt, notes);
+        let ms = millis(rt).saturating_sub(asked);
+        say_opened(rt, alloc, site, named.as_str(), span, ms);
+        Ok(())
+    }
+
+    /// A term that has done nothing yet, with its journal if it is to have one.
+    fn new_term<R: Files<File = File> + Wait + Clock>(
+        &self,
+        rt: &R,
+        alloc: Global,
+        site: Site<'_, J>,
+        span: Span,
+        given: TenantConfig,
+    ) -> Result<HostTerm<J>, ServerEnd> {
         // A host has a place for one connection at least.
         if site.connections == 0 {
             return Err(ServerEnd::Words);
         }
         let journal = begin_journal(rt, alloc, site, span, &given)?;
-        let term = HostTerm::open(
+        HostTerm::open(
             rt,
             alloc,
             site.host.registry(),
@@ -154,22 +154,58 @@ impl<J: Naming> Keeper<J> {
             self.workers,
             site.connections,
             journal,
-        )?;
-        let notes = begin_notes(rt, alloc, site, named.as_str(), number)?;
-        site.host.begin(rt, alloc, tenant, term, why)?;
-        tenancy.note_in(rt, notes);
-        site.say(
-            rt,
-            alloc,
-            Event::Opened {
-                tenant: named.as_str(),
-                term: number,
-                base,
-                ms: millis(rt).saturating_sub(asked),
-            },
-        );
-        Ok(())
+        )
     }
+}
+
+/// Says that the term of that number, which serves a tenant, is left for the next one.
+fn say_rotation<J: Naming, R: Wait + Clock>(
+    rt: &R,
+    alloc: Global,
+    site: Site<'_, J>,
+    tenant: &str,
+    term: u64,
+    why: Why,
+) {
+    if why == Why::Journal {
+        site.say_fault(rt, alloc, Fault::Journal, Some(tenant), Some(term));
+    }
+    site.say(rt, alloc, Event::Rotation { tenant, term, why });
+}
+
+/// Says that a term of a tenant was opened, which took so many milliseconds.
+fn say_opened<J: Naming, R: Wait + Clock>(
+    rt: &R,
+    alloc: Global,
+    site: Site<'_, J>,
+    tenant: &str,
+    span: Span,
+    ms: u64,
+) {
+    site.say(
+        rt,
+        alloc,
+        Event::Opened {
+            tenant,
+            term: span.number,
+            base: span.base,
+            ms,
+        },
+    );
+}
+
+/// The next term of a tenant, by its number and the one after which its jobs are numbered: it has a number for each entry of
+/// its history. None if there are not as many.
+fn next_span(number: u64, base: u64, given: &TenantConfig) -> Option<Span>
+    ensures span { IfSome result (λ span. span ≡ record { number = number; base = base; room = given.now.steps }) }
+    ensures room { IfSome result (λ span. span.base + span.room ≤ MOST_JOBS) }
+    ensures none { result ≡ None → MOST_JOBS < base + given.now.steps }
+{
+    let room = given.tenant().steps as u64;
+    if base > MOST_JOBS || room > MOST_JOBS - base {
+        return None;
+    }
+    Some(Span { number, base, room })
 }
 
 /// What the tenant of a name is given by a configuration.

@@ -1,6 +1,6 @@
 // A tenant's terms are left, and taken out once their jobs have their outcomes.
 
-use super::Tenancy;
+use super::{Lives, Tenancy};
 use crate::desks::Desk;
 use crate::endings::Ending;
 use crate::roster::Roster;
@@ -8,6 +8,17 @@ use std::alloc::{AllocError, Global};
 use std::sync::{Mutex, Wait};
 use tenant_book::Naming;
 use term_life::Why;
+
+impl<J: Naming> Lives<J> {
+    /// Why the term of that number was left, if it was.
+    fn why(&self, number: u64) -> Option<Why> {
+        self.terms
+            .all()
+            .iter()
+            .find(|term| term.number == number)
+            .and_then(|term| term.why)
+    }
+}
 
 impl<J: Naming> Tenancy<J> {
     /// Lets the term that serves, if one does, take no new jobs, for that reason.
@@ -58,12 +69,7 @@ impl<J: Naming> Tenancy<J> {
         let term = lives.live.remove(place);
         lives.terms.close(span.number);
         roster.lock(rt).remove(tenant, span.number);
-        let why = lives
-            .terms
-            .all()
-            .iter()
-            .find(|known| known.number == span.number)
-            .and_then(|known| known.why);
+        let why = lives.why(span.number);
         // There is room for them.
         let _kept = lives.outcomes.add(span, kept);
         Ok(Some(Ending::new(term, why.unwrap_or(Why::Stop), outcomes)))

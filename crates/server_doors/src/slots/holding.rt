@@ -3,7 +3,7 @@ ghost use Rattle.std.specs.Prelude.{◌≡◌, ◌<◌, length, IfSome, None};
 ghost use Rattle.server_doors.specs.Slots.{AreFronts};
 ghost use Rattle.server_doors.specs.SlotWays.{GoesHome};
 
-use super::TenantSlots;
+use super::HeldSlot;
 use crate::places;
 use job_step::View;
 use std::mem;
@@ -11,14 +11,14 @@ use std::sync::Wait;
 use tenant_book::{Front, Naming};
 use tenant_record::Pass;
 
-impl<'d, J: Naming, R: Wait> TenantSlots<'d, J, R> {
+impl<'d, J: Naming, R: Wait> HeldSlot<'d, J, R> {
     /// Gives the slot home that it is at, and gives back what it has seen.
     pub fn end(self) -> Vec<Front<J>>
         ensures home { GoesHome self.entry
             (record { doors = self.entry.doors; fronts = result.items; pass = None }) }
         ensures fronts { AreFronts self.entry.doors result.items }
     {
-        let TenantSlots {
+        let HeldSlot {
             rt,
             doors,
             fronts,

@@ -12,7 +12,7 @@ use crate::house::House;
 use call_queues::QueuePass;
 use job_language::Request;
 use nested_wait::attend;
-use server_doors::{LockedDoors, TenantSlots};
+use server_doors::{HeldSlot, SessionDoors};
 use session_core::Doors;
 use std::sync::Wait;
 use tenant_book::{Front, Naming};
@@ -117,7 +117,7 @@ fn first_doors<'h, J: Naming, R: Wait, S: Signal>(
     place: Place<J>,
     signal: &'h S,
     stop: &'h StopFlag,
-) -> LockedDoors<'h, 'h, J, R, S>
+) -> SessionDoors<'h, 'h, J, R, S>
     requires { IsPlace house.now place.pass place.fronts.items place.seats.items }
     ensures { result
         ≡ first_session (client_of house.now place.pass place.fronts.items place.seats.items) }
@@ -127,9 +127,9 @@ fn first_doors<'h, J: Naming, R: Wait, S: Signal>(
         fronts,
         seats,
     } = place;
-    let slots = TenantSlots::new(rt, house.doors.as_slice(), fronts, stop);
+    let slots = HeldSlot::new(rt, house.doors.as_slice(), fronts, stop);
     let ringer = Ringer::new(rt, signal, &house.queues, pass);
-    LockedDoors::new(slots, ringer, house.names.as_slice(), seats)
+    SessionDoors::new(slots, ringer, house.names.as_slice(), seats)
 }
 
 /// Asks, and attends the slot that a job is placed on.

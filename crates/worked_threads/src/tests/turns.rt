@@ -6,7 +6,7 @@ use crate::tests::threads::locks::closed;
 use job_language::{Moved, Reply, Request};
 use job_step::{Segment, View, segment_of};
 use nested_wait::{Attended, Door, attend};
-use server_doors::{MOVES_UNDER_LOCK, TenantSlots};
+use server_doors::{HeldSlot, MOVES_UNDER_LOCK};
 use std::alloc::Global;
 use std::marker::Brand;
 use std::process::Abort;
@@ -22,7 +22,7 @@ use worker_main::DueDoor;
 
 /// A thread's door, and how often it was moved by a commit and by an advance.
 struct Counted<'d, J: Naming, R: Wait> {
-    slots: TenantSlots<'d, J, R>,
+    slots: HeldSlot<'d, J, R>,
     commits: u32,
     advances: u32,
 }
@@ -77,7 +77,7 @@ fn attended<J: Naming, R: Wait>(
     let job = job_of(alloc, FIB_OF_SIX)?;
     let stop = StopFlag::new();
     let fronts = vec![in alloc; door.front()]?;
-    let mut slots = TenantSlots::new(rt, slice::from_ref(door), fronts, &stop);
+    let mut slots = HeldSlot::new(rt, slice::from_ref(door), fronts, &stop);
     let _placed = slots.ask(seat, Request::Execute(job));
     let mut counted = Counted {
         slots,
@@ -131,7 +131,7 @@ fn counted_at<'d, J: Naming, R: Wait>(
     }
     let job = job_of(alloc, SHORT_THEN_LONG)?;
     let fronts = vec![in alloc; door.front()]?;
-    let mut slots = TenantSlots::new(rt, slice::from_ref(door), fronts, stop);
+    let mut slots = HeldSlot::new(rt, slice::from_ref(door), fronts, stop);
     let (reply, _due) = slots.ask(seat, Request::Execute(job));
     let Reply::Placed(..) = reply else {
         let _fronts = slots.end();

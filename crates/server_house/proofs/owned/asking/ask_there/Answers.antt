@@ -4,7 +4,7 @@ use Rattle.nested_wait.specs.Runs.{Attends}
 use Rattle.nested_wait.specs.Turns.{Turn}
 use Rattle.server_doors.specs.Sessions.{SessionSeen}
 use Rattle.server_doors.specs.SessionWays as session
-use Rattle.server_doors.specs.SessionWays.{Sees, Commits, Advances, IsAsHigh, Waits}
+use Rattle.server_doors.specs.SessionWays.{Sees, Commits, Advances, HasHeight, Waits}
 use Rattle.server_doors.specs.Slots.{AreFronts}
 use Rattle.tenant_lock.specs.Doors.{DoorData}
 use Rattle.worker_main.specs.Pushes.{RingerSeen}
@@ -17,7 +17,7 @@ pub returns-clause-asks : goal.returns-clause-asks
 returns-clause-asks g c =
     record {
       last = c.ask_and_attend-told.new.doors;
-      asks = subst (λ (s : SessionSeen). AsksAndAttends session.Asks (Attends (Turn Sees Commits Advances) IsAsHigh Waits 1) c.args.request c.ask_and_attend-told.result s
+      asks = subst (λ (s : SessionSeen). AsksAndAttends session.Asks (Attends (Turn Sees Commits Advances) HasHeight Waits 1) c.args.request c.ask_and_attend-told.result s
           c.ask_and_attend-told.new.doors) c.first_doors-doors.ensures c.ask_and_attend-told.ensures.asks;
       seats = c.into_parts-seats.ensures.seats;
       home = c.into_parts-seats.ensures.home;
@@ -29,7 +29,7 @@ returns-clause-place g c =
     let last = c.ask_and_attend-told.new.doors in
     let begins = first_session (client_of c.args.house.now place.pass place.fronts.items place.seats.items) in
     let same : Same begins last = asked_same c.args.request c.ask_and_attend-told.result begins last
-    (subst (λ (s : SessionSeen). AsksAndAttends session.Asks (Attends (Turn Sees Commits Advances) IsAsHigh Waits 1) c.args.request c.ask_and_attend-told.result s last) c.first_doors-doors.ensures
+    (subst (λ (s : SessionSeen). AsksAndAttends session.Asks (Attends (Turn Sees Commits Advances) HasHeight Waits 1) c.args.request c.ask_and_attend-told.result s last) c.first_doors-doors.ensures
     c.ask_and_attend-told.ensures.asks) in
     let parts = c.into_parts-seats.ensures in
     record {

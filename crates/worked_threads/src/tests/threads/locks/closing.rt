@@ -138,7 +138,7 @@ fn a_pass_that_was_told_of_another_row_is_refused_in<
     Ok(())
 }
 
-/// The seats of another door of the tenant, by which nothing was asked.
+/// The unused seats of another door of the tenant.
 fn seats_of_another_door<J: Naming, R: Wait>(
     rt: &R,
     alloc: Global,

@@ -2,8 +2,8 @@ use Rattle.std.proofs.Common.{rules, ◌≡◌, ◌<◌, ◌∙◌, length, slic
 use Rattle.std.proofs.lemmas.List.{get_or_default}
 use Rattle.tenant_record.specs.SeatData.{SeatData}
 use Rattle.server_doors.specs.SlotWays.{AsksBy}
-use Rattle.server_doors.proofs.sessions.LockedDoors.ask_bound.Goals.{in-Placed, in_default}
-use Rattle.server_doors.proofs.sessions.LockedDoors.ask_bound.Goals as goal
+use Rattle.server_doors.proofs.sessions.SessionDoors.ask_bound.Goals.{in-Placed, in_default}
+use Rattle.server_doors.proofs.sessions.SessionDoors.ask_bound.Goals as goal
 
 pub returns-clause-asks : goal.returns-clause-asks
 returns-clause-asks g c =
