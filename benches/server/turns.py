@@ -24,6 +24,7 @@ FIB = [[["set", 2, 2], ["lt", 3, 0, 2], ["jz", 3, 4], ["ret", 0], ["set", 2, 1],
         ["sub", 3, 3, 2], ["spawn", 0, 0, 3, 1], ["wait", 4, 5, 0], ["ret", 4]]]
 # 15 procedures of 201 instructions that nothing calls
 UNUSED = [[["set", 1, number]] * 200 + [["ret", 1]] for number in range(15)]
+RET = [[["set", 0, 0], ["ret", 0]]]
 LUA = "local function fib(n) if n < 2 then return n end return fib(n - 1) + fib(n - 2) end return fib(tonumber(ARGV[1]))"
 WARM = 20
 # A FIB(20) makes 76,616 entries, and a history has room for thirteen.
@@ -34,8 +35,8 @@ def text(request):
     return json.dumps(request, separators=(",", ":")) + "\n"
 
 
-def job(op, n, unused=()):
-    return text({"job": {"args": [n, 0], "fuel": 1_000_000, "procs": [*FIB, *unused]}, "op": op})
+def job(op, n, unused=(), procs=FIB):
+    return text({"job": {"args": [n, 0], "fuel": 1_000_000, "procs": [*procs, *unused]}, "op": op})
 
 
 def tenant(name, slots, reserved):
@@ -177,11 +178,20 @@ def beside_redis():
         client = socket.socket(socket.AF_UNIX)
         client.connect(path)
         ours, theirs = server.connect("acme"), (client, client.makefile("rwb"))
-        script = told(theirs, "SCRIPT", "LOAD", LUA)
-        pairs = [(executed(ours, job("execute", 6)), evaluated(theirs, script, 6)) for _ in range(WARM + 30 * ROUNDS)]
+        times = [(what, beside, times_of(ours, job("execute", n, procs=procs), theirs, told(theirs, "SCRIPT", "LOAD", script), n, value))
+                 for what, beside, procs, script, n, value in (("a job of two instructions", "a constant", RET, "return 0", 0, "0"),
+                                                               ("FIB(6)", "the same in Lua", FIB, LUA, 6, "8"))]
         redis.terminate()
         redis.wait()
-    row("FIB(6), executed", "EVALSHA of Redis", *map(statistics.median, zip(*pairs[WARM:])))
+    for what, beside, pairs in times:
+        row(f"{what}, executed", f"EVALSHA of {beside}", *map(statistics.median, zip(*pairs)))
+
+
+def times_of(ours, line, theirs, script, n, value):
+    """How long a job and a script take, in turn, once both have run for a while."""
+    pairs = [(executed(ours, line), evaluated(theirs, script, n, value)) for _ in range(WARM + 30 * ROUNDS)]
+    return pairs[WARM:]
+
 
 
 def told(connection, *words):
@@ -193,9 +203,9 @@ def told(connection, *words):
     return head[1:] if head[0] == ":" else lines.readline().decode().strip()
 
 
-def evaluated(connection, script, n):
+def evaluated(connection, script, n, value):
     began = time.perf_counter()
-    assert told(connection, "EVALSHA", script, "0", str(n)) == "8"
+    assert told(connection, "EVALSHA", script, "0", str(n)) == value
     return time.perf_counter() - began
 
 

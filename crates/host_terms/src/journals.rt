@@ -8,6 +8,7 @@ use job_language::{Entry, TenantConfig};
 use part_writer::{LivePart, PartFault};
 use std::alloc::{AllocError, Global};
 use std::fs::File;
+use std::io::Write;
 use std::sync::atomic::{AtomicBool, AtomicUsize, Ordering};
 use std::sync::{Condvar, Mutex, MutexGuard, Wait};
 use std::thread;
@@ -29,8 +30,8 @@ const GRACES: u32 = 4;
 
 /// What is kept under the lock of whoever writes.
 #[derive(Drop)]
-struct Written {
-    part: LivePart<File>,
+struct Written<F: Write + Drop> {
+    part: LivePart<F>,
     /// How many entries it has.
     count: usize,
     /// Room for the next ones.
@@ -50,7 +51,7 @@ struct Synced {
 #[derive(Drop)]
 pub struct Journal {
     /// One session at a time writes for all.
-    written: Mutex<Written>,
+    written: Mutex<Written<File>>,
     /// How many entries the file has: who needs no more of them writes nothing.
     count: AtomicUsize,
     /// The same file, which one session brings to the disk for all while others write.
@@ -168,7 +169,7 @@ impl Journal {
     }
 
     /// Takes the turn to write, unless the file has so many entries before, or fails.
-    fn turn_to_write<R: Wait>(&self, rt: &R, wanted: usize) -> Option<MutexGuard<'_, Written>> {
+    fn turn_to_write<R: Wait>(&self, rt: &R, wanted: usize) -> Option<MutexGuard<'_, Written<File>>> {
         for _look in 0..LOOKS {
             if self.is_broken() || self.has(wanted) {
                 return None;
@@ -243,7 +244,7 @@ impl Journal {
     }
 }
 
-impl Written {
+impl<F: Write + Drop> Written<F> {
     /// Writes what the tenant's history has and the file has not, by one call of the system: all of it, unless it is very
     /// much.
     fn write_more<J: Naming, R: Wait>(
@@ -253,8 +254,8 @@ impl Written {
         door: &TenantDoor<J>,
     ) -> Result<(), PartFault>
         ensures next { OnOk result (AreWritten door.now.tenant self.old self.new) }
-        ensures given { OnOk result (Appends (File.contents self.old.part)
-            (File.contents self.new.part) (entries_text self.new.next.items)) }
+        ensures given { OnOk result (Appends (F.contents self.old.part)
+            (F.contents self.new.part) (entries_text self.new.next.items)) }
     {
         self.copy_more(rt, door)?;
         if !self.next.is_empty() {
