@@ -28,7 +28,7 @@ pub(crate) struct Admitted<'h, J: Naming> {
 /// What the thread that accepts has: the posts and seats that no session took, and the connections so far.
 #[derive(Drop)]
 pub(crate) struct Reception<'h, J: Naming> {
-    pub(crate) posts: Posts<'h, J>,
+    posts: Posts<'h, J>,
     seats: FreshSeats,
     watch: Watch,
     accepted: Vec<Arc<Connection>>,
@@ -235,8 +235,8 @@ impl<'h, J: Naming> Reception<'h, J> {
 
     /// The seats that no session took, and the first fault.
     pub(crate) fn into_rest(self) -> (FreshSeats, Option<ServerEnd>)
-        ensures seats { result.0 ≡ self.seats }
-        ensures fault { result.1 ≡ self.fault }
+        ensures seats { result.0 ≡ self.entry.seats }
+        ensures fault { result.1 ≡ self.entry.fault }
     {
         let Reception {
             posts: _posts,

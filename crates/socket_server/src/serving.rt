@@ -73,71 +73,61 @@ pub fn serve_connections<J: Naming + Send + Sync, R: Threads + Wait + Files + Ne
     let posts = Posts::new(house, passes);
     let returned = Mutex::new(Returned::with_room(alloc, seats.len())?);
     let waiting = Mutex::new(Vec::with_capacity(alloc, usize::from(connections))?);
-    let (watch, waker) = match Watch::new(rt, alloc, endpoint, connections) {
-        Ok(made) => made,
-        Err(fault) => return Err(end_of(&fault)),
-    };
-    let reception = Reception::new(alloc, posts, seats, watch, connections);
+    let (watch, waker) = Watch::new(rt, alloc, endpoint, connections).map_err(end_of)?;
     let back = &returned;
-    match run_threads(
-        rt, alloc, house, workers, reception, endpoint, waiting, back, &waker,
-    ) {
-        Ok(fault) => Ok(Served::new(returned.into_inner(), fault)),
-        Err(fault) => Err(end_of(&fault)),
-    }
-}
-
-/// Starts the workers, prints `listening`, accepts connections, and waits until all threads have ended: the first fault.
-/// An error if a worker can't be started.
-fn run_threads<'h, J: Naming + Send + Sync, R: Threads + Wait + Files + Sync + Print>(
-    rt: &R,
-    alloc: Global,
-    house: &'h House<J>,
-    workers: usize,
-    reception: Reception<'h, J>,
-    endpoint: &Endpoint<'_>,
-    waiting: Mutex<Vec<Client<'h, J>>>,
-    back: &Mutex<Returned<J>>,
-    waker: &Waker,
-) -> io::Result<Option<ServerEnd>> {
-    thread::scope(
+    let served = thread::scope(
         thread::scope_env(),
         rt,
         move |scope|
             requires { IsSend J.row }
         {
-            let mut reception = reception;
-            if let Err(fault) = start_workers(
-                scope,
-                rt,
-                alloc,
-                house,
-                &mut reception.posts,
-                workers,
-            ) {
-                house.stop(rt);
-                return Err(fault);
-            }
-            if println!(rt; "listening").is_err() {
-                reception.note(ServerEnd::Device);
-            }
-            let fault = accept_all(rt, alloc, house, reception, endpoint, waiting, back, waker);
-            house.stop(rt);
-            Ok(fault)
+            let posts = match start_workers(scope, rt, alloc, house, posts, workers) {
+                Ok(rest) => rest,
+                Err(fault) => {
+                    house.stop(rt);
+                    return Err(fault);
+                }
+            };
+            let reception = Reception::new(alloc, posts, seats, watch, connections);
+            Ok(receive(rt, alloc, house, reception, endpoint, waiting, back, &waker))
         },
-    )
+    );
+    let fault = served.map_err(end_of)?;
+    Ok(Served::new(returned.into_inner(), fault))
 }
 
-/// Starts a thread for each of `workers` workers, as long as there is a pass for it. `OutOfMemory` if there is no room for what a worker sees, or the fault of the thread that can't be started: the
+/// Prints `listening`, accepts connections, and stops the house once their sessions have ended: the first fault.
+fn receive<'h, J: Naming + Send + Sync, R: Threads + Wait + Files + Sync + Print>(
+    rt: &R,
+    alloc: Global,
+    house: &House<J>,
+    reception: Reception<'h, J>,
+    endpoint: &Endpoint<'_>,
+    waiting: Mutex<Vec<Client<'h, J>>>,
+    back: &Mutex<Returned<J>>,
+    waker: &Waker,
+) -> Option<ServerEnd> {
+    let mut reception = reception;
+    if println!(rt; "listening").is_err() {
+        reception.note(ServerEnd::Device);
+    }
+    let fault = accept_all(rt, alloc, house, reception, endpoint, waiting, back, waker);
+    house.stop(rt);
+    fault
+}
+
+/// Starts a thread for each of `workers` workers, as long as there is a pass for it, and gives back the passes that are
+/// left. `OutOfMemory` if there is no room for what a worker sees, or the fault of the thread that can't be started: the
 /// workers that were started go on.
 fn start_workers<'s, 'r: 's, 'h: 's, J: Naming + Send + Sync, E: 's, R: Threads + Wait + Sync>(
     scope: &Scope<'s, E>,
     rt: &'r R,
     alloc: Global,
     house: &'h House<J>,
-    posts: &mut Posts<'h, J>,
+    posts: Posts<'h, J>,
     workers: usize,
-) -> io::Result<()> {
+) -> io::Result<Posts<'h, J>> {
+    let mut posts = posts;
     for _worker in 0..workers {
         let post = match posts.next(alloc) {
             Ok(Some(post)) => post,
@@ -146,7 +136,7 @@ fn start_workers<'s, 'r: 's, 'h: 's, J: Naming + Send + Sync, E: 's, R: Threads 
         };
         scope.spawn(move || serve_calls(rt, post, house.bell(), &NoGate, Visiting::Staying))?;
     }
-    Ok(())
+    Ok(posts)
 }
 
 /// Accepts connections, waits until their sessions have ended, and gives the first fault. The seats that no session
@@ -254,9 +244,9 @@ fn serve_waiting<J: Naming, R: Wait>(
 }
 
 /// What a fault of the system is for the server.
-fn end_of(fault: &io::Error) -> ServerEnd
-    ensures memory { error_kind fault.now ≡ ErrorKind.OutOfMemory → result ≡ Memory }
-    ensures device { error_kind fault.now ≢ ErrorKind.OutOfMemory → result ≡ Device }
+fn end_of(fault: io::Error) -> ServerEnd
+    ensures memory { error_kind fault ≡ ErrorKind.OutOfMemory → result ≡ Memory }
+    ensures device { error_kind fault ≢ ErrorKind.OutOfMemory → result ≡ Device }
     ensures either { (result ≡ Device) ⊎ (result ≡ Memory) }
 {
     match fault.kind() {
