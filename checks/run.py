@@ -50,6 +50,7 @@ def step(words: str, minutes: float, over_proofs: bool = True, scales: bool = Fa
 STEPS = (
     step("checks/pages/run.py", 0.1, over_proofs=False),
     step("checks/edges/run.py", 0.1, over_proofs=False),
+    step("checks/sizes/run.py", 0.1, over_proofs=False),
     step("checks/build/recorded.py", 0.1, over_proofs=False),
     step("checks/edits/run.py --read", 0.1, over_proofs=False),
     step("checks/examples/run.sh", 0.6, over_proofs=False),

@@ -29,7 +29,8 @@ def in_host(*edits: Edit) -> Defect:
     return Defect("arena-host", edits)
 
 
-DOORS, NEWS, BELL = "crates/tenant_lock/src/doors.rt", "crates/tenant_lock/src/news.rt", "crates/worker_main/src/bell.rt"
+PAUSES, LEAVES = "crates/tenant_lock/src/doors/waiting.rt", "crates/tenant_lock/src/doors/moving.rt"
+NEWS, BELL = "crates/tenant_lock/src/news.rt", "crates/worker_main/src/bell.rt"
 PAUSE = """
     pub fn pause_until<R: Wait>(&self, rt: &R, pass: &Pass, stop: &StopFlag) -> bool
         requires { pass.now.tenant ≡ self.now.tenant }
@@ -76,8 +77,8 @@ PLANTED = {
     # A session's pause at its own slot ends when its client has gone, and the slot goes home with rows on it.
     "gone": in_server(
         Edit("crates/server_doors/src/slots.rt", "doors[pass.tenant()].pause(rt, pass)", "doors[pass.tenant()].pause_until(rt, pass, self.stop)"),
-        Edit(DOORS, "    /// How many wait at the tenant's slots, and how often they were woken.\n    pub fn waits", PAUSE + "    pub fn waits"),
-        Edit(DOORS, "if held.may_leave(pass) {\n                return held;\n            }\n            drop(held);\n            yield_now();", "return held;"),
+        Edit(PAUSES, "    /// How many wait at the tenant's slots, and how often they were woken.\n    pub fn waits", PAUSE + "    pub fn waits"),
+        Edit(LEAVES, "if held.may_leave(pass) {\n                return held;\n            }\n            drop(held);\n            yield_now();", "return held;"),
     ),
     # Of those who wait for jobs only one is woken.
     "outcome": in_server(Edit(NEWS, "outcomes.notify_all();", "outcomes.notify_one();")),

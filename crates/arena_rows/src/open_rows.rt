@@ -1,9 +1,12 @@
 // The open rows and their contexts, with the rows that wait filed by their contexts.
-ghost use Rattle.std.specs.Prelude.{◌≡◌, ◌⊎◌, ◌≢◌, ◌+◌, ◌*◌, ◌<◌, ◌≤◌, ◌==◌, ℕ, None, Some, Contains, IfOk, IfSome, IsSome, [], count_by, is_some, false, true, length, replicate, slice_index_or, slice_set, vec_capacity};
-ghost use Rattle.cancel_context.specs.Forest.{IsForest, IsHeld, binding, held_count, is_cancelled, parent, with_bound, with_request, without};
+
+mod contexts;
+mod filing;
+
+ghost use Rattle.std.specs.Prelude.{◌≡◌, ◌+◌, ◌*◌, ◌<◌, ◌≤◌, ◌==◌, None, Some, IfOk, IfSome, IsSome, count_by, is_some, length, replicate, slice_index_or, slice_set, vec_capacity};
+ghost use Rattle.cancel_context.specs.Forest.{IsForest};
 ghost use Rattle.cancel_context.specs.declared.contexts.TheConstants.{BASE_CONTEXTS, CONTEXTS_PER_ROW, MAX_ROWS};
-ghost use Rattle.place_lists.specs.Filing.{filed_in};
-ghost use Rattle.arena_rows.specs.OpenRows.{AreFiled, AreFine, IsDoomed, list_for};
+ghost use Rattle.arena_rows.specs.OpenRows.{AreFine, IsDoomed};
 ghost use Rattle.arena_rows.specs.RowChanges.{row_changed};
 ghost use Rattle.arena_rows.specs.Represents.{IsFree};
 ghost use Rattle.arena_rows.specs.HeldChanges.{new_entry, with_group, with_member};
@@ -16,6 +19,7 @@ ghost use Rattle.std.specs.Option.{ForSome, option_copied};
 
 use crate::rows::{OpenRow, Source, Stage};
 use cancel_context::{BASE_CONTEXTS, CONTEXTS_PER_ROW, ContextId, Contexts};
+use filing::{file, list_for, next_doomed};
 use job_language::{GROUPS, Group};
 use place_lists::Filing;
 use place_table::PlaceTable;
@@ -237,153 +241,5 @@ impl OpenRows {
         ensures some { IfSome result (IsDoomed self.old) }
     {
         next_doomed(&self.table, &self.contexts, &mut self.filing, self.doomed)
-    }
-
-    /// Whether a context is cancelled, by itself or from above.
-    pub(crate) fn is_cancelled(&self, context: ContextId) -> bool
-        requires { IsHeld self.now.contexts context }
-        ensures value { result ≡ is_cancelled self.now.contexts context }
-        ensures forest { IsForest self.now.contexts }
-    {
-        self.contexts.is_cancelled(context)
-    }
-
-    /// A new context, bound to another or to none.
-    pub(crate) fn bind(&mut self, parent: Option<ContextId>) -> ContextId
-        requires room { held_count self.old.contexts < length self.old.contexts }
-        requires parent { ForSome parent (IsHeld self.old.contexts) }
-        ensures fresh { binding self.old.contexts result ≡ None }
-        ensures bound { self.new
-            ≡ record self.old { contexts = with_bound self.old.contexts result parent } }
-        ensures held { IsHeld self.new.contexts result }
-        ensures count { held_count self.new.contexts ≡ held_count self.old.contexts + 1 }
-    {
-        let context = self.contexts.bind(parent);
-        // Nothing waits under an id that was free, and this way that need not be known.
-        self.filing.file_all(context.index(), self.doomed);
-        context
-    }
-
-    /// Asks for the cancellation of a context. The rows that wait under the contexts that it reaches are
-    /// doomed.
-    pub(crate) fn cancel(&mut self, context: ContextId)
-        requires { IsHeld self.old.contexts context }
-        ensures requested { self.new
-            ≡ record self.old { contexts = with_request self.old.contexts context true } }
-        ensures count { held_count self.new.contexts ≡ held_count self.old.contexts }
-        ensures forest { IsForest self.new.contexts }
-    {
-        self.contexts.cancel_noted(context, &mut self.turned);
-        doom(&mut self.filing, &mut self.turned, self.doomed);
-    }
-
-    /// Takes back the cancel request of a context.
-    pub(crate) fn reset(&mut self, context: ContextId)
-        requires { IsHeld self.old.contexts context }
-        ensures taken_back { self.new
-            ≡ record self.old { contexts = with_request self.old.contexts context false } }
-        ensures count { held_count self.new.contexts ≡ held_count self.old.contexts }
-    {
-        self.contexts.reset(context);
-    }
-
-    /// Ends a context. If it is cancelled, what is bound to it stays cancelled for good.
-    pub(crate) fn release(&mut self, context: ContextId)
-        requires held { IsHeld self.old.contexts context }
-        requires ends { (c : ℕ) → parent self.old.contexts c ≡ Some context
-            → is_cancelled self.old.contexts context ≡ true }
-        ensures released { self.new
-            ≡ record self.old { contexts = without self.old.contexts context } }
-        ensures keeps { (c : ℕ) → c ≢ context → IsHeld self.old.contexts c
-            → IsHeld self.new.contexts c }
-        ensures count { held_count self.new.contexts + 1 ≡ held_count self.old.contexts }
-        ensures others { (c : ℕ) → c ≢ context
-            → is_cancelled self.new.contexts c ≡ is_cancelled self.old.contexts c }
-        ensures forest { IsForest self.new.contexts }
-    {
-        self.contexts.release(context);
-    }
-}
-
-/// Where a row is filed.
-fn list_for(contexts: &Contexts, doomed: usize, entry: &OpenRow) -> Option<usize>
-    requires { doomed ≡ length contexts.now }
-    ensures { result ≡ list_for contexts.now (Some entry.now) }
-{
-    let Stage::Waiting(_) = entry.stage else {
-        return None;
-    };
-    if contexts.is_held_and_cancelled(entry.context) {
-        return Some(doomed);
-    }
-    let list = entry.context.index();
-    if list < doomed { Some(list) } else { None }
-}
-
-/// Where what stands at a place is filed.
-fn list_at(
-    table: &PlaceTable<OpenRow>,
-    contexts: &Contexts,
-    doomed: usize,
-    place: usize,
-) -> Option<usize>
-    requires { doomed ≡ length contexts.now }
-    ensures { result ≡ list_for contexts.now (slice_index_or table.now place None) }
-{
-    let entry = table.get(place)?;
-    list_for(contexts, doomed, entry)
-}
-
-/// The place of a row that waits and whose context is cancelled. A row that is with the doomed, and whose
-/// context is not cancelled any more, is filed anew on the way.
-fn next_doomed(
-    table: &PlaceTable<OpenRow>,
-    contexts: &Contexts,
-    filing: &mut Filing,
-    doomed: usize,
-) -> Option<usize>
-    requires { AreFiled table.now contexts.now filing.old doomed [] }
-    ensures filed { AreFiled table.now contexts.now filing.new doomed [] }
-    ensures none { result ≡ None → AreFine (record { table = table.now; contexts = contexts.now }) }
-    ensures some { IfSome result
-        (IsDoomed (record { table = table.now; contexts = contexts.now })) }
-{
-    while let Some(place) = filing.first(doomed) {
-        let list = list_at(table, contexts, doomed, place);
-        if list == Some(doomed) {
-            return Some(place);
-        }
-        file(filing, place, list);
-    }
-    None
-}
-
-/// Files a place in a list, or in none.
-fn file(filing: &mut Filing, place: usize, list: Option<usize>)
-    requires place { place < length filing.old.by_place }
-    requires list { ForSome list (λ l. l < filing.old.lists) }
-    ensures { filing.new
-        ≡ record filing.old { by_place = slice_set filing.old.by_place place list } }
-{
-    match list {
-        Some(list) => filing.file(place, list),
-        None => filing.unfile(place),
-    }
-}
-
-/// Files with the doomed what waits under contexts that were cancelled, and forgets these.
-fn doom(filing: &mut Filing, turned: &mut Vec<ContextId>, doomed: usize)
-    requires { doomed < filing.old.lists }
-    ensures moved { (p c : ℕ) → Contains turned.old.items c → filed_in filing.old p ≡ Some c
-        → filed_in filing.new p ≡ Some doomed }
-    ensures others { (p : ℕ)
-        → (filed_in filing.new p ≡ filed_in filing.old p) ⊎ (filed_in filing.new p ≡ Some doomed) }
-    ensures places { length filing.new.by_place ≡ length filing.old.by_place }
-    ensures lists { filing.new.lists ≡ filing.old.lists }
-    ensures none { turned.new.items ≡ [] }
-    ensures capacity { vec_capacity turned.new ≡ vec_capacity turned.old }
-{
-    while let Some(context) = turned.pop() {
-        filing.file_all(context.index(), doomed);
     }
 }

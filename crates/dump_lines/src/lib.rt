@@ -3,6 +3,7 @@
 
 mod laws;
 mod lines;
+mod members;
 mod replies;
 mod requests;
 mod whole;

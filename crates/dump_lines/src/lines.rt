@@ -9,7 +9,8 @@ ghost use Rattle.dump_lines.specs.Lines.{said_by, said_in_value, entry_in, ask_i
 ghost use Rattle.dump_lines.specs.Replies.{only, reply_in, two};
 ghost use Rattle.dump_lines.specs.Requests.{request_in};
 
-use crate::replies::{is_word, natural, reply_in, slot};
+use crate::members::{is_word, natural, slot};
+use crate::replies::reply_in;
 use crate::requests::request_in;
 use job_json::values::{has_members, take_member};
 use job_language::{Answer, Came, Entry, Moved, Reply, Request, Step};

@@ -10,6 +10,7 @@ use Rattle.job_language.specs.declared.requests.Request.{Request}
 use Rattle.job_language.specs.declared.requests.Request.TheVariants.{Poll, Collect, Take, Cancel, Release, Submit, Execute}
 use Rattle.nested_wait.specs.declared.attending.Attended.{Attended}
 use Rattle.nested_wait.specs.declared.attending.Attended.TheVariants.{Full}
+use Rattle.host_terms.specs.Bookings.{TermSeen, IsAt}
 use Rattle.server_house.specs.declared.owned.Told.{Told}
 use Rattle.server_house.specs.Owned.{AsksThere}
 use Rattle.server_house.specs.Posts.{ClientSeen}
@@ -49,9 +50,10 @@ job_named (Cancel job) = Some job
 job_named (Release job) = Some job
 job_named request = None
 
--- Some place in a term asked the term's tenant, and noted the request with what it was told.
-pub record IsAsked (request : Request) (told : Told) : Type 0 where
+-- A place in the term asked the term's tenant, and noted the request with what it was told.
+pub record IsAsked (term : TermSeen) (request : Request) (told : Told) : Type 0 where
   pub before : ClientSeen
+  pub at : IsAt term before
   pub after : ClientSeen
   pub asks : AsksThere before request told after
 
@@ -60,35 +62,36 @@ looked job None = Refused UnknownJob
 looked job (Some s) = Job job s
 
 -- A look at the term's tenant was enough: it knew so much of the job, and nothing was noted.
-pub record IsLooked (request : Request) (told : Told) : Type 0 where
+pub record IsLooked (term : TermSeen) (request : Request) (told : Told) : Type 0 where
   pub job : ℕ
   pub status : Option Status
   pub tenant : ℕ
   pub seen : FrontData
+  pub life : term.life ≡ Some seen.life
   pub now : FrontData
   pub was : WasThere tenant seen now (IsStatus job status)
   pub asks : (request ≡ Poll job) ⊎ ((request ≡ Collect job) × (status ≢ Some Running))
   pub is : told.reply ≡ looked job status
   pub attended : told.attended ≡ None
 
--- A tenant was asked, and this is told of its answer outside of a term with these numbers. That they are those of the term that was asked is not said.
-pub record IsToldBy (span : Span) (request : Request) (reply : Reply) : Type 0 where
+-- The tenant of that term was asked in it, and this is told of its answer outside.
+pub record IsToldBy (term : TermSeen) (request : Request) (reply : Reply) : Type 0 where
   pub told : Told
-  pub asked : IsAsked request told ⊎ IsLooked request told
-  pub is : reply ≡ told_of span told
+  pub asked : IsAsked term request told ⊎ IsLooked term request told
+  pub is : reply ≡ told_of term.span told
 
 -- The request names a job. A tenant was asked about the number that the job has in a term whose job it is.
 pub record IsFromOwner (request : Request) (reply : Reply) : Type 0 where
   pub job : ℕ
   pub named : job_named request ≡ Some job
-  pub span : Span
-  pub owns : has_job job span ≡ true
-  pub told : IsToldBy span (request_inside span request) reply
+  pub term : TermSeen
+  pub owns : has_job job term.span ≡ true
+  pub told : IsToldBy term (request_inside term.span request) reply
 
 -- The tenant of some term was asked.
 pub record IsFromTerm (request : Request) (reply : Reply) : Type 0 where
-  pub span : Span
-  pub told : IsToldBy span request reply
+  pub term : TermSeen
+  pub told : IsToldBy term request reply
 
 -- What was kept of closed terms answers the request about a job.
 pub record IsKeptAnswer (request : Request) (job : ℕ) (reply : Reply) : Type 0 where

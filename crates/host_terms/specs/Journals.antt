@@ -19,9 +19,9 @@ AreSlices zero tenant count es = es ≡ []
 AreSlices (suc n) tenant count es = (before : List Entry) × (AreSlices n tenant count before × IsSlice tenant (capped (count + length before)) before es)
 
 -- Slices were copied that follow those that the file has.
-abbrev pub AreNext : (tenant : ℕ) → Written → Written → Type 0
+abbrev pub AreNext : {F : Type 0} → (tenant : ℕ) → Written F → Written F → Type 0
 AreNext tenant old new = ((slices : ℕ) × AreSlices slices tenant old.count new.next.items) × (new.count ≡ old.count)
 
--- The slices that follow those that the file had are at hand for it, and are counted as there. That it was given them is not said.
-abbrev pub AreWritten : (tenant : ℕ) → Written → Written → Type 0
+-- The slices that follow those that the file had are at hand for it, and are counted as there.
+abbrev pub AreWritten : {F : Type 0} → (tenant : ℕ) → Written F → Written F → Type 0
 AreWritten tenant old new = ((slices : ℕ) × AreSlices slices tenant old.count new.next.items) × (new.count ≡ capped (old.count + length new.next.items))

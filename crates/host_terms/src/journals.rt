@@ -1,11 +1,14 @@
 // A term's journal: its tenant's history in a file, as it is made.
 ghost use Rattle.std.specs.Prelude.{OnOk};
+ghost use Rattle.std.specs.Io.KnownBytes.{Appends};
+ghost use Rattle.dump_lines.specs.Dumps.{entries_text};
 ghost use Rattle.host_terms.specs.Journals.{AreNext, AreWritten};
 
 use job_language::{Entry, TenantConfig};
 use part_writer::{LivePart, PartFault};
 use std::alloc::{AllocError, Global};
 use std::fs::File;
+use std::io::Write;
 use std::sync::atomic::{AtomicBool, AtomicUsize, Ordering};
 use std::sync::{Condvar, Mutex, MutexGuard, Wait};
 use std::thread;
@@ -27,8 +30,8 @@ const GRACES: u32 = 4;
 
 /// What is kept under the lock of whoever writes.
 #[derive(Drop)]
-struct Written {
-    part: LivePart<File>,
+struct Written<F: Write> {
+    part: LivePart<F>,
     /// How many entries it has.
     count: usize,
     /// Room for the next ones.
@@ -48,7 +51,7 @@ struct Synced {
 #[derive(Drop)]
 pub struct Journal {
     /// One session at a time writes for all.
-    written: Mutex<Written>,
+    written: Mutex<Written<File>>,
     /// How many entries the file has: who needs no more of them writes nothing.
     count: AtomicUsize,
     /// The same file, which one session brings to the disk for all while others write.
@@ -166,7 +169,7 @@ impl Journal {
     }
 
     /// Takes the turn to write, unless the file has so many entries before, or fails.
-    fn turn_to_write<R: Wait>(&self, rt: &R, wanted: usize) -> Option<MutexGuard<'_, Written>> {
+    fn turn_to_write<R: Wait>(&self, rt: &R, wanted: usize) -> Option<MutexGuard<'_, Written<File>>> {
         for _look in 0..LOOKS {
             if self.is_broken() || self.has(wanted) {
                 return None;
@@ -241,7 +244,7 @@ impl Journal {
     }
 }
 
-impl Written {
+impl<F: Write> Written<F> {
     /// Writes what the tenant's history has and the file has not, by one call of the system: all of it, unless it is very
     /// much.
     fn write_more<J: Naming, R: Wait>(
@@ -250,7 +253,9 @@ impl Written {
         alloc: Global,
         door: &TenantDoor<J>,
     ) -> Result<(), PartFault>
-        ensures { OnOk result (AreWritten door.now.tenant self.old self.new) }
+        ensures next { OnOk result (AreWritten door.now.tenant self.old self.new) }
+        ensures given { OnOk result (Appends (F.contents self.old.part)
+            (F.contents self.new.part) (entries_text self.new.next.items)) }
     {
         self.copy_more(rt, door)?;
         if !self.next.is_empty() {

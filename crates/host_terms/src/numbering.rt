@@ -1,6 +1,5 @@
 // What a session is told of what a term answered.
-ghost use Rattle.std.specs.Prelude.{◌≡◌, ◌≢◌, ◌⊎◌, true};
-ghost use Rattle.job_language.specs.Collecting.{IsCollect};
+ghost use Rattle.std.specs.Prelude.{◌≡◌, ◌≢◌, ◌⊎◌};
 ghost use Rattle.job_language.specs.declared.errors.Error.TheVariants.{HistoryFull, NoMemory};
 ghost use Rattle.host_terms.specs.Answers.{brings_job, job_named, told_outside};
 
@@ -43,7 +42,7 @@ impl Served {
 }
 
 /// A reply that nobody has to wait for.
-pub(crate) fn at_once(reply: Reply) -> Reply
+fn at_once(reply: Reply) -> Reply
     ensures reply { (result ≡ reply) ⊎ (result ≡ Reply.Refused NoMemory) }
     ensures at_once { result ≢ Reply.Pending }
 {
@@ -85,11 +84,4 @@ pub(crate) fn job_named(request: &Request) -> Option<u64>
         | Request::Release(job) => Some(*job),
         _ => None,
     }
-}
-
-/// Whether a request waits for an outcome.
-pub(crate) fn is_collect(request: &Request) -> bool
-    ensures { result ≡ true → IsCollect request.now }
-{
-    matches!(request, Request::Collect(_) | Request::Take(_))
 }

@@ -1,7 +1,6 @@
 // A session's ways to the tenants of a host.
 ghost use Rattle.std.specs.Prelude.{◌≡◌, ◌≢◌, IfErr, None};
 ghost use Rattle.job_language.specs.Collecting.{IsCollect};
-ghost use Rattle.std.specs.Arc.{arc_value};
 ghost use Rattle.host_terms.specs.Answers.{IsAnswer, IsServed, job_named, told_of};
 ghost use Rattle.host_terms.specs.Hellos.{IsRefusal};
 
@@ -11,7 +10,7 @@ mod owners;
 use crate::admissions::Admission;
 use crate::desks::Desk;
 use crate::hosts::Host;
-use crate::numbering::{Served, at_once, brings_job, is_collect, job_named, told_outside};
+use crate::numbering::{Served, brings_job, job_named, told_outside};
 use crate::tenancies::Found;
 use crate::terms::Booking;
 use job_language::{Error, Moved, Reply, Request, TenantName};
@@ -79,9 +78,7 @@ impl<'h, J: Naming, R: Wait + Clock> HostDoors<'h, J, R> {
         let Some(job) = job_named(&request) else {
             return self.ask_newest(tenant, request);
         };
-        let may_wait = is_collect(&request);
-        let reply = self.ask_owner(tenant, job, request);
-        if may_wait { reply } else { at_once(reply) }
+        self.ask_owner(tenant, job, request)
     }
 
     /// Asks the term that serves, or all of the tenant's terms to retire.
@@ -153,7 +150,7 @@ impl<'h, J: Naming, R: Wait + Clock> HostDoors<'h, J, R> {
     /// What the session is told outside of the term where it was told that. It goes out once what the term was asked is
     /// kept.
     fn outside(&self, booking: &Booking<J>, told: Told) -> Reply
-        ensures { result ≡ told_of (arc_value booking.now.term).span told }
+        ensures { result ≡ told_of booking.now.term.span told }
     {
         if told.reply == Reply::Pending {
             return Reply::Pending;

@@ -1,5 +1,7 @@
 // A term of a tenant: a house of this tenant alone, and the places of all threads in it.
-ghost use Rattle.std.specs.Prelude.{◌≡◌, ◌≤◌};
+ghost use Rattle.std.specs.Prelude.{◌≡◌, ◌≤◌, option_map};
+ghost use Rattle.std.specs.Arc.{arc_value};
+ghost use Rattle.server_house.specs.Houses.{first_life};
 
 mod bookings;
 mod crowding;
@@ -107,7 +109,10 @@ impl<J: Naming> HostTerm<J> {
     }
 
     /// The door of its tenant.
-    pub fn door(&self) -> Option<&TenantDoor<J>> {
+    pub fn door(&self) -> Option<&TenantDoor<J>>
+        ensures { option_map (λ door. door.now.life) result
+            ≡ first_life (arc_value self.now.house).doors }
+    {
         self.house.doors().first()
     }
 

@@ -32,8 +32,7 @@ pub struct Pool {
     rows: Slab<Waiting>,
     // By place, the position of the row that waits there. If none waits, it says nothing.
     positions: Vec<usize>,
-    // Positions in order of making: of all rows, by the slot on which a row was made, by the place of
-    // its region, and by both.
+    // Positions in order of making: of all rows, by the slot that made them, by their region, and by both.
     all: Lists,
     by_slot: Lists,
     by_region: Lists,

@@ -2,7 +2,9 @@
 ghost use Rattle.std.specs.Prelude.{◌≡◌, ◌<◌, length, IfSome, None, option_map};
 ghost use Rattle.job_language.specs.Collecting.{IsCollect};
 ghost use Rattle.server_doors.specs.Slots.{AreFronts, AreNumbered};
-ghost use Rattle.server_doors.specs.SlotWays.{AsksBy, GoesHome, call_at};
+ghost use Rattle.server_doors.specs.SlotWays.{AsksBy, call_at};
+
+mod holding;
 
 use crate::places;
 use job_language::{Came, Moved, Reply, Request};
@@ -10,7 +12,6 @@ use job_step::{Segment, View};
 use market_config::Call;
 use std::cell::Cell;
 use std::marker::Model;
-use std::mem;
 use std::sync::Wait;
 use tenant_book::{Front, Naming};
 use tenant_lock::{StopFlag, TenantDoor, Turned};
@@ -112,61 +113,6 @@ impl<'d, J: Naming, R: Wait> TenantSlots<'d, J, R> {
     {
         let doors = self.doors;
         doors[seat.tenant()].pause_for_until(self.rt, seat, job, self.stop)
-    }
-
-    /// Gives the slot home that it is at, and gives back what it has seen.
-    pub fn end(self) -> Vec<Front<J>>
-        ensures home { GoesHome self.entry
-            (record { doors = self.entry.doors; fronts = result.items; pass = None }) }
-        ensures fronts { AreFronts self.entry.doors result.items }
-    {
-        let TenantSlots {
-            rt,
-            doors,
-            fronts,
-            stop: _stop,
-            pass,
-            height: _height,
-            view: _view,
-            under_lock: _under_lock,
-        } = self;
-        let mut fronts = fronts;
-        if let Some(pass) = pass {
-            places::give_home(rt, doors, &mut fronts, pass);
-        }
-        fronts
-    }
-
-    /// Takes a pass, if there is one. It has none.
-    fn hold(&mut self, pass: Option<Pass>)
-        requires none { self.old.pass ≡ None }
-        requires there { IfSome pass (λ p. p.tenant < length self.old.doors) }
-        ensures { self.new ≡ record self.old { pass = pass } }
-    {
-        if let Some(left) = mem::replace(&mut self.pass, pass) {
-            places::give_home(self.rt, self.doors, &mut self.fronts, left);
-        }
-    }
-
-    /// Takes a pass with which a row has just come to an empty slot, if there is one: one row is on the slot then.
-    fn begin(&mut self, pass: Option<Pass>)
-        requires none { self.old.pass ≡ None }
-        requires there { IfSome pass (λ p. p.tenant < length self.old.doors) }
-        ensures { self.new ≡ record self.old { pass = pass } }
-    {
-        if pass.is_some() {
-            self.height = Some(1);
-        }
-        self.hold(pass);
-    }
-
-    /// Forgets what its last move saw of its slot.
-    fn forget(&mut self)
-        ensures { self.new ≡ self.old }
-    {
-        self.height = None;
-        self.view.set(View::Bare);
-        self.under_lock = 0;
     }
 }
 

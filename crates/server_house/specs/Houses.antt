@@ -1,5 +1,5 @@
 -- The tenants of a house, at its start and at its end.
-use Rattle.std.specs.Prelude.{ℕ, ◌≡◌, ◌==◌, Bool, List, Result, IfOk, IfErr, map, filter}
+use Rattle.std.specs.Prelude.{ℕ, ◌≡◌, ◌==◌, Bool, List, [], ◌∷◌, Option, Some, None, Result, IfOk, IfErr, map, filter}
 use Rattle.std.specs.List.{AllZip, enumerate_from, flat_map}
 use Rattle.job_language.specs.declared.steps.Entry.{Entry}
 use Rattle.job_language.specs.declared.tenants.Tenant.{Tenant}
@@ -33,6 +33,11 @@ AreDoorsOf seats tenants doors = map plain doors ≡ doors_of seats tenants
 -- all their seats, which have asked nothing yet, those of tenant 0 first
 abbrev pub seats_of : (seats : ℕ) → List Tenant → List SeatData
 seats_of seats tenants = flat_map (λ (t : ℕ × Tenant). first_seats t.0 t.1.steps seats) (enumerate_from 0 tenants)
+
+-- the life of the first tenant behind these doors, if there is one
+abbrev pub first_life : List DoorData → Option ℕ
+first_life [] = None
+first_life (d ∷ doors) = Some d.life
 
 -- Is it a seat of that tenant?
 abbrev pub is_of : ℕ → SeatData → Bool

@@ -2,7 +2,7 @@
 ghost use Rattle.std.specs.Prelude.{◌≡◌, ◌≤◌, ◌+◌, All, IfOk, length};
 ghost use Rattle.job_language.specs.Configuration.{names_of};
 ghost use Rattle.job_language.specs.Tenant.{IsValidTenant};
-ghost use Rattle.server_house.specs.Houses.{AreDoorsOf, seats_of};
+ghost use Rattle.server_house.specs.Houses.{AreDoorsOf, first_life, seats_of};
 ghost use Rattle.server_house.specs.Shared.{ArePassesOf};
 ghost use Rattle.tenant_lock.specs.Doors.{DoorData};
 ghost use Rattle.server_doors.specs.Slots.{AreFronts, AreNumbered};
@@ -135,6 +135,14 @@ impl<J: Naming> House<J> {
         ensures { result.now ≡ self.now.doors }
     {
         self.doors.as_slice()
+    }
+
+    /// The number of the first tenant's life, which no other life of the registry has.
+    pub fn first_life(&self) -> Option<usize>
+        ensures { result ≡ first_life self.now.doors }
+    {
+        let door = self.doors.first()?;
+        Some(door.front().life())
     }
 
     /// What is known of each tenant's life to a thread that comes: a front of it, with nothing seen.

@@ -1,30 +1,23 @@
 // The tenant's door: the calls that take the lock.
-ghost use Rattle.std.specs.Prelude.{ℕ, ◌≡◌, ◌≤◌, IfOk, IfErr, IfSome, IsSome, Some};
-ghost use Rattle.std.specs.Option.{is_some};
+ghost use Rattle.std.specs.Prelude.{◌≡◌, IfOk, IsSome};
 ghost use Rattle.std.specs.Sync.Mutex.{mutex_guard_value};
 ghost use Rattle.job_language.specs.Brought.{job_of};
 ghost use Rattle.job_language.specs.declared.errors.Error.TheVariants.{NoMemory};
 ghost use Rattle.tenant_model.specs.Told.{placed_on};
-ghost use Rattle.tenant_model.specs.declared.rows.TheConstants.{MAX_HEIGHT};
 ghost use Rattle.tenant_record.specs.PassData.{GoesWith};
 ghost use Rattle.tenant_record.specs.SeatData.{asked, first_seats};
-ghost use Rattle.arena_core.specs.Views.{IsSeen};
 ghost use Rattle.job_language.specs.Collecting.{IsCollect};
-ghost use Rattle.tenant_record.specs.Cell.{IsRight, state_of};
-ghost use Rattle.tenant_lock.specs.Closing.{Agree, Closes, IsFault, IsRefused};
-ghost use Rattle.tenant_lock.specs.Doors.{AreBegun, ComesBack, ComesWith, IsFrontOf, door_of};
-ghost use Rattle.tenant_lock.specs.Under.{AndCounted, AndLooked, AreCopiesOf, AreCounts, IsAdvanceOf, IsArrivalOf, IsAskOf, IsCommitOf, IsGivenHome, IsHandOverOf, IsHigh, IsNextJob, IsStatus, IsTally, WasThere, WasUnder};
-ghost use Rattle.tenant_lock.specs.Sleepers.{MayLeave};
+ghost use Rattle.tenant_lock.specs.Doors.{ComesWith, IsFrontOf, door_of};
+ghost use Rattle.tenant_lock.specs.Under.{IsArrivalOf, IsAskOf, WasUnder};
 
-use crate::closing::fault_of;
-use crate::counts::{Counts, Tally};
-use crate::faults::CloseFault;
-use crate::held::{Held, Turned};
+mod closing;
+mod moving;
+mod reading;
+mod waiting;
+
+use crate::held::Held;
 use crate::news::{Done, News};
-use crate::stop_flag::StopFlag;
-use crate::waits::Waits;
-use job_language::{Entry, MAX_SLOTS, Reply, Request, Status, TenantConfig};
-use job_step::{Segment, View};
+use job_language::{Entry, MAX_SLOTS, Reply, Request, TenantConfig};
 use market_config::Call;
 use std::alloc::{AllocError, Global};
 use std::array;
@@ -33,7 +26,7 @@ use std::sync::atomic::{AtomicU64, Ordering};
 use std::sync::{Condvar, Mutex, MutexGuard, Wait};
 use std::thread::yield_now;
 use tenant_book::{Front, Naming, Registry};
-use tenant_record::{Advanced, Arrived, AskOutcome, Pass, Seat, TenantCell, first_seats};
+use tenant_record::{Arrived, AskOutcome, Seat, TenantCell, first_seats};
 
 /// How often a thread looks whether the lock is free, and lets others run, before it sleeps for it.
 const LOOKS: u32 = 64;
@@ -176,277 +169,6 @@ impl<J: Naming> TenantDoor<J> {
         self.tell(done)
     }
 
-    /// Advances the slot of a pass. The pass comes back, unless it went home.
-    pub fn advance<R: Wait>(&self, rt: &R, me: &mut Front<J>, pass: Pass) -> Advanced
-        requires front { IsFrontOf self.now me.old }
-        requires pass { pass.tenant ≡ self.now.tenant }
-        ensures front { IsFrontOf self.now me.new }
-        ensures back { ComesBack pass result.moved result.pass }
-        ensures cell { WasUnder self.now.tenant me.old me.new (IsAdvanceOf pass result) }
-    {
-        let done = self.lock(rt).advance(rt, me, pass);
-        self.tell(done)
-    }
-
-    /// Puts a private run in the place of an advance of the slot of a pass. It is `Stale` if its frame
-    /// is no longer the slot's topmost one. The pass comes back, unless it went home.
-    pub fn commit<R: Wait>(
-        &self,
-        rt: &R,
-        me: &mut Front<J>,
-        pass: Pass,
-        segment: Segment,
-    ) -> Advanced
-        requires front { IsFrontOf self.now me.old }
-        requires pass { pass.tenant ≡ self.now.tenant }
-        ensures front { IsFrontOf self.now me.new }
-        ensures back { ComesBack pass result.moved result.pass }
-        ensures cell { WasUnder self.now.tenant me.old me.new (IsCommitOf pass segment result) }
-    {
-        let done = self.lock(rt).commit(rt, me, pass, segment);
-        self.tell(done)
-    }
-
-    /// Advances the slot of a pass as `advance`, and under the same lock looks at the slot: the view is
-    /// that after it, or `Unshared` if no other pass of the tenant is out.
-    pub fn advance_and_look<R: Wait>(
-        &self,
-        rt: &R,
-        me: &mut Front<J>,
-        pass: Pass,
-        view: &mut View,
-    ) -> Turned
-        requires front { IsFrontOf self.now me.old }
-        requires pass { pass.tenant ≡ self.now.tenant }
-        ensures front { IsFrontOf self.now me.new }
-        ensures back { ComesBack pass result.advanced.moved result.advanced.pass }
-        ensures cell { WasUnder self.now.tenant me.old me.new (IsAdvanceOf pass result.advanced) }
-        ensures seen { WasUnder self.now.tenant me.old me.new
-            (AndLooked result view.new (IsAdvanceOf pass result.advanced)) }
-        ensures look { is_some result.height ≡ is_some result.advanced.pass }
-        ensures most { IfSome result.height (λ height. height ≤ MAX_HEIGHT) }
-    {
-        let done = self.lock(rt).advance_and_look(rt, me, pass, view);
-        self.tell(done)
-    }
-
-    /// Advances the slot of a pass as `advance`, and under the same lock counts the rows on it.
-    pub fn advance_and_count<R: Wait>(&self, rt: &R, me: &mut Front<J>, pass: Pass) -> Turned
-        requires front { IsFrontOf self.now me.old }
-        requires pass { pass.tenant ≡ self.now.tenant }
-        ensures front { IsFrontOf self.now me.new }
-        ensures back { ComesBack pass result.advanced.moved result.advanced.pass }
-        ensures cell { WasUnder self.now.tenant me.old me.new (IsAdvanceOf pass result.advanced) }
-        ensures counted { WasUnder self.now.tenant me.old me.new
-            (AndCounted result (IsAdvanceOf pass result.advanced)) }
-        ensures count { is_some result.height ≡ is_some result.advanced.pass }
-        ensures most { IfSome result.height (λ height. height ≤ MAX_HEIGHT) }
-    {
-        let done = self.lock(rt).advance_and_count(rt, me, pass);
-        self.tell(done)
-    }
-
-    /// Puts a private run in the place of an advance as `commit`, and under the same lock looks at the
-    /// slot as `advance_and_look`.
-    pub fn commit_and_look<R: Wait>(
-        &self,
-        rt: &R,
-        me: &mut Front<J>,
-        pass: Pass,
-        segment: Segment,
-        view: &mut View,
-    ) -> Turned
-        requires front { IsFrontOf self.now me.old }
-        requires pass { pass.tenant ≡ self.now.tenant }
-        ensures front { IsFrontOf self.now me.new }
-        ensures back { ComesBack pass result.advanced.moved result.advanced.pass }
-        ensures cell { WasUnder self.now.tenant me.old me.new (IsCommitOf pass segment result.advanced) }
-        ensures seen { WasUnder self.now.tenant me.old me.new
-            (AndLooked result view.new (IsCommitOf pass segment result.advanced)) }
-        ensures look { is_some result.height ≡ is_some result.advanced.pass }
-        ensures most { IfSome result.height (λ height. height ≤ MAX_HEIGHT) }
-    {
-        let done = self.lock(rt).commit_and_look(rt, me, pass, segment, view);
-        self.tell(done)
-    }
-
-    /// What is seen of a pass's slot: its topmost frame, if another handle on the frame's program is
-    /// granted.
-    pub fn view<R: Wait>(&self, rt: &R, me: &mut Front<J>, pass: &Pass) -> View
-        requires front { IsFrontOf self.now me.old }
-        requires pass { pass.now.tenant ≡ self.now.tenant }
-        ensures front { IsFrontOf self.now me.new }
-        ensures cell { WasThere self.now.tenant me.old me.new (λ c. IsSeen (state_of c) pass.now.slot result) }
-    {
-        let held = self.lock(rt);
-        held.show_all(rt, me);
-        held.cell().view(pass)
-    }
-
-    /// How many rows are on a pass's slot.
-    pub fn height<R: Wait>(&self, rt: &R, me: &mut Front<J>, pass: &Pass) -> usize
-        requires front { IsFrontOf self.now me.old }
-        requires pass { pass.now.tenant ≡ self.now.tenant }
-        ensures front { IsFrontOf self.now me.new }
-        ensures cell { WasThere self.now.tenant me.old me.new (IsHigh pass.now result) }
-        ensures most { result ≤ MAX_HEIGHT }
-    {
-        let held = self.lock(rt);
-        held.show_all(rt, me);
-        held.cell().height(pass)
-    }
-
-    /// How much of the tenant's history is used.
-    pub fn counts<R: Wait>(&self, rt: &R, me: &mut Front<J>) -> Counts
-        requires { IsFrontOf self.now me.old }
-        ensures front { IsFrontOf self.now me.new }
-        ensures cell { WasThere self.now.tenant me.old me.new (AreCounts result) }
-    {
-        let held = self.lock(rt);
-        held.show_all(rt, me);
-        held.counts()
-    }
-
-    /// Adds copies of the entries of the tenant's history from that number on to a vector, `most` of them at most, and
-    /// gives how many entries there are. At a fault some were added.
-    pub fn copy_entries<R: Wait>(
-        &self,
-        rt: &R,
-        me: &mut Front<J>,
-        from: usize,
-        most: usize,
-        copies: &mut Vec<Entry>,
-    ) -> Result<usize, AllocError>
-        requires { IsFrontOf self.now me.old }
-        ensures front { IsFrontOf self.now me.new }
-        ensures cell { WasThere self.now.tenant me.old me.new
-            (AreCopiesOf from most copies.old.items copies.new.items result) }
-    {
-        let held = self.lock(rt);
-        held.show_all(rt, me);
-        held.copy_entries(from, most, copies)
-    }
-
-    /// How far the tenant's jobs are, and how many of its rows are open.
-    pub fn tally<R: Wait>(&self, rt: &R, me: &mut Front<J>) -> Tally
-        requires { IsFrontOf self.now me.old }
-        ensures front { IsFrontOf self.now me.new }
-        ensures cell { WasThere self.now.tenant me.old me.new (IsTally result) }
-    {
-        let held = self.lock(rt);
-        held.show_all(rt, me);
-        held.tally()
-    }
-
-    /// The least number above another one of a job of the tenant that is neither retired nor released.
-    pub fn next_job<R: Wait>(&self, rt: &R, me: &mut Front<J>, after: u64) -> Option<u64>
-        requires { IsFrontOf self.now me.old }
-        ensures front { IsFrontOf self.now me.new }
-        ensures cell { WasThere self.now.tenant me.old me.new (IsNextJob after result) }
-    {
-        let held = self.lock(rt);
-        held.show_all(rt, me);
-        held.next_job(after)
-    }
-
-    /// How far a job of the tenant is, if it was made and is neither retired nor released.
-    pub fn status<R: Wait>(&self, rt: &R, me: &mut Front<J>, job: u64) -> Option<Status>
-        requires { IsFrontOf self.now me.old }
-        ensures front { IsFrontOf self.now me.new }
-        ensures cell { WasThere self.now.tenant me.old me.new (IsStatus job result) }
-    {
-        let held = self.lock(rt);
-        held.show_all(rt, me);
-        held.status(job)
-    }
-
-    /// How many jobs were made at the tenant.
-    pub fn jobs(&self) -> u64 {
-        self.jobs.load(Ordering::SeqCst)
-    }
-
-    /// Puts a pass home. A slot with rows on it is not left to itself: until they are gone, those who wait
-    /// for the tenant were told to stop, or its history is full, the call does not return.
-    pub fn give_home<R: Wait>(&self, rt: &R, me: &mut Front<J>, pass: Pass)
-        requires front { IsFrontOf self.now me.old }
-        requires pass { pass.tenant ≡ self.now.tenant }
-        ensures front { IsFrontOf self.now me.new }
-        ensures cell { WasUnder self.now.tenant me.old me.new (IsGivenHome pass) }
-    {
-        self.lock_to_leave(rt, &pass).give_home(rt, me, pass);
-    }
-
-    /// Puts a pass home as `give_home`, and under the same lock calls a worker to the lowest slot for
-    /// workers whose pass is home with nobody called, if a row waits. That slot is given, and who asks for
-    /// it has to call the worker. It is no entry, so nobody is woken.
-    pub fn hand_over<R: Wait>(&self, rt: &R, me: &mut Front<J>, pass: Pass) -> Option<u8>
-        requires front { IsFrontOf self.now me.old }
-        requires pass { pass.tenant ≡ self.now.tenant }
-        ensures front { IsFrontOf self.now me.new }
-        ensures cell { WasUnder self.now.tenant me.old me.new (IsHandOverOf pass result) }
-    {
-        self.lock_to_leave(rt, &pass).hand_over(rt, me, pass)
-    }
-
-    /// Waits while an advance of the pass's slot would be idle. It says whether to stop: those who wait were told
-    /// to, or the history is full.
-    pub fn pause<R: Wait>(&self, rt: &R, pass: &Pass) -> bool
-        requires { pass.now.tenant ≡ self.now.tenant }
-    {
-        let held = self.lock(rt);
-        let Some(at_slot) = self.at_slots.get(usize::from(pass.slot())) else {
-            return held.is_over();
-        };
-        let mut has_slept = false;
-        let held = at_slot.wait_while(rt, held, |held| {
-            let sleeps = held.sleeps_at(pass);
-            if has_slept {
-                held.count_wake(sleeps);
-            }
-            has_slept = true;
-            sleeps
-        });
-        held.is_over()
-    }
-
-    /// How many wait at the tenant's slots, and how often they were woken.
-    pub fn waits<R: Wait>(&self, rt: &R) -> Waits {
-        self.lock(rt).waits()
-    }
-
-    /// Waits while a job has no outcome and the history is not full. It says whether those who wait
-    /// were told to stop.
-    pub fn pause_for<R: Wait>(&self, rt: &R, seat: &Seat, job: u64) -> bool
-        requires { seat.now.tenant ≡ self.now.tenant }
-    {
-        self.pause_for_until(rt, seat, job, &StopFlag::new())
-    }
-
-    /// As `pause_for`, and it also stops at a flag that is raised.
-    pub fn pause_for_until<R: Wait>(&self, rt: &R, seat: &Seat, job: u64, stop: &StopFlag) -> bool
-        requires { seat.now.tenant ≡ self.now.tenant }
-    {
-        let held = self.lock(rt);
-        let held = self.outcomes.wait_while(rt, held, |held| {
-            !stop.is_raised() && held.sleeps_for(seat, job)
-        });
-        stop.is_raised() || held.is_stopped()
-    }
-
-    /// Wakes all that wait, each to look whether to go on.
-    pub fn wake<R: Wait>(&self, rt: &R) {
-        // Who looked at its flag before that was raised waits by now, since it looks under the lock.
-        let held = self.lock(rt);
-        self.wake_all(&held);
-    }
-
-    /// Tells all that wait to stop, from now on.
-    pub fn stop<R: Wait>(&self, rt: &R) {
-        let mut held = self.lock(rt);
-        held.stop();
-        self.wake_all(&held);
-    }
-
     /// Takes the lock. What lies under it is known by its type alone, so whether it is this tenant's cell in this life is
     /// looked at each time. It always is: a lock with another one under it would never be taken.
     fn lock<R: Wait>(&self, rt: &R) -> MutexGuard<'_, Held<J>>
@@ -459,24 +181,6 @@ impl<J: Naming> TenantDoor<J> {
             if held.tenant() == self.tenant && held.life() == life {
                 return held;
             }
-        }
-        unreachable!()
-    }
-
-    /// Takes the lock when the slot of a pass may be left. Who moved the slot until it was empty, or until a
-    /// pause said to stop, takes it at once.
-    fn lock_to_leave<R: Wait>(&self, rt: &R, pass: &Pass) -> MutexGuard<'_, Held<J>>
-        ensures own { (mutex_guard_value result).cell.tenant ≡ self.now.tenant }
-        ensures life { (mutex_guard_value result).life ≡ self.now.life }
-        ensures may { MayLeave (mutex_guard_value result) pass.now }
-    {
-        for _ in rt.forever() {
-            let held = self.lock(rt);
-            if held.may_leave(pass) {
-                return held;
-            }
-            drop(held);
-            yield_now();
         }
         unreachable!()
     }
@@ -510,69 +214,4 @@ impl<J: Naming> TenantDoor<J> {
         }
         self.outcomes.notify_all();
     }
-
-    /// Closes the door, to which all seats come back: the tenant's history, if it agrees with what the
-    /// holders of its tokens were told. At a fault the tenant is given up. What was seen of the tenant's life begins the
-    /// history that is given: it is compared.
-    pub fn close<R: Wait>(
-        self,
-        rt: &R,
-        fronts: &[Front<J>],
-        seats: Vec<Seat>,
-    ) -> Result<Closed, CloseFault>
-        ensures closed { IfOk result (λ closed. Closes self seats.items closed.history.items) }
-        ensures refused { IfErr result (λ fault. IsRefused self seats.items fault) }
-        ensures seen { IfOk result (λ closed. AreBegun self.life fronts.now closed.history.items) }
-    {
-        let TenantDoor {
-            tenant,
-            config,
-            seats: count,
-            first,
-            held,
-            at_slots: _at_slots,
-            outcomes: _outcomes,
-            jobs: _jobs,
-        } = self;
-        let held = of_life(rt, held.into_inner(), first.life());
-        held.meet_all(rt, fronts);
-        let cell = held.into_cell();
-        close(cell, seats.as_slice(), tenant, &config, count)
-    }
-}
-
-/// What a lock kept, which is of that life. It always is: what is of another one is never taken.
-fn of_life<J: Naming, R: Wait>(rt: &R, held: Held<J>, life: usize) -> Held<J>
-    ensures value { result ≡ held }
-    ensures life { result.life ≡ life }
-{
-    for _ in rt.forever() {
-        if held.life() == life {
-            return held;
-        }
-    }
-    unreachable!()
-}
-
-/// Closes the door of a cell.
-fn close(
-    cell: TenantCell,
-    seats: &[Seat],
-    tenant: usize,
-    config: &TenantConfig,
-    count: usize,
-) -> Result<Closed, CloseFault>
-    ensures right { IsRight cell }
-    ensures agree { (life : ℕ) → IfOk result (λ closed. Agree cell seats.now (door_of life tenant config.now count)) }
-    ensures history { IfOk result (λ closed. closed.history.items ≡ cell.history) }
-    ensures refused { (life : ℕ) → let door = door_of life tenant config.now count in
-        IfErr result (λ fault. IsFault cell seats.now door (Some fault)) }
-{
-    // Proof hint: the cell is right.
-    let _ = cell.history();
-    if let Some(fault) = fault_of(&cell, seats, tenant, config, count) {
-        return Err(fault);
-    }
-    let history = cell.into_history();
-    Ok(Closed { history })
 }

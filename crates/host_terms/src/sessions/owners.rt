@@ -1,6 +1,5 @@
 // A session asks about a job, in the term that it belongs to.
 ghost use Rattle.std.specs.Prelude.{◌≡◌, ◌⊎◌, Some};
-ghost use Rattle.std.specs.Arc.{arc_value};
 ghost use Rattle.host_terms.specs.Answers.{IsAnswer, IsAsked, IsLooked, job_named};
 ghost use Rattle.host_terms.specs.Found.{IsFound};
 
@@ -52,8 +51,9 @@ impl<'h, J: Naming, R: Wait + Clock> HostDoors<'h, J, R> {
     /// Asks a term about a job, by its number there. One that was left is only looked at if that is enough: its history is
     /// for the jobs that it has.
     fn ask_there(&self, booking: Booking<J>, request: Request) -> (Booking<J>, Told)
-        ensures term { arc_value result.0.term ≡ arc_value booking.term }
-        ensures asked { IsAsked request result.1 ⊎ IsLooked request result.1 }
+        ensures term { result.0.term ≡ booking.term }
+        ensures asked { IsAsked booking.term request result.1
+            ⊎ IsLooked booking.term request result.1 }
     {
         if booking.term().is_left() {
             if let Some(told) = booking.term().look_up(self.rt, &request) {

@@ -1,5 +1,6 @@
 // The places of sessions in a term.
 ghost use Rattle.std.specs.Prelude.{◌≡◌, IfSome};
+ghost use Rattle.host_terms.specs.Bookings.{seen_of};
 ghost use Rattle.std.specs.Arc.{arc_value};
 ghost use Rattle.server_house.specs.Owned.{AsksThere};
 
@@ -7,6 +8,7 @@ use super::HostTerm;
 use crate::board::{Board, TermSignal};
 use job_language::Request;
 use server_house::{OwnClient, Told};
+use std::marker::Model;
 use std::sync::{Arc, Wait};
 use tenant_book::Naming;
 use tenant_lock::StopFlag;
@@ -18,18 +20,34 @@ pub(crate) struct Booking<J: Naming> {
     client: OwnClient<J>,
 }
 
+impl<J: Naming> Model for Booking<J> {
+    ghost use Rattle.std.specs.Arc.{arc_value};
+    ghost use Rattle.host_terms.specs.Bookings.{BookingSeen, IsBooking, seen_of};
+
+    ghost Value = { BookingSeen };
+
+    ghost view = { λ b. record { term = seen_of (arc_value b.term); client = b.client } };
+
+    ghost invariant = { λ b. IsBooking
+        (record { term = seen_of (arc_value b.term); client = b.client }) };
+}
+
 impl<J: Naming> Booking<J> {
     /// A place in a term. None if all are taken, or too many handles on the term are out.
     pub(crate) fn of<R: Wait>(rt: &R, term: &Arc<HostTerm<J>>) -> Option<Booking<J>>
-        ensures { IfSome result (λ b. arc_value b.term ≡ arc_value term.now) }
+        ensures { IfSome result (λ b. b.term ≡ seen_of (arc_value term.now)) }
     {
         let term = Arc::try_clone(term).ok()?;
         let client = term.clients.lock(rt).pop()?;
+        // Each is of the term's house. This way nobody has to believe it.
+        if client.life() != term.house.first_life() {
+            return None;
+        }
         Some(Booking { term, client })
     }
 
     pub(crate) fn term(&self) -> &HostTerm<J>
-        ensures { result.now ≡ arc_value self.now.term }
+        ensures { self.now.term ≡ seen_of result.now }
     {
         &self.term
     }
@@ -42,7 +60,7 @@ impl<J: Naming> Booking<J> {
         stop: &StopFlag,
         request: Request,
     ) -> (Booking<J>, Told)
-        ensures term { arc_value result.0.term ≡ arc_value self.term }
+        ensures term { result.0.term ≡ self.term }
         ensures asks { AsksThere self.client request result.1 result.0.client }
     {
         let Booking { term, client } = self;

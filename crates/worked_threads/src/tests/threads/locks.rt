@@ -4,6 +4,7 @@ ghost use Rattle.std.specs.Prelude.{◌≡◌, IfSome};
 mod asking;
 mod closing;
 mod handing;
+mod pauses;
 mod running;
 mod waits;
 
@@ -12,6 +13,7 @@ use job_language::{
     Tenant, TenantConfig, TenantName,
 };
 use market_config::Call;
+pub(super) use pauses::{pause, waiting};
 use std::alloc::{AllocError, Global};
 use std::slice;
 use std::sync::Wait;
@@ -19,7 +21,6 @@ use std::test::Fail;
 use tenant_book::Naming;
 use tenant_lock::{CloseFault, Closed, TenantDoor};
 use tenant_record::{Advanced, Arrived, AskOutcome, Pass, Seat, TenantCell};
-pub(super) use waits::{pause, waiting};
 
 /// The call of the only slot for workers.
 pub(super) const CALL: Call = Call { tenant: 0, slot: 1 };
