@@ -204,7 +204,7 @@ fn jobs(tally: JobTally) -> Jobs {
 }
 
 /// Writes a line to a new file, readable by whoever may connect, whatever the process' mask is.
-fn write_private<R: Files>(rt: &R, path: &str, words: HostWords<'_>, line: &str) -> io::Result<()> {
+fn write_status<R: Files>(rt: &R, path: &str, words: HostWords<'_>, line: &str) -> io::Result<()> {
     // It is there if the last one could not be renamed.
     let _ = fs::remove_file(rt, path);
     let mut options = OpenOptions::new();
