@@ -18,9 +18,9 @@ abbrev pub AreSlices : (slices tenant count : ℕ) → List Entry → Type 0
 AreSlices zero tenant count es = es ≡ []
 AreSlices (suc n) tenant count es = (before : List Entry) × (AreSlices n tenant count before × IsSlice tenant (capped (count + length before)) before es)
 
--- Slices were copied that follow those that the file has.
+-- Slices were copied that follow those that the file has, which is as it was.
 abbrev pub AreNext : {F : Type 0} → (tenant : ℕ) → Written F → Written F → Type 0
-AreNext tenant old new = ((slices : ℕ) × AreSlices slices tenant old.count new.next.items) × (new.count ≡ old.count)
+AreNext tenant old new = ((slices : ℕ) × AreSlices slices tenant old.count new.next.items) × (new.count ≡ old.count) × (new.part ≡ old.part)
 
 -- The slices that follow those that the file had are at hand for it, and are counted as there.
 abbrev pub AreWritten : {F : Type 0} → (tenant : ℕ) → Written F → Written F → Type 0

@@ -258,9 +258,7 @@ impl<F: Write + Drop> Written<F> {
             (F.contents self.new.part) (entries_text self.new.next.items)) }
     {
         self.copy_more(rt, door)?;
-        if !self.next.is_empty() {
-            self.part.add(alloc, self.next.as_slice())?;
-        }
+        self.part.add(alloc, self.next.as_slice())?;
         self.count = self.count.saturating_add(self.next.len());
         Ok(())
     }

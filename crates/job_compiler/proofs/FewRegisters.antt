@@ -4,7 +4,7 @@ use Rattle.std.specs.List.{AllByRecursion}
 use Rattle.job_language.specs.declared.instructions.Instr.{Instr}
 use Rattle.job_language.specs.Program.{IsInRange, IsValidProc}
 use Rattle.source_language.specs.declared.syntax.Operator.{Operator}
-use Rattle.source_language.specs.declared.syntax.Operator.TheVariants.{Plus, Minus, Times, Over, Remainder, Below}
+use Rattle.source_language.specs.declared.syntax.Operator.TheVariants.{Plus, Minus, Times, Over, Remainder, BitAnd, BitOr, BitXor, ShiftLeft, ShiftRight, Below, AtMost, Equal}
 use Rattle.source_language.specs.declared.syntax.Expr.{Expr}
 use Rattle.source_language.specs.declared.syntax.Expr.TheVariants.{Number, Variable, Slot, Width, Two'}
 use Rattle.source_language.specs.declared.syntax.Test.{Test}
@@ -47,6 +47,13 @@ module _ (len : ℕ) where
   op_low Over d a b h = h.0
   op_low Remainder d a b h = h.0
   op_low Below d a b h = h.0
+  op_low BitAnd d a b h = h.0
+  op_low BitOr d a b h = h.0
+  op_low BitXor d a b h = h.0
+  op_low ShiftLeft d a b h = h.0
+  op_low ShiftRight d a b h = h.0
+  op_low AtMost d a b h = h.0
+  op_low Equal d a b h = h.0
 
   operand_low : (e : Expr) (t : ℕ) → Good (operand_code e t) → operand e t < 8 → IsOperandLow 255 e t
   operand_low (Number z) t h low = up t low

@@ -11,7 +11,7 @@ use Rattle.job_step.specs.declared.effects.Effect.TheVariants.{Moves, DividesByZ
 use Rattle.job_step.specs.Frame.{instr_at, effect, write_and_step}
 use Rattle.job_step.specs.Least.{next_of, frame_after}
 use Rattle.source_language.specs.declared.syntax.Operator.{Operator}
-use Rattle.source_language.specs.declared.syntax.Operator.TheVariants.{Plus, Minus, Times, Over, Remainder, Below}
+use Rattle.source_language.specs.declared.syntax.Operator.TheVariants.{Plus, Minus, Times, Over, Remainder, BitAnd, BitOr, BitXor, ShiftLeft, ShiftRight, Below, AtMost, Equal}
 use Rattle.source_language.specs.declared.syntax.Expr.{Expr}
 use Rattle.source_language.specs.declared.syntax.Expr.TheVariants.{Number, Variable, Slot, Width, Two'}
 use Rattle.source_language.specs.Meaning.{result_of, on_both, value_of}
@@ -135,6 +135,13 @@ module _ (procs : List (List Instr)) (slot width p size : ℕ) where
     op_runs Minus d a b pc t regs x y has ex ey long = write pc d t regs (instr.Sub d a b) _ has.0 (rw (ex, ey) refl) (valid pc _ has.0).0 long
     op_runs Times d a b pc t regs x y has ex ey long = write pc d t regs (instr.Mul d a b) _ has.0 (rw (ex, ey) refl) (valid pc _ has.0).0 long
     op_runs Below d a b pc t regs x y has ex ey long = write pc d t regs (instr.Lt d a b) _ has.0 (rw (ex, ey) refl) (valid pc _ has.0).0 long
+    op_runs BitAnd d a b pc t regs x y has ex ey long = write pc d t regs (instr.And d a b) _ has.0 (rw (ex, ey) refl) (valid pc _ has.0).0 long
+    op_runs BitOr d a b pc t regs x y has ex ey long = write pc d t regs (instr.Or d a b) _ has.0 (rw (ex, ey) refl) (valid pc _ has.0).0 long
+    op_runs BitXor d a b pc t regs x y has ex ey long = write pc d t regs (instr.Xor d a b) _ has.0 (rw (ex, ey) refl) (valid pc _ has.0).0 long
+    op_runs ShiftLeft d a b pc t regs x y has ex ey long = write pc d t regs (instr.Shl d a b) _ has.0 (rw (ex, ey) refl) (valid pc _ has.0).0 long
+    op_runs ShiftRight d a b pc t regs x y has ex ey long = write pc d t regs (instr.Shr d a b) _ has.0 (rw (ex, ey) refl) (valid pc _ has.0).0 long
+    op_runs AtMost d a b pc t regs x y has ex ey long = write pc d t regs (instr.Le d a b) _ has.0 (rw (ex, ey) refl) (valid pc _ has.0).0 long
+    op_runs Equal d a b pc t regs x y has ex ey long = write pc d t regs (instr.Eq d a b) _ has.0 (rw (ex, ey) refl) (valid pc _ has.0).0 long
     op_runs Over d a b pc t regs x (pos zero) has ex ey long = one_fails pc regs (instr.Div d a b) has.0 (rw (ex, ey) refl)
     op_runs Over d a b pc t regs x (pos (suc n)) has ex ey long = write pc d t regs (instr.Div d a b) _ has.0 (rw (ex, ey) refl) (valid pc _ has.0).0 long
     op_runs Over d a b pc t regs x (negsuc n) has ex ey long = write pc d t regs (instr.Div d a b) _ has.0 (rw (ex, ey) refl) (valid pc _ has.0).0 long

@@ -3,7 +3,7 @@ use Rattle.std.specs.Prelude.{ℕ, ◌+◌, pos, Bool, true, false, not, if◌th
 use Rattle.job_language.specs.declared.instructions.Instr.{Instr}
 use Rattle.job_language.specs.declared.instructions.Instr.TheVariants as instr
 use Rattle.source_language.specs.declared.syntax.Operator.{Operator}
-use Rattle.source_language.specs.declared.syntax.Operator.TheVariants.{Plus, Minus, Times, Over, Remainder, Below}
+use Rattle.source_language.specs.declared.syntax.Operator.TheVariants.{Plus, Minus, Times, Over, Remainder, BitAnd, BitOr, BitXor, ShiftLeft, ShiftRight, Below, AtMost, Equal}
 use Rattle.source_language.specs.declared.syntax.Expr.{Expr}
 use Rattle.source_language.specs.declared.syntax.Expr.TheVariants.{Number, Variable, Slot, Width, Two'}
 use Rattle.source_language.specs.declared.syntax.Test.{Test}
@@ -24,7 +24,14 @@ op_instr Minus d a b = instr.Sub d a b
 op_instr Times d a b = instr.Mul d a b
 op_instr Over d a b = instr.Div d a b
 op_instr Remainder d a b = instr.Rem d a b
+op_instr BitAnd d a b = instr.And d a b
+op_instr BitOr d a b = instr.Or d a b
+op_instr BitXor d a b = instr.Xor d a b
+op_instr ShiftLeft d a b = instr.Shl d a b
+op_instr ShiftRight d a b = instr.Shr d a b
 op_instr Below d a b = instr.Lt d a b
+op_instr AtMost d a b = instr.Le d a b
+op_instr Equal d a b = instr.Eq d a b
 
 -- the register of an operand: a variable's own, and else the first free one
 abbrev pub operand : Expr → (free : ℕ) → ℕ

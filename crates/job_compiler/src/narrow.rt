@@ -43,7 +43,14 @@ pub fn narrow_two(op: Operator, d: Register, a: Register, b: Register) -> Instr
         Operator::Times => Instr::Mul(d, a, b),
         Operator::Over => Instr::Div(d, a, b),
         Operator::Remainder => Instr::Rem(d, a, b),
+        Operator::BitAnd => Instr::And(d, a, b),
+        Operator::BitOr => Instr::Or(d, a, b),
+        Operator::BitXor => Instr::Xor(d, a, b),
+        Operator::ShiftLeft => Instr::Shl(d, a, b),
+        Operator::ShiftRight => Instr::Shr(d, a, b),
         Operator::Below => Instr::Lt(d, a, b),
+        Operator::AtMost => Instr::Le(d, a, b),
+        Operator::Equal => Instr::Eq(d, a, b),
     }
 }
 

@@ -1,9 +1,10 @@
 -- What a function of the source language does: a machine over its variables and what is left to be done, which stops at each shared operation.
-use Rattle.std.specs.Prelude.{ℕ, zero, suc, ◌-◌, ℤ, pos, int_lt, int_rem, Bool, true, false, not, if◌then◌else◌, List, [], ◌∷◌, slice_index_or, slice_set, replicate, Option, Some, None}
-use Rattle.std.specs.Int.{int_wrapping_add, int_wrapping_sub, int_wrapping_mul, int_wrapping_div, w64}
+use Rattle.std.specs.Prelude.{ℕ, zero, suc, ◌-◌, ◌%◌, ℤ, pos, int_lt, int_le, int_rem, Bool, true, false, not, if◌then◌else◌, List, [], ◌∷◌, slice_index_or, slice_set, replicate, Option, Some, None}
+use Rattle.std.specs.Int.{int_wrapping_add, int_wrapping_sub, int_wrapping_mul, int_wrapping_div, int_bit_and, int_bit_or, int_bit_xor, int_shl, int_shr, cast_unsigned, w64}
+use Rattle.std.specs.Ordering.{int_eq}
 use Rattle.std.specs.Option.{option_map}
 use Rattle.source_language.specs.declared.syntax.Operator.{Operator}
-use Rattle.source_language.specs.declared.syntax.Operator.TheVariants.{Plus, Minus, Times, Over, Remainder, Below}
+use Rattle.source_language.specs.declared.syntax.Operator.TheVariants.{Plus, Minus, Times, Over, Remainder, BitAnd, BitOr, BitXor, ShiftLeft, ShiftRight, Below, AtMost, Equal}
 use Rattle.source_language.specs.declared.syntax.Expr.{Expr}
 use Rattle.source_language.specs.declared.syntax.Expr.TheVariants.{Number, Variable, Slot, Width, Two'}
 use Rattle.source_language.specs.declared.syntax.Test.{Test}
@@ -21,6 +22,10 @@ is_nought (pos zero) = true
 is_nought (pos (suc n)) = false
 is_nought z = false
 
+-- by how many bits a number shifts another: its lowest six bits, in two's complement
+abbrev pub shift_of : ℤ → ℕ
+shift_of z = cast_unsigned w64 z % 64
+
 -- the result of an operator on numbers of 64 bits; there is none for a division by 0
 abbrev pub result_of : Operator → ℤ → ℤ → Option ℤ
 result_of Plus x y = Some (int_wrapping_add w64 x y)
@@ -28,7 +33,14 @@ result_of Minus x y = Some (int_wrapping_sub w64 x y)
 result_of Times x y = Some (int_wrapping_mul w64 x y)
 result_of Over x y = if is_nought y then None else Some (int_wrapping_div w64 x y)
 result_of Remainder x y = if is_nought y then None else Some (int_rem x y)
+result_of BitAnd x y = Some (int_bit_and w64 x y)
+result_of BitOr x y = Some (int_bit_or w64 x y)
+result_of BitXor x y = Some (int_bit_xor w64 x y)
+result_of ShiftLeft x y = Some (int_shl w64 x (shift_of y))
+result_of ShiftRight x y = Some (int_shr x (shift_of y))
 result_of Below x y = Some (if int_lt x y then pos 1 else pos 0)
+result_of AtMost x y = Some (if int_le x y then pos 1 else pos 0)
+result_of Equal x y = Some (if int_eq x y then pos 1 else pos 0)
 
 abbrev pub on_both : (ℤ → ℤ → Option ℤ) → Option ℤ → Option ℤ → Option ℤ
 on_both f None o = None

@@ -2,7 +2,8 @@
 use job_language::{Group, Key};
 
 /// An operator between two numbers of 64 bits, which wraps. Division rounds toward zero, and a remainder
-/// has the sign of the dividend. `Below` gives 1 or 0.
+/// has the sign of the dividend. Bits are those of two's complement; a number is shifted by the lowest six
+/// bits of another, and to the right it keeps its sign. Comparisons give 1 or 0.
 #[derive(Clone, Copy, Debug, PartialEq, Eq)]
 pub enum Operator {
     Plus,
@@ -10,7 +11,14 @@ pub enum Operator {
     Times,
     Over,
     Remainder,
+    BitAnd,
+    BitOr,
+    BitXor,
+    ShiftLeft,
+    ShiftRight,
     Below,
+    AtMost,
+    Equal,
 }
 
 /// An expression. It only reads.
