@@ -37,10 +37,3 @@ pub record EndsAs (doors : List DoorData) (back : ReturnedSeen) (end : ServerEnd
   pub sessions : AreAskedBy (IsGivenBack back.fronts) doors ends
   pub seen : AreSeenIn back.fronts doors ends
   pub end_is : end ≡ end_of_all ends
-
--- A server of these tenants ends as the closes of all of them ask.
-pub record ClosesAll (tenants : List Tenant) (end : ServerEnd) : Type 0 where
-  pub doors : List DoorData
-  pub back : ReturnedSeen
-  pub of : AreDoorsOf tenants doors
-  pub ends : EndsAs doors back end

@@ -1,10 +1,9 @@
 //! `arena-server`: serves tenants to clients over a Unix socket.
 #![tactic(auto)]
 
-ghost use Rattle.std.specs.Prelude.{◌≡◌, ◌≢◌, ◌≤◌, ◌⊎◌, Err, IfErr, IfOk, IfSome, IsErr, IsOk, None, Ok};
+ghost use Rattle.std.specs.Prelude.{◌≡◌, ◌≢◌, ◌≤◌, ◌⊎◌, Err, IfErr, IfSome, IsErr, IsOk, None, Ok};
 ghost use Rattle.std.specs.IoError.{error_kind};
 ghost use Rattle.server_io.specs.declared.ends.ServerEnd.TheVariants.{Device, Done, Memory, Words};
-ghost use Rattle.server_program.specs.Ends.{ClosesAll};
 
 mod dumps;
 mod ends;
@@ -143,7 +142,6 @@ where
     R: Files + Net + Threads + Wait + Sync + Print + Eprint,
     requires registry { opened ≡ J.registry }
     requires connections { 1 ≤ words.connections }
-    ensures { IfOk result (ClosesAll config.now.tenants) }
 {
     let registry: Registry<J> = opened.named();
     let Opened {
