@@ -169,7 +169,11 @@ impl Journal {
     }
 
     /// Takes the turn to write, unless the file has so many entries before, or fails.
-    fn turn_to_write<R: Wait>(&self, rt: &R, wanted: usize) -> Option<MutexGuard<'_, Written<File>>> {
+    fn turn_to_write<R: Wait>(
+        &self,
+        rt: &R,
+        wanted: usize,
+    ) -> Option<MutexGuard<'_, Written<File>>> {
         for _look in 0..LOOKS {
             if self.is_broken() || self.has(wanted) {
                 return None;
