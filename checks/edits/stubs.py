@@ -43,7 +43,9 @@ def body_at(lines: list[str], at: int, indent: str) -> tuple[int, int] | None:
 
 def bodies_of(module: str, homes: dict[str, str], lines: list[str]) -> list[Body]:
     """Returns the bodies of a module's free functions and of the own methods of the crate's types, which are named by the
-    module that their type is defined in, as `rt fmt` lays them out."""
+    module that their type is defined in, as `rt fmt` lays them out. A type of the module itself comes before one of its name
+    elsewhere."""
+    homes = {**homes, **dict.fromkeys(TYPE.findall("\n".join(lines)), module)}
     found, before = [], module
     for at, line in enumerate(lines):
         if BLOCK.match(line):
